@@ -166,14 +166,11 @@ delivers_more of a b c xs ys h k = record {
   pushes = λ v. k.pushes v ∙ (ap (λ l. l ++ map Packet (filter (is_to of v) ys)) (h.pushes v) ∙ packets_on of v (pushed_to a v) xs ys);
 }
 
--- ---- an endpoint of joins is one on these inboxes
-pub on_inboxes : (inboxes : List InboxId) (c : Endpoint) → IsEndpoint inboxes c → IsOnInboxes inboxes c
-on_inboxes inboxes c h = record { taker = h.taker; count = h.count; each = h.each }
-
+-- ---- an endpoint of joins stays one
 pub endpoint_again : (inboxes : List InboxId) (of : List ℕ) (a b : Endpoint) (copies : List RadioCopy) → IsEndpoint inboxes a → Delivers of a b copies → IsOnInboxes inboxes b → IsEndpoint inboxes b
 endpoint_again inboxes of a b copies h d s =
     let P : TakerView → Type 0 = λ t. IsOrderly t.state in
-    record { taker = s.taker; count = s.count; each = s.each; orderly = subst P (sym d.taker) h.orderly }
+    record { on_inboxes = s; orderly = subst P (sym d.taker) h.orderly }
 
 -- ---- the copies for other workers
 pub pushes_none : (of : List ℕ) (c : Endpoint) → PushesOut of c c []

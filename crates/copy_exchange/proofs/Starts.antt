@@ -284,9 +284,11 @@ module _ (inboxes : List InboxId) (olds ts : List TakerView) (rows : List Row) (
       let zero_ : 0 + i ≡ i = omega arith in
       let P : TakerView → Type 0 = λ x. IsOrderly x.state in
       record {
-        taker = ap (slice_get inboxes) zero_ ∙ (inbox_at i t.inbox inside ∙ ap Some (sym (h.takers.its i t.inbox t inside)));
-        count = row.count;
-        each = row.each;
+        on_inboxes = record {
+          taker = ap (slice_get inboxes) zero_ ∙ (inbox_at i t.inbox inside ∙ ap Some (sym (h.takers.its i t.inbox t inside)));
+          count = row.count;
+          each = row.each;
+        };
         orderly = subst P (sym (h.taker i t inside)) (orderly_more (get_or olds i t) (length (row_senders rows i)) old.orderly old.all);
       }
 

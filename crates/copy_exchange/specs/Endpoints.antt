@@ -59,11 +59,9 @@ pub record IsOnInboxes (inboxes : List InboxId) (e : Endpoint) : Type 0 where
   pub count : length e.senders.items ≡ length inboxes
   pub each : (v : ℕ) (id : InboxId) → slice_get inboxes v ≡ Some id → IsSenderOn id (v == e.worker) (sender_to e v)
 
--- an endpoint of one of these inboxes' workers, in a window that ends by a join
+-- an endpoint in a window that ends by a join: it is on these inboxes, and what its taker took is in order
 pub record IsEndpoint (inboxes : List InboxId) (e : Endpoint) : Type 0 where
-  pub taker : slice_get inboxes e.worker ≡ Some e.taker.inbox
-  pub count : length e.senders.items ≡ length inboxes
-  pub each : (v : ℕ) (id : InboxId) → slice_get inboxes v ≡ Some id → IsSenderOn id (v == e.worker) (sender_to e v)
+  pub on_inboxes : IsOnInboxes inboxes e
   pub orderly : IsOrderly e.taker.state
 
 -- all that was gathered before this window is taken
