@@ -12,7 +12,7 @@ use Rattle.copy_inbox.specs.Items.{Packets}
 use Rattle.copy_inbox.specs.Gathered.{is_gathered}
 use Rattle.copy_inbox.specs.Handles.{InboxId, TakerView, SenderView, after_gather, AllGathered, PacketsLeft}
 use Rattle.copy_exchange.specs.declared.endpoint.Endpoint.{Endpoint}
-use Rattle.copy_exchange.specs.Takers.{copies_in, IsOrderly}
+use Rattle.copy_exchange.specs.Takers.{copies_gathered, IsOrderly}
 use Rattle.copy_exchange.specs.Endpoints.{IsEndpoint, IsOnInboxes, IsCollected, DeliversOwn, Stays, AreOpen, Returns, AllReturn, GathersDelivered, sender_to, senders_to, identity_of}
 use Rattle.copy_exchange.specs.Inboxes.{IsPlain, IsSettled, Settled}
 use Rattle.copy_exchange.specs.Steps.{AreTakersOf, GathersRow, GathersBack, TellsOf, gather_into, gather_senders, at_place}
@@ -143,7 +143,7 @@ module _ (inboxes : List InboxId) (cs : List Endpoint) (back : AllReturn inboxes
         record {
           same_marked = refl;
           same_taken = refl;
-          adds = joined_copies d.made ss d.gathered ∙ ap (λ l. copies_in d.gathered ++ l) (sym (delivered_is cs c.worker));
+          adds = joined_copies d.made ss d.gathered ∙ ap (λ l. copies_gathered d.gathered ++ l) (sym (delivered_is cs c.worker));
         },
       ) in
       let both = subst P (sym (gather_is c.taker ss)) then_ in
