@@ -12,7 +12,7 @@ use Rattle.window_laws.proofs.Lists.{filter_filter, every_weaker}
 use Rattle.net_agenda.specs.NetSystem.{system_of}
 use Rattle.copy_inbox.specs.Handles.{TakerView}
 use Rattle.copy_exchange.specs.Endpoints.{delivered, delivered_to}
-use Rattle.copy_exchange.specs.Takers.{copies_in, taken_by, gathered_by}
+use Rattle.copy_exchange.specs.Takers.{copies_gathered, taken_by, gathered_by}
 use Rattle.copy_inbox.specs.Items.{copies_of}
 use Rattle.worker_cut.specs.Crossed.{is_own, is_to}
 use Rattle.worker_cut.specs.Laws.{GatheredCopies}
@@ -65,7 +65,7 @@ module _ (n : NetTold) (fine : RunsForward (system_of n)) (of : List ℕ) (from 
       of_piece : Piece n of from until old new at all v → (z : Told) × IsPart v z
       of_piece p =
           let w = window n of from until old new at all short up_to v p in
-          let gathered_is : gathered_by p.endpoint.taker ≡ gathered_by p.taker = ap copies_in p.starts.same_gathered in (
+          let gathered_is : gathered_by p.endpoint.taker ≡ gathered_by p.taker = ap copies_gathered p.starts.same_gathered in (
             record { next = w.next; taken = taken_by p.done.endpoint.taker; gathered = gathered_by p.taker; outgoing = p.ran.outgoing },
             record {
               told = p.here.gathered;
@@ -84,7 +84,7 @@ module _ (n : NetTold) (fine : RunsForward (system_of n)) (of : List ℕ) (from 
                   ap gathered_by (sym (same_found _ p.gathering t p.gathering_at e))
                   ∙ (p.came.adds
                   ∙ (ap (λ l. l ++ delivered_to (map (λ (x : Worker). x.endpoint) all.done) p.done.endpoint.worker)
-                  (ap (λ x. gathered_by x) p.ran.delivers.taker ∙ (ap copies_in p.ran.collects.stays.gathered ∙ gathered_is))
+                  (ap (λ x. gathered_by x) p.ran.delivers.taker ∙ (ap copies_gathered p.ran.collects.stays.gathered ∙ gathered_is))
                   ∙ ap (λ k. gathered_by p.taker ++ delivered_to (map (λ (x : Worker). x.endpoint) all.done) k) (p.ran.delivers.stays.worker ∙ (p.ran.collects.stays.worker ∙ p.number))));
             },
           )

@@ -11,7 +11,7 @@ use Rattle.copy_inbox.specs.Items.{copies_of}
 use Rattle.copy_inbox.specs.Handles.{TakerView}
 use Rattle.copy_exchange.specs.declared.endpoint.Endpoint.{Endpoint}
 use Rattle.copy_exchange.specs.Endpoints.{IsEndpoint, Collects, Together, StartsAs}
-use Rattle.copy_exchange.specs.Takers.{copies_in, taken_by, gathered_by}
+use Rattle.copy_exchange.specs.Takers.{copies_gathered, taken_by, gathered_by}
 use Rattle.copy_exchange.specs.Inboxes.{IsPlain}
 use Rattle.worker_window.specs.declared.share.Share.{Share}
 use Rattle.worker_window.specs.Share.{Motes}
@@ -39,7 +39,7 @@ not_before from (Some m) c w h = omega arith
 module _ (n : NetTold) (of : List ℕ) (from : ℕ) (motes : Motes) (first : Option ℕ) (v : ℕ) (share : Share) (taker : TakerView) (here : IsWorkerAt n of from motes first v share taker) (first_from : WakesFrom from first)
     (endpoint : Endpoint) (starts : StartsAs taker endpoint) (between : Endpoint) (arrived : List RadioCopy) (collects : Collects endpoint between arrived) where
   gathered_same : gathered_by endpoint.taker ≡ gathered_by taker
-  gathered_same = ap copies_in starts.same_gathered
+  gathered_same = ap copies_gathered starts.same_gathered
 
   taken_same : taken_by endpoint.taker ≡ taken_by taker
   taken_same = ap copies_of starts.same_taken
@@ -89,7 +89,7 @@ module _ (n : NetTold) (of : List ℕ) (from until : ℕ) (old : Workers) (at : 
         plain = set.same_marked ∙ each_at IsPlain old.takers.items v t.0 plain t.1;
         endpoint = each_at (IsEndpoint old.inboxes.items) endpoints v c together.each f;
         own = subst (λ w. Each (λ (x : RadioCopy). is_own of w x.to ≡ true) (gathered_by c.taker)) (sym number)
-            (subst (λ l. Each (λ (x : RadioCopy). is_own of v x.to ≡ true) l) (sym (ap copies_in set.same_gathered)) own);
+            (subst (λ l. Each (λ (x : RadioCopy). is_own of v x.to ≡ true) l) (sym (ap copies_gathered set.same_gathered)) own);
       }
 
   pub ready : Each (IsReady n of old.inboxes.items until) (map make_worker (zip old.shares.items endpoints))

@@ -10,7 +10,6 @@ use Rattle.copy_inbox.specs.Views.{make_taker_state}
 use Rattle.copy_exchange.specs.declared.endpoint.Endpoint.{Endpoint}
 use Rattle.copy_exchange.specs.Endpoints.{HasMarks, HasPushedNothing, IsEndpoint, StartsAs, Together}
 use Rattle.copy_exchange.specs.Inboxes.{IsFresh}
-use Rattle.copy_exchange.proofs.Delivered.{on_inboxes}
 use Rattle.copy_exchange.proofs.Open.{made_for_others}
 use Rattle.worker_window.specs.declared.share.Share.{Share}
 use Rattle.worker_window.specs.Share.{Keeps}
@@ -72,7 +71,7 @@ module _ (inboxes : List InboxId) (takers : List TakerView) (fresh : AllZip IsFr
           cut = cut;
           keeps = subst (λ w. Keeps n of w 0 (first_mote (system_of n)) [] s) (sym number)
               (subst (λ x. Keeps n of v 0 (first_mote (system_of n)) [] x) (read shares v s s at_share) (first.each v s low));
-          on_inboxes = on_inboxes inboxes c (each_at (IsEndpoint inboxes) endpoints v c together.each at_endpoint);
+          on_inboxes = (each_at (IsEndpoint inboxes) endpoints v c together.each at_endpoint).on_inboxes;
           marked = each_at HasMarks endpoints v c marked at_endpoint;
           made = made_for_others inboxes endpoints together v c at_endpoint (none_gathered v c at_endpoint);
           none_taken = none_taken v c at_endpoint;

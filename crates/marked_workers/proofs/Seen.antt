@@ -10,7 +10,8 @@ use Rattle.window_laws.proofs.Lists.{filter_filter, every_filter}
 use Rattle.worker_cut.specs.Crossed.{is_own, is_to}
 use Rattle.copy_inbox.specs.Items.{copies_of, part}
 use Rattle.copy_exchange.proofs.Parts.{from}
-use Rattle.mark_exchange.specs.Pushes.{packets_in, sent_before}
+use Rattle.copy_exchange.specs.Takers.{copies_in}
+use Rattle.mark_exchange.specs.Pushes.{sent_before}
 use Rattle.mark_exchange.proofs.Early.{early_is_unseen}
 use Rattle.all_workers.specs.Workers.{IsCut}
 use Rattle.all_workers.proofs.Lookups.{each_at}
@@ -77,7 +78,7 @@ module _ (n : NetTold) (of : List ℕ) (width windows workers : ℕ) (all : AllR
           let p = pair n of width windows workers all u v lu lv ne in
           let had = part p.number ((all.histories u).taken k) in
           ap (filter (sees k mote)) (copies_from n of width windows workers all u lu k le s v lv ne e)
-          ∙ (filter_filter (sees k mote) (is_from_sender s) (packets_in had)
+          ∙ (filter_filter (sees k mote) (is_from_sender s) (copies_in had)
           ∙ (ap (from s) (early_is_unseen (sees k mote) windows k (sent_to n of width windows workers all v u) had le (front n of width windows workers all u lu k le v lv ne)
           ((all.ran u lu).marks_lead k le p.number p.was_made) (unseen k mote v u lv))
           ∙ (filter_filter (is_from_sender s) (sees k mote) (sent_before k (sent_to n of width windows workers all v u))
