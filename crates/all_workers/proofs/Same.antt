@@ -11,7 +11,7 @@ use Rattle.window_laws.specs.Agenda.{Item, wake_items}
 use Rattle.window_laws.specs.Windows.{WakesFrom, copies_by}
 use Rattle.net_agenda.specs.NetSystem.{system_of}
 use Rattle.worker_window.specs.declared.share.Share.{Share}
-use Rattle.worker_cut.specs.Crossed.{is_own, copies_known}
+use Rattle.worker_cut.specs.Crossed.{is_own, copies_seen}
 use Rattle.window_run.specs.Window.{number_of}
 use Rattle.worker_window.specs.Share.{Motes, Keeps, is_to_come, wake_from}
 
@@ -25,7 +25,7 @@ module _ (n : NetTold) (of : List ℕ) (worker : ℕ) (a b : Motes) (same : (k :
   pub own_copies_same : (s : ℕ) → is_own of worker s ≡ true → copies_by (system_of n) a s ≡ copies_by (system_of n) b s
   own_copies_same s e = ap (λ x. flat_map (system_of n).copies (cond (ltb s (system_of n).motes) x.sends [])) (same s e)
 
-  pub known_same : (taken : List RadioCopy) (s : ℕ) → copies_known (system_of n) (is_own of worker) a taken s ≡ copies_known (system_of n) (is_own of worker) b taken s
+  pub known_same : (taken : List RadioCopy) (s : ℕ) → copies_seen (system_of n) (is_own of worker) a taken s ≡ copies_seen (system_of n) (is_own of worker) b taken s
   known_same taken s = elim (cases_Bool (is_own of worker s)) [ inl e ↦ rw e (own_copies_same s e) | inr e ↦ rw e refl ]
 
   pub keeps_same : (from : ℕ) (taken : List RadioCopy) (share : Share) → Keeps n of worker from a taken share → Keeps n of worker from b taken share

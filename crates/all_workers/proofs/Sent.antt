@@ -7,7 +7,7 @@ use Rattle.radio_packet.specs.declared.copy.RadioCopy.{RadioCopy}
 use Rattle.mote_net.specs.Net.{NetTold}
 use Rattle.copy_exchange.specs.Endpoints.{Leaves}
 use Rattle.window_laws.specs.Windows.{is_from_sender}
-use Rattle.worker_window.specs.Window.{GoesOut}
+use Rattle.worker_window.specs.Window.{IsOutgoing}
 use Rattle.window_laws.proofs.Lists.{every_weaker}
 use Rattle.all_workers.specs.Workers.{IsCut}
 
@@ -28,11 +28,11 @@ there_at [] k workers h all = absurd (omega arith)
 there_at (x ∷ of) zero workers h all = all.0
 there_at (x ∷ of) (suc k) workers h all = there_at of k workers (omega arith) all.1
 
-pub leaves_sent : (n : NetTold) (of : List ℕ) (workers worker : ℕ) (sent : List RadioCopy)
-    → IsCut (length n.motes) workers of → Each (GoesOut n of worker) sent → Each (Leaves of workers worker) sent
-leaves_sent n of workers worker sent cut out = every_weaker _ _ one sent out
+pub leaves_sent : (n : NetTold) (of : List ℕ) (workers worker : ℕ) (outgoing : List RadioCopy)
+    → IsCut (length n.motes) workers of → Each (IsOutgoing n of worker) outgoing → Each (Leaves of workers worker) outgoing
+leaves_sent n of workers worker outgoing cut out = every_weaker _ _ one outgoing out
   where
-    one : (c : RadioCopy) → GoesOut n of worker c → Leaves of workers worker c
+    one : (c : RadioCopy) → IsOutgoing n of worker c → Leaves of workers worker c
     one c g =
         let h : c.to < length of = subst (λ l. c.to < l) (sym cut.len) g.there in
         record { there = h; its_worker = there_at of c.to workers h cut.there; other = g.to }

@@ -11,12 +11,12 @@ use Rattle.window_laws.specs.Windows.{Alone, first_mote, Windows, RunsAlone, cop
 use Rattle.window_laws.proofs.Lists.{filter_filter, filter_none, every_weaker}
 use Rattle.window_laws.proofs.History.{history, unseen_since}
 use Rattle.net_agenda.specs.NetSystem.{system_of}
-use Rattle.worker_cut.specs.Crossed.{is_own, is_to, crossed, leaves}
+use Rattle.worker_cut.specs.Crossed.{is_own, is_to, crossed, is_outgoing}
 use Rattle.worker_cut.specs.Laws.{GatheredCopies}
-use Rattle.worker_cut.proofs.Crossed.{inbox_is, crossed_next}
+use Rattle.worker_cut.proofs.Crossed.{given_is, crossed_next}
 use Rattle.worker_cut.proofs.Windows.{one_more, same_copies}
 use Rattle.worker_window.specs.Share.{Motes}
-use Rattle.worker_window.specs.Window.{RunsOwn, GoesOut, copies_out}
+use Rattle.worker_window.specs.Window.{RunsOwn, IsOutgoing, outgoing_by}
 use Rattle.all_workers.specs.Workers.{IsCut}
 use Rattle.all_workers.proofs.Same.{own_copies_same}
 use Rattle.all_workers.proofs.Sent.{every_of_each}
@@ -53,12 +53,12 @@ none_early until (x ∷ xs) e =
     ]
 
 module _ (n : NetTold) (fine : RunsForward (system_of n)) (of : List ℕ) (workers : ℕ) (cut : IsCut (length n.motes) workers of) (from until : ℕ) (motes : Motes) (up : from < until) (short : until ≤ from + (system_of n).lookahead)
-    (taken gathered : ℕ → List RadioCopy) (sent : ℕ → List RadioCopy) (nexts : ℕ → Motes)
+    (taken gathered : ℕ → List RadioCopy) (outgoing : ℕ → List RadioCopy) (nexts : ℕ → Motes)
     (told : (v : ℕ) → v < workers → GatheredCopies (system_of n) of motes v (gathered v))
     (took : (v : ℕ) → v < workers → (s : ℕ) → filter (is_from_sender s) (taken v) ≡ filter (is_from_sender s) (gathered v))
     (runs : (v : ℕ) → v < workers → (k : ℕ) → is_own of v k ≡ true → RunsOwn n (is_own of v) from until motes (nexts v) (taken v) k)
-    (out : (v : ℕ) → v < workers → (s : ℕ) → copies_out n (is_own of v) (nexts v) s ≡ copies_out n (is_own of v) motes s ++ filter (is_from_sender s) (sent v))
-    (goes : (v : ℕ) → v < workers → Each (GoesOut n of v) (sent v)) where
+    (out : (v : ℕ) → v < workers → (s : ℕ) → outgoing_by n (is_own of v) (nexts v) s ≡ outgoing_by n (is_own of v) motes s ++ filter (is_from_sender s) (outgoing v))
+    (goes : (v : ℕ) → v < workers → Each (IsOutgoing n of v) (outgoing v)) where
   -- all motes after the window
   abbrev pub next : Motes
   next k = option_map_or (λ w. nexts w k) (slice_get of k) (motes k)
@@ -75,9 +75,9 @@ module _ (n : NetTold) (fine : RunsForward (system_of n)) (of : List ℕ) (worke
           let mine = own_by of v k e in
           let ran = runs v h k mine in
           record {
-            inbox = ran.inbox;
-            is_inbox = inbox_is (system_of n) of motes (gathered v) (taken v) v k from until mine (told v h) (took v h) ran.inbox ran.is_inbox;
-            alone = subst (λ m. Alone (system_of n) k until ran.inbox (motes k) m) (next_is v k mine) ran.alone;
+            inbox = ran.given;
+            is_inbox = given_is (system_of n) of motes (gathered v) (taken v) v k from until mine (told v h) (took v h) ran.given ran.is_given;
+            alone = subst (λ m. Alone (system_of n) k until ran.given (motes k) m) (next_is v k mine) ran.alone;
           }
 
       each : (k : ℕ) → k < length n.motes → RunsAlone (system_of n) from until motes next k
@@ -85,16 +85,16 @@ module _ (n : NetTold) (fine : RunsForward (system_of n)) (of : List ℕ) (worke
 
   -- what a mote's worker sent out to another worker, of this mote
   abbrev pub out_of : (v s : ℕ) → List RadioCopy
-  out_of v s = option_map_or (λ u. filter (is_from_sender s) (filter (is_to of v) (sent u))) (slice_get of s) []
+  out_of v s = option_map_or (λ u. filter (is_from_sender s) (filter (is_to of v) (outgoing u))) (slice_get of s) []
 
   -- what went to one other worker was for one of its motes
   out_copies : (u : ℕ) → u < workers → (s : ℕ) → is_own of u s ≡ true
-      → filter (leaves (is_own of u)) (copies_by (system_of n) next s) ≡ filter (leaves (is_own of u)) (copies_by (system_of n) motes s) ++ filter (is_from_sender s) (sent u)
+      → filter (is_outgoing (is_own of u)) (copies_by (system_of n) next s) ≡ filter (is_outgoing (is_own of u)) (copies_by (system_of n) motes s) ++ filter (is_from_sender s) (outgoing u)
   out_copies u h s e =
-      ap (filter (leaves (is_own of u))) (sym (own_copies_same n of u (nexts u) next (λ k m. next_is u k m) s e))
+      ap (filter (is_outgoing (is_own of u))) (sym (own_copies_same n of u (nexts u) next (λ k m. next_is u k m) s e))
       ∙ (let o = out u h s in rw e at o)
 
-  not_own : (u : ℕ) → u < workers → (s : ℕ) → is_own of u s ≡ false → filter (is_from_sender s) (sent u) ≡ []
+  not_own : (u : ℕ) → u < workers → (s : ℕ) → is_own of u s ≡ false → filter (is_from_sender s) (outgoing u) ≡ []
   not_own u h s e = let o = out u h s in let p = rw e at o in sym p
 
   -- what each worker has gathered after the window
@@ -110,7 +110,7 @@ module _ (n : NetTold) (fine : RunsForward (system_of n)) (of : List ℕ) (worke
         | inr f ↦ rw f refl
       ]
 
-      by_worker : (o : Option ℕ) → slice_get of s ≡ o → crossed (system_of n) of motes v s ++ option_map_or (λ u. filter (is_from_sender s) (filter (is_to of v) (sent u))) o [] ≡ crossed (system_of n) of next v s
+      by_worker : (o : Option ℕ) → slice_get of s ≡ o → crossed (system_of n) of motes v s ++ option_map_or (λ u. filter (is_from_sender s) (filter (is_to of v) (outgoing u))) o [] ≡ crossed (system_of n) of next v s
       by_worker None e =
           append-nil _
           ∙ (ap (λ l. cond (is_own of v s) [] (filter (is_to of v) l)) (none_sent e motes)
@@ -128,22 +128,22 @@ module _ (n : NetTold) (fine : RunsForward (system_of n)) (of : List ℕ) (worke
               inside (x ∷ of) zero f all = let g : x ≡ u = cc in subst (λ k. k < workers) g all.0
               inside (x ∷ of) (suc s) f all = inside of s f all.1
 
-          of_case : (is_own of v s ≡ true) ⊎ (is_own of v s ≡ false) → crossed (system_of n) of motes v s ++ filter (is_from_sender s) (filter (is_to of v) (sent u)) ≡ crossed (system_of n) of next v s
+          of_case : (is_own of v s ≡ true) ⊎ (is_own of v s ≡ false) → crossed (system_of n) of motes v s ++ filter (is_from_sender s) (filter (is_to of v) (outgoing u)) ≡ crossed (system_of n) of next v s
           of_case (inl t) =
               let same : u ≡ v = (let f = sym e ∙ own_of of v s t in cc) in
-              rw t (filter_filter (is_from_sender s) (is_to of v) (sent u) ∙ none_to same)
+              rw t (filter_filter (is_from_sender s) (is_to of v) (outgoing u) ∙ none_to same)
             where
-              none_to : u ≡ v → filter (is_to of v) (filter (is_from_sender s) (sent u)) ≡ []
+              none_to : u ≡ v → filter (is_to of v) (filter (is_from_sender s) (outgoing u)) ≡ []
               none_to same =
-                  sym (filter_filter (is_from_sender s) (is_to of v) (sent u))
-                  ∙ ap (filter (is_from_sender s)) (filter_none (is_to of v) (sent u) (every_weaker _ _ (λ (c : RadioCopy) g. ap (λ w. is_own of w c.to) (sym same) ∙ g.to) (sent u) (goes u there)))
+                  sym (filter_filter (is_from_sender s) (is_to of v) (outgoing u))
+                  ∙ ap (filter (is_from_sender s)) (filter_none (is_to of v) (outgoing u) (every_weaker _ _ (λ (c : RadioCopy) g. ap (λ w. is_own of w c.to) (sym same) ∙ g.to) (outgoing u) (goes u there)))
           of_case (inr f) =
-              ap (λ l. crossed (system_of n) of motes v s ++ l) (filter_filter (is_from_sender s) (is_to of v) (sent u))
-              ∙ crossed_next (system_of n) of u v s mine f (λ same. false≢true (sym f ∙ (ap (λ w. is_own of w s) (sym same) ∙ mine))) motes next (sent u) (out_copies u there s mine)
+              ap (λ l. crossed (system_of n) of motes v s ++ l) (filter_filter (is_from_sender s) (is_to of v) (outgoing u))
+              ∙ crossed_next (system_of n) of u v s mine f (λ same. false≢true (sym f ∙ (ap (λ w. is_own of w s) (sym same) ∙ mine))) motes next (outgoing u) (out_copies u there s mine)
 
   -- nothing that is sent arrives before the window's end
-  pub sent_late : Windows (system_of n) 0 from (first_mote (system_of n)) motes → (v : ℕ) → v < workers → Each (λ (copy : RadioCopy). until ≤ copy.at) (sent v)
-  sent_late led v h = every_of_each (λ (copy : RadioCopy). until ≤ copy.at) (sent v) (λ s. of_sender s (cases_Bool (is_own of v s)))
+  pub sent_late : Windows (system_of n) 0 from (first_mote (system_of n)) motes → (v : ℕ) → v < workers → Each (λ (copy : RadioCopy). until ≤ copy.at) (outgoing v)
+  sent_late led v h = every_of_each (λ (copy : RadioCopy). until ≤ copy.at) (outgoing v) (λ s. of_sender s (cases_Bool (is_own of v s)))
     where
       width : from + (until - from) ≡ until
       width = omega arith
@@ -154,11 +154,11 @@ module _ (n : NetTold) (fine : RunsForward (system_of n)) (of : List ℕ) (worke
           ∙ (unseen_since (system_of n) fine (λ (copy : RadioCopy). ltb copy.at until) from (until - from) (λ copy t. let l = ltb-true copy.at until t in omega arith) s
           ∙ ap (filter (λ (copy : RadioCopy). ltb copy.at until)) (sym (same_copies (system_of n) fine from motes led s)))
 
-      of_sender : (s : ℕ) → (is_own of v s ≡ true) ⊎ (is_own of v s ≡ false) → Each (λ (copy : RadioCopy). until ≤ copy.at) (filter (is_from_sender s) (sent v))
+      of_sender : (s : ℕ) → (is_own of v s ≡ true) ⊎ (is_own of v s ≡ false) → Each (λ (copy : RadioCopy). until ≤ copy.at) (filter (is_from_sender s) (outgoing v))
       of_sender s (inr e) = subst (Each (λ (copy : RadioCopy). until ≤ copy.at)) (sym (not_own v h s e)) tt
-      of_sender s (inl e) = none_early until (filter (is_from_sender s) (sent v)) (cancelled _ _ (
-          sym (filter-append (λ (copy : RadioCopy). ltb copy.at until) (filter (leaves (is_own of v)) (copies_by (system_of n) motes s)) (filter (is_from_sender s) (sent v)))
+      of_sender s (inl e) = none_early until (filter (is_from_sender s) (outgoing v)) (cancelled _ _ (
+          sym (filter-append (λ (copy : RadioCopy). ltb copy.at until) (filter (is_outgoing (is_own of v)) (copies_by (system_of n) motes s)) (filter (is_from_sender s) (outgoing v)))
           ∙ (ap (filter (λ (copy : RadioCopy). ltb copy.at until)) (sym (out_copies v h s e))
-          ∙ (filter_filter (λ (copy : RadioCopy). ltb copy.at until) (leaves (is_own of v)) (copies_by (system_of n) next s)
-          ∙ (ap (filter (leaves (is_own of v))) (same_early s)
-          ∙ filter_filter (leaves (is_own of v)) (λ (copy : RadioCopy). ltb copy.at until) (copies_by (system_of n) motes s))))))
+          ∙ (filter_filter (λ (copy : RadioCopy). ltb copy.at until) (is_outgoing (is_own of v)) (copies_by (system_of n) next s)
+          ∙ (ap (filter (is_outgoing (is_own of v))) (same_early s)
+          ∙ filter_filter (is_outgoing (is_own of v)) (λ (copy : RadioCopy). ltb copy.at until) (copies_by (system_of n) motes s))))))

@@ -17,7 +17,7 @@ use Rattle.window_laws.proofs.Order.{in_order_same, sorted_permutes}
 use Rattle.net_agenda.specs.NetSystem.{system_of}
 use Rattle.copy_inbox.specs.Handles.{TakerView}
 use Rattle.copy_exchange.specs.Takers.{taken_by, gathered_by}
-use Rattle.worker_cut.specs.Crossed.{is_own, is_to, crossed, copies_known}
+use Rattle.worker_cut.specs.Crossed.{is_own, is_to, crossed, copies_seen}
 use Rattle.worker_cut.proofs.Windows.{coming, coming_pending}
 use Rattle.worker_window.specs.declared.share.Share.{Share}
 use Rattle.worker_window.specs.Share.{Motes, is_to_come}
@@ -91,11 +91,11 @@ module _ (n : NetTold) (fine : RunsForward (system_of n)) (of : List ℕ) (from 
   gathered_is = same_copies (gathered_by taker) (taken_by taker ++ waiting) gathered_each
 
   -- of one sender, what was still to come and what lies in the inbox are the copies to this worker that come from this moment on
-  of_sender : (s : ℕ) → filter (is_to_come (is_own of v) from) (copies_known (system_of n) (is_own of v) motes (taken_by taker) s) ++ rest_of s ≡ filter (comes_from from) (filter (is_to of v) (copies_by (system_of n) motes s))
+  of_sender : (s : ℕ) → filter (is_to_come (is_own of v) from) (copies_seen (system_of n) (is_own of v) motes (taken_by taker) s) ++ rest_of s ≡ filter (comes_from from) (filter (is_to of v) (copies_by (system_of n) motes s))
   of_sender s = of_case (cases_Bool (is_own of v s))
     where
       of_case : (is_own of v s ≡ true) ⊎ (is_own of v s ≡ false)
-          → filter (is_to_come (is_own of v) from) (copies_known (system_of n) (is_own of v) motes (taken_by taker) s) ++ rest_of s ≡ filter (comes_from from) (filter (is_to of v) (copies_by (system_of n) motes s))
+          → filter (is_to_come (is_own of v) from) (copies_seen (system_of n) (is_own of v) motes (taken_by taker) s) ++ rest_of s ≡ filter (comes_from from) (filter (is_to of v) (copies_by (system_of n) motes s))
       of_case (inl e) = rw e (
           ap (λ l. filter (is_to_come (is_own of v) from) (copies_by (system_of n) motes s) ++ l) (no_rest s (here.gathered s ∙ none_own s e))
           ∙ (append-nil _ ∙ sym (filter_both (comes_from from) (is_to of v) (is_to_come (is_own of v) from) (λ c. refl) (copies_by (system_of n) motes s))))
@@ -116,7 +116,7 @@ module _ (n : NetTold) (fine : RunsForward (system_of n)) (of : List ℕ) (from 
 
   -- the copies of each sender that are to come to this worker
   abbrev pub AreToCome : List RadioCopy → Type 0
-  AreToCome rest = (s : ℕ) → filter (is_from_sender s) rest ≡ filter (is_to_come (is_own of v) from) (copies_known (system_of n) (is_own of v) motes (taken_by taker) s)
+  AreToCome rest = (s : ℕ) → filter (is_from_sender s) rest ≡ filter (is_to_come (is_own of v) from) (copies_seen (system_of n) (is_own of v) motes (taken_by taker) s)
 
   to_come_each : (rest : List RadioCopy) → AreToCome rest → (s : ℕ) → filter (is_from_sender s) (rest ++ waiting) ≡ filter (is_from_sender s) (filter (is_to of v) (coming (system_of n) fine from motes))
   to_come_each rest told s =

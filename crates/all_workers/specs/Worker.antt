@@ -5,5 +5,5 @@ use Rattle.worker_window.specs.declared.share.Share.{Share}
 use Rattle.all_workers.specs.declared.worker.Worker.{Worker}
 
 -- nothing that it delivered lies in an inbox
-abbrev pub worker_of : Share × Endpoint → Worker
-worker_of p = record { share = p.0; endpoint = p.1; first_out = None }
+abbrev pub make_worker : Share × Endpoint → Worker
+make_worker p = record { share = p.0; endpoint = p.1; first_out = None }

@@ -3,7 +3,7 @@
 ghost use Rattle.std.specs.Prelude.{◌≡◌, map, IfErr, IfOk};
 ghost use Rattle.std.specs.List.{zip};
 ghost use Rattle.fork_join.specs.declared.work.Refused.TheVariants.{Memory};
-ghost use Rattle.all_workers.specs.Worker.{worker_of};
+ghost use Rattle.all_workers.specs.Worker.{make_worker};
 
 use copy_exchange::Endpoint;
 use fork_join::Refused;
@@ -25,7 +25,7 @@ pub fn workers_of(
     shares: Vec<Share>,
     endpoints: Vec<Endpoint>,
 ) -> Result<Vec<Worker>, Refused>
-    ensures workers { IfOk result (λ workers. workers.items ≡ map worker_of (zip shares.items endpoints.items)) }
+    ensures workers { IfOk result (λ workers. workers.items ≡ map make_worker (zip shares.items endpoints.items)) }
     ensures refused { IfErr result (λ reason. reason ≡ Memory) }
 {
     let mut workers = Vec::new(alloc);

@@ -44,7 +44,7 @@ impl Workers {
     ///
     /// # Errors
     /// `Memory` alone.
-    pub fn start(
+    pub fn new(
         alloc: Global,
         net: &Net,
         of: &[u16],

@@ -12,12 +12,11 @@ use Rattle.copy_inbox.specs.Items.{Packets}
 use Rattle.copy_inbox.specs.Gathered.{is_gathered}
 use Rattle.copy_inbox.specs.Handles.{InboxId, TakerView, SenderView, after_gather, AllGathered, PacketsLeft}
 use Rattle.copy_exchange.specs.declared.endpoint.Endpoint.{Endpoint}
-use Rattle.copy_exchange.specs.Takers.{copies_in, IsOrderly}
+use Rattle.copy_exchange.specs.Takers.{copies_gathered, IsOrderly}
 use Rattle.copy_exchange.specs.Endpoints.{IsEndpoint, IsOnInboxes, IsCollected, DeliversOwn, Stays, AreOpen, Returns, AllReturn, GathersDelivered, sender_to, senders_to, identity_of}
 use Rattle.copy_exchange.specs.Inboxes.{IsPlain, IsSettled, Settled}
 use Rattle.copy_exchange.specs.Steps.{AreTakersOf, GathersRow, GathersBack, TellsOf, gather_into, gather_senders, at_place}
 use Rattle.copy_exchange.proofs.Gathers.{gather_is, with_joined, numbers_of, joined_copies, all_gathered, orderly_then, packets_then, OneOf}
-use Rattle.copy_exchange.proofs.Delivered.{on_inboxes}
 use Rattle.copy_exchange.proofs.Lists.{each_from, each_join, each_map}
 use Rattle.copy_exchange.proofs.Rows.{into_inbox}
 use Rattle.copy_exchange.proofs.Owns.{workers_of, delivered_is, one_of}
@@ -118,7 +117,7 @@ module _ (inboxes : List InboxId) (cs : List Endpoint) (back : AllReturn inboxes
   owns = each_back inboxes back.worker_of (DeliversOwn back.worker_of) (λ a b r. r.own) before cs back.each
 
   pub all_on_inboxes : Each (IsOnInboxes inboxes) cs
-  all_on_inboxes = each_back inboxes back.worker_of (IsOnInboxes inboxes) (λ a b r. on_inboxes inboxes b r.endpoint) before cs back.each
+  all_on_inboxes = each_back inboxes back.worker_of (IsOnInboxes inboxes) (λ a b r. r.endpoint.on_inboxes) before cs back.each
 
   one : (s v : ℕ) → OneOf s (senders_to cs v)
   one s v = one_of back.worker_of s v 0 cs (workers ∙ ap (range_with_len 0) (sym count)) owns
@@ -144,7 +143,7 @@ module _ (inboxes : List InboxId) (cs : List Endpoint) (back : AllReturn inboxes
         record {
           same_marked = refl;
           same_taken = refl;
-          adds = joined_copies d.made ss d.gathered ∙ ap (λ l. copies_in d.gathered ++ l) (sym (delivered_is cs c.worker));
+          adds = joined_copies d.made ss d.gathered ∙ ap (λ l. copies_gathered d.gathered ++ l) (sym (delivered_is cs c.worker));
         },
       ) in
       let both = subst P (sym (gather_is c.taker ss)) then_ in
@@ -255,7 +254,7 @@ module _ (inboxes : List InboxId) (cs : List Endpoint) (back : AllReturn inboxes
       let p = picked v lt in
       let is = p.1 in
       let same : v ≡ p.0.worker = omega arith in
-      sym (ap (λ k. get_or inboxes k id) same ∙ get_or_from_slice_get inboxes p.0.worker p.0.taker.inbox id p.4.0.taker)
+      sym (ap (λ k. get_or inboxes k id) same ∙ get_or_from_slice_get inboxes p.0.worker p.0.taker.inbox id p.4.0.on_inboxes.taker)
 
   module _ (ts : List TakerView) (h : GathersBack cs ts) where
     taker_is : (v : ℕ) (t : TakerView) (lt : v < length cs) → get_or ts v t ≡ gather_senders (picked v lt).0.taker (senders_to cs (picked v lt).0.worker)

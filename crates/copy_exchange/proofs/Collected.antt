@@ -68,9 +68,11 @@ module _ (inboxes : List InboxId) (c : Endpoint) (t : TakerView) (r : Result (Ve
       cases : (q : Result (Vec RadioCopy Global) InboxError) → IfOk q (λ copies. TakesCopies c.taker t copies.items) → OnOk q (TookFronts t.state.gathered t.state.taken)
           → OnOk q (NoOthers c.taker.state.gathered c.taker.state.taken t.state.taken) → OnOk q (IsEndpoint inboxes (with_taker c t))
       cases (Ok copies) takes begun others = record {
-        taker = endpoint.taker ∙ ap (λ (u : TakerView). Some u.inbox) (sym takes.2);
-        count = endpoint.count;
-        each = endpoint.each;
+        on_inboxes = record {
+          taker = endpoint.on_inboxes.taker ∙ ap (λ (u : TakerView). Some u.inbox) (sym takes.2);
+          count = endpoint.on_inboxes.count;
+          each = endpoint.on_inboxes.each;
+        };
         orderly = orderly_on c.taker t copies.items endpoint.orderly takes others begun;
       }
       cases (Err e) takes begun others = tt

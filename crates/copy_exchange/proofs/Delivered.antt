@@ -13,11 +13,11 @@ use Rattle.copy_inbox.specs.declared.items.Carried.TheVariants.{Packet}
 use Rattle.copy_inbox.specs.declared.rule.SenderState.{SenderState}
 use Rattle.copy_inbox.specs.Handles.{InboxId, TakerView, SenderView, after_pushing}
 use Rattle.copy_exchange.specs.declared.endpoint.Endpoint.{Endpoint}
-use Rattle.copy_exchange.specs.Takers.{copies_pushed, IsOrderly}
+use Rattle.copy_exchange.specs.Takers.{copies_in, IsOrderly}
 use Rattle.worker_cut.specs.Crossed.{is_to}
 use Rattle.copy_exchange.specs.Endpoints.{IsEndpoint, IsOnInboxes, IsSenderOn, Leaves, Reaches, Stays, Delivers, PushesOut, sender_to, delivered, pushed_by, pushed_list, pushed_to, identity_of}
 use Rattle.worker_cut.proofs.Owners.{own_is}
-use Rattle.copy_exchange.proofs.Parts.{pushed-append}
+use Rattle.copy_exchange.proofs.Parts.{copies_in-append}
 
 pub same_at : (senders : List (Option SenderView)) (v : ℕ) (d e : Option SenderView) → v < length senders → get_or senders v d ≡ get_or senders v e
 same_at [] v d e lt = absurd (omega arith)
@@ -97,7 +97,7 @@ module _ (inboxes : List InboxId) (of : List ℕ) (c : Endpoint) (copy : RadioCo
       (λ (q : (eqb v to ≡ true) × (v ≡ to)).
       let e : is_to of v copy ≡ true = own_is of copy.to v there ∙ eq-eqb (slice_index of copy.to) v (sym (q.1 ∙ is)) in
       ap pushed_by (ap (sender_to (with_sender c to t)) q.1 ∙ then_here)
-      ∙ (ap (λ (p : SenderState). copies_pushed p.pushed) state ∙ pushed-append s.state.pushed (Packet copy ∷ []))
+      ∙ (ap (λ (p : SenderState). copies_in p.pushed) state ∙ copies_in-append s.state.pushed (Packet copy ∷ []))
       ∙ ap (λ (o : Option SenderView). pushed_by o ++ copy ∷ []) (sym (ap (sender_to c) q.1 ∙ here))
       ∙ ap (λ (b : Bool). delivered c v ++ cond b (copy ∷ []) []) (sym e))
       (λ (q : (eqb v to ≡ false) × (v ≢ to)).
@@ -166,14 +166,11 @@ delivers_more of a b c xs ys h k = record {
   pushes = λ v. k.pushes v ∙ (ap (λ l. l ++ map Packet (filter (is_to of v) ys)) (h.pushes v) ∙ packets_on of v (pushed_to a v) xs ys);
 }
 
--- ---- an endpoint of joins is one on these inboxes
-pub on_inboxes : (inboxes : List InboxId) (c : Endpoint) → IsEndpoint inboxes c → IsOnInboxes inboxes c
-on_inboxes inboxes c h = record { taker = h.taker; count = h.count; each = h.each }
-
+-- ---- an endpoint of joins stays one
 pub endpoint_again : (inboxes : List InboxId) (of : List ℕ) (a b : Endpoint) (copies : List RadioCopy) → IsEndpoint inboxes a → Delivers of a b copies → IsOnInboxes inboxes b → IsEndpoint inboxes b
 endpoint_again inboxes of a b copies h d s =
     let P : TakerView → Type 0 = λ t. IsOrderly t.state in
-    record { taker = s.taker; count = s.count; each = s.each; orderly = subst P (sym d.taker) h.orderly }
+    record { on_inboxes = s; orderly = subst P (sym d.taker) h.orderly }
 
 -- ---- the copies for other workers
 pub pushes_none : (of : List ℕ) (c : Endpoint) → PushesOut of c c []

@@ -15,14 +15,14 @@ use Rattle.copy_inbox.specs.Gathered.{is_gathered, untaken_of, Apart, TookFronts
 use Rattle.copy_inbox.specs.Views.{make_taker_state, make_gathered}
 use Rattle.copy_inbox.specs.Handles.{TakerView, SenderView, after_gather, AllGathered, PacketsLeft}
 use Rattle.copy_inbox.proofs.Parts.{part-append}
-use Rattle.copy_exchange.specs.Takers.{SameOfEach, copies_pushed, copies_in, IsRest, IsOrderly}
+use Rattle.copy_exchange.specs.Takers.{SameOfEach, copies_in, copies_gathered, IsRest, IsOrderly}
 use Rattle.copy_exchange.specs.Endpoints.{AreOpen}
 use Rattle.copy_exchange.specs.Steps.{gather_senders}
 use Rattle.copy_exchange.proofs.Lists.{each_map}
 use Rattle.copy_exchange.proofs.Parts.{from, from-append, copies-append, OnlyIn, of_one_sender, nothing_more}
 
 abbrev pub copies_by : SenderView → List RadioCopy
-copies_by s = copies_pushed s.state.pushed
+copies_by s = copies_in s.state.pushed
 
 abbrev pub as_gathered : ℕ → SenderView → Gathered
 as_gathered made s = make_gathered s.state.number made s.state.pushed
@@ -38,10 +38,10 @@ pub gather_is : (t : TakerView) (ss : List SenderView) → gather_senders t ss �
 gather_is t [] = refl
 gather_is t (s ∷ ss) = gather_is (after_gather t s.state) ss
 
-pub joined_copies : (made : ℕ) (ss : List SenderView) (gs : List Gathered) → copies_in (joined made ss gs) ≡ copies_in gs ++ flat_map copies_by ss
-joined_copies made [] gs = sym (append-nil (copies_in gs))
+pub joined_copies : (made : ℕ) (ss : List SenderView) (gs : List Gathered) → copies_gathered (joined made ss gs) ≡ copies_gathered gs ++ flat_map copies_by ss
+joined_copies made [] gs = sym (append-nil (copies_gathered gs))
 joined_copies made (s ∷ ss) gs =
-    joined_copies made ss (as_gathered made s ∷ gs) ∙ (append_assoc (copies_in gs) (copies_by s) (flat_map copies_by ss) ∙ ap (λ l. copies_in gs ++ l) (sym (flat_map-cons copies_by s ss)))
+    joined_copies made ss (as_gathered made s ∷ gs) ∙ (append_assoc (copies_gathered gs) (copies_by s) (flat_map copies_by ss) ∙ ap (λ l. copies_gathered gs ++ l) (sym (flat_map-cons copies_by s ss)))
 
 -- ---- what holds of each of them
 module _ (P : Gathered → Type 0) (made : ℕ) where
@@ -147,7 +147,7 @@ module _ (s j : ℕ) where
       ap (from s) (flat_map-cons copies_by a as') ∙ (from-append s (copies_by a) (flat_map copies_by as') ∙ (ap (λ l. l ++ from s (flat_map copies_by as')) here ∙ none_of (first + 1) as' heads'.1 (omega arith) h.1))
 
   all_of : (items : List Item) (first : ℕ) (ss : List SenderView) → numbers_of ss ≡ range_with_len first (length ss) → Each (λ (a : SenderView). part a.state.number items ≡ a.state.pushed) ss → Each Mine ss
-      → ((j < first) ⊎ (first + length ss ≤ j) → from s (copies_pushed (part j items)) ≡ []) → from s (flat_map copies_by ss) ≡ from s (copies_pushed (part j items))
+      → ((j < first) ⊎ (first + length ss ≤ j) → from s (copies_in (part j items)) ≡ []) → from s (flat_map copies_by ss) ≡ from s (copies_in (part j items))
   all_of items first [] e parts h out = ⊎_elim (λ (lt : j < first). sym (out (inl lt))) (λ (ge : first ≤ j). sym (out (inr (omega arith)))) (cases_lt j first)
   all_of items first (a ∷ as') e parts h out =
       let heads' = heads a.state.number first (numbers_of as') (range_with_len (first + 1) (length as')) e in
@@ -155,7 +155,7 @@ module _ (s j : ℕ) where
       ap (from s) (flat_map-cons copies_by a as') ∙ (from-append s (copies_by a) (flat_map copies_by as') ∙ ⊎_elim
       (λ (t : (eqb j first ≡ true) × (j ≡ first)).
       let same = t.1 in
-      ap (λ l. from s (copies_by a) ++ l) (none_of (first + 1) as' heads'.1 (omega arith) h.1) ∙ (append-nil (from s (copies_by a)) ∙ (ap (λ l. from s (copies_pushed l)) (sym parts.0) ∙ ap (λ n. from s (copies_pushed (part n items))) (is ∙ sym same))))
+      ap (λ l. from s (copies_by a) ++ l) (none_of (first + 1) as' heads'.1 (omega arith) h.1) ∙ (append-nil (from s (copies_by a)) ∙ (ap (λ l. from s (copies_in l)) (sym parts.0) ∙ ap (λ n. from s (copies_in (part n items))) (is ∙ sym same))))
       (λ (t : (eqb j first ≡ false) × (j ≢ first)).
       let other = t.1 in
       let here : from s (copies_by a) ≡ [] = ⊎_elim (λ (same : a.state.number ≡ j). absurd (other (sym same ∙ is))) (λ (none : from s (copies_by a) ≡ []). none) h.0 in
@@ -216,14 +216,14 @@ module _ (ss : List SenderView) (d : TakerState) (orderly : IsOrderly d) (whole 
     only_in : (s : ℕ) → OnlyIn s (one s).number rest
     only_in s i other =
         let j : ℕ = (one s).number in
-        let Q : ℕ → Type 0 = λ k. k ≢ j → from s (copies_pushed (part k rest)) ≡ [] in
+        let Q : ℕ → Type 0 = λ k. k ≢ j → from s (copies_in (part k rest)) ≡ [] in
         let Mine' : SenderView → Type 0 = λ a. (a.state.number ≡ j) ⊎ (from s (copies_by a) ≡ []) in
-        let old : (k : ℕ) → is_gathered d.gathered k ≡ true → Q k = λ k yes other. ap (λ l. from s (copies_pushed l)) (old_done k yes) in
+        let old : (k : ℕ) → is_gathered d.gathered k ≡ true → Q k = λ k yes other. ap (λ l. from s (copies_in l)) (old_done k yes) in
         let new : Each (λ (a : SenderView). Q a.state.number) ss = each_two Mine' (λ a. part a.state.number rest ≡ a.state.pushed) (λ a. Q a.state.number) ss
-        (λ a mine is other. ap (λ l. from s (copies_pushed l)) is ∙ ⊎_elim (λ (same : a.state.number ≡ j). absurd (other same)) (λ (none : from s (copies_by a) ≡ []). none) mine) (one s).each new_parts in
+        (λ a mine is other. ap (λ l. from s (copies_in l)) is ∙ ⊎_elim (λ (same : a.state.number ≡ j). absurd (other same)) (λ (none : from s (copies_by a) ≡ []). none) mine) (one s).each new_parts in
         elim_bool (is_gathered (joined d.made ss d.gathered) i)
         (λ yes. by_joined Q d.made ss d.gathered old new i yes other)
-        (λ no. ap (λ l. from s (copies_pushed l)) (not_gathered i no))
+        (λ no. ap (λ l. from s (copies_in l)) (not_gathered i no))
 
     outside : (j : ℕ) → (j < are_open.first) ⊎ (are_open.first + length ss ≤ j) → part j rest ≡ []
     outside j q = ⊎_elim
@@ -231,15 +231,15 @@ module _ (ss : List SenderView) (d : TakerState) (orderly : IsOrderly d) (whole 
         (λ (ge : are_open.first + length ss ≤ j). let made = are_open.made in let last = end.are_open.made in not_gathered j (end.are_open.newer j (omega arith)))
         q
 
-    pub then_in_order : SameOfEach (copies_of (d.taken ++ rest)) (copies_in (joined d.made ss d.gathered))
+    pub then_in_order : SameOfEach (copies_of (d.taken ++ rest)) (copies_gathered (joined d.made ss d.gathered))
     then_in_order s =
         let j : ℕ = (one s).number in
-        let before : from s (copies_of d.taken) ≡ from s (copies_in d.gathered) =
+        let before : from s (copies_of d.taken) ≡ from s (copies_gathered d.gathered) =
         ap (λ l. from s (copies_of l)) (sym (append-nil d.taken)) ∙ orderly.in_order [] (subst (λ (l : List Item). Whole d.gathered l) (sym (append-nil d.taken)) whole, λ i no. ap (part i) (append-nil d.taken)) s in
         let now : from s (copies_of rest) ≡ from s (flat_map copies_by ss) =
-        of_one_sender s j rest (only_in s) ∙ sym (all_of s j rest are_open.first ss are_open.numbered new_parts (one s).each (λ q. ap (λ l. from s (copies_pushed l)) (outside j q))) in
+        of_one_sender s j rest (only_in s) ∙ sym (all_of s j rest are_open.first ss are_open.numbered new_parts (one s).each (λ q. ap (λ l. from s (copies_in l)) (outside j q))) in
         ap (from s) (copies-append d.taken rest) ∙ (from-append s (copies_of d.taken) (copies_of rest)
-        ∙ ((λ i. before i ++ now i) ∙ (sym (from-append s (copies_in d.gathered) (flat_map copies_by ss)) ∙ ap (from s) (sym (joined_copies d.made ss d.gathered)))))
+        ∙ ((λ i. before i ++ now i) ∙ (sym (from-append s (copies_gathered d.gathered) (flat_map copies_by ss)) ∙ ap (from s) (sym (joined_copies d.made ss d.gathered)))))
 
   pub orderly_then : IsOrderly (with_joined ss d)
   orderly_then = record {

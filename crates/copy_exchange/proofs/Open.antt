@@ -12,7 +12,6 @@ use Rattle.copy_inbox.specs.Gathered.{is_gathered}
 use Rattle.copy_inbox.specs.Handles.{InboxId, SenderView}
 use Rattle.copy_exchange.specs.declared.endpoint.Endpoint.{Endpoint}
 use Rattle.copy_exchange.specs.Endpoints.{IsEndpoint, IsOnInboxes, IsSenderOn, Stays, AreOpen, Together, sender_to, senders_to}
-use Rattle.copy_exchange.proofs.Delivered.{on_inboxes}
 use Rattle.copy_exchange.proofs.Gathers.{numbers_of}
 use Rattle.copy_exchange.proofs.AfterWindow.{same_workers, each_staying, open_staying}
 use Rattle.copy_exchange.proofs.Lists.{each_at, each_map}
@@ -128,7 +127,7 @@ module _ (inboxes : List InboxId) (cs : List Endpoint) (workers : workers_of cs 
 -- on the inbox of each worker, where none is gathered yet, there is a sender of each other one
 pub made_for_others : (inboxes : List InboxId) (endpoints : List Endpoint) → Together inboxes endpoints → (v : ℕ) (c : Endpoint) → slice_get endpoints v ≡ Some c → c.taker.state.gathered ≡ [] → suc c.taker.state.made ≡ length inboxes
 made_for_others inboxes endpoints h v c at none =
-    let each_on_inboxes = each_map (IsEndpoint inboxes) (IsOnInboxes inboxes) endpoints (on_inboxes inboxes) h.each in
+    let each_on_inboxes = each_map (IsEndpoint inboxes) (IsOnInboxes inboxes) endpoints (λ c e. e.on_inboxes) h.each in
     let o : AreOpen (senders_to endpoints c.worker) c.taker.state = each_found (λ (x : Endpoint). AreOpen (senders_to endpoints x.worker) x.taker.state) endpoints v c h.are_open at in
     let first = first_is_0 (senders_to endpoints c.worker) c.taker.state o none in
     let made = o.made in

@@ -9,7 +9,7 @@ use Rattle.copy_inbox.specs.declared.items.Item.{Item}
 use Rattle.copy_inbox.specs.Items.{copies_of, carried_copy, part}
 use Rattle.copy_inbox.proofs.Parts.{part-here, part-else}
 use Rattle.window_laws.specs.Windows.{is_from_sender}
-use Rattle.copy_exchange.specs.Takers.{copies_pushed}
+use Rattle.copy_exchange.specs.Takers.{copies_in}
 
 -- the copies of mote s
 abbrev pub from : ℕ → List RadioCopy → List RadioCopy
@@ -21,8 +21,8 @@ from-append s xs ys = filter-append (is_from_sender s) xs ys
 pub copies-append : (xs ys : List Item) → copies_of (xs ++ ys) ≡ copies_of xs ++ copies_of ys
 copies-append xs ys = filter_map-append (λ (x : Item). carried_copy x.what) xs ys
 
-pub pushed-append : (xs ys : List Carried) → copies_pushed (xs ++ ys) ≡ copies_pushed xs ++ copies_pushed ys
-pushed-append xs ys = filter_map-append carried_copy xs ys
+pub copies_in-append : (xs ys : List Carried) → copies_in (xs ++ ys) ≡ copies_in xs ++ copies_in ys
+copies_in-append xs ys = filter_map-append carried_copy xs ys
 
 pub from-cons : (s : ℕ) (x : RadioCopy) (xs : List RadioCopy) → from s (x ∷ xs) ≡ cond (is_from_sender s x) (x ∷ from s xs) (from s xs)
 from-cons s x xs = refl
@@ -50,25 +50,25 @@ option_none s (Some x) xs ys e = ap (λ (b : Bool). cond b (x ∷ from s ys) (fr
 
 -- mote s has copies in the items of sender j alone
 abbrev pub OnlyIn : (s j : ℕ) → List Item → Type 0
-OnlyIn s j items = (i : ℕ) → i ≢ j → from s (copies_pushed (part i items)) ≡ []
+OnlyIn s j items = (i : ℕ) → i ≢ j → from s (copies_in (part i items)) ≡ []
 
 only_in_tail : (s j : ℕ) (x : Item) (xs : List Item) → OnlyIn s j (x ∷ xs) → OnlyIn s j xs
 only_in_tail s j x xs h i n = ⊎_elim
-    (λ (t : (eqb x.sender i ≡ true) × (x.sender ≡ i)). option_tail s (carried_copy x.what) (copies_pushed (part i xs)) (ap (λ l. from s (copies_pushed l)) (sym (part-here i x xs t.1)) ∙ h i n))
-    (λ (t : (eqb x.sender i ≡ false) × (x.sender ≢ i)). ap (λ l. from s (copies_pushed l)) (sym (part-else i x xs t.1)) ∙ h i n)
+    (λ (t : (eqb x.sender i ≡ true) × (x.sender ≡ i)). option_tail s (carried_copy x.what) (copies_in (part i xs)) (ap (λ l. from s (copies_in l)) (sym (part-here i x xs t.1)) ∙ h i n))
+    (λ (t : (eqb x.sender i ≡ false) × (x.sender ≢ i)). ap (λ l. from s (copies_in l)) (sym (part-else i x xs t.1)) ∙ h i n)
     (eqb_tells x.sender i)
 
-pub of_one_sender : (s j : ℕ) (items : List Item) → OnlyIn s j items → from s (copies_of items) ≡ from s (copies_pushed (part j items))
+pub of_one_sender : (s j : ℕ) (items : List Item) → OnlyIn s j items → from s (copies_of items) ≡ from s (copies_in (part j items))
 of_one_sender s j [] h = refl
 of_one_sender s j (x ∷ xs) h =
     let p : Option RadioCopy = carried_copy x.what in
     let r = of_one_sender s j xs (only_in_tail s j x xs h) in
     ⊎_elim
     (λ (t : (eqb x.sender j ≡ true) × (x.sender ≡ j)).
-    option_more s p (copies_of xs) (copies_pushed (part j xs)) r ∙ ap (λ l. from s (copies_pushed l)) (sym (part-here j x xs t.1)))
+    option_more s p (copies_of xs) (copies_in (part j xs)) r ∙ ap (λ l. from s (copies_in l)) (sym (part-here j x xs t.1)))
     (λ (t : (eqb x.sender j ≡ false) × (x.sender ≢ j)).
-    let none : from s (cons_option p (copies_pushed (part x.sender xs))) ≡ [] = (ap (λ l. from s (copies_pushed l)) (sym (part-here x.sender x xs refl)) ∙ h x.sender t.1) in
-    option_none s p (copies_pushed (part x.sender xs)) (copies_of xs) none ∙ (r ∙ ap (λ l. from s (copies_pushed l)) (sym (part-else j x xs t.1))))
+    let none : from s (cons_option p (copies_in (part x.sender xs))) ≡ [] = (ap (λ l. from s (copies_in l)) (sym (part-here x.sender x xs refl)) ∙ h x.sender t.1) in
+    option_none s p (copies_in (part x.sender xs)) (copies_of xs) none ∙ (r ∙ ap (λ l. from s (copies_in l)) (sym (part-else j x xs t.1))))
     (eqb_tells x.sender j)
 
 -- ---- what stands behind a list that is all of it

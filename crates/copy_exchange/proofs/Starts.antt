@@ -11,7 +11,7 @@ use Rattle.copy_inbox.specs.Gathered.{is_gathered}
 use Rattle.copy_inbox.specs.Views.{make_taker_state, make_sender_state}
 use Rattle.copy_inbox.specs.Handles.{InboxId, TakerView, SenderView, AllGathered}
 use Rattle.copy_exchange.specs.declared.endpoint.Endpoint.{Endpoint}
-use Rattle.copy_exchange.specs.Takers.{copies_pushed, IsOrderly}
+use Rattle.copy_exchange.specs.Takers.{copies_in, IsOrderly}
 use Rattle.copy_exchange.specs.Endpoints.{IsEndpoint, IsSenderOn, AreOpen, Together, StartsAs, HasMarks, HasPushedNothing, senders_to, pushed_by, pushed_list}
 use Rattle.copy_exchange.specs.Inboxes.{IsSettled, Settled}
 use Rattle.copy_exchange.specs.Steps.{AreTakersOf, Opens, at_place, opened_taker, opened_sender}
@@ -250,7 +250,7 @@ module _ (R : TakerView → Endpoint → Type 0) where
 
 none_delivered : (o : Option SenderView) → pushed_list o ≡ [] → pushed_by o ≡ []
 none_delivered None e = refl
-none_delivered (Some s) e = ap copies_pushed e
+none_delivered (Some s) e = ap copies_in e
 
 row_at : (inboxes : List InboxId) (u : ℕ) (rows : List Row) (i : ℕ) (d : Row) → AreRows inboxes u rows → i < length rows → IsRow inboxes (u + i) (get_or rows i d)
 row_at inboxes u [] i d h lt = absurd (omega arith)
@@ -284,9 +284,11 @@ module _ (inboxes : List InboxId) (olds ts : List TakerView) (rows : List Row) (
       let zero_ : 0 + i ≡ i = omega arith in
       let P : TakerView → Type 0 = λ x. IsOrderly x.state in
       record {
-        taker = ap (slice_get inboxes) zero_ ∙ (inbox_at i t.inbox inside ∙ ap Some (sym (h.takers.its i t.inbox t inside)));
-        count = row.count;
-        each = row.each;
+        on_inboxes = record {
+          taker = ap (slice_get inboxes) zero_ ∙ (inbox_at i t.inbox inside ∙ ap Some (sym (h.takers.its i t.inbox t inside)));
+          count = row.count;
+          each = row.each;
+        };
         orderly = subst P (sym (h.taker i t inside)) (orderly_more (get_or olds i t) (length (row_senders rows i)) old.orderly old.all);
       }
 

@@ -12,7 +12,7 @@ use Rattle.copy_inbox.specs.Gathered.{is_gathered, Whole}
 use Rattle.copy_inbox.specs.Handles.{InboxId, TakerView, SenderView}
 use Rattle.copy_exchange.specs.declared.endpoint.Endpoint.{Endpoint}
 use Rattle.window_laws.specs.Windows.{is_from_sender}
-use Rattle.copy_exchange.specs.Takers.{SameOfEach, copies_pushed, taken_by, gathered_by, IsOrderly}
+use Rattle.copy_exchange.specs.Takers.{SameOfEach, copies_in, taken_by, gathered_by, IsOrderly}
 use Rattle.copy_exchange.specs.Inboxes.{IsPlain}
 
 -- its sender on the inbox of worker v
@@ -21,7 +21,7 @@ sender_to e v = slice_index_or e.senders.items v None
 
 abbrev pub pushed_by : Option SenderView → List RadioCopy
 pushed_by None = []
-pushed_by (Some s) = copies_pushed s.state.pushed
+pushed_by (Some s) = copies_in s.state.pushed
 
 -- what it delivered to worker v in this window
 abbrev pub delivered : Endpoint → (v : ℕ) → List RadioCopy
@@ -59,11 +59,9 @@ pub record IsOnInboxes (inboxes : List InboxId) (e : Endpoint) : Type 0 where
   pub count : length e.senders.items ≡ length inboxes
   pub each : (v : ℕ) (id : InboxId) → slice_get inboxes v ≡ Some id → IsSenderOn id (v == e.worker) (sender_to e v)
 
--- an endpoint of one of these inboxes' workers, in a window that ends by a join
+-- an endpoint in a window that ends by a join: it is on these inboxes, and what its taker took is in order
 pub record IsEndpoint (inboxes : List InboxId) (e : Endpoint) : Type 0 where
-  pub taker : slice_get inboxes e.worker ≡ Some e.taker.inbox
-  pub count : length e.senders.items ≡ length inboxes
-  pub each : (v : ℕ) (id : InboxId) → slice_get inboxes v ≡ Some id → IsSenderOn id (v == e.worker) (sender_to e v)
+  pub on_inboxes : IsOnInboxes inboxes e
   pub orderly : IsOrderly e.taker.state
 
 -- all that was gathered before this window is taken

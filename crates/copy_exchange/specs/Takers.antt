@@ -16,13 +16,13 @@ abbrev pub SameOfEach : List RadioCopy → List RadioCopy → Type 0
 SameOfEach xs ys = (s : ℕ) → filter (is_from_sender s) xs ≡ filter (is_from_sender s) ys
 
 -- the copies of what was pushed, in order; marks are left aside
-abbrev pub copies_pushed : List Carried → List RadioCopy
-copies_pushed what = filter_map carried_copy what
+abbrev pub copies_in : List Carried → List RadioCopy
+copies_in what = filter_map carried_copy what
 
 -- the copies of all gathered lists, the oldest list first
-abbrev pub copies_in : List Gathered → List RadioCopy
-copies_in [] = []
-copies_in (g ∷ gs) = copies_in gs ++ copies_pushed g.pushed
+abbrev pub copies_gathered : List Gathered → List RadioCopy
+copies_gathered [] = []
+copies_gathered (g ∷ gs) = copies_gathered gs ++ copies_in g.pushed
 
 -- what a worker took from its inbox
 abbrev pub taken_by : TakerView → List RadioCopy
@@ -30,7 +30,7 @@ taken_by t = copies_of t.state.taken
 
 -- what other workers delivered to it
 abbrev pub gathered_by : TakerView → List RadioCopy
-gathered_by t = copies_in t.state.gathered
+gathered_by t = copies_gathered t.state.gathered
 
 -- these items are all that was gathered and isn't taken yet, in any mixture
 abbrev pub IsRest : TakerState → List Item → Type 0
@@ -39,7 +39,8 @@ IsRest d rest = Whole d.gathered (d.taken ++ rest) × NoOthers d.gathered d.take
 -- What holds of each taker between windows and in them.
 pub record IsOrderly (d : TakerState) : Type 0 where
   -- in whatever mixture the rest comes, each mote's copies are taken in the order in which they were gathered
-  pub in_order : (rest : List Item) → IsRest d rest → SameOfEach (copies_of (d.taken ++ rest)) (copies_in d.gathered)
+  pub in_order : (rest : List Item) → IsRest d rest
+      → SameOfEach (copies_of (d.taken ++ rest)) (copies_gathered d.gathered)
   pub begun : TookFronts d.gathered d.taken
   pub unseen : (s : ℕ) → is_gathered d.gathered s ≡ false → part s d.taken ≡ []
   pub apart : Apart d.gathered

@@ -58,6 +58,10 @@ after_taking t xs = record {
 abbrev pub TakesCopies : TakerView → TakerView → List RadioCopy → Type 0
 TakesCopies old new copies = (items : List Item) × ArePackets items copies × (new ≡ after_taking old items)
 
+-- `n` items are all that is known, and no sender that isn't gathered can stand before them
+abbrev pub TakesAllKnown : TakerState → ℕ → Type 0
+TakesAllKnown d n = (n ≡ known_of d.gathered d.taken) × Later d.made d.gathered
+
 -- each sender that was made is gathered
 abbrev pub AllGathered : TakerState → Type 0
 AllGathered d = (s : ℕ) → s < d.made → is_gathered d.gathered s ≡ true
@@ -91,15 +95,18 @@ sender_state_in Spent = make_sender_state false 0 []
 abbrev pub count_of : TakerState → ℕ → Count
 count_of d s = record { taken = length (part s d.taken); gathered = is_gathered d.gathered s }
 
-pub record IsTaker (v : View) (counts : List Count) (known : ℕ) : Type 0 where
-  pub is : v ≡ Taking (taker_state_in v)
-  pub made : length counts ≡ (taker_state_in v).made
-  pub counted : (s : ℕ) (c : Count) → s < (taker_state_in v).made
-      → slice_index_or counts s c ≡ count_of (taker_state_in v) s
-  pub known_is : known ≡ known_of (taker_state_in v).gathered (taker_state_in v).taken
-  pub begun : TookFronts (taker_state_in v).gathered (taker_state_in v).taken
-  pub of_made : OfMade (taker_state_in v).made (taker_state_in v).taken
-  pub numbers : Each (λ (g : Gathered). g.number < (taker_state_in v).made) (taker_state_in v).gathered
+-- a taker in this state
+pub record IsTakerIn (d : TakerState) (v : View) (counts : List Count) (known : ℕ) : Type 0 where
+  pub is : v ≡ Taking d
+  pub made : length counts ≡ d.made
+  pub counted : (s : ℕ) (c : Count) → s < d.made → slice_index_or counts s c ≡ count_of d s
+  pub known_is : known ≡ known_of d.gathered d.taken
+  pub begun : TookFronts d.gathered d.taken
+  pub of_made : OfMade d.made d.taken
+  pub numbers : Each (λ (g : Gathered). g.number < d.made) d.gathered
+
+abbrev pub IsTaker : View → List Count → ℕ → Type 0
+IsTaker v counts known = IsTakerIn (taker_state_in v) v counts known
 
 pub record IsSender (v : View) (count : ℕ) : Type 0 where
   pub is : v ≡ Sending (sender_state_in v)

@@ -5,11 +5,11 @@ ghost use Rattle.std.specs.Prelude.{OnErr, IfErr, IfSome, IfNone};
 ghost use Rattle.copy_inbox.specs.declared.items.Carried.TheVariants.{Packet, Mark};
 ghost use Rattle.copy_inbox.specs.declared.inbox.InboxError.TheVariants.{Memory};
 ghost use Rattle.copy_inbox.specs.Items.{is_packet, Packets, part, BeginsWith, OfMade};
-ghost use Rattle.copy_inbox.specs.Gathered.{known_of, TookFronts, Whole, Later, NoOthers};
+ghost use Rattle.copy_inbox.specs.Gathered.{known_of, TookFronts, Whole, NoOthers};
 ghost use Rattle.copy_inbox.specs.Views.{make_taker_state, make_sender_state};
 ghost use Rattle.copy_inbox.specs.Handles.{InboxId, TakerView, SenderView, after_sender, after_pushing, after_gather};
 ghost use Rattle.copy_inbox.specs.Handles.{after_taking, TakesCopies, Empties, AllGathered, NoMarkLeft, TakesPackets};
-ghost use Rattle.copy_inbox.specs.Handles.{taker_state_in, sender_state_in, IsSender, IsNextTaken};
+ghost use Rattle.copy_inbox.specs.Handles.{taker_state_in, sender_state_in, IsSender, IsNextTaken, TakesAllKnown};
 ghost use Rattle.copy_inbox.specs.Kept.{KeepsCounts};
 
 use crate::count::{Count, count_taken, forget_first};
@@ -337,14 +337,11 @@ impl Inbox {
 
         // All that is known, where no sender that isn't gathered can stand before it.
         ensures whole { OnOk result
-            (n ≡ known_of taker.old.state.gathered taker.old.state.taken
-            → Later taker.old.state.made taker.old.state.gathered
-            → Whole taker.new.state.gathered taker.new.state.taken) }
+            (TakesAllKnown taker.old.state n → Whole taker.new.state.gathered taker.new.state.taken) }
 
         // And then it is of gathered senders alone.
         ensures others { OnOk result
-            (n ≡ known_of taker.old.state.gathered taker.old.state.taken
-            → Later taker.old.state.made taker.old.state.gathered
+            (TakesAllKnown taker.old.state n
             → NoOthers taker.old.state.gathered taker.old.state.taken taker.new.state.taken) }
 
         ensures refused { OnErr result (taker.new ≡ taker.old) }
@@ -367,12 +364,9 @@ impl Inbox {
         ensures begun { OnOk result (TookFronts taker.new.state.gathered taker.new.state.taken) }
         ensures made { OnOk result (OfMade taker.new.state.made taker.new.state.taken) }
         ensures whole { OnOk result
-            (n ≡ known_of taker.old.state.gathered taker.old.state.taken
-            → Later taker.old.state.made taker.old.state.gathered
-            → Whole taker.new.state.gathered taker.new.state.taken) }
+            (TakesAllKnown taker.old.state n → Whole taker.new.state.gathered taker.new.state.taken) }
         ensures others { OnOk result
-            (n ≡ known_of taker.old.state.gathered taker.old.state.taken
-            → Later taker.old.state.made taker.old.state.gathered
+            (TakesAllKnown taker.old.state n
             → NoOthers taker.old.state.gathered taker.old.state.taken taker.new.state.taken) }
         ensures refused { OnErr result (taker.new ≡ taker.old) }
     {

@@ -34,7 +34,7 @@ impl<T, W: Work<T>> Promise<Result<T, Refused>> for Promised<W, T> {
 /// # Errors
 /// That of the first worker that has a `Memory` or `Thread`, if any that was started has one; else `Thread` where a
 /// thread couldn't be started, or `work` didn't let it, and `Memory` where no memory was found for its handle; else
-/// `Stopped` where a worker has it.
+/// `Stopped` where a worker has it. Where no memory is found for a worker's answer, that worker has `Memory`.
 pub fn fork_join<R, T, W>(
     rt: &R,
     alloc: Global,
@@ -58,7 +58,7 @@ where
     )
 }
 
-// Starts the threads and joins them, inside the scope.
+/// Starts the threads and joins them, inside the scope.
 fn fork_all<'s, 'e: 's, R, T, W>(
     scope: &Scope<'s, &'e ()>,
     rt: &'e R,
@@ -105,7 +105,7 @@ where
     }
 }
 
-// Joins each thread. The answers, or the first error of those that are gravest.
+/// Joins each thread. It answers what the threads gave, or the first of the gravest errors.
 fn join_all<R: Threads, T: Send + Drop, W: Work<T>>(
     rt: &R,
     alloc: Global,

@@ -73,10 +73,10 @@ pub trait Work<T> {
         requires { ready self.now worker }
         ensures { IfOk result (makes self.now worker) };
 
-    /// It is asked before a worker's thread is started. No counts as a start that failed.
+    /// Whether a worker's thread may start. It is asked before each start; `false` counts as a start that failed.
     fn may_start(&self, worker: &T) -> bool;
 
-    /// It is called where a start failed, before the workers that were started are joined. So work in which one
-    /// worker waits for another can tell those that wait to end.
+    /// It is called where a start failed, before the workers that were started are joined: where workers wait for one
+    /// another, it has to tell those that wait to end.
     fn give_up(&self);
 }

@@ -12,18 +12,18 @@ use Rattle.window_laws.proofs.Lists.{filter_filter, every_weaker}
 use Rattle.net_agenda.specs.NetSystem.{system_of}
 use Rattle.copy_inbox.specs.Handles.{TakerView}
 use Rattle.copy_exchange.specs.Endpoints.{delivered, delivered_to}
-use Rattle.copy_exchange.specs.Takers.{copies_in, taken_by, gathered_by}
+use Rattle.copy_exchange.specs.Takers.{copies_gathered, taken_by, gathered_by}
 use Rattle.copy_inbox.specs.Items.{copies_of}
 use Rattle.worker_cut.specs.Crossed.{is_own, is_to}
 use Rattle.worker_cut.specs.Laws.{GatheredCopies}
 use Rattle.worker_window.specs.declared.share.Share.{Share}
 use Rattle.worker_window.specs.Share.{Motes, Keeps}
-use Rattle.worker_window.specs.Window.{RunsOwn, GoesOut, copies_out}
+use Rattle.worker_window.specs.Window.{RunsOwn, IsOutgoing, outgoing_by}
 use Rattle.all_workers.specs.declared.workers.Workers.{Workers}
 use Rattle.all_workers.specs.declared.worker.Worker.{Worker}
 use Rattle.all_workers.specs.Workers.{IsAt, IsWorkerAt}
-use Rattle.all_workers.specs.Worker.{worker_of}
-use Rattle.joined_workers.specs.Laws.{RunsAll}
+use Rattle.all_workers.specs.Worker.{make_worker}
+use Rattle.joined_workers.specs.Laws.{GroupRunsUntil}
 use Rattle.all_workers.specs.Workers.{IsCut, IsNotBefore}
 use Rattle.joined_workers.specs.Worker.{IsFirstOf}
 use Rattle.all_workers.proofs.Choose.{choose}
@@ -38,9 +38,9 @@ record Told : Type 0 where
   next : Motes
   taken : List RadioCopy
   gathered : List RadioCopy
-  sent : List RadioCopy
+  outgoing : List RadioCopy
 
-module _ (n : NetTold) (fine : RunsForward (system_of n)) (of : List ℕ) (from until : ℕ) (old new : Workers) (at : IsAt n of from old) (up : from < until) (short : until ≤ from + (system_of n).lookahead) (all : RunsAll n of until old new) where
+module _ (n : NetTold) (fine : RunsForward (system_of n)) (of : List ℕ) (from until : ℕ) (old new : Workers) (at : IsAt n of from old) (up : from < until) (short : until ≤ from + (system_of n).lookahead) (all : GroupRunsUntil n of until old new) where
   abbrev workers : ℕ
   workers = length old.inboxes.items
 
@@ -48,10 +48,10 @@ module _ (n : NetTold) (fine : RunsForward (system_of n)) (of : List ℕ) (from 
     told : GatheredCopies (system_of n) of at.motes v z.gathered
     took : (s : ℕ) → filter (is_from_sender s) z.taken ≡ filter (is_from_sender s) z.gathered
     runs : (k : ℕ) → is_own of v k ≡ true → RunsOwn n (is_own of v) from until at.motes z.next z.taken k
-    out : (s : ℕ) → copies_out n (is_own of v) z.next s ≡ copies_out n (is_own of v) at.motes s ++ filter (is_from_sender s) z.sent
-    goes : Each (GoesOut n of v) z.sent
-    first : (d : Worker) → slice_get all.done v ≡ Some d → IsFirstOf z.sent d.first_out
-    to : (d : Worker) → slice_get all.done v ≡ Some d → (u : ℕ) → delivered d.endpoint u ≡ filter (is_to of u) z.sent
+    out : (s : ℕ) → outgoing_by n (is_own of v) z.next s ≡ outgoing_by n (is_own of v) at.motes s ++ filter (is_from_sender s) z.outgoing
+    goes : Each (IsOutgoing n of v) z.outgoing
+    first : (d : Worker) → slice_get all.done v ≡ Some d → IsFirstOf z.outgoing d.first_out
+    to : (d : Worker) → slice_get all.done v ≡ Some d → (u : ℕ) → delivered d.endpoint u ≡ filter (is_to of u) z.outgoing
     keeps : (d : Worker) → slice_get all.done v ≡ Some d → Keeps n of v until z.next z.taken d.share
     taken_after : (t : TakerView) → slice_get new.takers.items v ≡ Some t → taken_by t ≡ z.taken
     gathering : (t : TakerView) → slice_get new.takers.items v ≡ Some t → gathered_by t ≡ z.gathered ++ delivered_to (map (λ (w : Worker). w.endpoint) all.done) v
@@ -65,32 +65,32 @@ module _ (n : NetTold) (fine : RunsForward (system_of n)) (of : List ℕ) (from 
       of_piece : Piece n of from until old new at all v → (z : Told) × IsPart v z
       of_piece p =
           let w = window n of from until old new at all short up_to v p in
-          let gathered_is : gathered_by p.endpoint.taker ≡ gathered_by p.taker = ap copies_in p.starts.same_gathered in (
-            record { next = w.next; taken = taken_by p.done.endpoint.taker; gathered = gathered_by p.taker; sent = p.ran.sent },
+          let gathered_is : gathered_by p.endpoint.taker ≡ gathered_by p.taker = ap copies_gathered p.starts.same_gathered in (
+            record { next = w.next; taken = taken_by p.done.endpoint.taker; gathered = gathered_by p.taker; outgoing = p.ran.outgoing },
             record {
               told = p.here.gathered;
               took = λ s.
                   ap (λ t. filter (is_from_sender s) (taken_by t)) p.ran.delivers.taker ∙ (p.ran.collects.in_order s ∙ ap (filter (is_from_sender s)) gathered_is);
               runs = w.runs;
               out = w.out;
-              goes = subst (λ k. Each (GoesOut n of k) p.ran.sent) p.number p.ran.out;
-              first = λ d e. subst (λ x. IsFirstOf p.ran.sent x.first_out) (same_found _ p.done d p.done_at e) p.ran.first;
+              goes = subst (λ k. Each (IsOutgoing n of k) p.ran.outgoing) p.number p.ran.out;
+              first = λ d e. subst (λ x. IsFirstOf p.ran.outgoing x.first_out) (same_found _ p.done d p.done_at e) p.ran.first;
               to = λ d e u.
                   ap (λ x. delivered x.endpoint u) (sym (same_found _ p.done d p.done_at e))
-                  ∙ (p.ran.delivers.adds u ∙ ap (λ l. l ++ filter (is_to of u) p.ran.sent) (p.ran.collects.delivers_none u ∙ p.starts.nothing u));
+                  ∙ (p.ran.delivers.adds u ∙ ap (λ l. l ++ filter (is_to of u) p.ran.outgoing) (p.ran.collects.delivers_none u ∙ p.starts.nothing u));
               keeps = λ d e. subst (λ x. Keeps n of v until w.next (taken_by p.done.endpoint.taker) x.share) (same_found _ p.done d p.done_at e) w.keeps;
               taken_after = λ t e. ap taken_by (sym (same_found _ p.gathering t p.gathering_at e)) ∙ ap copies_of p.came.same_taken;
               gathering = λ t e.
                   ap gathered_by (sym (same_found _ p.gathering t p.gathering_at e))
                   ∙ (p.came.adds
                   ∙ (ap (λ l. l ++ delivered_to (map (λ (x : Worker). x.endpoint) all.done) p.done.endpoint.worker)
-                  (ap (λ x. gathered_by x) p.ran.delivers.taker ∙ (ap copies_in p.ran.collects.stays.gathered ∙ gathered_is))
+                  (ap (λ x. gathered_by x) p.ran.delivers.taker ∙ (ap copies_gathered p.ran.collects.stays.gathered ∙ gathered_is))
                   ∙ ap (λ k. gathered_by p.taker ++ delivered_to (map (λ (x : Worker). x.endpoint) all.done) k) (p.ran.delivers.stays.worker ∙ (p.ran.collects.stays.worker ∙ p.number))));
             },
           )
 
   nothing_told : Told
-  nothing_told = record { next = at.motes; taken = []; gathered = []; sent = [] }
+  nothing_told = record { next = at.motes; taken = []; gathered = []; outgoing = [] }
 
   parts : (f : ℕ → Told) × ((v : ℕ) → v < workers → IsPart v (f v))
   parts = choose nothing_told IsPart workers part
@@ -101,8 +101,8 @@ module _ (n : NetTold) (fine : RunsForward (system_of n)) (of : List ℕ) (from 
   gathered : ℕ → List RadioCopy
   gathered v = (parts.0 v).gathered
 
-  sent : ℕ → List RadioCopy
-  sent v = (parts.0 v).sent
+  outgoing : ℕ → List RadioCopy
+  outgoing v = (parts.0 v).outgoing
 
   nexts : ℕ → Motes
   nexts v = (parts.0 v).next
@@ -122,22 +122,22 @@ module _ (n : NetTold) (fine : RunsForward (system_of n)) (of : List ℕ) (from 
   unfolding nexts taken
   runs v h = (is_part v h).runs
 
-  out : (v : ℕ) → v < workers → (s : ℕ) → copies_out n (is_own of v) (nexts v) s ≡ copies_out n (is_own of v) at.motes s ++ filter (is_from_sender s) (sent v)
-  unfolding nexts sent
+  out : (v : ℕ) → v < workers → (s : ℕ) → outgoing_by n (is_own of v) (nexts v) s ≡ outgoing_by n (is_own of v) at.motes s ++ filter (is_from_sender s) (outgoing v)
+  unfolding nexts outgoing
   out v h = (is_part v h).out
 
-  goes : (v : ℕ) → v < workers → Each (GoesOut n of v) (sent v)
-  unfolding sent
+  goes : (v : ℕ) → v < workers → Each (IsOutgoing n of v) (outgoing v)
+  unfolding outgoing
   goes v h = (is_part v h).goes
 
   abbrev after : Motes
-  after = next n fine of workers at.cut from until at.motes up short taken gathered sent nexts told took runs out goes
+  after = next n fine of workers at.cut from until at.motes up short taken gathered outgoing nexts told took runs out goes
 
   abbrev out_to : (v s : ℕ) → List RadioCopy
-  out_to = out_of n fine of workers at.cut from until at.motes up short taken gathered sent nexts told took runs out goes
+  out_to = out_of n fine of workers at.cut from until at.motes up short taken gathered outgoing nexts told took runs out goes
 
-  late : (v : ℕ) → v < workers → Each (λ (copy : RadioCopy). until ≤ copy.at) (sent v)
-  late = sent_late n fine of workers at.cut from until at.motes up short taken gathered sent nexts told took runs out goes at.led
+  late : (v : ℕ) → v < workers → Each (λ (copy : RadioCopy). until ≤ copy.at) (outgoing v)
+  late = sent_late n fine of workers at.cut from until at.motes up short taken gathered outgoing nexts told took runs out goes at.led
 
   endpoints_long : length all.endpoints ≡ length old.shares.items
   endpoints_long =
@@ -145,12 +145,12 @@ module _ (n : NetTold) (fine : RunsForward (system_of n)) (of : List ℕ) (from 
 
   done_long : length all.done ≡ workers
   done_long =
-      as_long _ (map worker_of (zip old.shares.items all.endpoints)) all.done all.ran
-      ∙ (map_long worker_of (zip old.shares.items all.endpoints) ∙ (zip_long old.shares.items all.endpoints endpoints_long ∙ at.shares))
+      as_long _ (map make_worker (zip old.shares.items all.endpoints)) all.done all.ran
+      ∙ (map_long make_worker (zip old.shares.items all.endpoints) ∙ (zip_long old.shares.items all.endpoints endpoints_long ∙ at.shares))
 
   -- of what went to a worker, what one mote sent
   to_one : (v s : ℕ) → filter (is_from_sender s) (delivered_to (map (λ (w : Worker). w.endpoint) all.done) v) ≡ out_to v s
-  unfolding sent
+  unfolding outgoing
   to_one v s = by_endpoint ∙ of_worker (slice_get of s) refl
     where
       by_endpoint : filter (is_from_sender s) (delivered_to (map (λ (w : Worker). w.endpoint) all.done) v) ≡ filter (is_from_sender s) (flat_map (λ (w : Worker). delivered w.endpoint v) all.done)
@@ -163,17 +163,17 @@ module _ (n : NetTold) (fine : RunsForward (system_of n)) (of : List ℕ) (from 
       there_is : (i : ℕ) (d : Worker) → slice_get all.done i ≡ Some d → i < workers
       there_is i d e = subst (λ l. i < l) done_long (inside all.done i d e)
 
-      its_copies : (i : ℕ) (d : Worker) → slice_get all.done i ≡ Some d → filter (is_from_sender s) (delivered d.endpoint v) ≡ filter (is_from_sender s) (filter (is_to of v) (sent i))
+      its_copies : (i : ℕ) (d : Worker) → slice_get all.done i ≡ Some d → filter (is_from_sender s) (delivered d.endpoint v) ≡ filter (is_from_sender s) (filter (is_to of v) (outgoing i))
       its_copies i d e =
           ap (filter (is_from_sender s)) ((is_part i (there_is i d e)).to d e v)
 
       not_its : (i : ℕ) (d : Worker) → slice_get all.done i ≡ Some d → is_own of i s ≡ false → filter (is_from_sender s) (delivered d.endpoint v) ≡ []
       not_its i d e f =
           its_copies i d e
-          ∙ (filter_filter (is_from_sender s) (is_to of v) (sent i)
+          ∙ (filter_filter (is_from_sender s) (is_to of v) (outgoing i)
           ∙ ap (filter (is_to of v)) (let o = out i (there_is i d e) s in let p = rw f at o in sym p))
 
-      of_worker : (o : Option ℕ) → slice_get of s ≡ o → filter (is_from_sender s) (flat_map (λ (w : Worker). delivered w.endpoint v) all.done) ≡ option_map_or (λ u. filter (is_from_sender s) (filter (is_to of v) (sent u))) o []
+      of_worker : (o : Option ℕ) → slice_get of s ≡ o → filter (is_from_sender s) (flat_map (λ (w : Worker). delivered w.endpoint v) all.done) ≡ option_map_or (λ u. filter (is_from_sender s) (filter (is_to of v) (outgoing u))) o []
       of_worker None e = none_of (is_from_sender s) (λ (w : Worker). delivered w.endpoint v) all.done (λ i d f. not_its i d f (ap (λ o. option_map_or (λ w. eqb w i) o false) e))
       of_worker (Some u) e =
           let inside_of : u < workers = each_at (λ w. w < workers) of s u at.cut.there e in
@@ -182,11 +182,11 @@ module _ (n : NetTold) (fine : RunsForward (system_of n)) (of : List ℕ) (from 
           not_its i x f (ap (λ o. option_map_or (λ w. eqb w i) o false) e ∙ ne_eqb u i (λ q. ne (sym q))))
           ∙ its_copies u d.0 d.1
 
-  first_out : (v : ℕ) → v < workers → Each (IsNotBefore new.first_out) (sent v)
-  unfolding sent
+  first_out : (v : ℕ) → v < workers → Each (IsNotBefore new.first_out) (outgoing v)
+  unfolding outgoing
   first_out v h =
       let d = there all.done v (subst (λ l. v < l) (sym done_long) h) in
-      every_weaker _ _ (λ c g. each_at _ all.done v d.0 all.first.none_before d.1 c g) (sent v) ((is_part v h).first d.0 d.1).none_before
+      every_weaker _ _ (λ c g. each_at _ all.done v d.0 all.first.none_before d.1 c g) (outgoing v) ((is_part v h).first d.0 d.1).none_before
 
   worker_after : (v : ℕ) → v < workers → (share : Share) (taker : TakerView) → IsWorkerAt n of until after new.first_out v (get_or new.shares.items v share) (get_or new.takers.items v taker)
   unfolding nexts taken gathered
@@ -200,8 +200,8 @@ module _ (n : NetTold) (fine : RunsForward (system_of n)) (of : List ℕ) (from 
       subst (λ x. IsWorkerAt n of until after new.first_out v x (get_or new.takers.items v taker)) (sym is_share)
       (subst (λ x. IsWorkerAt n of until after new.first_out v d.0.share x) (sym is_taker) (record {
         keeps = subst (λ x. Keeps n of v until after x d.0.share) (sym (p.taken_after t.0 t.1))
-            (keeps_same n of v (nexts v) after (λ k m. next_is n fine of workers at.cut from until at.motes up short taken gathered sent nexts told took runs out goes v k m) until (taken v) d.0.share (p.keeps d.0 d.1));
-        gathered = told_next n fine of workers at.cut from until at.motes up short taken gathered sent nexts told took runs out goes v h (gathered_by t.0) gathers;
+            (keeps_same n of v (nexts v) after (λ k m. next_is n fine of workers at.cut from until at.motes up short taken gathered outgoing nexts told took runs out goes v k m) until (taken v) d.0.share (p.keeps d.0 d.1));
+        gathered = told_next n fine of workers at.cut from until at.motes up short taken gathered outgoing nexts told took runs out goes v h (gathered_by t.0) gathers;
         waits = λ s. record {
           rest = out_to v s;
           all = gathers s ∙ ap (λ l. l ++ out_to v s) (sym (took v h s) ∙ ap (filter (is_from_sender s)) (sym (p.taken_after t.0 t.1)));
@@ -212,16 +212,16 @@ module _ (n : NetTold) (fine : RunsForward (system_of n)) (of : List ℕ) (from 
       takers_long : length new.takers.items ≡ workers
       takers_long = as_long _ new.inboxes.items new.takers.items all.settled ∙ ap length all.inboxes
 
-      out_later : (v s : ℕ) (o : Option ℕ) → slice_get of s ≡ o → Each (IsNotBefore new.first_out) (option_map_or (λ u. filter (is_from_sender s) (filter (is_to of v) (sent u))) o [])
+      out_later : (v s : ℕ) (o : Option ℕ) → slice_get of s ≡ o → Each (IsNotBefore new.first_out) (option_map_or (λ u. filter (is_from_sender s) (filter (is_to of v) (outgoing u))) o [])
       out_later v s None e = tt
       out_later v s (Some u) e =
-          each_of_every _ (filter (is_to of v) (sent u)) (is_from_sender s) (each_of_every _ (sent u) (is_to of v) (first_out u (each_at (λ w. w < workers) of s u at.cut.there e)))
+          each_of_every _ (filter (is_to of v) (outgoing u)) (is_from_sender s) (each_of_every _ (outgoing u) (is_to of v) (first_out u (each_at (λ w. w < workers) of s u at.cut.there e)))
 
   pub moved : IsAt n of until new
-  unfolding sent
+  unfolding outgoing
   moved = record {
     motes = after;
-    led = led_next n fine of workers at.cut from until at.motes up short taken gathered sent nexts told took runs out goes at.led;
+    led = led_next n fine of workers at.cut from until at.motes up short taken gathered outgoing nexts told took runs out goes at.led;
     cut = subst (λ l. IsCut (length n.motes) (length l) of) (sym all.inboxes) at.cut;
     shares = ap length all.shares ∙ (map_long (λ (w : Worker). w.share) all.done ∙ (done_long ∙ sym (ap length all.inboxes)));
     settled = all.settled;

@@ -15,14 +15,14 @@ use Rattle.worker_cut.specs.Crossed.{IsDue}
 use Rattle.all_workers.specs.declared.workers.Workers.{Workers}
 use Rattle.all_workers.specs.declared.worker.Worker.{Worker}
 use Rattle.all_workers.specs.Workers.{IsAt, IsWorkerAt}
-use Rattle.all_workers.specs.Worker.{worker_of}
-use Rattle.joined_workers.specs.Laws.{RunsAll}
+use Rattle.all_workers.specs.Worker.{make_worker}
+use Rattle.joined_workers.specs.Laws.{GroupRunsUntil}
 use Rattle.joined_workers.specs.Worker.{RunsWorker}
 use Rattle.all_workers.proofs.Lookups.{there, read, mapped, paired, beside, as_long}
 use Rattle.all_workers.proofs.Numbered.{numbered}
 use Rattle.joined_workers.proofs.Ready.{arrived_come}
 
-module _ (n : NetTold) (of : List ℕ) (from until : ℕ) (old new : Workers) (at : IsAt n of from old) (all : RunsAll n of until old new) where
+module _ (n : NetTold) (of : List ℕ) (from until : ℕ) (old new : Workers) (at : IsAt n of from old) (all : GroupRunsUntil n of until old new) where
   -- one worker of the window: what it had, and what it has
   pub record Piece (v : ℕ) : Type 0 where
     pub share : Share
@@ -35,7 +35,7 @@ module _ (n : NetTold) (of : List ℕ) (from until : ℕ) (old new : Workers) (a
     pub here : IsWorkerAt n of from at.motes old.first_out v share taker
     pub starts : StartsAs taker endpoint
     pub number : endpoint.worker ≡ v
-    pub ran : RunsWorker n of old.inboxes.items until (worker_of (share, endpoint)) done
+    pub ran : RunsWorker n of old.inboxes.items until (make_worker (share, endpoint)) done
     pub came : GathersDelivered (map (λ (worker : Worker). worker.endpoint) all.done) done.endpoint gathering
 
   takers_long : length old.takers.items ≡ length old.inboxes.items
@@ -46,7 +46,7 @@ module _ (n : NetTold) (of : List ℕ) (from until : ℕ) (old new : Workers) (a
       let s = there old.shares.items v (subst (λ l. v < l) (sym at.shares) h) in
       let t = there old.takers.items v (subst (λ l. v < l) (sym takers_long) h) in
       let c = beside StartsAs old.takers.items all.endpoints all.starts v t.0 t.1 in
-      let d = beside _ _ all.done all.ran v (worker_of (s.0, c.0)) (mapped worker_of (zip old.shares.items all.endpoints) v (s.0, c.0) (paired old.shares.items all.endpoints v s.0 c.0 s.1 c.1)) in
+      let d = beside _ _ all.done all.ran v (make_worker (s.0, c.0)) (mapped make_worker (zip old.shares.items all.endpoints) v (s.0, c.0) (paired old.shares.items all.endpoints v s.0 c.0 s.1 c.1)) in
       let g = beside _ _ new.takers.items all.gathering v d.0.endpoint (mapped (λ (worker : Worker). worker.endpoint) all.done v d.0 d.1) in
       let is_share = read old.shares.items v s.0 s.0 s.1 in
       let is_taker = read old.takers.items v t.0 t.0 t.1 in
@@ -72,9 +72,9 @@ module _ (n : NetTold) (of : List ℕ) (from until : ℕ) (old new : Workers) (a
     pub comes : Each (IsDue of v from) p.ran.arrived
     comes = arrived_come n of from at.motes old.first_out v p.share p.taker p.here at.first p.endpoint p.starts p.ran.between p.ran.arrived p.ran.collects
 
-    pub window : RunsWindow n of v from until at.motes (taken_by p.done.endpoint.taker) p.done.share p.ran.sent
+    pub window : RunsWindow n of v from until at.motes (taken_by p.done.endpoint.taker) p.done.share p.ran.outgoing
     window =
-        subst (λ w. RunsWindow n of w from until at.motes (taken_by p.done.endpoint.taker) p.done.share p.ran.sent) p.number
+        subst (λ w. RunsWindow n of w from until at.motes (taken_by p.done.endpoint.taker) p.done.share p.ran.outgoing) p.number
         (p.ran.runs from at.motes
         (subst (λ w. Keeps n of w from at.motes (taken_by p.endpoint.taker) p.share) (sym p.number) (subst (λ t. Keeps n of v from at.motes t p.share) (sym taken_same) p.here.keeps))
         up short

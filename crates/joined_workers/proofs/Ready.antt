@@ -11,14 +11,14 @@ use Rattle.copy_inbox.specs.Items.{copies_of}
 use Rattle.copy_inbox.specs.Handles.{TakerView}
 use Rattle.copy_exchange.specs.declared.endpoint.Endpoint.{Endpoint}
 use Rattle.copy_exchange.specs.Endpoints.{IsEndpoint, Collects, Together, StartsAs}
-use Rattle.copy_exchange.specs.Takers.{copies_in, taken_by, gathered_by}
+use Rattle.copy_exchange.specs.Takers.{copies_gathered, taken_by, gathered_by}
 use Rattle.copy_exchange.specs.Inboxes.{IsPlain}
 use Rattle.worker_window.specs.declared.share.Share.{Share}
 use Rattle.worker_window.specs.Share.{Motes}
 use Rattle.worker_cut.specs.Crossed.{is_own, IsDue}
 use Rattle.all_workers.specs.declared.workers.Workers.{Workers}
 use Rattle.all_workers.specs.Workers.{IsAt, IsWorkerAt}
-use Rattle.all_workers.specs.Worker.{worker_of}
+use Rattle.all_workers.specs.Worker.{make_worker}
 use Rattle.joined_workers.specs.Worker.{IsReady}
 use Rattle.all_workers.specs.Workers.{IsNotBefore}
 use Rattle.all_workers.proofs.Lookups.{there, inside, read, beside, as_long, each_at, each_zipped, same_found}
@@ -39,7 +39,7 @@ not_before from (Some m) c w h = omega arith
 module _ (n : NetTold) (of : List ℕ) (from : ℕ) (motes : Motes) (first : Option ℕ) (v : ℕ) (share : Share) (taker : TakerView) (here : IsWorkerAt n of from motes first v share taker) (first_from : WakesFrom from first)
     (endpoint : Endpoint) (starts : StartsAs taker endpoint) (between : Endpoint) (arrived : List RadioCopy) (collects : Collects endpoint between arrived) where
   gathered_same : gathered_by endpoint.taker ≡ gathered_by taker
-  gathered_same = ap copies_in starts.same_gathered
+  gathered_same = ap copies_gathered starts.same_gathered
 
   taken_same : taken_by endpoint.taker ≡ taken_by taker
   taken_same = ap copies_of starts.same_taken
@@ -63,7 +63,7 @@ module _ (n : NetTold) (of : List ℕ) (from : ℕ) (motes : Motes) (first : Opt
 
 module _ (n : NetTold) (of : List ℕ) (from until : ℕ) (old : Workers) (at : IsAt n of from old) (up : from ≤ until) (early : until ≤ 2 ^ 40) (plain : Each IsPlain old.takers.items)
     (endpoints : List Endpoint) (together : Together old.inboxes.items endpoints) (starts : AllZip StartsAs old.takers.items endpoints) where
-  one_ready : (v : ℕ) (s : Share) (c : Endpoint) → slice_get old.shares.items v ≡ Some s → slice_get endpoints v ≡ Some c → IsReady n of old.inboxes.items until (worker_of (s, c))
+  one_ready : (v : ℕ) (s : Share) (c : Endpoint) → slice_get old.shares.items v ≡ Some s → slice_get endpoints v ≡ Some c → IsReady n of old.inboxes.items until (make_worker (s, c))
   one_ready v s c e f =
       let h : v < length old.inboxes.items = subst (λ l. v < l) at.shares (inside old.shares.items v s e) in
       let t = there old.takers.items v (subst (λ l. v < l) (sym (as_long _ old.inboxes.items old.takers.items at.settled)) h) in
@@ -89,8 +89,8 @@ module _ (n : NetTold) (of : List ℕ) (from until : ℕ) (old : Workers) (at : 
         plain = set.same_marked ∙ each_at IsPlain old.takers.items v t.0 plain t.1;
         endpoint = each_at (IsEndpoint old.inboxes.items) endpoints v c together.each f;
         own = subst (λ w. Each (λ (x : RadioCopy). is_own of w x.to ≡ true) (gathered_by c.taker)) (sym number)
-            (subst (λ l. Each (λ (x : RadioCopy). is_own of v x.to ≡ true) l) (sym (ap copies_in set.same_gathered)) own);
+            (subst (λ l. Each (λ (x : RadioCopy). is_own of v x.to ≡ true) l) (sym (ap copies_gathered set.same_gathered)) own);
       }
 
-  pub ready : Each (IsReady n of old.inboxes.items until) (map worker_of (zip old.shares.items endpoints))
-  ready = each_zipped (IsReady n of old.inboxes.items until) worker_of old.shares.items endpoints one_ready
+  pub ready : Each (IsReady n of old.inboxes.items until) (map make_worker (zip old.shares.items endpoints))
+  ready = each_zipped (IsReady n of old.inboxes.items until) make_worker old.shares.items endpoints one_ready

@@ -13,20 +13,20 @@ use Rattle.window_laws.specs.Windows.{is_from_sender}
 use Rattle.copy_exchange.proofs.Windows.{returns_from}
 use Rattle.worker_window.specs.declared.share.Share.{Share}
 use Rattle.worker_cut.specs.Crossed.{is_own}
-use Rattle.worker_window.specs.Window.{GoesOut}
+use Rattle.worker_window.specs.Window.{IsOutgoing}
 use Rattle.all_workers.specs.declared.workers.Workers.{Workers}
 use Rattle.all_workers.specs.declared.worker.Worker.{Worker}
 use Rattle.all_workers.specs.Workers.{IsAt}
-use Rattle.all_workers.specs.Worker.{worker_of}
+use Rattle.all_workers.specs.Worker.{make_worker}
 use Rattle.joined_workers.specs.Worker.{RunsWorker}
 use Rattle.all_workers.proofs.Lookups.{read, as_long}
 use Rattle.all_workers.proofs.Step.{own_of}
 
 -- a mote that is another worker's sent nothing of what went out
-none_from : (n : NetTold) (of : List ℕ) (w s : ℕ) → (slice_index of s == w) ≡ false → (sent : List RadioCopy) → Each (GoesOut n of w) sent → filter (is_from_sender s) sent ≡ []
-none_from n of w s other sent out = filter_none (is_from_sender s) sent (every_weaker (GoesOut n of w) (λ (c : RadioCopy). is_from_sender s c ≡ false) one sent out)
+none_from : (n : NetTold) (of : List ℕ) (w s : ℕ) → (slice_index of s == w) ≡ false → (outgoing : List RadioCopy) → Each (IsOutgoing n of w) outgoing → filter (is_from_sender s) outgoing ≡ []
+none_from n of w s other outgoing out = filter_none (is_from_sender s) outgoing (every_weaker (IsOutgoing n of w) (λ (c : RadioCopy). is_from_sender s c ≡ false) one outgoing out)
   where
-    one : (c : RadioCopy) → GoesOut n of w c → is_from_sender s c ≡ false
+    one : (c : RadioCopy) → IsOutgoing n of w c → is_from_sender s c ≡ false
     one c g = of_case (cases_Bool (is_from_sender s c))
       where
         of_case : (is_from_sender s c ≡ true) ⊎ (is_from_sender s c ≡ false) → is_from_sender s c ≡ false
@@ -37,13 +37,13 @@ none_from n of w s other sent out = filter_none (is_from_sender s) sent (every_w
             absurd (false≢true (sym other ∙ eq-eqb (slice_index of s) w its))
 
 module _ (n : NetTold) (of : List ℕ) (until : ℕ) (inboxes : List InboxId) where
-  one_back : (t : TakerView) (s : Share) (c : Endpoint) (d : Worker) → StartsAs t c → RunsWorker n of inboxes until (worker_of (s, c)) d → Returns inboxes (slice_index of) c d.endpoint
+  one_back : (t : TakerView) (s : Share) (c : Endpoint) (d : Worker) → StartsAs t c → RunsWorker n of inboxes until (make_worker (s, c)) d → Returns inboxes (slice_index of) c d.endpoint
   one_back t s c d starts ran =
-      returns_from inboxes of (slice_index of) t c ran.between d.endpoint ran.arrived ran.sent starts ran.collects ran.delivers ran.endpoint
-      (λ k other. none_from n of c.worker k other ran.sent ran.out)
+      returns_from inboxes of (slice_index of) t c ran.between d.endpoint ran.arrived ran.outgoing starts ran.collects ran.delivers ran.endpoint
+      (λ k other. none_from n of c.worker k other ran.outgoing ran.out)
 
   all_back : (takers : List TakerView) (shares : List Share) (endpoints : List Endpoint) (done : List Worker) → AllZip StartsAs takers endpoints → length endpoints ≡ length shares
-      → AllZip (RunsWorker n of inboxes until) (map worker_of (zip shares endpoints)) done → AllZip (Returns inboxes (slice_index of)) endpoints (map (λ (worker : Worker). worker.endpoint) done)
+      → AllZip (RunsWorker n of inboxes until) (map make_worker (zip shares endpoints)) done → AllZip (Returns inboxes (slice_index of)) endpoints (map (λ (worker : Worker). worker.endpoint) done)
   all_back [] [] [] [] starts long ran = tt
   all_back [] [] [] (d ∷ ds) starts long ran = absurd ran
   all_back [] (s ∷ ss) [] ds starts long ran = absurd (omega arith)
@@ -55,7 +55,7 @@ module _ (n : NetTold) (of : List ℕ) (until : ℕ) (inboxes : List InboxId) wh
 
 module _ (n : NetTold) (of : List ℕ) (from until : ℕ) (old : Workers) (at : IsAt n of from old) (endpoints : List Endpoint) (done : List Worker)
     (together : Together old.inboxes.items endpoints) (starts : AllZip StartsAs old.takers.items endpoints)
-    (ran : AllZip (RunsWorker n of old.inboxes.items until) (map worker_of (zip old.shares.items endpoints)) done) where
+    (ran : AllZip (RunsWorker n of old.inboxes.items until) (map make_worker (zip old.shares.items endpoints)) done) where
   endpoints_long : length endpoints ≡ length old.shares.items
   endpoints_long = as_long _ old.takers.items endpoints starts ∙ (as_long _ old.inboxes.items old.takers.items at.settled ∙ sym at.shares)
 

@@ -10,7 +10,7 @@ use Rattle.window_laws.proofs.Lists.{every_append, every_weaker}
 use Rattle.net_agenda.specs.NetSystem.{system_of}
 use Rattle.copy_inbox.specs.Handles.{TakerView}
 use Rattle.copy_exchange.specs.Takers.{taken_by}
-use Rattle.worker_cut.specs.Crossed.{is_own, is_to, copies_known}
+use Rattle.worker_cut.specs.Crossed.{is_own, is_to, copies_seen}
 use Rattle.worker_cut.proofs.Windows.{idle, receivers}
 use Rattle.worker_window.specs.declared.share.Share.{Share}
 use Rattle.worker_window.specs.Share.{Keeps, is_to_come}
@@ -102,7 +102,7 @@ module _ (n : NetTold) (fine : RunsForward (system_of n)) (of : List ℕ) (from 
   no_copy_to : (s v : ℕ) → Piece v → Each (λ (c : RadioCopy). is_own of v c.to ≡ true → (from ≤ c.at → moment ≤ c.at)) (copies_by (system_of n) at.motes s)
   no_copy_to s v p = of_case (cases_Bool (is_own of v s))
     where
-      known : Each (λ (c : RadioCopy). moment ≤ c.at) (filter (is_to_come (is_own of v) from) (copies_known (system_of n) (is_own of v) at.motes (taken_by p.taker) s))
+      known : Each (λ (c : RadioCopy). moment ≤ c.at) (filter (is_to_come (is_own of v) from) (copies_seen (system_of n) (is_own of v) at.motes (taken_by p.taker) s))
       known = (p.tells n of v from at.motes (taken_by p.taker) p.here.keeps).no_copies moment p.later s
 
       of_case : (is_own of v s ≡ true) ⊎ (is_own of v s ≡ false) → Each (λ (c : RadioCopy). is_own of v c.to ≡ true → (from ≤ c.at → moment ≤ c.at)) (copies_by (system_of n) at.motes s)

@@ -10,19 +10,19 @@ use Rattle.copy_exchange.specs.Endpoints.{Together, StartsAs, GathersDelivered}
 use Rattle.copy_exchange.specs.Inboxes.{Settled}
 use Rattle.all_workers.specs.declared.workers.Workers.{Workers}
 use Rattle.all_workers.specs.declared.worker.Worker.{Worker}
-use Rattle.all_workers.specs.Worker.{worker_of}
+use Rattle.all_workers.specs.Worker.{make_worker}
 use Rattle.all_workers.specs.Workers.{IsAt}
 use Rattle.joined_workers.specs.Next.{IsNextOfAll, FirstOfAll}
 use Rattle.joined_workers.specs.Worker.{RunsWorker}
 
 -- The senders of all workers were made together, each worker ran through the window with its own, and then all senders
 -- were gathered.
-pub record RunsAll (n : NetTold) (of : List ℕ) (until : ℕ) (old new : Workers) : Type 0 where
+pub record GroupRunsUntil (n : NetTold) (of : List ℕ) (until : ℕ) (old new : Workers) : Type 0 where
   pub endpoints : List Endpoint
   pub done : List Worker
   pub together : Together old.inboxes.items endpoints
   pub starts : AllZip StartsAs old.takers.items endpoints
-  pub ran : AllZip (RunsWorker n of old.inboxes.items until) (map worker_of (zip old.shares.items endpoints)) done
+  pub ran : AllZip (RunsWorker n of old.inboxes.items until) (map make_worker (zip old.shares.items endpoints)) done
   pub shares : new.shares.items ≡ map (λ worker. worker.share) done
   pub gathering : AllZip (GathersDelivered (map (λ (worker : Worker). worker.endpoint) done))
       (map (λ (worker : Worker). worker.endpoint) done) new.takers.items
@@ -34,7 +34,7 @@ pub record RunsAll (n : NetTold) (of : List ℕ) (until : ℕ) (old new : Worker
 abbrev pub WindowMovesOn : Type 0
 WindowMovesOn = (n : NetTold) → RunsForward (system_of n) → (of : List ℕ) (from until : ℕ) (old new : Workers)
     → IsAt n of from old → from < until → until ≤ from + (system_of n).lookahead
-    → RunsAll n of until old new → IsAt n of until new
+    → GroupRunsUntil n of until old new → IsAt n of until new
 
 -- the next moment at which something comes isn't sooner than where the workers stand, and until then they stand
 abbrev pub StandsUntilNext : Type 0

@@ -12,7 +12,7 @@ use Rattle.copy_exchange.specs.Takers.{taken_by, gathered_by}
 use Rattle.copy_exchange.specs.Inboxes.{IsPlain}
 use Rattle.worker_cut.specs.Crossed.{is_own, IsDue}
 use Rattle.worker_window.specs.Share.{Motes, Keeps}
-use Rattle.worker_window.specs.Window.{CanRun, RunsWindow, GoesOut}
+use Rattle.worker_window.specs.Window.{CanRun, RunsWindow, IsOutgoing}
 use Rattle.all_workers.specs.Workers.{IsCut, IsNotBefore}
 use Rattle.all_workers.specs.declared.worker.Worker.{Worker}
 
@@ -34,18 +34,24 @@ pub record IsFirstOf (copies : List RadioCopy) (first : Option ℕ) : Type 0 whe
   pub none_before : Each (IsNotBefore first) copies
   pub greatest : (moment : ℕ) → Each (λ (copy : RadioCopy). moment ≤ copy.at) copies → WakesFrom moment first
 
--- The worker took in what was sent to it, ran its motes, and delivered what they sent to motes of others.
+-- Wherever the share stood, where its window is no longer than the lookahead and each copy that arrived is due: the new
+-- share is what the window makes of it, on all that the worker has then taken, and these are the outgoing copies.
+abbrev pub RunsItsMotes : NetTold → (of : List ℕ) → (until : ℕ) → (arrived outgoing : List RadioCopy)
+    → (old new : Worker) → Type 0
+RunsItsMotes n of until arrived outgoing old new = (from : ℕ) (motes : Motes)
+    → Keeps n of old.endpoint.worker from motes (taken_by old.endpoint.taker) old.share
+    → from ≤ until → until ≤ from + (system_of n).lookahead
+    → Each (IsDue of old.endpoint.worker from) arrived
+    → RunsWindow n of old.endpoint.worker from until motes (taken_by new.endpoint.taker) new.share outgoing
+
+-- The worker took in what was sent to it, ran its motes, and delivered the outgoing copies.
 pub record RunsWorker (n : NetTold) (of : List ℕ) (inboxes : List InboxId) (until : ℕ) (old new : Worker) : Type 0 where
   pub arrived : List RadioCopy
-  pub sent : List RadioCopy
+  pub outgoing : List RadioCopy
   pub between : Endpoint
   pub collects : Collects old.endpoint between arrived
-  pub delivers : Delivers of between new.endpoint sent
+  pub delivers : Delivers of between new.endpoint outgoing
   pub endpoint : IsEndpoint inboxes new.endpoint
-  pub runs : (from : ℕ) (motes : Motes)
-      → Keeps n of old.endpoint.worker from motes (taken_by old.endpoint.taker) old.share
-      → from ≤ until → until ≤ from + (system_of n).lookahead
-      → Each (IsDue of old.endpoint.worker from) arrived
-      → RunsWindow n of old.endpoint.worker from until motes (taken_by new.endpoint.taker) new.share sent
-  pub out : Each (GoesOut n of old.endpoint.worker) sent
-  pub first : IsFirstOf sent new.first_out
+  pub runs : RunsItsMotes n of until arrived outgoing old new
+  pub out : Each (IsOutgoing n of old.endpoint.worker) outgoing
+  pub first : IsFirstOf outgoing new.first_out

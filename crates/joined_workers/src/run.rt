@@ -7,7 +7,7 @@ ghost use Rattle.net_agenda.specs.NetSystem.{system_of};
 ghost use Rattle.std.specs.List.{AllByRecursion as Each};
 ghost use Rattle.copy_exchange.specs.Inboxes.{IsPlain};
 ghost use Rattle.all_workers.specs.Workers.{IsAt};
-ghost use Rattle.joined_workers.specs.Run.{BeginsAt, RunsToEnd};
+ghost use Rattle.joined_workers.specs.Run.{BeginsAt, GroupRunsToEnd};
 ghost use Rattle.all_workers.specs.WindowWidth.{width_of_window};
 
 use crate::next::next_moment;
@@ -60,7 +60,7 @@ where
     ensures at { let n = net_of net.now in IfOk result (λ done. IsAt n of.now (suc n.end) done) }
     ensures inboxes { IfOk result (λ done. done.inboxes.items ≡ group.inboxes.items) }
     ensures windows { let n = net_of net.now in
-        IfOk result (RunsToEnd n of.now (width_of_window (system_of n).lookahead longest) group) }
+        IfOk result (GroupRunsToEnd n of.now (width_of_window (system_of n).lookahead longest) group) }
 {
     let end = net.end();
     let width = window_width(lookahead_of(net), longest);

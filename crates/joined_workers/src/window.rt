@@ -9,7 +9,7 @@ ghost use Rattle.window_laws.specs.System.{RunsForward};
 ghost use Rattle.copy_exchange.specs.Endpoints.{AllReturn, GathersDelivered};
 ghost use Rattle.copy_exchange.specs.Inboxes.{IsPlain, Settled};
 ghost use Rattle.all_workers.specs.Workers.{IsAt};
-ghost use Rattle.joined_workers.specs.Laws.{RunsAll};
+ghost use Rattle.joined_workers.specs.Laws.{GroupRunsUntil};
 ghost use Rattle.joined_workers.specs.Worker.{IsReady, RunsWorker};
 
 use crate::next::first_of_all;
@@ -79,7 +79,7 @@ where
     requires few { length group.inboxes.items ≤ 16 }
     requires stands { (from : ℕ) × IsAt (net_of net.now) of.now from group × (from ≤ until) }
     requires plain { Each IsPlain group.takers.items }
-    ensures runs { IfOk result (RunsAll (net_of net.now) of.now until group) }
+    ensures runs { IfOk result (GroupRunsUntil (net_of net.now) of.now until group) }
     ensures plain { IfOk result (λ done. Each IsPlain done.takers.items) }
 {
     let Workers {
@@ -131,7 +131,7 @@ where
     requires few { length group.inboxes.items ≤ 16 }
     requires stands { (from : ℕ) × IsAt (net_of net.now) of.now from group × (from ≤ until) }
     requires plain { Each IsPlain group.takers.items }
-    ensures runs { IfOk result (RunsAll (net_of net.now) of.now until group) }
+    ensures runs { IfOk result (GroupRunsUntil (net_of net.now) of.now until group) }
     ensures moves { let n = net_of net.now in RunsForward (system_of n) → IfOk result
         (λ done. (from : ℕ) → IsAt n of.now from group → from < until → until ≤ from + (system_of n).lookahead
         → IsAt n of.now until done) }

@@ -74,7 +74,7 @@ fn first_of(copies: &[RadioCopy]) -> Option<u64>
 }
 
 /// Has a worker take in what other workers sent in earlier windows, while they may already send more; run its motes
-/// through the window; and deliver what they sent to the motes of others.
+/// through the window; and deliver the outgoing copies.
 fn run_worker<R: Wait + RandomSource + AllocGlobal, G: Gate>(
     rt: &R,
     gate: &G,
@@ -96,12 +96,12 @@ fn run_worker<R: Wait + RandomSource + AllocGlobal, G: Gate>(
         return Err(Refused::Memory);
     };
     let ran = share.run_window(rt, window.net, window.of, arrived, window.until, gate);
-    let sent = match ran {
-        Ok(sent) => sent,
+    let outgoing = match ran {
+        Ok(outgoing) => outgoing,
         Err(error) => return Err(refusal_of(error)),
     };
-    let first_out = first_of(&sent);
-    let Ok(()) = endpoint.deliver(rt, window.inboxes, window.of, sent) else {
+    let first_out = first_of(&outgoing);
+    let Ok(()) = endpoint.deliver(rt, window.inboxes, window.of, outgoing) else {
         return Err(Refused::Memory);
     };
     Ok(Worker {

@@ -1,27 +1,25 @@
 -- What came early can't be seen.
 use Rattle.std.proofs.Common.{◌≡◌, ℕ, zero, suc, ◌+◌, ◌-◌, ◌<◌, ◌≤◌, Bool, true, false, List, [], ◌∷◌, ◌++◌, map, filter, refl, sym, ap, ◌∙◌, arith, subst, append_assoc, append-nil}
 use Rattle.std.specs.List.{AllByRecursion as Each}
-use Rattle.std.proofs.lemmas.List.Elements.{filter-append, filter_map-append}
+use Rattle.std.proofs.lemmas.List.Elements.{filter-append}
 use Rattle.radio_packet.specs.declared.copy.RadioCopy.{RadioCopy}
 use Rattle.copy_inbox.specs.declared.items.Carried.{Carried}
 use Rattle.copy_inbox.specs.declared.items.Carried.TheVariants.{Packet, Mark}
-use Rattle.copy_inbox.specs.Items.{carried_copy}
-use Rattle.mark_exchange.specs.Pushes.{marks_in, packets_in, pushes, sent_before}
+use Rattle.copy_exchange.specs.Takers.{copies_in}
+use Rattle.copy_exchange.proofs.Parts.{copies_in-append}
+use Rattle.mark_exchange.specs.Pushes.{marks_in, pushes, sent_before}
 use Rattle.mark_exchange.specs.Laws.{EarlyIsUnseen}
 use Rattle.mark_exchange.proofs.Whole.{closed, closed_pushes, closed_after, none_closed, marks_pushes}
 
-pub packets_append : (xs ys : List Carried) → packets_in (xs ++ ys) ≡ packets_in xs ++ packets_in ys
-packets_append xs ys = filter_map-append carried_copy xs ys
+copies_window : (cs : List RadioCopy) (n : ℕ) → copies_in (map Packet cs ++ Mark n ∷ []) ≡ cs
+copies_window [] n = refl
+copies_window (c ∷ cs) n = ap (λ l. c ∷ l) (copies_window cs n)
 
-packets_window : (cs : List RadioCopy) (n : ℕ) → packets_in (map Packet cs ++ Mark n ∷ []) ≡ cs
-packets_window [] n = refl
-packets_window (c ∷ cs) n = ap (λ l. c ∷ l) (packets_window cs n)
-
-pub packets_pushes : (k : ℕ) (sent : ℕ → List RadioCopy) → packets_in (pushes k sent) ≡ sent_before k sent
-packets_pushes zero sent = refl
-packets_pushes (suc k) sent =
-    packets_append (pushes k sent) (map Packet (sent k) ++ Mark k ∷ [])
-    ∙ (ap (λ l. l ++ packets_in (map Packet (sent k) ++ Mark k ∷ [])) (packets_pushes k sent) ∙ ap (λ l. sent_before k sent ++ l) (packets_window (sent k) k))
+pub copies_pushes : (k : ℕ) (sent : ℕ → List RadioCopy) → copies_in (pushes k sent) ≡ sent_before k sent
+copies_pushes zero sent = refl
+copies_pushes (suc k) sent =
+    copies_in-append (pushes k sent) (map Packet (sent k) ++ Mark k ∷ [])
+    ∙ (ap (λ l. l ++ copies_in (map Packet (sent k) ++ Mark k ∷ [])) (copies_pushes k sent) ∙ ap (λ l. sent_before k sent ++ l) (copies_window (sent k) k))
 
 -- what is pushed from window k on
 abbrev from_window : (k more : ℕ) → (ℕ → List RadioCopy) → List Carried
@@ -74,23 +72,23 @@ module _ (p : RadioCopy → Bool) where
   filter_none [] h = refl
   filter_none (x ∷ xs) h = rw h.0 (filter_none xs h.1)
 
-  later_none : (k m : ℕ) (sent : ℕ → List RadioCopy) → ((j : ℕ) → k ≤ j → j < k + m → NonePasses (sent j)) → NonePasses (packets_in (from_window k m sent))
+  later_none : (k m : ℕ) (sent : ℕ → List RadioCopy) → ((j : ℕ) → k ≤ j → j < k + m → NonePasses (sent j)) → NonePasses (copies_in (from_window k m sent))
   later_none k zero sent h = tt
   later_none k (suc m) sent h =
-      let one : NonePasses (packets_in (map Packet (sent (k + m)) ++ Mark (k + m) ∷ [])) = subst NonePasses (sym (packets_window (sent (k + m)) (k + m))) (h (k + m) (omega arith) (omega arith)) in
-      subst NonePasses (sym (packets_append (from_window k m sent) (map Packet (sent (k + m)) ++ Mark (k + m) ∷ [])))
-      (none_passes (packets_in (from_window k m sent)) (packets_in (map Packet (sent (k + m)) ++ Mark (k + m) ∷ [])) (later_none k m sent (λ j le lt. h j le (omega arith))) one)
+      let one : NonePasses (copies_in (map Packet (sent (k + m)) ++ Mark (k + m) ∷ [])) = subst NonePasses (sym (copies_window (sent (k + m)) (k + m))) (h (k + m) (omega arith) (omega arith)) in
+      subst NonePasses (sym (copies_in-append (from_window k m sent) (map Packet (sent (k + m)) ++ Mark (k + m) ∷ [])))
+      (none_passes (copies_in (from_window k m sent)) (copies_in (map Packet (sent (k + m)) ++ Mark (k + m) ∷ [])) (later_none k m sent (λ j le lt. h j le (omega arith))) one)
 
   unseen : (windows k m : ℕ) (sent : ℕ → List RadioCopy) (taken rest : List Carried) → windows ≡ k + m → pushes windows sent ≡ taken ++ rest → k ≤ marks_in taken
-      → ((j : ℕ) → k ≤ j → j < k + m → NonePasses (sent j)) → filter p (packets_in taken) ≡ filter p (sent_before k sent)
+      → ((j : ℕ) → k ≤ j → j < k + m → NonePasses (sent j)) → filter p (copies_in taken) ≡ filter p (sent_before k sent)
   unseen windows k m sent taken rest is e low h =
       let f = sym (pushes_both k m sent) ∙ (ap (λ i. pushes i sent) (sym is) ∙ e) in
       let g = goes_on (pushes k sent) (from_window k m sent) taken rest f (closed_pushes k sent) (let c = marks_pushes k sent in omega arith) in
-      let none = front_none (packets_in g.0) (packets_in rest) (subst NonePasses (ap packets_in g.2 ∙ packets_append g.0 rest) (later_none k m sent h)) in
-      ap (λ l. filter p (packets_in l)) g.1
-      ∙ (ap (filter p) (packets_append (pushes k sent) g.0 ∙ ap (λ l. l ++ packets_in g.0) (packets_pushes k sent))
-      ∙ (filter-append p (sent_before k sent) (packets_in g.0)
-      ∙ (ap (λ l. filter p (sent_before k sent) ++ l) (filter_none (packets_in g.0) none) ∙ append-nil (filter p (sent_before k sent)))))
+      let none = front_none (copies_in g.0) (copies_in rest) (subst NonePasses (ap copies_in g.2 ∙ copies_in-append g.0 rest) (later_none k m sent h)) in
+      ap (λ l. filter p (copies_in l)) g.1
+      ∙ (ap (filter p) (copies_in-append (pushes k sent) g.0 ∙ ap (λ l. l ++ copies_in g.0) (copies_pushes k sent))
+      ∙ (filter-append p (sent_before k sent) (copies_in g.0)
+      ∙ (ap (λ l. filter p (sent_before k sent) ++ l) (filter_none (copies_in g.0) none) ∙ append-nil (filter p (sent_before k sent)))))
 
 pub early_is_unseen : EarlyIsUnseen
 early_is_unseen sees windows window sent taken within begins lead none =

@@ -39,5 +39,5 @@ pub marks_lead_on : MarksLeadOn
 marks_lead_on n of width windows workers all window other worker low p =
     let is = pair n of width windows workers all worker other p.to_there p.from_there p.apart in
     let lead = (all.ran worker p.to_there).marks_lead (suc window) (omega arith) is.number is.was_made in
-    let same = ap (λ i. marks_in (part i ((all.history worker).taken (suc window)))) (number_is n of width windows workers all other worker p.from_there p.to_there p.apart) in
+    let same = ap (λ i. marks_in (part i ((all.histories worker).taken (suc window)))) (number_is n of width windows workers all other worker p.from_there p.to_there p.apart) in
     omega arith

@@ -27,25 +27,25 @@ EachRunHasAll = (n : NetTold) (of : List ℕ) (width : ℕ) (old new : Workers)
 -- the threads end at the end of the protocol
 abbrev pub RunsEndAtEnd : Type 0
 RunsEndAtEnd = (n : NetTold) (of : List ℕ) (width windows workers : ℕ) (all : AllRan n of width windows workers)
-    → IsAtEnd (plan_of of windows workers all.history) (state_of n of width windows workers all)
+    → IsAtEnd (plan_of of windows workers all.histories) (state_of n of width windows workers all)
 
 -- when a worker began the window after this one, it had taken the marks of this one from each other
 abbrev pub MarksLeadOn : Type 0
 MarksLeadOn = (n : NetTold) (of : List ℕ) (width windows workers : ℕ) (all : AllRan n of width windows workers)
-    → (window other worker : ℕ) → window < windows → IsPair (plan_of of windows workers all.history) other worker
-    → window < marks_in (part (number_of (all.sender worker other)) ((all.history worker).taken (suc window)))
+    → (window other worker : ℕ) → window < windows → IsPair (plan_of of windows workers all.histories) other worker
+    → window < marks_in (part (number_of (all.sender worker other)) ((all.histories worker).taken (suc window)))
 
 -- no two senders on an inbox have one number
 abbrev pub SendersAreApart : Type 0
 SendersAreApart = (n : NetTold) (of : List ℕ) (width windows workers : ℕ) (all : AllRan n of width windows workers)
     → (v w u : ℕ)
-    → IsPair (plan_of of windows workers all.history) v u → IsPair (plan_of of windows workers all.history) w u
+    → IsPair (plan_of of windows workers all.histories) v u → IsPair (plan_of of windows workers all.histories) w u
     → number_of (all.sender u v) ≡ number_of (all.sender u w) → v ≡ w
 
 -- where each other worker ran its motes in each window that it has begun, each copy that a worker may take is due
 abbrev pub NoCopyIsUndue : Type 0
-NoCopyIsUndue = (n : NetTold) (of : List ℕ) (width windows workers : ℕ) (history : ℕ → WorkerHistory) (w : State)
-    → IsReached (plan_of of windows workers history) w → (worker other : ℕ)
-    → ((k : ℕ) → k ≤ w.finished other → k < windows → RanWindow n of width other (history other) k)
-    → (copy : RadioCopy) → MayTake (plan_of of windows workers history) w worker other (Packet copy)
+NoCopyIsUndue = (n : NetTold) (of : List ℕ) (width windows workers : ℕ) (histories : ℕ → WorkerHistory) (w : State)
+    → IsReached (plan_of of windows workers histories) w → (worker other : ℕ)
+    → ((k : ℕ) → k ≤ w.finished other → k < windows → RanWindow n of width other (histories other) k)
+    → (copy : RadioCopy) → MayTake (plan_of of windows workers histories) w worker other (Packet copy)
     → IsDue of worker (bound width n.end (suc (w.finished worker))) copy

@@ -12,11 +12,11 @@ use Rattle.marked_workers.specs.Bounds.{bound}
 use Rattle.marked_workers.specs.WorkerHistory.{WorkerHistory, RunsMotes}
 
 -- what the motes of each worker sent to those of each other, window by window
-abbrev pub plan_of : (of : List ℕ) → (windows workers : ℕ) → (history : ℕ → WorkerHistory) → Plan
-plan_of of windows workers history = record {
+abbrev pub plan_of : (of : List ℕ) → (windows workers : ℕ) → (histories : ℕ → WorkerHistory) → Plan
+plan_of of windows workers histories = record {
   workers = workers;
   windows = windows;
-  sent = λ from to k. filter (is_to of to) ((history from).sent k);
+  sent = λ from to k. filter (is_to of to) ((histories from).outgoing k);
 }
 
 abbrev pub number_of : Option SenderView → ℕ
@@ -36,4 +36,4 @@ state_of n of width windows workers all = record {
 abbrev pub RanWindow : NetTold → (of : List ℕ) → (width worker : ℕ) → WorkerHistory → (window : ℕ) → Type 0
 RanWindow n of width worker history k =
     RunsMotes n of worker (bound width n.end k) (bound width n.end (suc k)) (history.motes k) (history.motes (suc k))
-    (copies_of (history.taken k)) (history.sent k)
+    (copies_of (history.taken k)) (history.outgoing k)

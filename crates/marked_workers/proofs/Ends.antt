@@ -12,13 +12,12 @@ use Rattle.copy_inbox.specs.Gathered.{Whole}
 use Rattle.copy_inbox.specs.Items.{copies_of, part, BeginsWith}
 use Rattle.copy_inbox.specs.Handles.{InboxId, TakerView, SenderView, AllGathered, PacketsLeft}
 use Rattle.copy_inbox.specs.Views.{make_taker_state}
-use Rattle.copy_exchange.specs.Takers.{taken_by, gathered_by, IsOrderly}
+use Rattle.copy_exchange.specs.Takers.{copies_in, taken_by, gathered_by, IsOrderly}
 use Rattle.copy_exchange.specs.Inboxes.{IsSettled}
 use Rattle.copy_exchange.proofs.Gathers.{OneOf, with_joined, gather_is}
 use Rattle.copy_exchange.proofs.AfterWindow.{zip_each}
 use Rattle.copy_exchange.proofs.Parts.{from}
-use Rattle.mark_exchange.specs.Pushes.{packets_in}
-use Rattle.mark_exchange.proofs.Early.{packets_pushes}
+use Rattle.mark_exchange.proofs.Early.{copies_pushes}
 use Rattle.worker_window.specs.declared.share.Share.{Share}
 use Rattle.worker_window.specs.Share.{Motes, Keeps}
 use Rattle.all_workers.specs.declared.workers.Workers.{Workers}
@@ -97,7 +96,7 @@ module _ (n : NetTold) (of : List ℕ) (width windows : ℕ) (group : Workers) (
   no_part = record {
     state = make_taker_state false 0 [] [];
     senders = [];
-    history = record { motes = λ k. first_mote (system_of n); taken = λ k. []; sent = λ k. [] };
+    history = record { motes = λ k. first_mote (system_of n); taken = λ k. []; outgoing = λ k. [] };
   }
 
   parts : (f : ℕ → Part) × ((v : ℕ) → v < workers → IsPart v (f v))
@@ -109,7 +108,7 @@ module _ (n : NetTold) (of : List ℕ) (width windows : ℕ) (group : Workers) (
     taken = λ v. (parts.0 v).state.taken;
     sender = h.sender;
     senders = λ u. (parts.0 u).senders;
-    history = λ v. (parts.0 v).history;
+    histories = λ v. (parts.0 v).history;
     ran = λ v low. (parts.1 v low).ran;
     are_senders = λ u low. (parts.1 u low).are_senders;
     begun = λ u low. (parts.1 u low).begun;
@@ -156,9 +155,9 @@ module _ (n : NetTold) (of : List ℕ) (width windows : ℕ) (group : Workers) (
           let number : ℕ = (pair n of width windows workers all v w low lw ne).number in
           sym (all_had s)
           ∙ (copies_from n of width windows workers all v low windows (omega arith) s w lw ne e
-          ∙ (ap (λ l. from s (packets_in (part number l))) p.ran.all
-          ∙ (ap (λ l. from s (packets_in l)) (pair_taken n of width windows workers all v low w lw ne)
-          ∙ (ap (from s) (packets_pushes windows _) ∙ sym (of_worker n of width windows workers all h.cut are v windows s w (omega arith) lw e)))))
+          ∙ (ap (λ l. from s (copies_in (part number l))) p.ran.all
+          ∙ (ap (λ l. from s (copies_in l)) (pair_taken n of width windows workers all v low w lw ne)
+          ∙ (ap (from s) (copies_pushes windows _) ∙ sym (of_worker n of width windows workers all h.cut are v windows s w (omega arith) lw e)))))
 
       crossed_is : (s : ℕ) → from s (copies_of z.state.taken) ≡ crossed (system_of n) of motes v s
       crossed_is s = elim (cases_Bool (is_own of v s)) [

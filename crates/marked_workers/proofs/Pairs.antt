@@ -11,10 +11,11 @@ use Rattle.window_laws.proofs.Lists.{filter_filter, filter_none, every_weaker}
 use Rattle.worker_cut.specs.Crossed.{is_own, is_to}
 use Rattle.copy_inbox.specs.Items.{copies_of, part, BeginsWith}
 use Rattle.copy_inbox.specs.Handles.{SenderView}
-use Rattle.copy_exchange.proofs.Parts.{from, from-append, of_one_sender}
-use Rattle.mark_exchange.specs.Pushes.{packets_in, pushes}
-use Rattle.mark_exchange.proofs.Early.{packets_append, packets_pushes}
-use Rattle.worker_window.specs.Window.{GoesOut}
+use Rattle.copy_exchange.specs.Takers.{copies_in}
+use Rattle.copy_exchange.proofs.Parts.{from, from-append, copies_in-append, of_one_sender}
+use Rattle.mark_exchange.specs.Pushes.{pushes}
+use Rattle.mark_exchange.proofs.Early.{copies_pushes}
+use Rattle.worker_window.specs.Window.{IsOutgoing}
 use Rattle.all_workers.proofs.Lookups.{there, inside, read, mapped, same_found, each_at}
 use Rattle.copy_exchange.specs.Endpoints.{pushed_list}
 use Rattle.marked_workers.specs.All.{AllRan}
@@ -32,20 +33,20 @@ pub not_other : (of : List ℕ) (v w s : ℕ) → slice_get of s ≡ Some v → 
 not_other of v w s e ne = ap (λ o. option_map_or (λ x. eqb x w) o false) e ∙ ne_eqb v w ne
 
 -- what goes out of a worker is of its own motes
-foreign_none : (n : NetTold) (of : List ℕ) (v s : ℕ) → is_own of v s ≡ false → (sent : List RadioCopy) → Each (GoesOut n of v) sent → filter (is_from_sender s) sent ≡ []
-foreign_none n of v s other sent goes =
-    filter_none (is_from_sender s) sent
-    (every_weaker (GoesOut n of v) (λ (c : RadioCopy). is_from_sender s c ≡ false) (λ c g. ne_eqb c.sender s (λ e. false≢true (sym other ∙ (ap (is_own of v) (sym e) ∙ g.sender)))) sent goes)
+foreign_none : (n : NetTold) (of : List ℕ) (v s : ℕ) → is_own of v s ≡ false → (outgoing : List RadioCopy) → Each (IsOutgoing n of v) outgoing → filter (is_from_sender s) outgoing ≡ []
+foreign_none n of v s other outgoing goes =
+    filter_none (is_from_sender s) outgoing
+    (every_weaker (IsOutgoing n of v) (λ (c : RadioCopy). is_from_sender s c ≡ false) (λ c g. ne_eqb c.sender s (λ e. false≢true (sym other ∙ (ap (is_own of v) (sym e) ∙ g.sender)))) outgoing goes)
 
 module _ (n : NetTold) (of : List ℕ) (width windows workers : ℕ) (all : AllRan n of width windows workers) where
   -- what worker v sent to the motes of worker u, in each window
   abbrev pub sent_to : (v u : ℕ) → ℕ → List RadioCopy
-  sent_to v u k = filter (is_to of u) ((all.history v).sent k)
+  sent_to v u k = filter (is_to of u) ((all.histories v).outgoing k)
 
   pub none_sent : (v u s k : ℕ) → v < workers → k < windows → is_own of v s ≡ false → from s (sent_to v u k) ≡ []
   none_sent v u s k there_is low other =
-      filter_filter (is_from_sender s) (is_to of u) ((all.history v).sent k)
-      ∙ ap (filter (is_to of u)) (foreign_none n of v s other ((all.history v).sent k) ((all.ran v there_is).runs k low).goes)
+      filter_filter (is_from_sender s) (is_to of u) ((all.histories v).outgoing k)
+      ∙ ap (filter (is_to of u)) (foreign_none n of v s other ((all.histories v).outgoing k) ((all.ran v there_is).runs k low).goes)
 
   -- the sender of worker v on the inbox of worker u
   pub record Pair (u v : ℕ) : Type 0 where
@@ -71,28 +72,28 @@ module _ (n : NetTold) (of : List ℕ) (width windows workers : ℕ) (all : AllR
 
   module _ (u : ℕ) (lu : u < workers) (k : ℕ) (le : k ≤ windows) where
     -- what had come of it before the window is a beginning of what was pushed
-    pub front : (v : ℕ) (lv : v < workers) (ne : v ≢ u) → BeginsWith (pushes windows (sent_to v u)) (part (pair u v lu lv ne).number ((all.history u).taken k))
+    pub front : (v : ℕ) (lv : v < workers) (ne : v ≢ u) → BeginsWith (pushes windows (sent_to v u)) (part (pair u v lu lv ne).number ((all.histories u).taken k))
     front v lv ne =
         let p = pair u v lu lv ne in
-        let more = part_begins n of width windows workers u (all.made u) (all.taken u) (λ w. pushed_list (all.sender w u)) (all.history u) (all.ran u lu) k le p.number in
-        (more.0 ++ p.begins.0, p.begins.1 ∙ (ap (λ l. l ++ p.begins.0) more.1 ∙ append_assoc (part p.number ((all.history u).taken k)) more.0 p.begins.0))
+        let more = part_begins n of width windows workers u (all.made u) (all.taken u) (λ w. pushed_list (all.sender w u)) (all.histories u) (all.ran u lu) k le p.number in
+        (more.0 ++ p.begins.0, p.begins.1 ∙ (ap (λ l. l ++ p.begins.0) more.1 ∙ append_assoc (part p.number ((all.histories u).taken k)) more.0 p.begins.0))
 
     module _ (s : ℕ) where
-      none_of_pair : (v : ℕ) (lv : v < workers) (ne : v ≢ u) → is_own of v s ≡ false → from s (packets_in (part (pair u v lu lv ne).number ((all.history u).taken k))) ≡ []
+      none_of_pair : (v : ℕ) (lv : v < workers) (ne : v ≢ u) → is_own of v s ≡ false → from s (copies_in (part (pair u v lu lv ne).number ((all.histories u).taken k))) ≡ []
       none_of_pair v lv ne other =
           let f = front v lv ne in
-          let had = part (pair u v lu lv ne).number ((all.history u).taken k) in
-          first_none (from s (packets_in had)) (from s (packets_in f.0))
-          (sym (from-append s (packets_in had) (packets_in f.0))
-          ∙ (ap (from s) (sym (packets_append had f.0))
-          ∙ (ap (λ l. from s (packets_in l)) (sym f.1)
-          ∙ (ap (from s) (packets_pushes windows (sent_to v u)) ∙ none_before s (sent_to v u) windows (λ j low. none_sent v u s j lv low other)))))
+          let had = part (pair u v lu lv ne).number ((all.histories u).taken k) in
+          first_none (from s (copies_in had)) (from s (copies_in f.0))
+          (sym (from-append s (copies_in had) (copies_in f.0))
+          ∙ (ap (from s) (sym (copies_in-append had f.0))
+          ∙ (ap (λ l. from s (copies_in l)) (sym f.1)
+          ∙ (ap (from s) (copies_pushes windows (sent_to v u)) ∙ none_before s (sent_to v u) windows (λ j low. none_sent v u s j lv low other)))))
 
       -- a sender has no copies of motes of other workers
-      part_none : (j : ℕ) → ((v : ℕ) → v < workers → v ≢ u → (a : SenderView) → all.sender u v ≡ Some a → a.state.number ≡ j → is_own of v s ≡ false) → from s (packets_in (part j ((all.history u).taken k))) ≡ []
+      part_none : (j : ℕ) → ((v : ℕ) → v < workers → v ≢ u → (a : SenderView) → all.sender u v ≡ Some a → a.state.number ≡ j → is_own of v s ≡ false) → from s (copies_in (part j ((all.histories u).taken k))) ≡ []
       part_none j other = of_case (cases_lt j (all.made u))
         where
-          of_case : (j < all.made u) ⊎ (all.made u ≤ j) → from s (packets_in (part j ((all.history u).taken k))) ≡ []
+          of_case : (j < all.made u) ⊎ (all.made u ≤ j) → from s (copies_in (part j ((all.histories u).taken k))) ≡ []
           of_case (inl low) =
               let are = all.are_senders u lu in
               let long = are.made_is in
@@ -100,17 +101,17 @@ module _ (n : NetTold) (of : List ℕ) (width windows workers : ℕ) (all : AllR
               let w = are.worker_of j a.0 a.1 in
               let number = numbered_at (all.senders u) are.numbered j a.0 a.1 in
               let same = sym ((pair u w.0 lu w.1 w.2).only a.0 w.3) ∙ number in
-              subst (λ i. from s (packets_in (part i ((all.history u).taken k))) ≡ []) same (none_of_pair w.0 w.1 w.2 (other w.0 w.1 w.2 a.0 w.3 number))
+              subst (λ i. from s (copies_in (part i ((all.histories u).taken k))) ≡ []) same (none_of_pair w.0 w.1 w.2 (other w.0 w.1 w.2 a.0 w.3 number))
           of_case (inr high) =
-              let more = part_begins n of width windows workers u (all.made u) (all.taken u) (λ w. pushed_list (all.sender w u)) (all.history u) (all.ran u lu) k le j in
-              ap (λ l. from s (packets_in l)) (first_none (part j ((all.history u).taken k)) more.0 (sym more.1 ∙ (all.ran u lu).of_made j high))
+              let more = part_begins n of width windows workers u (all.made u) (all.taken u) (λ w. pushed_list (all.sender w u)) (all.histories u) (all.ran u lu) k le j in
+              ap (λ l. from s (copies_in l)) (first_none (part j ((all.histories u).taken k)) more.0 (sym more.1 ∙ (all.ran u lu).of_made j high))
 
-      pub copies_from : (v : ℕ) (lv : v < workers) (ne : v ≢ u) → slice_get of s ≡ Some v → from s (copies_of ((all.history u).taken k)) ≡ from s (packets_in (part (pair u v lu lv ne).number ((all.history u).taken k)))
-      copies_from v lv ne e = of_one_sender s (pair u v lu lv ne).number ((all.history u).taken k) (λ j other. part_none j (λ w lw nw a at number.
+      pub copies_from : (v : ℕ) (lv : v < workers) (ne : v ≢ u) → slice_get of s ≡ Some v → from s (copies_of ((all.histories u).taken k)) ≡ from s (copies_in (part (pair u v lu lv ne).number ((all.histories u).taken k)))
+      copies_from v lv ne e = of_one_sender s (pair u v lu lv ne).number ((all.histories u).taken k) (λ j other. part_none j (λ w lw nw a at number.
           not_other of v w s e (λ same. other (sym number ∙ (pair u v lu lv ne).only a (subst (λ x. all.sender u x ≡ Some a) (sym same) at)))))
 
-      pub copies_none : ((v : ℕ) → v < workers → v ≢ u → is_own of v s ≡ false) → from s (copies_of ((all.history u).taken k)) ≡ []
+      pub copies_none : ((v : ℕ) → v < workers → v ≢ u → is_own of v s ≡ false) → from s (copies_of ((all.histories u).taken k)) ≡ []
       copies_none none =
           let j : ℕ = all.made u in
-          of_one_sender s j ((all.history u).taken k) (λ i other. part_none i (λ v lv nv a at number. none v lv nv))
+          of_one_sender s j ((all.histories u).taken k) (λ i other. part_none i (λ v lv nv a at number. none v lv nv))
           ∙ part_none j (λ v lv nv a at number. none v lv nv)

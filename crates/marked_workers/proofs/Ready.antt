@@ -10,13 +10,12 @@ use Rattle.copy_inbox.specs.Views.{make_taker_state}
 use Rattle.copy_exchange.specs.declared.endpoint.Endpoint.{Endpoint}
 use Rattle.copy_exchange.specs.Endpoints.{HasMarks, HasPushedNothing, IsEndpoint, StartsAs, Together}
 use Rattle.copy_exchange.specs.Inboxes.{IsFresh}
-use Rattle.copy_exchange.proofs.Delivered.{on_inboxes}
 use Rattle.copy_exchange.proofs.Open.{made_for_others}
 use Rattle.worker_window.specs.declared.share.Share.{Share}
 use Rattle.worker_window.specs.Share.{Keeps}
 use Rattle.all_workers.specs.Start.{AreFirst}
 use Rattle.all_workers.specs.Workers.{IsCut}
-use Rattle.all_workers.specs.Worker.{worker_of}
+use Rattle.all_workers.specs.Worker.{make_worker}
 use Rattle.all_workers.proofs.Lookups.{there, inside, read, beside, as_long, each_at, each_from, each_zipped, same_found}
 use Rattle.all_workers.proofs.Numbered.{numbered}
 use Rattle.all_workers.proofs.Starts.{fresh_at}
@@ -25,7 +24,7 @@ use Rattle.marked_workers.specs.Thread.{IsFirst}
 
 -- each worker has the endpoint that was made for it
 same_endpoints : (shares : List Share) (endpoints : List Endpoint) → length endpoints ≡ length shares
-    → endpoints_of (map worker_of (zip shares endpoints)) ≡ endpoints
+    → endpoints_of (map make_worker (zip shares endpoints)) ≡ endpoints
 same_endpoints [] [] long = refl
 same_endpoints [] (c ∷ cs) long = absurd (omega arith)
 same_endpoints (s ∷ ss) [] long = absurd (omega arith)
@@ -64,7 +63,7 @@ module _ (inboxes : List InboxId) (takers : List TakerView) (fresh : AllZip IsFr
 
   module _ (n : NetTold) (of : List ℕ) (cut : IsCut (length n.motes) (length inboxes) of) (shares : List Share) (first : AreFirst n of (length inboxes) shares)
       (nothing : Each HasPushedNothing endpoints) (marked : Each HasMarks endpoints) where
-    one_ready : (v : ℕ) (s : Share) (c : Endpoint) → slice_get shares v ≡ Some s → slice_get endpoints v ≡ Some c → IsFirst n of inboxes (worker_of (s, c))
+    one_ready : (v : ℕ) (s : Share) (c : Endpoint) → slice_get shares v ≡ Some s → slice_get endpoints v ≡ Some c → IsFirst n of inboxes (make_worker (s, c))
     one_ready v s c at_share at_endpoint =
         let low : v < length inboxes = subst (λ l. v < l) first.count (inside shares v s at_share) in
         let number : c.worker ≡ v = numbered (length inboxes) endpoints together.workers v low c at_endpoint in
@@ -72,7 +71,7 @@ module _ (inboxes : List InboxId) (takers : List TakerView) (fresh : AllZip IsFr
           cut = cut;
           keeps = subst (λ w. Keeps n of w 0 (first_mote (system_of n)) [] s) (sym number)
               (subst (λ x. Keeps n of v 0 (first_mote (system_of n)) [] x) (read shares v s s at_share) (first.each v s low));
-          on_inboxes = on_inboxes inboxes c (each_at (IsEndpoint inboxes) endpoints v c together.each at_endpoint);
+          on_inboxes = (each_at (IsEndpoint inboxes) endpoints v c together.each at_endpoint).on_inboxes;
           marked = each_at HasMarks endpoints v c marked at_endpoint;
           made = made_for_others inboxes endpoints together v c at_endpoint (none_gathered v c at_endpoint);
           none_taken = none_taken v c at_endpoint;
@@ -80,16 +79,16 @@ module _ (inboxes : List InboxId) (takers : List TakerView) (fresh : AllZip IsFr
           none_pushed = each_at HasPushedNothing endpoints v c nothing at_endpoint;
         }
 
-    pub ready : Each (IsFirst n of inboxes) (map worker_of (zip shares endpoints))
-    ready = each_zipped (IsFirst n of inboxes) worker_of shares endpoints one_ready
+    pub ready : Each (IsFirst n of inboxes) (map make_worker (zip shares endpoints))
+    ready = each_zipped (IsFirst n of inboxes) make_worker shares endpoints one_ready
 
   -- the endpoints of the workers that were made of them
   module _ (shares : List Share) (count : length shares ≡ length inboxes) where
-    start_with : endpoints_of (map worker_of (zip shares endpoints)) ≡ endpoints
+    start_with : endpoints_of (map make_worker (zip shares endpoints)) ≡ endpoints
     start_with = same_endpoints shares endpoints (endpoints_long ∙ sym count)
 
-    pub together_first : Together inboxes (endpoints_of (map worker_of (zip shares endpoints)))
+    pub together_first : Together inboxes (endpoints_of (map make_worker (zip shares endpoints)))
     together_first = subst (Together inboxes) (sym start_with) together
 
-    pub none_gathered_first : Each (λ (c : Endpoint). c.taker.state.gathered ≡ []) (endpoints_of (map worker_of (zip shares endpoints)))
+    pub none_gathered_first : Each (λ (c : Endpoint). c.taker.state.gathered ≡ []) (endpoints_of (map make_worker (zip shares endpoints)))
     none_gathered_first = subst (Each (λ (c : Endpoint). c.taker.state.gathered ≡ [])) (sym start_with) all_none_gathered

@@ -10,7 +10,8 @@ use Rattle.window_laws.proofs.Lists.{filter_filter, every_filter}
 use Rattle.worker_cut.specs.Crossed.{is_own, is_to}
 use Rattle.copy_inbox.specs.Items.{copies_of, part}
 use Rattle.copy_exchange.proofs.Parts.{from}
-use Rattle.mark_exchange.specs.Pushes.{packets_in, sent_before}
+use Rattle.copy_exchange.specs.Takers.{copies_in}
+use Rattle.mark_exchange.specs.Pushes.{sent_before}
 use Rattle.mark_exchange.proofs.Early.{early_is_unseen}
 use Rattle.all_workers.specs.Workers.{IsCut}
 use Rattle.all_workers.proofs.Lookups.{each_at}
@@ -57,27 +58,27 @@ module _ (n : NetTold) (of : List ℕ) (width windows workers : ℕ) (all : AllR
       let e : k + (j - k) ≡ j = omega arith in
       let later = subst (λ i. bound width n.end (suc k) ≤ bound width n.end (suc i)) e (no_sooner width n.end windows are k (j - k) (omega arith)) in
       every_filter (λ (c : RadioCopy). bound width n.end (suc j) ≤ c.at) (λ c. sees k mote c ≡ false) (is_to of u)
-      (λ c late to. too_late _ _ c.at (bound width n.end (suc k)) (at_least _ _ c.at later late)) ((all.history v).sent j) ((all.ran v lv).runs j low).late
+      (λ c late to. too_late _ _ c.at (bound width n.end (suc k)) (at_least _ _ c.at later late)) ((all.histories v).outgoing j) ((all.ran v lv).runs j low).late
     where
       at_least : (a b c : ℕ) → a ≤ b → b ≤ c → a ≤ c
       at_least a b c h k = omega arith
 
   pub seen : (u : ℕ) → u < workers → (k : ℕ) → k < windows → (mote s : ℕ) → is_own of u s ≡ false
-      → filter (sees k mote) (from s (copies_of ((all.history u).taken k))) ≡ filter (sees k mote) (from s (sent_so_far u k))
+      → filter (sees k mote) (from s (copies_of ((all.histories u).taken k))) ≡ filter (sees k mote) (from s (sent_so_far u k))
   seen u lu k low mote s other = of_case (slice_get of s) refl
     where
       le : k ≤ windows
       le = omega arith
 
-      of_case : (o : Option ℕ) → slice_get of s ≡ o → filter (sees k mote) (from s (copies_of ((all.history u).taken k))) ≡ filter (sees k mote) (from s (sent_so_far u k))
+      of_case : (o : Option ℕ) → slice_get of s ≡ o → filter (sees k mote) (from s (copies_of ((all.histories u).taken k))) ≡ filter (sees k mote) (from s (sent_so_far u k))
       of_case None e = ap (filter (sees k mote)) (copies_none n of width windows workers all u lu k le s (λ v lv nv. nobodys of v s e) ∙ sym (of_nobody u k s le e))
       of_case (Some v) e =
           let lv = each_at (λ w. w < workers) of s v cut.there e in
           let ne : v ≢ u = λ same. false≢true (sym other ∙ own_by of u s (e ∙ ap Some same)) in
           let p = pair n of width windows workers all u v lu lv ne in
-          let had = part p.number ((all.history u).taken k) in
+          let had = part p.number ((all.histories u).taken k) in
           ap (filter (sees k mote)) (copies_from n of width windows workers all u lu k le s v lv ne e)
-          ∙ (filter_filter (sees k mote) (is_from_sender s) (packets_in had)
+          ∙ (filter_filter (sees k mote) (is_from_sender s) (copies_in had)
           ∙ (ap (from s) (early_is_unseen (sees k mote) windows k (sent_to n of width windows workers all v u) had le (front n of width windows workers all u lu k le v lv ne)
           ((all.ran u lu).marks_lead k le p.number p.was_made) (unseen k mote v u lv))
           ∙ (filter_filter (is_from_sender s) (sees k mote) (sent_before k (sent_to n of width windows workers all v u))

@@ -14,11 +14,11 @@ use Rattle.copy_inbox.specs.Gathered.{is_gathered, untaken_of, Whole}
 use Rattle.copy_inbox.specs.Handles.{TakerView, SenderView, after_gather, AllGathered, PacketsLeft}
 use Rattle.copy_inbox.proofs.Parts.{part-not_nil}
 use Rattle.copy_exchange.specs.Endpoints.{AreOpen, pushed_list}
-use Rattle.copy_exchange.specs.Takers.{copies_in, IsOrderly}
+use Rattle.copy_exchange.specs.Takers.{copies_gathered, copies_in, IsOrderly}
 use Rattle.copy_exchange.proofs.Gathers.{OneOf, copies_by, as_gathered, joined, with_joined, all_gathered, orderly_then}
 use Rattle.copy_exchange.proofs.Parts.{from}
-use Rattle.mark_exchange.specs.Pushes.{packets_in, pushes, marks_in}
-use Rattle.mark_exchange.proofs.Early.{packets_pushes}
+use Rattle.mark_exchange.specs.Pushes.{pushes, marks_in}
+use Rattle.mark_exchange.proofs.Early.{copies_pushes}
 use Rattle.mark_exchange.proofs.Whole.{all_is_taken}
 use Rattle.all_workers.specs.Workers.{IsCut}
 use Rattle.all_workers.proofs.Lookups.{each_at, each_from}
@@ -64,8 +64,8 @@ module _ (n : NetTold) (of : List ℕ) (width windows workers : ℕ) (all : AllR
 
   none_of_owner : (s : ℕ) (a : SenderView) (o : Owner a) → is_own of o.worker s ≡ false → from s (copies_by a) ≡ []
   none_of_owner s a o other =
-      ap (λ l. from s (packets_in l)) o.pushed
-      ∙ (ap (from s) (packets_pushes windows (sent_to n of width windows workers all o.worker u))
+      ap (λ l. from s (copies_in l)) o.pushed
+      ∙ (ap (from s) (copies_pushes windows (sent_to n of width windows workers all o.worker u))
       ∙ none_before s (sent_to n of width windows workers all o.worker u) windows (λ j low. none_sent n of width windows workers all o.worker u s j o.there low other))
 
   nobody_one : (s : ℕ) → ((v : ℕ) → v < workers → v ≢ u → is_own of v s ≡ false) → OneOf s (all.senders u)
@@ -173,7 +173,7 @@ module _ (workers worker : ℕ) (sender : ℕ → Option SenderView) (d : TakerS
   }
 
   -- of each mote, what was gathered is what was taken
-  pub same_of_each : (s : ℕ) → from s (copies_of d.taken) ≡ from s (copies_in then.gathered)
+  pub same_of_each : (s : ℕ) → from s (copies_of d.taken) ≡ from s (copies_gathered then.gathered)
   same_of_each s =
       ap (λ l. from s (copies_of l)) (sym (append-nil d.taken))
       ∙ orderly.in_order [] (subst (λ l. Whole then.gathered l) (sym (append-nil d.taken)) whole_then, λ k e. ap (part k) (append-nil d.taken)) s

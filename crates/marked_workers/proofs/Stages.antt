@@ -8,13 +8,13 @@ use Rattle.mote_net.specs.Net.{NetTold}
 use Rattle.window_laws.specs.System.{RunsForward}
 use Rattle.window_laws.specs.Windows.{Alone, first_mote, Windows, is_at, Last}
 use Rattle.net_agenda.specs.NetSystem.{system_of}
-use Rattle.worker_cut.specs.Crossed.{is_own, is_to, copies_known, leaves}
+use Rattle.worker_cut.specs.Crossed.{is_own, is_to, copies_seen, is_outgoing}
 use Rattle.worker_cut.specs.Laws.{GatheredCopies}
 use Rattle.copy_inbox.specs.Items.{copies_of}
 use Rattle.copy_exchange.proofs.Parts.{from, from-append}
 use Rattle.mark_exchange.specs.Pushes.{sent_before}
 use Rattle.worker_window.specs.Share.{Motes}
-use Rattle.worker_window.specs.Window.{RunsOwn, copies_out}
+use Rattle.worker_window.specs.Window.{RunsOwn, outgoing_by}
 use Rattle.all_workers.specs.Workers.{IsCut}
 use Rattle.all_workers.proofs.Lookups.{each_at}
 use Rattle.all_workers.proofs.Same.{own_copies_same}
@@ -32,11 +32,11 @@ module _ (n : NetTold) (fine : RunsForward (system_of n)) (of : List ℕ) (width
   -- all motes before a window, each as its worker had it
   abbrev pub stage : ℕ → Motes
   stage zero = first_mote (system_of n)
-  stage (suc k) = λ m. option_map_or (λ w. (all.history w).motes (suc k) m) (slice_get of m) (stage k m)
+  stage (suc k) = λ m. option_map_or (λ w. (all.histories w).motes (suc k) m) (slice_get of m) (stage k m)
 
-  pub own_stage : (v : ℕ) → v < workers → (k m : ℕ) → is_own of v m ≡ true → (all.history v).motes k m ≡ stage k m
+  pub own_stage : (v : ℕ) → v < workers → (k m : ℕ) → is_own of v m ≡ true → (all.histories v).motes k m ≡ stage k m
   own_stage v lv zero m mine = ap (λ f. f m) (all.ran v lv).first
-  own_stage v lv (suc k) m mine = sym (ap (λ o. option_map_or (λ w. (all.history w).motes (suc k) m) o (stage k m)) (own_of of v m mine))
+  own_stage v lv (suc k) m mine = sym (ap (λ o. option_map_or (λ w. (all.histories w).motes (suc k) m) o (stage k m)) (own_of of v m mine))
 
   abbrev so_far : (v k : ℕ) → List RadioCopy
   so_far = sent_so_far n of width windows workers all cut are
@@ -61,34 +61,34 @@ module _ (n : NetTold) (fine : RunsForward (system_of n)) (of : List ℕ) (width
 
     -- of its own motes and of what it could see, the worker knew what all of them were and what was sent
     same_known : (v : ℕ) → v < workers → (m s : ℕ)
-        → filter (sees n of width windows workers all cut are k m) (copies_known (system_of n) (is_own of v) ((all.history v).motes k) (copies_of ((all.history v).taken k)) s)
-        ≡ filter (sees n of width windows workers all cut are k m) (copies_known (system_of n) (is_own of v) (stage k) (so_far v k) s)
+        → filter (sees n of width windows workers all cut are k m) (copies_seen (system_of n) (is_own of v) ((all.histories v).motes k) (copies_of ((all.histories v).taken k)) s)
+        ≡ filter (sees n of width windows workers all cut are k m) (copies_seen (system_of n) (is_own of v) (stage k) (so_far v k) s)
     same_known v lv m s = elim (cases_Bool (is_own of v s)) [
-      | inl e ↦ rw e (ap (filter (sees n of width windows workers all cut are k m)) (own_copies_same n of v ((all.history v).motes k) (stage k) (own_stage v lv k) s e))
+      | inl e ↦ rw e (ap (filter (sees n of width windows workers all cut are k m)) (own_copies_same n of v ((all.histories v).motes k) (stage k) (own_stage v lv k) s e))
       | inr e ↦ rw e (seen n of width windows workers all cut are v lv k low m s e)
     ]
 
-    own_runs : (v : ℕ) → v < workers → (m : ℕ) → is_own of v m ≡ true → RunsOwn n (is_own of v) start until (stage k) ((all.history v).motes (suc k)) (so_far v k) m
+    own_runs : (v : ℕ) → v < workers → (m : ℕ) → is_own of v m ≡ true → RunsOwn n (is_own of v) start until (stage k) ((all.histories v).motes (suc k)) (so_far v k) m
     own_runs v lv m mine =
         let ran = ((all.ran v lv).runs k low).runs m mine in
         record {
-          inbox = ran.inbox;
-          is_inbox = λ t s. ran.is_inbox t s ∙ ap (filter (is_at t)) (same_known v lv m s);
-          alone = subst (λ x. Alone (system_of n) m until ran.inbox x ((all.history v).motes (suc k) m)) (own_stage v lv k m mine) ran.alone;
+          inbox = ran.given;
+          is_inbox = λ t s. ran.is_given t s ∙ ap (filter (is_at t)) (same_known v lv m s);
+          alone = subst (λ x. Alone (system_of n) m until ran.given x ((all.histories v).motes (suc k) m)) (own_stage v lv k m mine) ran.alone;
         }
 
-    same_out : (v : ℕ) → v < workers → (s : ℕ) → copies_out n (is_own of v) ((all.history v).motes k) s ≡ copies_out n (is_own of v) (stage k) s
+    same_out : (v : ℕ) → v < workers → (s : ℕ) → outgoing_by n (is_own of v) ((all.histories v).motes k) s ≡ outgoing_by n (is_own of v) (stage k) s
     same_out v lv s = elim (cases_Bool (is_own of v s)) [
-      | inl e ↦ rw e (ap (filter (leaves (is_own of v))) (own_copies_same n of v ((all.history v).motes k) (stage k) (own_stage v lv k) s e))
+      | inl e ↦ rw e (ap (filter (is_outgoing (is_own of v))) (own_copies_same n of v ((all.histories v).motes k) (stage k) (own_stage v lv k) s e))
       | inr e ↦ rw e refl
     ]
 
-    own_out : (v : ℕ) → v < workers → (s : ℕ) → copies_out n (is_own of v) ((all.history v).motes (suc k)) s ≡ copies_out n (is_own of v) (stage k) s ++ from s ((all.history v).sent k)
-    own_out v lv s = ((all.ran v lv).runs k low).out s ∙ ap (λ l. l ++ from s ((all.history v).sent k)) (same_out v lv s)
+    own_out : (v : ℕ) → v < workers → (s : ℕ) → outgoing_by n (is_own of v) ((all.histories v).motes (suc k)) s ≡ outgoing_by n (is_own of v) (stage k) s ++ from s ((all.histories v).outgoing k)
+    own_out v lv s = ((all.ran v lv).runs k low).out s ∙ ap (λ l. l ++ from s ((all.histories v).outgoing k)) (same_out v lv s)
 
     -- one window more was sent
     sent_more : (v s : ℕ) (o : Option ℕ) → slice_get of s ≡ o
-        → from s (so_far v (suc k)) ≡ from s (so_far v k) ++ option_map_or (λ u. from s (filter (is_to of v) ((all.history u).sent k))) o []
+        → from s (so_far v (suc k)) ≡ from s (so_far v k) ++ option_map_or (λ u. from s (filter (is_to of v) ((all.histories u).outgoing k))) o []
     sent_more v s None e =
         of_nobody n of width windows workers all cut are v (suc k) s (omega arith) e
         ∙ sym (append-nil (from s (so_far v k)) ∙ of_nobody n of width windows workers all cut are v k s (omega arith) e)
@@ -103,10 +103,10 @@ module _ (n : NetTold) (fine : RunsForward (system_of n)) (of : List ℕ) (width
 
     next_reached : Reached k → Reached (suc k)
     next_reached at = record {
-      led = led_next n fine of workers cut start until (stage k) (begins_before width n.end windows are k low) narrow (λ v. so_far v k) (λ v. so_far v k) (λ v. (all.history v).sent k) (λ v. (all.history v).motes (suc k)) at.told
+      led = led_next n fine of workers cut start until (stage k) (begins_before width n.end windows are k low) narrow (λ v. so_far v k) (λ v. so_far v k) (λ v. (all.histories v).outgoing k) (λ v. (all.histories v).motes (suc k)) at.told
           (λ v lv s. refl) own_runs own_out (λ v lv. ((all.ran v lv).runs k low).goes) at.led;
       told = λ v lv.
-          told_next n fine of workers cut start until (stage k) (begins_before width n.end windows are k low) narrow (λ v. so_far v k) (λ v. so_far v k) (λ v. (all.history v).sent k) (λ v. (all.history v).motes (suc k)) at.told
+          told_next n fine of workers cut start until (stage k) (begins_before width n.end windows are k low) narrow (λ v. so_far v k) (λ v. so_far v k) (λ v. (all.histories v).outgoing k) (λ v. (all.histories v).motes (suc k)) at.told
           (λ v lv s. refl) own_runs own_out (λ v lv. ((all.ran v lv).runs k low).goes) v lv (so_far v (suc k)) (λ s. sent_more v s (slice_get of s) refl);
     }
 

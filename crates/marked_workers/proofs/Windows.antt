@@ -23,7 +23,7 @@ use Rattle.mark_exchange.specs.Marks.{Counts}
 use Rattle.mark_exchange.specs.Pushes.{marks_in}
 use Rattle.mark_exchange.proofs.Delivered.{takes_stays, takes_on_inboxes}
 use Rattle.worker_window.specs.Share.{Keeps}
-use Rattle.worker_window.specs.Window.{CanRun, GoesOut, RunsWindow}
+use Rattle.worker_window.specs.Window.{CanRun, IsOutgoing, RunsWindow}
 use Rattle.all_workers.specs.Workers.{IsCut}
 use Rattle.all_workers.proofs.Sent.{leaves_sent}
 use Rattle.all_workers.specs.declared.worker.Worker.{Worker}
@@ -35,8 +35,8 @@ use Rattle.marked_workers.proofs.Bounds.{are_windows, begins_before, no_wider}
 use Rattle.marked_workers.proofs.Promise.{promise_first, promise_next}
 
 -- what goes out of a worker is for a mote of one of the workers
-pub reaches_sent : (n : NetTold) (of : List ℕ) (workers worker : ℕ) (sent : List RadioCopy) → IsCut (length n.motes) workers of → Each (GoesOut n of worker) sent → Each (Reaches of workers) sent
-reaches_sent n of workers worker sent cut out = every_weaker _ _ (λ c h. record { there = h.there; its_worker = h.its_worker }) sent (leaves_sent n of workers worker sent cut out)
+pub reaches_sent : (n : NetTold) (of : List ℕ) (workers worker : ℕ) (outgoing : List RadioCopy) → IsCut (length n.motes) workers of → Each (IsOutgoing n of worker) outgoing → Each (Reaches of workers) outgoing
+reaches_sent n of workers worker outgoing cut out = every_weaker _ _ (λ c h. record { there = h.there; its_worker = h.its_worker }) outgoing (leaves_sent n of workers worker outgoing cut out)
 
 -- items of senders that were made have no part of another
 none_of_others : (made : ℕ) (xs : List Item) → Each (λ (x : Item). x.sender < made) xs → OfMade made xs
@@ -118,15 +118,15 @@ module _ (n : NetTold) (of : List ℕ) (width k until : ℕ) (inboxes : List Inb
     abbrev more : List Item
     more = takes.took.items
 
-    ran : RunsWindow n of worker (bound width n.end k) until (stands.promise.history.motes k) (copies_of state.taken) between.share sends.sent
+    ran : RunsWindow n of worker (bound width n.end k) until (stands.promise.history.motes k) (copies_of state.taken) between.share sends.outgoing
     ran =
         let b = no_wider width n.end (windows_of width n.end) are k low in
         let e = at in
         let s = short in
         sends.runs worker (bound width n.end k) (stands.promise.history.motes k) (copies_of state.taken) stands.promise.keeps up (omega arith)
 
-    goes : Each (GoesOut n of worker) sends.sent
-    goes = subst (λ w. Each (GoesOut n of w) sends.sent) stands.promise.keeps.is_worker sends.out
+    goes : Each (IsOutgoing n of worker) sends.outgoing
+    goes = subst (λ w. Each (IsOutgoing n of w) sends.outgoing) stands.promise.keeps.is_worker sends.out
 
     taker_is : new.endpoint.base.taker ≡ after_taking old.endpoint.base.taker more
     taker_is = takes.took.taker ∙ ap (λ t. after_taking t more) sends.pushes.taker
@@ -146,7 +146,7 @@ module _ (n : NetTold) (of : List ℕ) (width k until : ℕ) (inboxes : List Inb
         let past = takes.past s 0 (omega arith) in
         omega arith
 
-    pushes_more : (v : ℕ) → v < length inboxes → v ≢ worker → pushed_to new.endpoint.base v ≡ pushed_to old.endpoint.base v ++ (map Packet (filter (is_to of v) sends.sent) ++ Mark k ∷ [])
+    pushes_more : (v : ℕ) → v < length inboxes → v ≢ worker → pushed_to new.endpoint.base v ≡ pushed_to old.endpoint.base v ++ (map Packet (filter (is_to of v) sends.outgoing) ++ Mark k ∷ [])
     pushes_more v there other =
         ap (λ s. pushed_list (get_or s.items v None)) takes.senders
         ∙ sends.pushes.pushes v there (ap (λ w. v == w) stands.stays.worker ∙ ne_eqb v worker other)
@@ -172,11 +172,11 @@ module _ (n : NetTold) (of : List ℕ) (width k until : ℕ) (inboxes : List Inb
     }
       where
         Ran : ℕ → Type 0
-        Ran t = (r : RunsWindow n of worker (bound width n.end k) t (stands.promise.history.motes k) (copies_of state.taken) between.share sends.sent)
+        Ran t = (r : RunsWindow n of worker (bound width n.end k) t (stands.promise.history.motes k) (copies_of state.taken) between.share sends.outgoing)
             × Keeps n of worker t r.next (copies_of state.taken ++ copies_of more) new.share
 
         ran_to : Ran (bound width n.end (suc k))
         ran_to = subst Ran at (ran, keeps)
 
         promise : WorkerRunsMarked n of width (suc k) (length inboxes) worker new.share (after_taking old.endpoint.base.taker more).state (pushed_to new.endpoint.base)
-        promise = promise_next n of width (length inboxes) worker k old.share between.share new.share state (pushed_to old.endpoint.base) (pushed_to new.endpoint.base) more sends.sent stands.promise ran_to.0 goes lead of_made pushes_more ran_to.1
+        promise = promise_next n of width (length inboxes) worker k old.share between.share new.share state (pushed_to old.endpoint.base) (pushed_to new.endpoint.base) more sends.outgoing stands.promise ran_to.0 goes lead of_made pushes_more ran_to.1

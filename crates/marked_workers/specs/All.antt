@@ -18,9 +18,9 @@ pub record AllRan (n : NetTold) (of : List ℕ) (width windows workers : ℕ) : 
   pub taken : ℕ → List Item
   pub sender : (inbox worker : ℕ) → Option SenderView
   pub senders : (inbox : ℕ) → List SenderView
-  pub history : ℕ → WorkerHistory
+  pub histories : ℕ → WorkerHistory
   pub ran : (v : ℕ) → v < workers
-      → WorkerRunsWindows n of width windows workers v (made v) (taken v) (λ u. pushed_list (sender u v)) (history v)
+      → WorkerRunsWindows n of width windows workers v (made v) (taken v) (λ u. pushed_list (sender u v)) (histories v)
   pub are_senders : (u : ℕ) → u < workers → AreSenders workers u (sender u) (made u) (senders u)
   pub begun : (u : ℕ) → u < workers
       → Each (λ (s : SenderView). BeginsWith s.state.pushed (part s.state.number (taken u))) (senders u)

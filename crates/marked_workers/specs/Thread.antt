@@ -1,5 +1,5 @@
 -- What a worker's thread makes of its worker: in each window, and in all of them.
-use Rattle.std.specs.Prelude.{ℕ, ◌≡◌, suc, ◌+◌, ◌≤◌, List, [], ◌++◌, length}
+use Rattle.std.specs.Prelude.{ℕ, ◌≡◌, suc, ◌+◌, ◌≤◌, List, [], length}
 use Rattle.std.specs.List.{AllByRecursion as Each}
 use Rattle.radio_packet.specs.declared.copy.RadioCopy.{RadioCopy}
 use Rattle.mote_net.specs.Net.{NetTold}
@@ -11,8 +11,7 @@ use Rattle.mark_exchange.specs.Delivers.{PushesWindow}
 use Rattle.mark_exchange.specs.Due.{TakesDue}
 use Rattle.mark_exchange.specs.Marks.{AllPast, Counts}
 use Rattle.worker_window.specs.Share.{Keeps, Motes}
-use Rattle.worker_window.specs.Window.{GoesOut, RunsWindow}
-use Rattle.worker_cut.specs.Crossed.{IsDue}
+use Rattle.worker_window.specs.Window.{IsOutgoing, RunsWindow, TakesIn}
 use Rattle.all_workers.specs.Workers.{IsCut}
 use Rattle.all_workers.specs.declared.worker.Worker.{Worker}
 use Rattle.marked_workers.specs.declared.worker.MarkWorker.{MarkWorker}
@@ -46,14 +45,14 @@ pub record IsStarted (n : NetTold) (of : List ℕ) (inboxes : List InboxId) (w :
   pub none_gathered : w.endpoint.base.taker.state.gathered ≡ []
   pub none_pushed : HasPushedNothing w.endpoint.base
 
--- its motes ran through a window, and what they sent to others went out, with the window's mark after it
+-- its motes ran through a window, and the outgoing copies were pushed, with the window's mark after them
 pub record SendsWindow (n : NetTold) (of : List ℕ) (workers window until : ℕ) (old new : MarkWorker) : Type 0 where
-  pub sent : List RadioCopy
+  pub outgoing : List RadioCopy
   pub runs : (worker from : ℕ) (motes : Motes) (taken : List RadioCopy) → Keeps n of worker from motes taken old.share
       → from ≤ until → until ≤ from + (system_of n).lookahead
-      → RunsWindow n of worker from until motes taken new.share sent
-  pub out : Each (GoesOut n of old.share.worker) sent
-  pub pushes : PushesWindow of workers window old.endpoint.base new.endpoint.base sent
+      → RunsWindow n of worker from until motes taken new.share outgoing
+  pub out : Each (IsOutgoing n of old.share.worker) outgoing
+  pub pushes : PushesWindow of workers window old.endpoint.base new.endpoint.base outgoing
   pub marks : new.endpoint.marks ≡ old.endpoint.marks
 
 -- it took items until the window's mark of each other worker had come, and what they carry is in its share
@@ -65,9 +64,7 @@ pub record TakesWindow (of : List ℕ) (window until : ℕ) (old new : MarkWorke
   pub past : AllPast window new.endpoint.marks.items
   pub worker : new.endpoint.base.worker ≡ old.endpoint.base.worker
   pub senders : new.endpoint.base.senders ≡ old.endpoint.base.senders
-  pub keeps : (n : NetTold) (whose : List ℕ) (worker from : ℕ) (motes : Motes) (taken : List RadioCopy)
-      → Keeps n whose worker from motes taken old.share
-      → Each (IsDue whose worker from) arrived → Keeps n whose worker from motes (taken ++ arrived) new.share
+  pub keeps : TakesIn arrived old.share new.share
 
 -- a worker after so many windows, since its first
 pub record HasRun (n : NetTold) (of : List ℕ) (width windows : ℕ) (inboxes : List InboxId)
@@ -78,6 +75,12 @@ pub record HasRun (n : NetTold) (of : List ℕ) (width windows : ℕ) (inboxes :
   pub on_inboxes : IsOnInboxes inboxes now.endpoint.base
   pub marked : HasMarks now.endpoint.base
   pub counts : Counts now.endpoint.marks.items now.endpoint.base.taker.state
+
+-- where windows are no longer than the lookahead: from whichever worker the windows had led here, one more has led on
+abbrev pub LeadsOn : NetTold → (of : List ℕ) → (width window : ℕ) → (inboxes : List InboxId)
+    → (old new : MarkWorker) → Type 0
+LeadsOn n of width window inboxes old new = width ≤ (system_of n).lookahead → (first : MarkWorker)
+    → HasRun n of width window inboxes first old → HasRun n of width (suc window) inboxes first new
 
 -- all that a worker's thread does: it ran so many windows
 pub record WorkerRunsAllWindows (n : NetTold) (of : List ℕ) (width windows : ℕ) (inboxes : List InboxId)

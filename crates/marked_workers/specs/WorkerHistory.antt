@@ -13,24 +13,24 @@ use Rattle.copy_inbox.specs.Items.{copies_of, part, OfMade}
 use Rattle.mark_exchange.specs.Pushes.{marks_in, pushes}
 use Rattle.worker_window.specs.declared.share.Share.{Share}
 use Rattle.worker_window.specs.Share.{Motes, Keeps}
-use Rattle.worker_window.specs.Window.{RunsOwn, GoesOut, copies_out}
+use Rattle.worker_window.specs.Window.{RunsOwn, IsOutgoing, outgoing_by}
 use Rattle.marked_workers.specs.Bounds.{bound}
 
--- What a worker had before each window, its motes and all items that it had taken by then, and what its motes sent to
--- others in it.
+-- What a worker had before each window, its motes and all items that it had taken by then, and the outgoing copies of
+-- the window.
 pub record WorkerHistory : Type 0 where
   pub motes : ℕ → Motes
   pub taken : ℕ → List Item
-  pub sent : ℕ → List RadioCopy
+  pub outgoing : ℕ → List RadioCopy
 
 -- one window of the worker's motes, on the copies that it had taken by then
 pub record RunsMotes (n : NetTold) (of : List ℕ) (worker from until : ℕ) (motes next : Motes)
-    (taken sent : List RadioCopy) : Type 0 where
+    (taken outgoing : List RadioCopy) : Type 0 where
   pub runs : (k : ℕ) → is_own of worker k ≡ true → RunsOwn n (is_own of worker) from until motes next taken k
-  pub out : (s : ℕ) → copies_out n (is_own of worker) next s
-      ≡ copies_out n (is_own of worker) motes s ++ filter (is_from_sender s) sent
-  pub goes : Each (GoesOut n of worker) sent
-  pub late : Each (λ (copy : RadioCopy). until ≤ copy.at) sent
+  pub out : (s : ℕ) → outgoing_by n (is_own of worker) next s
+      ≡ outgoing_by n (is_own of worker) motes s ++ filter (is_from_sender s) outgoing
+  pub goes : Each (IsOutgoing n of worker) outgoing
+  pub late : Each (λ (copy : RadioCopy). until ≤ copy.at) outgoing
 
 -- So many windows of one worker, from the first moment on. Before each window it had taken, of each sender that was
 -- made on its inbox, the marks of all windows before. What it pushed to another worker is, window by window, the
@@ -44,9 +44,9 @@ pub record WorkerRunsWindows (n : NetTold) (of : List ℕ) (width windows worker
   pub marks_lead : (k : ℕ) → k ≤ windows → (sender : ℕ) → sender < made → k ≤ marks_in (part sender (history.taken k))
   pub of_made : OfMade made taken
   pub runs : (k : ℕ) → k < windows → RunsMotes n of worker (bound width n.end k) (bound width n.end (suc k))
-      (history.motes k) (history.motes (suc k)) (copies_of (history.taken k)) (history.sent k)
+      (history.motes k) (history.motes (suc k)) (copies_of (history.taken k)) (history.outgoing k)
   pub pushes_then : (v : ℕ) → v < workers → v ≢ worker
-      → pushed v ≡ pushes windows (λ k. filter (is_to of v) (history.sent k))
+      → pushed v ≡ pushes windows (λ k. filter (is_to of v) (history.outgoing k))
 
 -- The promise: there were such windows, and the share keeps the motes at their end. The taker has taken all this, and
 -- gathered nobody.

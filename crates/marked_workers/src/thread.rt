@@ -11,7 +11,7 @@ ghost use Rattle.all_workers.specs.Workers.{IsCut};
 ghost use Rattle.marked_workers.specs.Bounds.{bound, windows_of};
 ghost use Rattle.marked_workers.specs.Refusals.{refused_of_marks};
 ghost use Rattle.marked_workers.specs.declared.worker.MarkWorker.{MarkWorker as MarkWorkerOfCode};
-ghost use Rattle.marked_workers.specs.Thread.{IsFirst, IsStarted, IsSame, HasRun, WorkerRunsAllWindows};
+ghost use Rattle.marked_workers.specs.Thread.{IsFirst, IsStarted, IsSame, HasRun, LeadsOn, WorkerRunsAllWindows};
 ghost use Rattle.marked_workers.specs.Thread.{SendsWindow, TakesWindow};
 
 use crate::worker::{MarkWorker, WorkersRun};
@@ -41,7 +41,7 @@ impl<R, G> Drop for MarkRunner<'_, R, G> {
     }
 }
 
-/// The worker's motes run through a window, and what they send to others goes out, with the window's mark after it.
+/// The worker's motes run through a window, and the outgoing copies are pushed, with the window's mark after them.
 fn send_window<R: Wait + RandomSource + AllocGlobal, G: Gate>(
     rt: &R,
     gate: &G,
@@ -64,13 +64,13 @@ fn send_window<R: Wait + RandomSource + AllocGlobal, G: Gate>(
     let ran = worker
         .share
         .run_window(rt, run.net, run.of, none, until, gate);
-    let sent = match ran {
-        Ok(sent) => sent,
+    let outgoing = match ran {
+        Ok(outgoing) => outgoing,
         Err(error) => return Err(refusal_of(error)),
     };
     let Ok(()) = worker
         .endpoint
-        .deliver_window(rt, run.inboxes, run.of, &sent, window)
+        .deliver_window(rt, run.inboxes, run.of, &outgoing, window)
     else {
         return Err(Refused::Memory);
     };
@@ -135,10 +135,8 @@ fn run_one<R: Wait + RandomSource + AllocGlobal, G: Gate>(
     requires cut { IsCut (length (net_of run.now.net.now).motes) (length run.now.inboxes.now) run.now.of.now }
     requires stands { (first : MarkWorkerOfCode) × HasRun (net_of run.now.net.now) run.now.of.now run.now.width
         window run.now.inboxes.now first worker.old }
-    ensures { let n = net_of run.now.net.now in OnOk result (run.now.width ≤ (system_of n).lookahead
-        → (first : MarkWorkerOfCode)
-        → HasRun n run.now.of.now run.now.width window run.now.inboxes.now first worker.old
-        → HasRun n run.now.of.now run.now.width (suc window) run.now.inboxes.now first worker.new) }
+    ensures { let n = net_of run.now.net.now in OnOk result
+        (LeadsOn n run.now.of.now run.now.width window run.now.inboxes.now worker.old worker.new) }
 {
     send_window(rt, gate, run, worker, window, until)?;
     take_window(rt, run, worker, window, until)

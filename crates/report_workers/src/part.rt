@@ -7,7 +7,7 @@ use std::alloc::Global;
 use trace_lines::Line;
 use trace_printer::{Page, put_part};
 
-/// A part of the traces' text: so many of their lines, without the first `skip`, and the page on which they are put.
+/// A part of the traces' text: `count` of their lines, after the first `skip`, and the page on which they are put.
 #[derive(Drop)]
 pub struct Part {
     pub skip: usize,
@@ -60,7 +60,7 @@ impl Work<Part> for Traces<'_> {
         Ok(Part { skip, count, page })
     }
 
-    // The gate is asked before the threads of the run alone.
+    // No gate is asked: that is for the threads of the run.
     fn may_start(&self, _part: &Part) -> bool {
         true
     }

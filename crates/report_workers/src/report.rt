@@ -20,13 +20,13 @@ use std::thread::Threads;
 use trace_lines::Line;
 use trace_printer::{Page, PrintError, count_lines, write_medium, write_report};
 
-/// How many lines all workers put in one round. Their text takes some mebibytes.
+/// How many lines the workers put in one round, all together. Their text takes some mebibytes.
 const ROUND: usize = 65_536;
 
-/// From how many lines on workers put them.
+/// The least number of lines for which workers are started.
 const MANY: usize = 16_384;
 
-/// Writes the lines of all traces, which are so many.
+/// Writes the lines of all traces, `lines` in number, round by round.
 fn write_traces<R: Threads + Wait + Sync, W: Write>(
     rt: &R,
     alloc: Global,
@@ -64,7 +64,7 @@ fn many_lines(workers: u16, traces: &[Vec<Line>]) -> Option<usize>
     }
 }
 
-/// Writes a report whose traces have so many lines. The page for what comes after them is made first.
+/// Writes a report by workers, where its traces have `lines` lines. The page for what comes after them is made first.
 fn write_by<R: Threads + Wait + Sync, W: Write>(
     rt: &R,
     alloc: Global,
@@ -90,10 +90,10 @@ fn write_by<R: Threads + Wait + Sync, W: Write>(
 }
 
 /// Writes the report of a net as text, the same as `write_report`. Where its traces have many lines, so many workers
-/// put them on pages, each in a thread of its own, and this thread writes these; what follows the traces it puts
+/// put them on pages, each in a thread of its own, and this thread writes the pages; what follows the traces it puts
 /// itself.
 ///
-/// Workers wait for one another, so the promise holds if the call returns.
+/// This thread waits for the workers, so the promise holds if the call returns.
 ///
 /// # Errors
 /// `Write` where the writer failed or took no byte, `Memory` where there was no room for a page. A prefix of the text

@@ -13,7 +13,7 @@ use std::sync::Wait;
 use std::thread::Threads;
 use trace_printer::{Page, PrintError, WriteFault, put_part};
 
-/// So many lines, without the first `skip`, in a part for each worker. How many these have differs by one at most.
+/// Cuts `count` lines, after the first `skip`, into a part for each worker. The parts' lengths differ by one at most.
 fn cut(alloc: Global, workers: u16, skip: usize, count: usize) -> Result<Vec<Part>, AllocError>
     requires some { 1 ≤ workers }
     requires there { skip + count < 2 ^ 64 }
@@ -76,8 +76,8 @@ fn write_alone<W: Write>(
     Ok(page.write(writer)?)
 }
 
-/// Writes so many lines of the traces, without the first `skip`. Where a worker finds no memory, or its thread can't
-/// be started, this thread puts them all itself.
+/// Writes `count` lines of the traces, after the first `skip`. Where a worker finds no memory, or its thread can't be
+/// started, this thread puts them all itself.
 pub fn write_round<R: Threads + Wait + Sync, W: Write>(
     rt: &R,
     alloc: Global,

@@ -13,7 +13,7 @@ use futures::Future;
 use futures::task::{Context, Poll};
 use mote_node::MoteError;
 
-/// What a window gave is there once the window was ready.
+/// A mote's window, and what it gave, once it was ready.
 pub(crate) struct Slot<'a, G> {
     pub(crate) window: MoteWindow<'a, G>,
     pub(crate) out: Option<WindowOut>,

@@ -1,4 +1,4 @@
--- What the workers tell at the end is the report, and what their inboxes carried are the copies of its log.
+-- What the workers tell at the end is the report, and what went through their inboxes are the copies of its log.
 use Rattle.std.proofs.Common.{◌≡◌, ℕ, zero, suc, ◌+◌, ◌<◌, List, [], ◌∷◌, length, map, get_or, refl, sym, ap, ◌∙◌, subst, arith, Some, None, Vec, length-append}
 use Rattle.std.specs.Prelude.{All}
 use Rattle.std.specs.declared.alloc.Global.{Global}
@@ -20,7 +20,7 @@ use Rattle.window_laws.proofs.Pending.{pending_left}
 use Rattle.window_laws.proofs.Unique.{run_is_one}
 use Rattle.copy_inbox.specs.Handles.{TakerView}
 use Rattle.copy_exchange.specs.Takers.{taken_by, gathered_by}
-use Rattle.worker_cut.proofs.Carried.{carried}
+use Rattle.worker_cut.proofs.CrossesTo.{crossed_once}
 use Rattle.worker_cut.proofs.Windows.{coming, coming_pending, senders}
 use Rattle.worker_window.specs.declared.share.Ended.{Ended}
 use Rattle.all_workers.specs.declared.workers.Workers.{Workers}
@@ -28,7 +28,7 @@ use Rattle.all_workers.specs.Workers.{IsAt, IsWorkerAt}
 use Rattle.all_workers.proofs.Lookups.{there, read, zip_inside, zip_long}
 use Rattle.net_report.specs.declared.Report.{Report}
 use Rattle.net_report.specs.Report.{Packet, ReportTold, lines_in, told_line, report_of}
-use Rattle.window_workers.specs.Carried.{Pair, packets_told, HasCarried, AllCarried}
+use Rattle.window_workers.specs.Crossed.{Pair, packets_told, CrossedTo, AllCrossed}
 use Rattle.serial_run.specs.NetRun.{packet_with_fates, IsReportOf}
 use Rattle.window_workers.specs.Over.{TellsWhatItKept, logs_of, IsLogOf, AreTracesOf}
 use Rattle.serial_run.proofs.ByWindows.{windows_commute}
@@ -87,19 +87,19 @@ module _ (n : NetTold) (fault : medium_fault n.radio ≡ None) (placed : length 
       ∙ (sent_packets n report.last.log
       ∙ (ap (λ net. net.log) (run_is_one (system_of n) n.end by.run report.run) ∙ sym by.log_is))
 
-  carried_to : (r : ReportTold) → IsReportOf n r → (v : ℕ) → v < length group.inboxes.items → (taker : TakerView) → slice_get group.takers.items v ≡ Some taker → HasCarried n of (packets_told r) v taker
+  crossed_to : (r : ReportTold) → IsReportOf n r → (v : ℕ) → v < length group.inboxes.items → (taker : TakerView) → slice_get group.takers.items v ≡ Some taker → CrossedTo n of (packets_told r) v taker
   unfolding system_of
-  carried_to r report v h taker e =
+  crossed_to r report v h taker e =
       let s = there group.shares.items v (subst (λ l. v < l) (sym at.shares) h) in
       let here : IsWorkerAt n of (suc n.end) at.motes group.first_out v (get_or group.shares.items v s.0) taker =
       subst (λ x. IsWorkerAt n of (suc n.end) at.motes group.first_out v (get_or group.shares.items v s.0) x) (read group.takers.items v taker taker e) (at.each v h s.0 taker) in
       record {
-        gathered = rw (packets_are r report) (carried (system_of n) fine of at.motes v _ (logs_of ended) (senders (system_of n) fine (suc n.end) at.motes at.led) (is_joined n fine of group at ended ends) here.gathered);
+        gathered = rw (packets_are r report) (crossed_once (system_of n) fine of at.motes v _ (logs_of ended) (senders (system_of n) fine (suc n.end) at.motes at.led) (is_joined n fine of group at ended ends) here.gathered);
         taken = taken_by_end n fine of (suc n.end) at.motes at.led group.first_out at.first v (get_or group.shares.items v s.0) taker here n.end refl;
       }
 
-  pub all_carried : (r : ReportTold) → IsReportOf n r → AllCarried n of r (zip group.inboxes.items group.takers.items)
-  all_carried r report v pair e = carried_to r report v (zip_inside group.inboxes.items group.takers.items v pair e) pair.1 (second_at group.inboxes.items group.takers.items v pair e)
+  pub all_crossed : (r : ReportTold) → IsReportOf n r → AllCrossed n of r (zip group.inboxes.items group.takers.items)
+  all_crossed r report v pair e = crossed_to r report v (zip_inside group.inboxes.items group.takers.items v pair e) pair.1 (second_at group.inboxes.items group.takers.items v pair e)
 
 -- ---- what every report has
 pub one_trace_each : (n : NetTold) (r : Report) → IsReportOf n (report_of r) → length r.traces.items ≡ length n.motes

@@ -13,7 +13,7 @@ use Rattle.window_laws.proofs.Lists.{filter_filter, filter_none, every_weaker}
 use Rattle.net_agenda.specs.NetSystem.{system_of}
 use Rattle.copy_inbox.specs.Handles.{TakerView}
 use Rattle.copy_exchange.specs.Takers.{taken_by, gathered_by}
-use Rattle.worker_cut.specs.Crossed.{is_own, is_to, copies_known}
+use Rattle.worker_cut.specs.Crossed.{is_own, is_to, copies_seen}
 use Rattle.worker_cut.proofs.Windows.{coming}
 use Rattle.worker_window.specs.declared.share.Share.{Share}
 use Rattle.worker_window.specs.Share.{Motes, is_to_come}
@@ -34,7 +34,7 @@ module _ (n : NetTold) (fine : RunsForward (system_of n)) (of : List ℕ) (from 
   taken_of s = filter (is_from_sender s) (taken_by taker)
 
   -- this worker's part of what is left
-  pub left_here : (left : ℕ) (rest : List RadioCopy) → left ≡ length rest → ((s : ℕ) → filter (is_from_sender s) rest ≡ filter (is_to_come (is_own of v) from) (copies_known (system_of n) (is_own of v) motes (taken_by taker) s))
+  pub left_here : (left : ℕ) (rest : List RadioCopy) → left ≡ length rest → ((s : ℕ) → filter (is_from_sender s) rest ≡ filter (is_to_come (is_own of v) from) (copies_seen (system_of n) (is_own of v) motes (taken_by taker) s))
       → left + length (gathered_by taker) ≡ length (filter (is_to of v) (coming (system_of n) fine from motes)) + length (taken_by taker)
   left_here left rest is told =
       let gathered = length_permutation (gathered_by taker) (taken_by taker ++ lying) (gathered_is n fine of from motes led first starts v share taker here) in

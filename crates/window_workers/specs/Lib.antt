@@ -1,4 +1,4 @@
-pub mod Carried
+pub mod Crossed
 pub mod Fits
 pub mod Over
 pub mod Sync

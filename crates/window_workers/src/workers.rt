@@ -10,7 +10,7 @@ ghost use Rattle.all_workers.specs.Workers.{IsAt};
 ghost use Rattle.all_workers.specs.Start.{AreFirst};
 ghost use Rattle.all_workers.specs.Workers.{IsCut};
 ghost use Rattle.net_report.specs.Report.{report_of};
-ghost use Rattle.window_workers.specs.Carried.{AllCarried};
+ghost use Rattle.window_workers.specs.Crossed.{AllCrossed};
 ghost use Rattle.window_workers.specs.Fits.{cut_fault, IsAnswerTo};
 ghost use Rattle.serial_run.specs.NetRun.{IsReportOf};
 ghost use Rattle.window_workers.specs.Sync.{IsFor};
@@ -49,7 +49,7 @@ fn make_report(
     ensures inboxes { IfOk result (λ r. map (λ pair. pair.0) r.1.items ≡ group.inboxes.items) }
     ensures pairs { IfOk result (λ r. r.1.items ≡ zip group.inboxes.items group.takers.items) }
     ensures settled { IfOk result (λ r. Each (λ pair. IsSettled pair.0 pair.1) r.1.items) }
-    ensures carried { IfOk result (λ r. AllCarried (net_of net.now) of.now (report_of r.0) r.1.items) }
+    ensures crossed { IfOk result (λ r. AllCrossed (net_of net.now) of.now (report_of r.0) r.1.items) }
     ensures err { IfErr result (λ e. e ≡ RunError.Memory) }
 {
     // Each wake and each copy comes later than the turn that makes it, so the windows of all motes are those of one
@@ -148,8 +148,8 @@ where
     // With marks nothing is left in them.
     ensures none_known { IfOk result (λ r. sync ≡ Marks
         → Each (λ pair. known_of pair.1.state.gathered pair.1.state.taken ≡ 0) r.1.items) }
-    // They carried the copies that went from worker to worker, each once and nothing else.
-    ensures carried { IfOk result (λ r. AllCarried (net_of net.now) cut.now.of.items (report_of r.0) r.1.items) }
+    // Through them went the copies from worker to worker, each once and nothing else.
+    ensures crossed { IfOk result (λ r. AllCrossed (net_of net.now) cut.now.of.items (report_of r.0) r.1.items) }
     // A fault of the cut is answered exactly where there is one.
     ensures fits { IfOk result (λ r. cut_fault (length (net_of net.now).motes) (length pairs.items) cut.now.of.items
         ≡ None) }
@@ -163,7 +163,7 @@ where
     let Ok((inboxes, takers)) = split_pairs(alloc, pairs) else {
         return Err(RunError::Memory);
     };
-    let Ok(group) = Workers::start(alloc, net, of, inboxes, takers) else {
+    let Ok(group) = Workers::new(alloc, net, of, inboxes, takers) else {
         return Err(RunError::Memory);
     };
     let group = run_by_kind(rt, alloc, net, of, cut.longest, sync, gate, group)?;

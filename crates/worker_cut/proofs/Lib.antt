@@ -1,5 +1,5 @@
-pub mod Carried
 pub mod Counts
 pub mod Crossed
+pub mod CrossesTo
 pub mod Owners
 pub mod Windows

@@ -15,8 +15,8 @@ abbrev pub is_to : (of : List ℕ) → (worker : ℕ) → RadioCopy → Bool
 is_to of worker copy = is_own of worker copy.to
 
 -- the copy is for a mote of another worker
-abbrev pub leaves : (own : ℕ → Bool) → RadioCopy → Bool
-leaves own copy = not (own copy.to)
+abbrev pub is_outgoing : (own : ℕ → Bool) → RadioCopy → Bool
+is_outgoing own copy = not (own copy.to)
 
 -- the copy is for a mote of this worker, from a mote of another, and comes at this moment or later
 pub record IsDue (of : List ℕ) (worker from : ℕ) (copy : RadioCopy) : Type 0 where
@@ -30,8 +30,8 @@ abbrev pub crossed : {S L : Type 0} → System S L → (of : List ℕ) → (mote
 crossed system of motes worker sender =
     if is_own of worker sender then [] else filter (is_to of worker) (copies_by system motes sender)
 
--- what a worker has of what this mote sent: all that a mote of its own sent, and of others what it took
-abbrev pub copies_known : {S L : Type 0} → System S L → (own : ℕ → Bool) → (motes : (number : ℕ) → LoneMote S L)
+-- what a worker has seen of what this mote sent: all that a mote of its own sent, and of others what it took
+abbrev pub copies_seen : {S L : Type 0} → System S L → (own : ℕ → Bool) → (motes : (number : ℕ) → LoneMote S L)
     → (taken : List RadioCopy) → (sender : ℕ) → List RadioCopy
-copies_known system own motes taken sender =
+copies_seen system own motes taken sender =
     if own sender then copies_by system motes sender else filter (is_from_sender sender) taken

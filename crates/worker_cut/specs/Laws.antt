@@ -6,8 +6,8 @@ use Rattle.radio_packet.specs.declared.copy.RadioCopy.{RadioCopy}
 use Rattle.window_laws.specs.System.{System, RunsForward}
 use Rattle.window_laws.specs.Windows.{LoneMote, first_mote, Windows, is_at, is_from_sender, is_within, IsInbox}
 use Rattle.window_laws.specs.Windows.{IsJoined, as_log}
-use Rattle.worker_cut.specs.Crossed.{is_own, crossed, copies_known}
-use Rattle.worker_cut.specs.Carried.{AreThoseTo}
+use Rattle.worker_cut.specs.Crossed.{is_own, crossed, copies_seen}
+use Rattle.worker_cut.specs.CrossesTo.{AreThoseTo}
 
 -- this worker gathered, of each mote, what the mote has sent across to it
 abbrev pub GatheredCopies : {S L : Type 0} → System S L → (of : List ℕ) → (motes : (number : ℕ) → LoneMote S L)
@@ -22,18 +22,18 @@ HasTaken gathered taken = (sender : ℕ) → filter (is_from_sender sender) take
 -- at each moment of the window, of each mote, the copies for this mote that its worker has
 abbrev pub IsFromSources : {S L : Type 0} → System S L → (own : ℕ → Bool) → (from bound : ℕ)
     → (motes : (number : ℕ) → LoneMote S L) → (taken : List RadioCopy) → (number : ℕ)
-    → (inbox : List RadioCopy) → Type 0
-IsFromSources system own from bound motes taken number inbox = (moment sender : ℕ)
-    → filter (is_from_sender sender) (filter (is_at moment) inbox)
-    ≡ filter (is_at moment) (filter (is_within number from bound) (copies_known system own motes taken sender))
+    → (given : List RadioCopy) → Type 0
+IsFromSources system own from bound motes taken number given = (moment sender : ℕ)
+    → filter (is_from_sender sender) (filter (is_at moment) given)
+    ≡ filter (is_at moment) (filter (is_within number from bound) (copies_seen system own motes taken sender))
 
-abbrev pub InboxIsWhole : {S L : Type 0} → System S L → Type 0
-InboxIsWhole {S} {L} system =
+abbrev pub WindowCopiesAreWhole : {S L : Type 0} → System S L → Type 0
+WindowCopiesAreWhole {S} {L} system =
     (of : List ℕ) (motes : (number : ℕ) → LoneMote S L) (gathered taken : List RadioCopy) (worker number from bound : ℕ)
     → is_own of worker number ≡ true
     → GatheredCopies system of motes worker gathered → HasTaken gathered taken
-    → (inbox : List RadioCopy) → IsFromSources system (is_own of worker) from bound motes taken number inbox
-    → IsInbox system from bound motes number inbox
+    → (given : List RadioCopy) → IsFromSources system (is_own of worker) from bound motes taken number given
+    → IsInbox system from bound motes number given
 
 abbrev pub CrossedOnce : {S L : Type 0} → System S L → Type 0
 CrossedOnce {S} {L} system = RunsForward system → (of : List ℕ) (from : ℕ) (motes : (number : ℕ) → LoneMote S L)

@@ -1,4 +1,4 @@
-pub mod Carried
 pub mod Crossed
+pub mod CrossesTo
 pub mod Cut
 pub mod Laws

@@ -1,12 +1,12 @@
 //! Laws of what crosses between workers. Each is a theorem, stated as the contract of an empty function.
 
 ghost use Rattle.window_laws.specs.System.{System};
-ghost use Rattle.worker_cut.specs.Laws.{InboxIsWhole, CrossedOnce};
+ghost use Rattle.worker_cut.specs.Laws.{WindowCopiesAreWhole, CrossedOnce};
 
-/// A mote's inbox for a window, made of what its worker's own motes sent and of what the worker took of all that
-/// crossed to it, is the one that the law of windows asks for.
-pub fn inbox_is_whole<S, L>()
-    ensures { (system : System S L) → InboxIsWhole system }
+/// The copies for a mote in a window, chosen from what its worker's own motes sent and from what the worker took of all
+/// that crossed to it, are those that the law of windows asks for.
+pub fn window_copies_are_whole<S, L>()
+    ensures { (system : System S L) → WindowCopiesAreWhole system }
 {}
 
 /// A worker that gathered, of each mote, what that mote sent across to it, has gathered each copy of the medium's log

@@ -24,15 +24,15 @@ use Rattle.net_agenda.specs.Buckets.{Holds}
 use Rattle.net_agenda.specs.Changes.{without_wakes}
 use Rattle.net_agenda.specs.NetSystem.{tree_at, system_of}
 use Rattle.worker_window.specs.declared.share.Share.{Share}
-use Rattle.worker_cut.specs.Crossed.{is_own, copies_known, leaves}
+use Rattle.worker_cut.specs.Crossed.{is_own, copies_seen, is_outgoing}
 use Rattle.window_run.specs.Window.{number_of}
 use Rattle.worker_window.specs.Share.{Motes, IsShare, HasToCome, node_at, mote_here, is_to_come, wake_from}
-use Rattle.worker_window.specs.Window.{copies_out}
-use Rattle.worker_window.specs.Leaving.{is_one_of, MoteReturns}
+use Rattle.worker_window.specs.Window.{outgoing_by}
+use Rattle.worker_window.specs.Lending.{is_one_of, MoteReturns}
 use Rattle.worker_window.specs.Log.{packets_in}
 use Rattle.worker_window.proofs.Gives.{IsBack, ComesLate, come_late}
 use Rattle.worker_window.proofs.Items.{wake_still}
-use Rattle.worker_window.proofs.Left.{among_more}
+use Rattle.worker_window.proofs.Lent.{among_more}
 
 late : (at until : ℕ) → until ≤ at → not (ltb at until) ≡ true
 late at until h = grind (arith, nat_tests)
@@ -75,14 +75,14 @@ other_woken j k ne items = filter_stronger (is_wake_of j) (λ item. not (is_wake
     other (Wake t m) e = ap not (ne_eqb m k (λ f. ne (sym (eqb-true m j e) ∙ f)))
     other (Packet c) e = absurd (false≢true e)
 
-module _ (n : NetTold) (of : List ℕ) (worker from until : ℕ) (before now : Motes) (taken : List RadioCopy) (inbox : ℕ → List RadioCopy) (placed : length n.radio.places ≡ length n.motes)
-    (short : until ≤ from + (system_of n).lookahead) (others : List ℕ) (k : ℕ) (new : is_one_of k others ≡ false) (out : WindowOut) (back : IsBack n (is_own of worker) from until before inbox k out)
+module _ (n : NetTold) (of : List ℕ) (worker from until : ℕ) (before now : Motes) (taken : List RadioCopy) (window_copies : ℕ → List RadioCopy) (placed : length n.radio.places ≡ length n.motes)
+    (short : until ≤ from + (system_of n).lookahead) (others : List ℕ) (k : ℕ) (new : is_one_of k others ≡ false) (out : WindowOut) (back : IsBack n (is_own of worker) from until before window_copies k out)
     (waits : now k ≡ before k) where
   abbrev own : ℕ → Bool
   own = is_own of worker
 
-  abbrev away : ℕ → Bool
-  away j = own j && not (is_one_of j (others ++ k ∷ []))
+  abbrev outgoing : ℕ → Bool
+  outgoing j = own j && not (is_one_of j (others ++ k ∷ []))
 
   abbrev here : ℕ → Bool
   here j = own j && not (is_one_of j others)
@@ -99,10 +99,10 @@ module _ (n : NetTold) (of : List ℕ) (worker from until : ℕ) (before now : M
   here_k : here k ≡ true
   here_k = ap (λ b. own k && not b) new ∙ (let e = back.mine in rw e refl)
 
-  away_k : away k ≡ false
+  away_k : outgoing k ≡ false
   away_k = ap (λ b. own k && not b) (among_more k others k ∙ (ap (λ b. is_one_of k others || b) (eq-eqb k k refl) ∙ or_yes (is_one_of k others))) ∙ (let e = back.mine in rw e refl)
 
-  same_here : (j : ℕ) → (j ≡ k → ⊥) → away j ≡ here j
+  same_here : (j : ℕ) → (j ≡ k → ⊥) → outgoing j ≡ here j
   same_here j ne = ap (λ b. own j && not b) (among_more j others k ∙ (ap (λ b. is_one_of j others || b) (ne_eqb k j (λ f. ne (sym f))) ∙ or_none (is_one_of j others)))
 
   -- of the mote that is back, and of another
@@ -140,24 +140,24 @@ module _ (n : NetTold) (of : List ℕ) (worker from until : ℕ) (before now : M
   come_own : sent_own ≡ filter (is_to_come own until) sent
   come_own = filter_same (λ copy. own copy.to) (is_to_come own until) sent (every_weaker _ _ (λ c h. and_true (own c.to) (not (ltb c.at until)) (late c.at until h.late)) sent late_ones)
 
-  -- what leaves the worker
-  pub out_more : (s : ℕ) → copies_out n own next s ≡ copies_out n own now s ++ filter (is_from_sender s) (filter (leaves own) sent)
-  out_more = by_mote (λ s. copies_out n own next s ≡ copies_out n own now s ++ filter (is_from_sender s) (filter (leaves own) sent)) one other
+  -- the outgoing copies
+  pub out_more : (s : ℕ) → outgoing_by n own next s ≡ outgoing_by n own now s ++ filter (is_from_sender s) (filter (is_outgoing own) sent)
+  out_more = by_mote (λ s. outgoing_by n own next s ≡ outgoing_by n own now s ++ filter (is_from_sender s) (filter (is_outgoing own) sent)) one other
     where
-      one : copies_out n own next k ≡ copies_out n own now k ++ filter (is_from_sender k) (filter (leaves own) sent)
+      one : outgoing_by n own next k ≡ outgoing_by n own now k ++ filter (is_from_sender k) (filter (is_outgoing own) sent)
       one =
           let e = back.mine in
-          rw e (ap (filter (leaves own)) copies_more
-          ∙ (filter-append (leaves own) (copies_by (system_of n) now k) sent
-          ∙ ap (λ l. filter (leaves own) (copies_by (system_of n) now k) ++ l)
-          (sym (filter_every (is_from_sender k) (filter (leaves own) sent) (every_filter _ _ (leaves own) (λ c h e. eq-eqb c.sender k h.sender) sent late_ones)))))
+          rw e (ap (filter (is_outgoing own)) copies_more
+          ∙ (filter-append (is_outgoing own) (copies_by (system_of n) now k) sent
+          ∙ ap (λ l. filter (is_outgoing own) (copies_by (system_of n) now k) ++ l)
+          (sym (filter_every (is_from_sender k) (filter (is_outgoing own) sent) (every_filter _ _ (is_outgoing own) (λ c h e. eq-eqb c.sender k h.sender) sent late_ones)))))
 
-      other : (s : ℕ) → (s ≡ k → ⊥) → copies_out n own next s ≡ copies_out n own now s ++ filter (is_from_sender s) (filter (leaves own) sent)
+      other : (s : ℕ) → (s ≡ k → ⊥) → outgoing_by n own next s ≡ outgoing_by n own now s ++ filter (is_from_sender s) (filter (is_outgoing own) sent)
       other s ne =
-          ap (λ l. cond (own s) (filter (leaves own) l) []) (copies_put s ne)
-          ∙ sym (ap (λ l. copies_out n own now s ++ l) (from_others (leaves own) s ne) ∙ append-nil (copies_out n own now s))
+          ap (λ l. cond (own s) (filter (is_outgoing own) l) []) (copies_put s ne)
+          ∙ sym (ap (λ l. outgoing_by n own now s ++ l) (from_others (is_outgoing own) s ne) ∙ append-nil (outgoing_by n own now s))
 
-  module _ (old share : Share) (stands : IsShare n of worker away until now taken old) (gone later : List RadioCopy)
+  module _ (old share : Share) (stands : IsShare n of worker outgoing until now taken old) (gone later : List RadioCopy)
       (wake : Option ℕ) (pending : wake ≡ wake_from until (before k).wake) (ret : MoteReturns n.radio of k wake out old share gone later) where
     abbrev has : HasToCome n own until now taken old.agenda.buckets
     has = stands.agenda
@@ -212,28 +212,28 @@ module _ (n : NetTold) (of : List ℕ) (worker from until : ℕ) (before now : M
         ∙ (ap (λ l. packets (without_wakes k has.items) ++ l) (packets_wake k out.wake) ∙ (append-nil (packets (without_wakes k has.items)) ∙ packets_unwoken k has.items)))
         ∙ ap (λ l. packets has.items ++ l) (packets_map sent_own))
 
-    new_copies : (s : ℕ) → filter (is_from_sender s) (packets items) ≡ filter (is_to_come own until) (copies_known (system_of n) own next taken s)
-    new_copies = by_mote (λ s. filter (is_from_sender s) (packets items) ≡ filter (is_to_come own until) (copies_known (system_of n) own next taken s)) one other
+    new_copies : (s : ℕ) → filter (is_from_sender s) (packets items) ≡ filter (is_to_come own until) (copies_seen (system_of n) own next taken s)
+    new_copies = by_mote (λ s. filter (is_from_sender s) (packets items) ≡ filter (is_to_come own until) (copies_seen (system_of n) own next taken s)) one other
       where
-        split : (s : ℕ) → filter (is_from_sender s) (packets items) ≡ filter (is_to_come own until) (copies_known (system_of n) own now taken s) ++ filter (is_from_sender s) sent_own
+        split : (s : ℕ) → filter (is_from_sender s) (packets items) ≡ filter (is_to_come own until) (copies_seen (system_of n) own now taken s) ++ filter (is_from_sender s) sent_own
         split s = ap (filter (is_from_sender s)) packets_are ∙ (filter-append (is_from_sender s) (packets has.items) sent_own ∙ ap (λ l. l ++ filter (is_from_sender s) sent_own) (has.copies s))
 
-        one : filter (is_from_sender k) (packets items) ≡ filter (is_to_come own until) (copies_known (system_of n) own next taken k)
+        one : filter (is_from_sender k) (packets items) ≡ filter (is_to_come own until) (copies_seen (system_of n) own next taken k)
         one =
             let e = back.mine in
             split k
-            ∙ (ap (λ l. filter (is_to_come own until) (copies_known (system_of n) own now taken k) ++ l) (from_k ∙ come_own)
+            ∙ (ap (λ l. filter (is_to_come own until) (copies_seen (system_of n) own now taken k) ++ l) (from_k ∙ come_own)
             ∙ rw e (sym (filter-append (is_to_come own until) (copies_by (system_of n) now k) sent) ∙ ap (filter (is_to_come own until)) (sym copies_more)))
 
-        other : (s : ℕ) → (s ≡ k → ⊥) → filter (is_from_sender s) (packets items) ≡ filter (is_to_come own until) (copies_known (system_of n) own next taken s)
+        other : (s : ℕ) → (s ≡ k → ⊥) → filter (is_from_sender s) (packets items) ≡ filter (is_to_come own until) (copies_seen (system_of n) own next taken s)
         other s ne =
             split s
-            ∙ (ap (λ l. filter (is_to_come own until) (copies_known (system_of n) own now taken s) ++ l) (from_others (λ copy. own copy.to) s ne)
-            ∙ (append-nil (filter (is_to_come own until) (copies_known (system_of n) own now taken s))
+            ∙ (ap (λ l. filter (is_to_come own until) (copies_seen (system_of n) own now taken s) ++ l) (from_others (λ copy. own copy.to) s ne)
+            ∙ (append-nil (filter (is_to_come own until) (copies_seen (system_of n) own now taken s))
             ∙ ap (λ l. filter (is_to_come own until) (cond (own s) l (filter (is_from_sender s) taken))) (sym (copies_put s ne))))
 
     -- what holds of the mote that is back, and of each that was here
-    all_here : (P : (j : ℕ) → LoneMote Node Line → Type 0) → P k back.last → ((j : ℕ) → away j ≡ true → P j (now j)) → (j : ℕ) → here j ≡ true → P j (next j)
+    all_here : (P : (j : ℕ) → LoneMote Node Line → Type 0) → P k back.last → ((j : ℕ) → outgoing j ≡ true → P j (now j)) → (j : ℕ) → here j ≡ true → P j (next j)
     all_here P one rest =
         by_mote (λ j. here j ≡ true → P j (next j)) (λ _. subst (P k) (sym at_k) one)
         (λ j ne h. subst (P j) (sym (elsewhere j ne)) (rest j (same_here j ne ∙ h)))

@@ -19,7 +19,7 @@ use Rattle.net_agenda.specs.Buckets.{Holds}
 use Rattle.net_agenda.specs.NetSystem.{system_of, first_node_in, tree_at}
 use Rattle.net_agenda.proofs.NewWakes.{new_wakes, new_numbers}
 use Rattle.worker_window.specs.declared.share.Share.{Share}
-use Rattle.worker_cut.specs.Crossed.{is_own, copies_known}
+use Rattle.worker_cut.specs.Crossed.{is_own, copies_seen}
 use Rattle.worker_window.specs.Log.{HaveFates, packets_in}
 use Rattle.worker_window.specs.Share.{node_at, mote_here, Keeps, is_to_come}
 use Rattle.worker_window.proofs.Behind.{not_begun}
@@ -69,7 +69,7 @@ module _ (n : NetTold) (of : List ℕ) (worker : ℕ) (long : length of ≡ leng
   quiet : (k : ℕ) → own k ≡ true → WakesFrom 0 (first_mote (system_of n) k).wake
   quiet k mine = let e = wakes_at_0 k mine in rw e zero-le
 
-  no_copies : (s : ℕ) → filter (is_from_sender s) (packets (map (λ k. Wake 0 k) (filter own (up_to (length n.motes))))) ≡ filter (is_to_come own 0) (copies_known (system_of n) own (first_mote (system_of n)) [] s)
+  no_copies : (s : ℕ) → filter (is_from_sender s) (packets (map (λ k. Wake 0 k) (filter own (up_to (length n.motes))))) ≡ filter (is_to_come own 0) (copies_seen (system_of n) own (first_mote (system_of n)) [] s)
   no_copies s =
       ap (filter (is_from_sender s)) (packets_wakes (filter own (up_to (length n.motes))))
       ∙ elim (cases_Bool (own s)) [

@@ -1,4 +1,4 @@
--- A worker's window: the motes that are called leave, run and come back one after another.
+-- A worker's window: the motes that are called are lent, run, and come back one after another.
 use Rattle.std.proofs.Common.{◌≡◌, ℕ, ◌+◌, ◌<◌, ◌≤◌, ◌^◌, Bool, true, false, not, ◌&&◌, ◌||◌, eqb, List, [], ◌∷◌, ◌++◌, length, refl, sym, ap, ◌∙◌, subst, inl, inr, arith, append_assoc, Option}
 use Rattle.std.specs.List.{filter, flat_map, AllByRecursion, AllZip}
 use Rattle.std.proofs.lemmas.Bool.{cases_eq, eq-eqb, ne_eqb, false≢true}
@@ -13,12 +13,12 @@ use Rattle.window_run.specs.declared.out.WindowOut.{WindowOut}
 use Rattle.window_run.specs.declared.share.Resident.{Resident}
 use Rattle.net_agenda.specs.NetSystem.{tree_at, system_of}
 use Rattle.worker_window.specs.declared.share.Share.{Share}
-use Rattle.worker_cut.specs.Crossed.{is_own, copies_known, leaves}
+use Rattle.worker_cut.specs.Crossed.{is_own, copies_seen, is_outgoing}
 use Rattle.worker_window.specs.Share.{Motes, IsShare, wake_from}
-use Rattle.worker_window.specs.Window.{GoesOut, RunsWindow, copies_out}
-use Rattle.worker_window.specs.Leaving.{HasNumber, IsOutOfMote, MoteReturns, is_one_of, are_different, numbers_of}
+use Rattle.worker_window.specs.Window.{IsOutgoing, RunsWindow, outgoing_by}
+use Rattle.worker_window.specs.Lending.{HasNumber, IsOutOfMote, MoteReturns, is_one_of, are_different, numbers_of}
 use Rattle.worker_window.proofs.Gives.{IsSentIn, IsBack, come_late}
-use Rattle.worker_window.proofs.Left.{among_more, different_less}
+use Rattle.worker_window.proofs.Lent.{among_more, different_less}
 use Rattle.worker_window.proofs.Back.{next, at_k, elsewhere, out_more, is_back}
 
 -- an answer of a mote of this worker
@@ -41,9 +41,9 @@ fits n of worker until motes out fit e early = record {
     le_chain a b c h k = omega arith
 
 pub go_out : (n : NetTold) (of : List ℕ) (worker until : ℕ) (out : WindowOut) → length n.radio.places ≡ length n.motes → IsFitOwn n of worker until out
-    → AllByRecursion (GoesOut n of worker) (filter (leaves (is_own of worker)) (flat_map (copies n.radio) out.sends.items))
+    → AllByRecursion (IsOutgoing n of worker) (filter (is_outgoing (is_own of worker)) (flat_map (copies n.radio) out.sends.items))
 go_out n of worker until out placed fit =
-    every_filter _ _ (leaves (is_own of worker)) (λ c h e. record { sender = ap (is_own of worker) h.0 ∙ fit.mine; to = not_true (is_own of worker c.to) e; there = h.1 }) (flat_map (copies n.radio) out.sends.items)
+    every_filter _ _ (is_outgoing (is_own of worker)) (λ c h e. record { sender = ap (is_own of worker) h.0 ∙ fit.mine; to = not_true (is_own of worker c.to) e; there = h.1 }) (flat_map (copies n.radio) out.sends.items)
     (every_flat_map (λ c. (c.sender ≡ fit.number) × (c.to < length n.motes)) (copies n.radio) out.sends.items
     (every_weaker _ _ (λ x g. every_weaker _ _ (λ c i. (i.sender ∙ g.sender, let t = i.there in omega arith)) (copies n.radio x) (copies_later n.radio x)) out.sends.items fit.sent))
   where
@@ -100,18 +100,18 @@ abbrev pub IsPending : (until : ℕ) → Motes → (k : ℕ) → (wake : Option 
 IsPending until motes k wake = wake ≡ wake_from until (motes k).wake
 
 -- some motes are still out
-pub record Coming (n : NetTold) (of : List ℕ) (worker from until : ℕ) (motes : Motes) (taken : List RadioCopy) (inbox : ℕ → List RadioCopy) (share : Share) (outs : List WindowOut) (wakes : List (Option ℕ)) (away : List RadioCopy) : Type 0 where
+pub record Coming (n : NetTold) (of : List ℕ) (worker from until : ℕ) (motes : Motes) (taken : List RadioCopy) (window_copies : ℕ → List RadioCopy) (share : Share) (outs : List WindowOut) (wakes : List (Option ℕ)) (outgoing : List RadioCopy) : Type 0 where
   pub rest : List ℕ
   pub different : are_different rest ≡ true
   pub now : Motes
-  pub backs : AllZip (IsBack n (is_own of worker) from until motes inbox) rest outs
+  pub backs : AllZip (IsBack n (is_own of worker) from until motes window_copies) rest outs
   pub pending : AllZip (IsPending until motes) rest wakes
   pub stands : IsShare n of worker (λ j. is_own of worker j && not (is_one_of j rest)) until now taken share
   pub waits : (k : ℕ) → is_one_of k rest ≡ true → now k ≡ motes k
   pub others : (k : ℕ) → is_own of worker k ≡ false → now k ≡ motes k
-  pub alone : (k : ℕ) → is_own of worker k ≡ true → is_one_of k rest ≡ false → Alone (system_of n) k until (inbox k) (motes k) (now k)
-  pub sent : (s : ℕ) → copies_out n (is_own of worker) now s ≡ copies_out n (is_own of worker) motes s ++ filter (is_from_sender s) away
-  pub late : AllByRecursion (λ (copy : RadioCopy). until ≤ copy.at) away
+  pub alone : (k : ℕ) → is_own of worker k ≡ true → is_one_of k rest ≡ false → Alone (system_of n) k until (window_copies k) (motes k) (now k)
+  pub sent : (s : ℕ) → outgoing_by n (is_own of worker) now s ≡ outgoing_by n (is_own of worker) motes s ++ filter (is_from_sender s) outgoing
+  pub late : AllByRecursion (λ (copy : RadioCopy). until ≤ copy.at) outgoing
 
 or_none : (b : Bool) → (b || false) ≡ b
 or_none true = refl
@@ -121,15 +121,15 @@ or_yes : (b : Bool) → (b || true) ≡ true
 or_yes true = refl
 or_yes false = refl
 
-module _ (n : NetTold) (of : List ℕ) (worker from until : ℕ) (motes : Motes) (taken : List RadioCopy) (inbox : ℕ → List RadioCopy) (placed : length n.radio.places ≡ length n.motes)
+module _ (n : NetTold) (of : List ℕ) (worker from until : ℕ) (motes : Motes) (taken : List RadioCopy) (window_copies : ℕ → List RadioCopy) (placed : length n.radio.places ≡ length n.motes)
     (short : until ≤ from + (system_of n).lookahead) where
   abbrev mine : ℕ → Bool
   mine = is_own of worker
 
   module _ (old share : Share) (outs more : List WindowOut) (out : WindowOut) (popped : outs ≡ more ++ out ∷ []) (wakes less : List (Option ℕ)) (wake : Option ℕ) (woken : wakes ≡ less ++ wake ∷ []) (before after : List RadioCopy)
-      (coming : Coming n of worker from until motes taken inbox old outs wakes before) (returns : (k : ℕ) → HasNumber k out.mote → MoteReturns n.radio of k wake out old share before after) where
-    l : Last (IsBack n mine from until motes inbox) coming.rest more out
-    l = last_of (IsBack n mine from until motes inbox) coming.rest more out (subst (AllZip (IsBack n mine from until motes inbox) coming.rest) popped coming.backs)
+      (coming : Coming n of worker from until motes taken window_copies old outs wakes before) (returns : (k : ℕ) → HasNumber k out.mote → MoteReturns n.radio of k wake out old share before after) where
+    l : Last (IsBack n mine from until motes window_copies) coming.rest more out
+    l = last_of (IsBack n mine from until motes window_copies) coming.rest more out (subst (AllZip (IsBack n mine from until motes window_copies) coming.rest) popped coming.backs)
 
     abbrev front : List ℕ
     front = l.front
@@ -153,10 +153,10 @@ module _ (n : NetTold) (of : List ℕ) (worker from until : ℕ) (motes : Motes)
     waited = coming.waits k (among k ∙ (ap (λ b. is_one_of k front || b) (eq-eqb k k refl) ∙ or_yes (is_one_of k front)))
 
     abbrev after_it : Motes
-    after_it = next n of worker from until motes coming.now taken inbox placed short front k d.1 out l.last waited
+    after_it = next n of worker from until motes coming.now taken window_copies placed short front k d.1 out l.last waited
 
     else_same : (j : ℕ) → (j ≡ k → ⊥) → after_it j ≡ coming.now j
-    else_same j ne = elsewhere n of worker from until motes coming.now taken inbox placed short front k d.1 out l.last waited j ne
+    else_same j ne = elsewhere n of worker from until motes coming.now taken window_copies placed short front k d.1 out l.last waited j ne
 
     stands_then : IsShare n of worker (λ j. mine j && not (is_one_of j (front ++ k ∷ []))) until coming.now taken old
     stands_then = subst (λ ks. IsShare n of worker (λ j. mine j && not (is_one_of j ks)) until coming.now taken old) l.is coming.stands
@@ -164,39 +164,39 @@ module _ (n : NetTold) (of : List ℕ) (worker from until : ℕ) (motes : Motes)
     among_else : (j : ℕ) → (j ≡ k → ⊥) → is_one_of j coming.rest ≡ is_one_of j front
     among_else j ne = among j ∙ (ap (λ b. is_one_of j front || b) (ne_eqb k j (λ f. ne (sym f))) ∙ or_none (is_one_of j front))
 
-    alone_then : (j : ℕ) → mine j ≡ true → is_one_of j front ≡ false → Alone (system_of n) j until (inbox j) (motes j) (after_it j)
+    alone_then : (j : ℕ) → mine j ≡ true → is_one_of j front ≡ false → Alone (system_of n) j until (window_copies j) (motes j) (after_it j)
     alone_then j h e =
         elim (cases_eq j k) [
-          | inl f ↦ subst (λ i. Alone (system_of n) i until (inbox i) (motes i) (after_it i)) (sym f)
-              (subst (λ m. Alone (system_of n) k until (inbox k) (motes k) m) (sym (at_k n of worker from until motes coming.now taken inbox placed short front k d.1 out l.last waited)) l.last.alone)
-          | inr ne ↦ subst (λ m. Alone (system_of n) j until (inbox j) (motes j) m) (sym (else_same j ne)) (coming.alone j h (among_else j ne ∙ e))
+          | inl f ↦ subst (λ i. Alone (system_of n) i until (window_copies i) (motes i) (after_it i)) (sym f)
+              (subst (λ m. Alone (system_of n) k until (window_copies k) (motes k) m) (sym (at_k n of worker from until motes coming.now taken window_copies placed short front k d.1 out l.last waited)) l.last.alone)
+          | inr ne ↦ subst (λ m. Alone (system_of n) j until (window_copies j) (motes j) m) (sym (else_same j ne)) (coming.alone j h (among_else j ne ∙ e))
         ]
 
-    away_is : after ≡ before ++ filter (leaves mine) (flat_map (copies n.radio) out.sends.items)
-    away_is = ret.away ∙ ap (λ w. before ++ filter (leaves (is_own of w)) (flat_map (copies n.radio) out.sends.items)) coming.stands.is_worker
+    away_is : after ≡ before ++ filter (is_outgoing mine) (flat_map (copies n.radio) out.sends.items)
+    away_is = ret.outgoing ∙ ap (λ w. before ++ filter (is_outgoing (is_own of w)) (flat_map (copies n.radio) out.sends.items)) coming.stands.is_worker
 
-    sent_then : (s : ℕ) → copies_out n mine after_it s ≡ copies_out n mine motes s ++ filter (is_from_sender s) after
+    sent_then : (s : ℕ) → outgoing_by n mine after_it s ≡ outgoing_by n mine motes s ++ filter (is_from_sender s) after
     sent_then s =
-        out_more n of worker from until motes coming.now taken inbox placed short front k d.1 out l.last waited s
-        ∙ (ap (λ x. x ++ filter (is_from_sender s) (filter (leaves mine) (flat_map (copies n.radio) out.sends.items))) (coming.sent s)
-        ∙ (append_assoc (copies_out n mine motes s) (filter (is_from_sender s) before) (filter (is_from_sender s) (filter (leaves mine) (flat_map (copies n.radio) out.sends.items)))
-        ∙ ap (λ x. copies_out n mine motes s ++ x)
-        (sym (ap (filter (is_from_sender s)) away_is ∙ filter-append (is_from_sender s) before (filter (leaves mine) (flat_map (copies n.radio) out.sends.items))))))
+        out_more n of worker from until motes coming.now taken window_copies placed short front k d.1 out l.last waited s
+        ∙ (ap (λ x. x ++ filter (is_from_sender s) (filter (is_outgoing mine) (flat_map (copies n.radio) out.sends.items))) (coming.sent s)
+        ∙ (append_assoc (outgoing_by n mine motes s) (filter (is_from_sender s) before) (filter (is_from_sender s) (filter (is_outgoing mine) (flat_map (copies n.radio) out.sends.items)))
+        ∙ ap (λ x. outgoing_by n mine motes s ++ x)
+        (sym (ap (filter (is_from_sender s)) away_is ∙ filter-append (is_from_sender s) before (filter (is_outgoing mine) (flat_map (copies n.radio) out.sends.items))))))
 
     late_then : AllByRecursion (λ (copy : RadioCopy). until ≤ copy.at) after
     late_then =
         subst (AllByRecursion (λ (copy : RadioCopy). until ≤ copy.at)) (sym away_is)
         (every_append _ before _ coming.late
-        (every_filter _ _ (leaves mine) (λ copy h e. h.late) (flat_map (copies n.radio) out.sends.items) (come_late n from until placed short k out.sends.items l.last.sent)))
+        (every_filter _ _ (is_outgoing mine) (λ copy h e. h.late) (flat_map (copies n.radio) out.sends.items) (come_late n from until placed short k out.sends.items l.last.sent)))
 
-    pub one_back : Coming n of worker from until motes taken inbox share more less after
+    pub one_back : Coming n of worker from until motes taken window_copies share more less after
     one_back = record {
       rest = front;
       different = d.0;
       now = after_it;
       backs = l.zip;
       pending = pending.0;
-      stands = is_back n of worker from until motes coming.now taken inbox placed short front k d.1 out l.last waited old share stands_then before after wake pending.1 ret;
+      stands = is_back n of worker from until motes coming.now taken window_copies placed short front k d.1 out l.last waited old share stands_then before after wake pending.1 ret;
       waits = λ j e. (
           let ne : j ≡ k → ⊥ = λ f. false≢true (sym d.1 ∙ (ap (λ i. is_one_of i front) (sym f) ∙ e)) in
           else_same j ne ∙ coming.waits j (among_else j ne ∙ e));
@@ -208,7 +208,7 @@ module _ (n : NetTold) (of : List ℕ) (worker from until : ℕ) (motes : Motes)
       late = late_then;
     }
 
-module _ (n : NetTold) (of : List ℕ) (worker from until : ℕ) (motes : Motes) (taken : List RadioCopy) (inbox : ℕ → List RadioCopy) where
+module _ (n : NetTold) (of : List ℕ) (worker from until : ℕ) (motes : Motes) (taken : List RadioCopy) (window_copies : ℕ → List RadioCopy) where
   abbrev all_mine : ℕ → Bool
   all_mine = is_own of worker
 
@@ -216,12 +216,12 @@ module _ (n : NetTold) (of : List ℕ) (worker from until : ℕ) (motes : Motes)
   and_yes true = refl
   and_yes false = refl
 
-  pub all_back : (share : Share) (outs : List WindowOut) (wakes : List (Option ℕ)) (away : List RadioCopy) → outs ≡ [] → Coming n of worker from until motes taken inbox share outs wakes away
-      → ((k : ℕ) → all_mine k ≡ true → (t s : ℕ) → filter (is_from_sender s) (filter (is_at t) (inbox k)) ≡ filter (is_at t) (filter (is_within k from until) (copies_known (system_of n) all_mine motes taken s)))
-      → RunsWindow n of worker from until motes taken share away
-  all_back share outs wakes away e coming inboxes = record {
+  pub all_back : (share : Share) (outs : List WindowOut) (wakes : List (Option ℕ)) (outgoing : List RadioCopy) → outs ≡ [] → Coming n of worker from until motes taken window_copies share outs wakes outgoing
+      → ((k : ℕ) → all_mine k ≡ true → (t s : ℕ) → filter (is_from_sender s) (filter (is_at t) (window_copies k)) ≡ filter (is_at t) (filter (is_within k from until) (copies_seen (system_of n) all_mine motes taken s)))
+      → RunsWindow n of worker from until motes taken share outgoing
+  all_back share outs wakes outgoing e coming given_to = record {
     next = coming.now;
-    runs = λ k h. record { inbox = inbox k; is_inbox = inboxes k h; alone = coming.alone k h (ap (is_one_of k) none) };
+    runs = λ k h. record { given = window_copies k; is_given = given_to k h; alone = coming.alone k h (ap (is_one_of k) none) };
     others = coming.others;
     keeps = record {
       is_worker = coming.stands.is_worker;
@@ -242,7 +242,7 @@ module _ (n : NetTold) (of : List ℕ) (worker from until : ℕ) (motes : Motes)
   }
     where
       none : coming.rest ≡ []
-      none = none_of (IsBack n all_mine from until motes inbox) coming.rest (subst (AllZip (IsBack n all_mine from until motes inbox) coming.rest) e coming.backs)
+      none = none_of (IsBack n all_mine from until motes window_copies) coming.rest (subst (AllZip (IsBack n all_mine from until motes window_copies) coming.rest) e coming.backs)
 
       here : (k : ℕ) → (all_mine k && not (is_one_of k coming.rest)) ≡ all_mine k
       here k = ap (λ ks. all_mine k && not (is_one_of k ks)) none ∙ and_yes (all_mine k)

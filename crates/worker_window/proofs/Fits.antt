@@ -14,10 +14,10 @@ use Rattle.window_run.specs.declared.share.Resident.{Resident}
 use Rattle.window_run.specs.Shares.{ResidentGives, GivesList, AreInNet}
 use Rattle.net_agenda.specs.NetSystem.{tree_at}
 use Rattle.worker_window.specs.declared.share.Share.{Share}
-use Rattle.worker_window.specs.Calls.{CalledMotes, copies_for, Gathers}
+use Rattle.worker_window.specs.Calls.{CalledMotes, copies_for, TakesEventsBefore}
 use Rattle.worker_cut.specs.Crossed.{is_own}
 use Rattle.worker_window.specs.Share.{IsKept, node_at, mote_here}
-use Rattle.worker_window.specs.Leaving.{IsCalled, MotesLeave}
+use Rattle.worker_window.specs.Lending.{IsCalled, MotesAreLent}
 use Rattle.worker_window.specs.Window.{CanRun}
 use Rattle.worker_window.proofs.Begins.{own_there}
 use Rattle.worker_window.proofs.Behind.{past_later}
@@ -61,14 +61,14 @@ module _ (n : NetTold) (of : List ℕ) (share : Share) (kept : IsKept n of share
       (every_weaker _ _ (λ item h. h.0) kept.keeps.agenda.items (inside n mine kept.from kept.motes kept.taken share.agenda.buckets kept.keeps.agenda))
       (every_map _ Packet arrived (every_weaker _ _ (λ c h. same_own c.to ∙ h) arrived to_own))
 
-  module _ (until : ℕ) (calls : CalledMotes) (gathers : Gathers until all_items calls) where
+  module _ (until : ℕ) (calls : CalledMotes) (takes_events : TakesEventsBefore until all_items calls) where
     called_mine : (k : ℕ) → is_some (copies_for calls k) ≡ true → mine k ≡ true
-    called_mine k e = called_in (λ k. mine k ≡ true) until k all_items all_mine (sym (gathers.called k) ∙ e)
+    called_mine k e = called_in (λ k. mine k ≡ true) until k all_items all_mine (sym (takes_events.called k) ∙ e)
 
     pub called_here : (k : ℕ) → IsSome (copies_for calls k) → IsSome (mote_here share.motes.items k)
     called_here k h = some_mote (tree_at n k) (mote_here share.motes.items k) _ (kept.keeps.nodes k (called_mine k (is_some_of (copies_for calls k) h)))
 
-    module _ (new : List (Option Mote)) (residents : List Resident) (wakes : List (Option ℕ)) (leaves : MotesLeave until calls share.motes.items new residents wakes) (order : kept.from ≤ until) where
+    module _ (new : List (Option Mote)) (residents : List Resident) (wakes : List (Option ℕ)) (lent : MotesAreLent until calls share.motes.items new residents wakes) (order : kept.from ≤ until) where
       number_mine : (r : Resident) → IsCalled calls share.motes.items r → mine r.number ≡ true
       number_mine r called = called_mine r.number (ap is_some called.copies)
 
@@ -76,7 +76,7 @@ module _ (n : NetTold) (of : List ℕ) (share : Share) (kept : IsKept n of share
       number_there r called = let a = own_there of kept.worker r.number (number_mine r called) in omega arith
 
       pub in_net : AreInNet n residents
-      in_net = every_weaker _ _ number_there residents leaves.called
+      in_net = every_weaker _ _ number_there residents lent.called
 
       one_fits : (r : Resident) (out : WindowOut) → IsCalled calls share.motes.items r → ResidentGives n until r out → IsFitOwn n of share.worker until out
       one_fits r out called gives =
@@ -95,7 +95,7 @@ module _ (n : NetTold) (of : List ℕ) (share : Share) (kept : IsKept n of share
           }
 
       pub all_fit : (outs : List WindowOut) → GivesList n until residents outs → AllByRecursion (IsFitOwn n of share.worker until) outs
-      all_fit outs gives = zip_every (IsCalled calls share.motes.items) (ResidentGives n until) (IsFitOwn n of share.worker until) one_fits residents outs leaves.called gives
+      all_fit outs gives = zip_every (IsCalled calls share.motes.items) (ResidentGives n until) (IsFitOwn n of share.worker until) one_fits residents outs lent.called gives
 
 pub every_split : {X : Type 0} (P : X → Type 0) (xs : List X) (x : X) → AllByRecursion P (xs ++ x ∷ []) → AllByRecursion P xs × P x
 every_split P [] x h = (tt, h.0)

@@ -38,11 +38,11 @@ pub record IsSentIn (k from until : ℕ) (sent : Sent) : Type 0 where
   pub soon : sent.at < until
 
 -- a mote back from its window, in which it ran alone
-pub record IsBack (n : NetTold) (own : ℕ → Bool) (from until : ℕ) (motes : Motes) (inbox : ℕ → List RadioCopy) (k : ℕ) (out : WindowOut) : Type 0 where
+pub record IsBack (n : NetTold) (own : ℕ → Bool) (from until : ℕ) (motes : Motes) (window_copies : ℕ → List RadioCopy) (k : ℕ) (out : WindowOut) : Type 0 where
   pub mine : own k ≡ true
   pub there : k < length n.motes
   pub last : LoneMote Node Line
-  pub alone : Alone (system_of n) k until (inbox k) (motes k) last
+  pub alone : Alone (system_of n) k until (window_copies k) (motes k) last
   pub node : node_in (tree_at n k) out.mote ≡ Some last.state
   pub wake : out.wake ≡ last.wake
   pub lines : last.lines ≡ (motes k).lines ++ out.lines.items
@@ -119,24 +119,24 @@ module _ (n : NetTold) (from until : ℕ) where
   stamps k t h l (x ∷ sends) = (record { sender = refl; later = h; soon = l }, stamps k t h l sends)
 
   -- where a resident's answer is told, the mote is back
-  module _ (own : ℕ → Bool) (motes : Motes) (inbox : ℕ → List RadioCopy) (k : ℕ) (mine : own k ≡ true) (there : k < length n.motes) (numbered : number_of (motes k).state ≡ k)
-      (wakes : (motes k).wake ≡ wake_of (motes k).state) (wakes_from : WakesFrom from (motes k).wake) (inbox_from : AllByRecursion (λ c. from ≤ c.at) (inbox k)) (before : is_past until (motes k).state.last ≡ false) where
+  module _ (own : ℕ → Bool) (motes : Motes) (window_copies : ℕ → List RadioCopy) (k : ℕ) (mine : own k ≡ true) (there : k < length n.motes) (numbered : number_of (motes k).state ≡ k)
+      (wakes : (motes k).wake ≡ wake_of (motes k).state) (wakes_from : WakesFrom from (motes k).wake) (window_copies_from : AllByRecursion (λ c. from ≤ c.at) (window_copies k)) (before : is_past until (motes k).state.last ≡ false) where
     front_is : in_front (motes k).lines (motes k).sends (lone_node (motes k).state) ≡ motes k
     front_is =
         ap (λ (l : List Line). record { state = (motes k).state; wake = wake_of (motes k).state; lines = l; sends = (motes k).sends ++ [] }) (append-nil (motes k).lines)
         ∙ (ap (λ (l : List Sent). record { state = (motes k).state; wake = wake_of (motes k).state; lines = (motes k).lines; sends = l }) (append-nil (motes k).sends)
         ∙ ap (λ (w : Option ℕ). record { state = (motes k).state; wake = w; lines = (motes k).lines; sends = (motes k).sends }) (sym wakes))
 
-    module _ (mote : Mote) (given : List RadioCopy) (alike : IsAlike (system_of n) k until given (inbox k)) (out : WindowOut) where
-      quiet : IsQuiet from (lone_node (motes k).state).wake (inbox k)
-      quiet = record { no_wake = subst (WakesFrom from) wakes wakes_from; no_copies = inbox_from }
+    module _ (mote : Mote) (given : List RadioCopy) (alike : IsAlike (system_of n) k until given (window_copies k)) (out : WindowOut) where
+      quiet : IsQuiet from (lone_node (motes k).state).wake (window_copies k)
+      quiet = record { no_wake = subst (WakesFrom from) wakes wakes_from; no_copies = window_copies_from }
 
-      pub back : Gives (record { program = tree_at n k; until = until; copies = given; mote = lone_node (motes k).state }) out → IsBack n own from until motes inbox k out
+      pub back : Gives (record { program = tree_at n k; until = until; copies = given; mote = lone_node (motes k).state }) out → IsBack n own from until motes window_copies k out
       back gives = record {
         mine = mine;
         there = there;
         last = in_front (motes k).lines (motes k).sends gives.last;
-        alone = subst (λ m. Alone (system_of n) k until (inbox k) m (in_front (motes k).lines (motes k).sends gives.last)) front_is (alone_in_front (system_of n) k until (motes k).lines (motes k).sends alone);
+        alone = subst (λ m. Alone (system_of n) k until (window_copies k) m (in_front (motes k).lines (motes k).sends gives.last)) front_is (alone_in_front (system_of n) k until (motes k).lines (motes k).sends alone);
         node = told.node;
         wake = told.wake;
         lines = ap (λ l. (motes k).lines ++ l) (sym told.lines);
@@ -153,8 +153,8 @@ module _ (n : NetTold) (from until : ℕ) where
           told : IsTold (node_in (tree_at n k) out.mote) out gives.last
           told = told_is (node_in (tree_at n k) out.mote) out gives.last gives.given
 
-          alone : Alone (system_of n) k until (inbox k) (lone_node (motes k).state) gives.last
-          alone = alone_alike (system_of n) k until (inbox k) alike (subst (λ j. Alone (system_of n) j until given (lone_node (motes k).state) gives.last) numbered (gives.run (system_of n) turn_is))
+          alone : Alone (system_of n) k until (window_copies k) (lone_node (motes k).state) gives.last
+          alone = alone_alike (system_of n) k until (window_copies k) alike (subst (λ j. Alone (system_of n) j until given (lone_node (motes k).state) gives.last) numbered (gives.run (system_of n) turn_is))
 
   -- the copies of what a mote sent in the window come after it
   pub record ComesLate (k : ℕ) (copy : RadioCopy) : Type 0 where

@@ -10,7 +10,7 @@ use Rattle.window_laws.specs.Windows.{WakesFrom, is_from_sender}
 use Rattle.window_laws.proofs.Lists.{any_every, every_weaker, every_filter, filter_both, filter_every}
 use Rattle.net_agenda.specs.NetSystem.{system_of}
 use Rattle.worker_window.specs.declared.share.Share.{Share}
-use Rattle.worker_cut.specs.Crossed.{is_own, copies_known}
+use Rattle.worker_cut.specs.Crossed.{is_own, copies_seen}
 use Rattle.worker_window.specs.Share.{Motes, Keeps, is_to_come}
 use Rattle.worker_window.proofs.Behind.{past_later}
 use Rattle.worker_window.proofs.Items.{inside, all_wakes, wake_of_all, packets_of_all}
@@ -49,12 +49,12 @@ module _ (n : NetTold) (of : List ℕ) (worker from : ℕ) (motes : Motes) (take
       (subst (AllByRecursion (λ item. moment ≤ moment_of item)) (keeps.agenda.wakes k ∙ (all_wakes own from motes keeps.quiet k ∙ rw mine refl)) (wake_of_all (λ item. moment ≤ moment_of item) items k h))
 
   copies_then : (moment s : ℕ) → from ≤ moment → AllByRecursion (λ item. moment ≤ moment_of item) items
-      → filter (is_from_sender s) (packets items) ≡ filter (is_to_come own moment) (copies_known (system_of n) own motes taken s)
+      → filter (is_from_sender s) (packets items) ≡ filter (is_to_come own moment) (copies_seen (system_of n) own motes taken s)
   copies_then moment s le h =
       sym (filter_every (λ c. not (ltb c.at moment)) (filter (is_from_sender s) (packets items))
       (every_filter _ _ (is_from_sender s) (λ c g e. late c.at moment g) (packets items) (packets_of_all (λ item. moment ≤ moment_of item) items h)))
       ∙ (ap (filter (λ c. not (ltb c.at moment))) (keeps.agenda.copies s)
-      ∙ filter_both (λ c. not (ltb c.at moment)) (is_to_come own from) (is_to_come own moment) (λ c. still_later (own c.to) c.at from moment le) (copies_known (system_of n) own motes taken s))
+      ∙ filter_both (λ c. not (ltb c.at moment)) (is_to_come own from) (is_to_come own moment) (λ c. still_later (own c.to) c.at from moment le) (copies_seen (system_of n) own motes taken s))
 
   pub moved_on : (moment : ℕ) → from ≤ moment → AllByRecursion (λ item. moment ≤ moment_of item) items → Keeps n of worker moment motes taken share
   moved_on moment le h = record {
@@ -85,7 +85,7 @@ module _ (n : NetTold) (of : List ℕ) (worker from : ℕ) (motes : Motes) (take
 
   -- and no copy comes before
   pub no_copies : (moment : ℕ) → AllByRecursion (λ item. moment ≤ moment_of item) items
-      → (s : ℕ) → AllByRecursion (λ copy. moment ≤ copy.at) (filter (is_to_come own from) (copies_known (system_of n) own motes taken s))
+      → (s : ℕ) → AllByRecursion (λ copy. moment ≤ copy.at) (filter (is_to_come own from) (copies_seen (system_of n) own motes taken s))
   no_copies moment later s =
       subst (AllByRecursion (λ copy. moment ≤ copy.at)) (keeps.agenda.copies s)
       (every_filter _ _ (is_from_sender s) (λ c g e. g) (packets items) (packets_of_all (λ item. moment ≤ moment_of item) items later))

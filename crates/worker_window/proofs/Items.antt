@@ -10,7 +10,7 @@ use Rattle.window_laws.specs.Windows.{WakesFrom, is_from_sender}
 use Rattle.window_laws.proofs.Lists.{every_passes, every_weaker}
 use Rattle.net_agenda.specs.Buckets.{Buckets}
 use Rattle.net_agenda.specs.NetSystem.{system_of}
-use Rattle.worker_cut.specs.Crossed.{copies_known}
+use Rattle.worker_cut.specs.Crossed.{copies_seen}
 use Rattle.worker_window.specs.Share.{Motes, HasToCome, is_to_come, wake_from}
 
 -- what holds of each mote's wakes and of each sender's copies holds of each item
@@ -86,4 +86,4 @@ module _ (n : NetTold) (own : ℕ → Bool) (from : ℕ) (motes : Motes) (taken 
       every_item IsInside has.items
       (λ k. subst (AllByRecursion IsInside) (sym (has.wakes k)) (wake_inside k (own k) refl (motes k).wake))
       (λ s. subst (AllByRecursion (λ c. IsInside (Packet c))) (sym (has.copies s))
-      (every_weaker _ _ (λ c h. to_come (own c.to) c.at from h) _ (every_passes (is_to_come own from) (copies_known (system_of n) own motes taken s))))
+      (every_weaker _ _ (λ c h. to_come (own c.to) c.at from h) _ (every_passes (is_to_come own from) (copies_seen (system_of n) own motes taken s))))

@@ -1,4 +1,4 @@
--- A mote alone: what it wrote and sent before, and which inbox it was given, make no difference to its run.
+-- A mote alone: what it wrote and sent before, and which window_copies it was given, make no difference to its run.
 use Rattle.std.proofs.Common.{◌≡◌, ℕ, ◌<◌, ◌≤◌, ◌⊎◌, Bool, true, false, not, ◌||◌, eqb, List, [], ◌∷◌, ◌++◌, refl, sym, ap, ◌∙◌, subst, inl, inr, arith, append_assoc, Option, Some, None}
 use Rattle.std.specs.List.{filter, list_any, AllByRecursion}
 use Rattle.std.proofs.lemmas.Bool.{cases_Bool, cases_eq, cases_lt, eq-eqb, ne_eqb, eqb-true, or_parts, false≢true}
@@ -26,13 +26,13 @@ module _ {S L : Type 0} (system : System S L) (k bound : ℕ) where
       ap (λ (l : List L). record { state = turned.state; wake = turned.wake; lines = l; sends = (sends ++ mote.sends) ++ sends_of t k turned }) (append_assoc lines mote.lines turned.lines)
       ∙ ap (λ (l : List Sent). record { state = turned.state; wake = turned.wake; lines = lines ++ (mote.lines ++ turned.lines); sends = l }) (append_assoc sends mote.sends (sends_of t k turned))
 
-  pub alone_in_front : (lines : List L) (sends : List Sent) {inbox : List RadioCopy} {mote last : LoneMote S L} → Alone system k bound inbox mote last
-      → Alone system k bound inbox (in_front lines sends mote) (in_front lines sends last)
+  pub alone_in_front : (lines : List L) (sends : List Sent) {window_copies : List RadioCopy} {mote last : LoneMote S L} → Alone system k bound window_copies mote last
+      → Alone system k bound window_copies (in_front lines sends mote) (in_front lines sends last)
   alone_in_front lines sends (Rests quiet) = Rests quiet
-  alone_in_front lines sends {inbox} {mote} {last} (Turns t quiet comes low rest) =
+  alone_in_front lines sends {window_copies} {mote} {last} (Turns t quiet comes low rest) =
       Turns t quiet comes low
-      (subst (λ m. Alone system k bound (filter (λ copy. not (is_at t copy)) inbox) m (in_front lines sends last))
-      (sym (turn_in_front lines sends t mote (system.turn k mote.state t (in_order (filter (is_at t) inbox)))))
+      (subst (λ m. Alone system k bound (filter (λ copy. not (is_at t copy)) window_copies) m (in_front lines sends last))
+      (sym (turn_in_front lines sends t mote (system.turn k mote.state t (in_order (filter (is_at t) window_copies)))))
       (alone_in_front lines sends rest))
 
   -- the copies of each moment are the same, once they are in order
@@ -88,7 +88,7 @@ module _ {S L : Type 0} (system : System S L) (k bound : ℕ) where
   pub alone_alike : {a : List RadioCopy} (b : List RadioCopy) {mote last : LoneMote S L} → IsAlike a b → Alone system k bound a mote last → Alone system k bound b mote last
   alone_alike b {mote} alike run = alike_from b mote refl alike run
 
-  pub rests_quiet : {inbox : List RadioCopy} {mote last : LoneMote S L} → Alone system k bound inbox mote last → WakesFrom bound last.wake
+  pub rests_quiet : {window_copies : List RadioCopy} {mote last : LoneMote S L} → Alone system k bound window_copies mote last → WakesFrom bound last.wake
   rests_quiet (Rests quiet) = quiet.no_wake
   rests_quiet (Turns t quiet comes low rest) = rests_quiet rest
 
@@ -98,11 +98,11 @@ module _ {S L : Type 0} (system : System S L) (k bound : ℕ) where
     wake_at t None h e = absurd (false≢true e)
     wake_at t (Some u) h e = let g = eqb-true u t e in omega arith
 
-    turn_from : (t : ℕ) (wake : Option ℕ) (inbox : List RadioCopy) → IsQuiet from wake inbox → (wakes_at t wake || list_any (is_at t) inbox) ≡ true → from ≤ t
-    turn_from t wake inbox quiet e =
+    turn_from : (t : ℕ) (wake : Option ℕ) (window_copies : List RadioCopy) → IsQuiet from wake window_copies → (wakes_at t wake || list_any (is_at t) window_copies) ≡ true → from ≤ t
+    turn_from t wake window_copies quiet e =
         elim (cases_Bool (wakes_at t wake)) [
           | inl g ↦ wake_at t wake quiet.no_wake g
-          | inr g ↦ (let h = rw g at e in any_every _ (is_at t) _ (λ c f le. (let q = eqb-true c.at t f in omega arith)) inbox h quiet.no_copies)
+          | inr g ↦ (let h = rw g at e in any_every _ (is_at t) _ (λ c f le. (let q = eqb-true c.at t f in omega arith)) window_copies h quiet.no_copies)
         ]
 
     later_from : (t : ℕ) (wake : Option ℕ) → from ≤ t → IsLater t wake → WakesFrom from wake
@@ -110,14 +110,14 @@ module _ {S L : Type 0} (system : System S L) (k bound : ℕ) where
     later_from t (Some u) h g = omega arith
 
     pub alone_keeps : (P : LoneMote S L → Type 0) → ((t : ℕ) (mote : LoneMote S L) (given : List RadioCopy) → from ≤ t → t < bound → P mote → P (own_turn system t k mote given))
-        → {inbox : List RadioCopy} {mote last : LoneMote S L} → IsQuiet from mote.wake inbox → P mote → Alone system k bound inbox mote last → P last
+        → {window_copies : List RadioCopy} {mote last : LoneMote S L} → IsQuiet from mote.wake window_copies → P mote → Alone system k bound window_copies mote last → P last
     alone_keeps P step quiet p (Rests rests) = p
-    alone_keeps P step {inbox} {mote} quiet p (Turns t now comes low rest) =
-        let le = turn_from t mote.wake inbox quiet comes in
-        let given : List RadioCopy = in_order (filter (is_at t) inbox) in
+    alone_keeps P step {window_copies} {mote} quiet p (Turns t now comes low rest) =
+        let le = turn_from t mote.wake window_copies quiet comes in
+        let given : List RadioCopy = in_order (filter (is_at t) window_copies) in
         alone_keeps P step
         (record {
           no_wake = later_from t (system.turn k mote.state t given).wake le (wakes_later k mote.state t given);
-          no_copies = every_filter _ _ (λ copy. not (is_at t copy)) (λ c h e. h) inbox quiet.no_copies;
+          no_copies = every_filter _ _ (λ copy. not (is_at t copy)) (λ c h e. h) window_copies quiet.no_copies;
         })
         (step t mote given le low p) rest

@@ -14,10 +14,10 @@ use Rattle.window_laws.proofs.Lists.{filter_filter, filter_both, filter_none, fi
 use Rattle.window_laws.proofs.Order.{sorted_rising}
 use Rattle.net_agenda.specs.NetSystem.{system_of}
 use Rattle.worker_window.specs.declared.share.Share.{Share}
-use Rattle.worker_window.specs.Calls.{is_not_before, calls_for, GathersFor}
-use Rattle.worker_cut.specs.Crossed.{is_own, copies_known, IsDue}
+use Rattle.worker_window.specs.Calls.{is_not_before, calls_for, TakesCopiesFor}
+use Rattle.worker_cut.specs.Crossed.{is_own, copies_seen, IsDue}
 use Rattle.worker_window.specs.Share.{Motes, Keeps, is_to_come, wake_from}
-use Rattle.worker_window.specs.Leaving.{is_one_of}
+use Rattle.worker_window.specs.Lending.{is_one_of}
 use Rattle.worker_window.proofs.Items.{inside, all_wakes, packets_of_all}
 use Rattle.worker_window.proofs.Rises.{sorted_is_sorted}
 
@@ -71,7 +71,7 @@ module _ (n : NetTold) (of : List ℕ) (worker from until : ℕ) (motes : Motes)
   items = keeps.agenda.items ++ map Packet arrived
 
   abbrev pub known : ℕ → List RadioCopy
-  known s = copies_known (system_of n) own motes (taken ++ arrived) s
+  known s = copies_seen (system_of n) own motes (taken ++ arrived) s
 
   none_own : (s : ℕ) → own s ≡ true → filter (is_from_sender s) arrived ≡ []
   none_own s e = filter_none (is_from_sender s) arrived (every_weaker _ _ (λ c h. ne_eqb c.sender s (λ f. false≢true (sym h.sender ∙ (ap own f ∙ e)))) arrived come)
@@ -88,7 +88,7 @@ module _ (n : NetTold) (of : List ℕ) (worker from until : ℕ) (motes : Motes)
       ∙ (filter-append (is_from_sender s) (packets keeps.agenda.items) arrived
       ∙ (ap (λ l. l ++ filter (is_from_sender s) arrived) (keeps.agenda.copies s) ∙ go (own s) refl))
     where
-      go : (b : Bool) → own s ≡ b → filter (is_to_come own from) (copies_known (system_of n) own motes taken s) ++ filter (is_from_sender s) arrived ≡ filter (is_to_come own from) (known s)
+      go : (b : Bool) → own s ≡ b → filter (is_to_come own from) (copies_seen (system_of n) own motes taken s) ++ filter (is_from_sender s) arrived ≡ filter (is_to_come own from) (known s)
       go true e = rw e (ap (λ l. filter (is_to_come own from) (copies_by (system_of n) motes s) ++ l) (none_own s e) ∙ append-nil (filter (is_to_come own from) (copies_by (system_of n) motes s)))
       go false e =
           rw e (ap (λ l. filter (is_to_come own from) (filter (is_from_sender s) taken) ++ l) (sym (all_come s))
@@ -129,21 +129,21 @@ module _ (n : NetTold) (of : List ℕ) (worker from until : ℕ) (motes : Motes)
   abbrev pub is_soon : ℕ → RadioCopy → Bool
   is_soon k copy = ltb copy.at until && eqb copy.to k
 
-  abbrev pub inbox : ℕ → List RadioCopy
-  inbox k = filter (is_soon k) (packets items)
+  abbrev pub window_copies : ℕ → List RadioCopy
+  window_copies k = filter (is_soon k) (packets items)
 
-  pub inbox_is : (k : ℕ) → own k ≡ true → (t s : ℕ) → filter (is_from_sender s) (filter (is_at t) (inbox k)) ≡ filter (is_at t) (filter (is_within k from until) (known s))
-  inbox_is k mine t s =
-      filter_filter (is_from_sender s) (is_at t) (inbox k)
+  pub window_copies_are : (k : ℕ) → own k ≡ true → (t s : ℕ) → filter (is_from_sender s) (filter (is_at t) (window_copies k)) ≡ filter (is_at t) (filter (is_within k from until) (known s))
+  window_copies_are k mine t s =
+      filter_filter (is_from_sender s) (is_at t) (window_copies k)
       ∙ ap (filter (is_at t)) (filter_filter (is_from_sender s) (is_soon k) (packets items)
       ∙ (ap (filter (is_soon k)) (known_now s)
       ∙ filter_both (is_soon k) (is_to_come own from) (is_within k from until) (λ c. within_is (eqb c.to k) (own c.to) c.at from until (λ e. ap own (eqb-true c.to k e) ∙ mine)) (known s)))
 
-  pub inbox_from : (k : ℕ) → AllByRecursion (λ c. from ≤ c.at) (inbox k)
-  inbox_from k = every_filter _ _ (is_soon k) (λ c h e. h.1) (packets items) (packets_of_all IsIn items all_in)
+  pub window_copies_from : (k : ℕ) → AllByRecursion (λ c. from ≤ c.at) (window_copies k)
+  window_copies_from k = every_filter _ _ (is_soon k) (λ c h e. h.1) (packets items) (packets_of_all IsIn items all_in)
 
-  at_inbox : (k t : ℕ) → filter (is_at t) (inbox k) ≡ cond (ltb t until) (packets (filter (comes_at t k) items)) []
-  at_inbox k t =
+  at_window_copies : (k t : ℕ) → filter (is_at t) (window_copies k) ≡ cond (ltb t until) (packets (filter (comes_at t k) items)) []
+  at_window_copies k t =
       elim (cases_Bool (ltb t until)) [
         | inl e ↦ rw e (filter_both (is_at t) (is_soon k) (λ c. comes_at t k (Packet c)) (λ c. due_soon c.at c.to t k until (soon e)) (packets items) ∙ sym (packets_filter (comes_at t k) items))
         | inr e ↦ rw e (filter_both (is_at t) (is_soon k) (λ c. false) (λ c. never_soon c.at c.to t k until (not_soon e)) (packets items) ∙ filter_never (packets items))
@@ -158,16 +158,16 @@ module _ (n : NetTold) (of : List ℕ) (worker from until : ℕ) (motes : Motes)
   in_order_again : (xs : List RadioCopy) → in_order (in_order xs) ≡ in_order xs
   in_order_again xs = sorted_rising (λ copy. copy.sender) (λ copy. copy.number) (in_order xs) (sorted_is_sorted (λ copy. copy.sender) (λ copy. copy.number) xs)
 
-  pub alike : (k : ℕ) (copies : List RadioCopy) → GathersFor until items k copies → (t : ℕ) → in_order (filter (is_at t) copies) ≡ in_order (filter (is_at t) (inbox k))
+  pub alike : (k : ℕ) (copies : List RadioCopy) → TakesCopiesFor until items k copies → (t : ℕ) → in_order (filter (is_at t) copies) ≡ in_order (filter (is_at t) (window_copies k))
   alike k copies g t =
       ap in_order (g.all t)
       ∙ (elim (cases_Bool (ltb t until)) [ inl e ↦ rw e (in_order_again (packets (filter (comes_at t k) items))) | inr e ↦ rw e refl ]
-      ∙ sym (ap in_order (at_inbox k t)))
+      ∙ sym (ap in_order (at_window_copies k t)))
 
-  pub idle_alone : (k : ℕ) → own k ≡ true → called k ≡ false → Alone (system_of n) k until (inbox k) (motes k) (motes k)
+  pub idle_alone : (k : ℕ) → own k ≡ true → called k ≡ false → Alone (system_of n) k until (window_copies k) (motes k) (motes k)
   idle_alone k mine idle = Rests (record { no_wake = quiet_else k mine idle; no_copies = subst (AllByRecursion (λ c. until ≤ c.at)) (sym empty) tt })
     where
-      empty : inbox k ≡ []
+      empty : window_copies k ≡ []
       empty = sym (packets_filter (calls_for until k) items) ∙ ap packets (unfilled (filter (calls_for until k) items) (filled_any (calls_for until k) items ∙ idle))
 
   -- what isn't before the window's end
@@ -190,7 +190,7 @@ module _ (n : NetTold) (of : List ℕ) (worker from until : ℕ) (motes : Motes)
       ∙ (ap (filter (λ c. not (ltb c.at until))) (known_now s)
       ∙ filter_both (λ c. not (ltb c.at until)) (is_to_come own from) (is_to_come own until) (λ c. still_later (own c.to) c.at from until le) (known s)))
 
-  -- once the motes that are called have left
+  -- once the motes that are called are lent
   module _ (numbers : List ℕ) (all : (k : ℕ) → is_one_of k numbers ≡ called k) where
     abbrev pub here : ℕ → Bool
     here k = own k && not (is_one_of k numbers)

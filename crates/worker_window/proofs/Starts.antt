@@ -1,4 +1,4 @@
--- The motes that are called leave their share, and give what their windows say.
+-- The motes that are called are lent, and give what their windows say.
 use Rattle.std.proofs.Common.{◌≡◌, ℕ, ◌<◌, ◌≤◌, Bool, true, false, cond, not, ◌&&◌, ltb, eqb, List, [], ◌++◌, length, refl, sym, ap, ◌∙◌, subst, arith, append-nil, Option, None, is_some, get_or}
 use Rattle.std.specs.List.{filter, list_any, AllByRecursion}
 use Rattle.std.proofs.lemmas.Bool.{eqb-true, and_parts}
@@ -16,17 +16,17 @@ use Rattle.window_run.proofs.Ends.{not_before}
 use Rattle.net_agenda.specs.Buckets.{Holds}
 use Rattle.net_agenda.specs.NetSystem.{tree_at, system_of}
 use Rattle.worker_window.specs.declared.share.Share.{Share}
-use Rattle.worker_window.specs.Calls.{CalledMotes, copies_for, calls_for, Gathers}
+use Rattle.worker_window.specs.Calls.{CalledMotes, copies_for, calls_for, TakesEventsBefore}
 use Rattle.worker_cut.specs.Crossed.{is_own, IsDue}
 use Rattle.worker_window.specs.Log.{HaveFates, packets_in}
 use Rattle.worker_window.specs.Share.{Motes, IsShare, Keeps, node_at, mote_here, wake_from}
-use Rattle.worker_window.specs.Window.{copies_out}
-use Rattle.worker_window.specs.Leaving.{IsCalled, IsWakeOf, MotesLeave, is_one_of, numbers_of}
+use Rattle.worker_window.specs.Window.{outgoing_by}
+use Rattle.worker_window.specs.Lending.{IsCalled, IsWakeOf, MotesAreLent, is_one_of, numbers_of}
 use Rattle.worker_window.proofs.Begins.{own_there}
 use Rattle.worker_window.proofs.Behind.{past_later}
 use Rattle.worker_window.proofs.Gives.{IsBack, back, gives_open, goes_open}
 use Rattle.worker_window.proofs.Lone.{quiet_alike}
-use Rattle.worker_window.proofs.Parts.{items, inbox, inbox_from, alike, idle_alone, all_in, later, later_wakes, later_copies, quiet_else, here_parts}
+use Rattle.worker_window.proofs.Parts.{items, window_copies, window_copies_from, alike, idle_alone, all_in, later, later_wakes, later_copies, quiet_else, here_parts}
 use Rattle.worker_window.proofs.Comings.{Coming, IsPending, zip_numbers}
 
 -- who is called is inside
@@ -34,15 +34,15 @@ pub called_in : (P : ℕ → Type 0) (until k : ℕ) (items : List Item) → All
 called_in P until k items all e =
     any_every (P k) (calls_for until k) _ (λ item f h. subst P (eqb-true (mote_of item) k (and_parts (ltb (moment_of item) until) (eqb (mote_of item) k) f).1) h) items e all
 
--- the share once its motes left
+-- the share once its motes are lent
 abbrev pub IsLeft : (old new : Share) → Type 0
 IsLeft old new = (new.worker ≡ old.worker) × (new.traces.items ≡ old.traces.items) × (new.log.items ≡ old.log.items)
 
 module _ (n : NetTold) (of : List ℕ) (worker from until : ℕ) (motes : Motes) (taken arrived : List RadioCopy) (old new : Share) (keeps : Keeps n of worker from motes taken old)
     (le : from ≤ until) (come : AllByRecursion (IsDue of worker from) arrived) (long : length of ≡ length n.motes)
-    (calls : CalledMotes) (residents : List Resident) (wakes : List (Option ℕ)) (gathers : Gathers until (items n of worker from until motes taken arrived old keeps le come) calls)
+    (calls : CalledMotes) (residents : List Resident) (wakes : List (Option ℕ)) (takes_events : TakesEventsBefore until (items n of worker from until motes taken arrived old keeps le come) calls)
     (holds : Holds new.agenda.buckets (later n of worker from until motes taken arrived old keeps le come))
-    (leaves : MotesLeave until calls old.motes.items new.motes.items residents wakes) where
+    (lent : MotesAreLent until calls old.motes.items new.motes.items residents wakes) where
   abbrev mine : ℕ → Bool
   mine = is_own of worker
 
@@ -50,14 +50,14 @@ module _ (n : NetTold) (of : List ℕ) (worker from until : ℕ) (motes : Motes)
   all_items = items n of worker from until motes taken arrived old keeps le come
 
   abbrev pub boxes : ℕ → List RadioCopy
-  boxes = inbox n of worker from until motes taken arrived old keeps le come
+  boxes = window_copies n of worker from until motes taken arrived old keeps le come
 
   all : (k : ℕ) → is_one_of k (numbers_of residents) ≡ list_any (calls_for until k) all_items
-  all k = leaves.all k ∙ gathers.called k
+  all k = lent.all k ∙ takes_events.called k
 
   called_mine : (k : ℕ) → is_some (copies_for calls k) ≡ true → mine k ≡ true
   called_mine k e =
-      called_in (λ k. mine k ≡ true) until k all_items (every_weaker _ _ (λ item h. h.0) all_items (all_in n of worker from until motes taken arrived old keeps le come)) (sym (gathers.called k) ∙ e)
+      called_in (λ k. mine k ≡ true) until k all_items (every_weaker _ _ (λ item h. h.0) all_items (all_in n of worker from until motes taken arrived old keeps le come)) (sym (takes_events.called k) ∙ e)
 
   abbrev here : ℕ → Bool
   here k = mine k && not (is_one_of k (numbers_of residents))
@@ -66,12 +66,12 @@ module _ (n : NetTold) (of : List ℕ) (worker from until : ℕ) (motes : Motes)
   parts k h = here_parts n of worker from until motes taken arrived old keeps le come (numbers_of residents) all k h
 
   same_mote : (k : ℕ) → here k ≡ true → mote_here new.motes.items k ≡ mote_here old.motes.items k
-  same_mote k h = leaves.gone k ∙ ap (λ b. cond b None (mote_here old.motes.items k)) (all k ∙ (parts k h).1)
+  same_mote k h = lent.gone k ∙ ap (λ b. cond b None (mote_here old.motes.items k)) (all k ∙ (parts k h).1)
 
   pub stands_left : IsLeft old new → IsShare n of worker here until motes (taken ++ arrived) new
   stands_left same = record {
     is_worker = same.0 ∙ keeps.is_worker;
-    places = leaves.places ∙ keeps.places;
+    places = lent.places ∙ keeps.places;
     numbers = λ k h. keeps.numbers k (parts k h).0;
     nodes = λ k h. ap (node_at (tree_at n k)) (same_mote k h) ∙ keeps.nodes k (parts k h).0;
     wakes = λ k h. keeps.wakes k (parts k h).0;
@@ -94,8 +94,8 @@ module _ (n : NetTold) (of : List ℕ) (worker from until : ℕ) (motes : Motes)
       let k = r.number in
       let h = called_mine k (ap is_some called.copies) in
       let there : k < length n.motes = (let a = own_there of worker k h in omega arith) in
-      back n from until mine motes boxes k h there (keeps.numbers k h) (keeps.wakes k h) (keeps.quiet k h) (inbox_from n of worker from until motes taken arrived old keeps le come k) (past_later from until le (motes k).state.last (keeps.turned_before k h)) r.mote r.copies.items
-      (alike n of worker from until motes taken arrived old keeps le come k r.copies.items (gathers.copies k r.copies.items called.copies)) out
+      back n from until mine motes boxes k h there (keeps.numbers k h) (keeps.wakes k h) (keeps.quiet k h) (window_copies_from n of worker from until motes taken arrived old keeps le come k) (past_later from until le (motes k).state.last (keeps.turned_before k h)) r.mote r.copies.items
+      (alike n of worker from until motes taken arrived old keeps le come k r.copies.items (takes_events.copies k r.copies.items called.copies)) out
       (gives_open n until r out (motes k).state there (ap (node_at (tree_at n k)) (sym called.mote) ∙ keeps.nodes k h) gives)
 
   one_goes_on : (r : Resident) → IsCalled calls old.motes.items r → ResidentGoesOn n until r
@@ -103,10 +103,10 @@ module _ (n : NetTold) (of : List ℕ) (worker from until : ℕ) (motes : Motes)
       let k = r.number in
       let h = called_mine k (ap is_some called.copies) in
       let there : k < length n.motes = (let a = own_there of worker k h in omega arith) in
-      let same = alike n of worker from until motes taken arrived old keeps le come k r.copies.items (gathers.copies k r.copies.items called.copies) in
+      let same = alike n of worker from until motes taken arrived old keeps le come k r.copies.items (takes_events.copies k r.copies.items called.copies) in
       let wake = wake_of (motes k).state in
       let quiet : IsQuiet from wake r.copies.items =
-      quiet_alike (system_of n) k until from wake (boxes k) r.copies.items (λ t. sym (same t)) (record { no_wake = subst (WakesFrom from) (keeps.wakes k h) (keeps.quiet k h); no_copies = inbox_from n of worker from until motes taken arrived old keeps le come k }) in
+      quiet_alike (system_of n) k until from wake (boxes k) r.copies.items (λ t. sym (same t)) (record { no_wake = subst (WakesFrom from) (keeps.wakes k h) (keeps.quiet k h); no_copies = window_copies_from n of worker from until motes taken arrived old keeps le come k }) in
       goes_open n until r (motes k).state there (ap (node_at (tree_at n k)) (sym called.mote) ∙ keeps.nodes k h)
       (λ moment next. past_later from moment (not_before from moment wake r.copies.items quiet next.comes) (motes k).state.last (keeps.turned_before k h))
 
@@ -119,19 +119,19 @@ module _ (n : NetTold) (of : List ℕ) (worker from until : ℕ) (motes : Motes)
 
   -- nothing comes too late to the motes that are called
   pub go_on : AreGoingOn n until residents
-  go_on = every_weaker (IsCalled calls old.motes.items) (ResidentGoesOn n until) one_goes_on residents leaves.called
+  go_on = every_weaker (IsCalled calls old.motes.items) (ResidentGoesOn n until) one_goes_on residents lent.called
 
   pub starts : (outs : List WindowOut) → GivesList n until residents outs → IsLeft old new → Coming n of worker from until motes (taken ++ arrived) boxes new outs wakes []
   starts outs gives same = record {
     rest = numbers_of residents;
-    different = leaves.different;
+    different = lent.different;
     now = motes;
-    backs = zip_numbers (IsCalled calls old.motes.items) (ResidentGives n until) (IsBack n mine from until motes boxes) one_gives residents outs leaves.called gives;
-    pending = zip_numbers (IsCalled calls old.motes.items) (IsWakeOf until) (IsPending until motes) one_pending residents wakes leaves.called leaves.told;
+    backs = zip_numbers (IsCalled calls old.motes.items) (ResidentGives n until) (IsBack n mine from until motes boxes) one_gives residents outs lent.called gives;
+    pending = zip_numbers (IsCalled calls old.motes.items) (IsWakeOf until) (IsPending until motes) one_pending residents wakes lent.called lent.told;
     stands = stands_left same;
     waits = λ k e. refl;
     others = λ k e. refl;
     alone = λ k h e. idle_alone n of worker from until motes taken arrived old keeps le come k h (sym (all k) ∙ e);
-    sent = λ s. sym (append-nil (copies_out n mine motes s));
+    sent = λ s. sym (append-nil (outgoing_by n mine motes s));
     late = tt;
   }

@@ -35,16 +35,16 @@ abbrev pub calls_for : (until mote : ℕ) → Item → Bool
 calls_for until mote item = nat_lt (moment_of item) until && (mote_of item == mote)
 
 -- the copies for a mote, rising, are those that the items have for it at each moment
-pub record GathersFor (until : ℕ) (items : List Item) (mote : ℕ) (copies : List RadioCopy) : Type 0 where
+pub record TakesCopiesFor (until : ℕ) (items : List Item) (mote : ℕ) (copies : List RadioCopy) : Type 0 where
   pub rising : is_rising copies ≡ true
   pub all : (moment : ℕ) → filter (is_at moment) copies
       ≡ (if nat_lt moment until then in_order (packets (filter (comes_at moment mote) items)) else [])
 
 -- the calls are those that these items make before a moment
-pub record Gathers (until : ℕ) (items : List Item) (calls : CalledMotes) : Type 0 where
+pub record TakesEventsBefore (until : ℕ) (items : List Item) (calls : CalledMotes) : Type 0 where
   pub called : (mote : ℕ) → is_some (copies_for calls mote) ≡ list_any (calls_for until mote) items
   pub copies : (mote : ℕ) (copies : List RadioCopy) → copies_for calls mote ≡ Some copies
-      → GathersFor until items mote copies
+      → TakesCopiesFor until items mote copies
 
 -- the buckets are those of some agenda
 pub record HasItems (buckets : Buckets) : Type 0 where

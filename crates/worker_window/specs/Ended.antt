@@ -8,7 +8,7 @@ use Rattle.mote_net.specs.Net.{NetTold}
 use Rattle.window_laws.specs.Windows.{is_from_sender, is_sent_by}
 use Rattle.net_agenda.specs.NetSystem.{system_of}
 use Rattle.worker_window.specs.declared.share.Ended.{Ended}
-use Rattle.worker_cut.specs.Crossed.{is_own, copies_known}
+use Rattle.worker_cut.specs.Crossed.{is_own, copies_seen}
 use Rattle.worker_window.specs.Log.{packets_in, HaveFates}
 use Rattle.worker_window.specs.Share.{Motes, is_to_come}
 
@@ -23,5 +23,5 @@ pub record TellsAtEnd (n : NetTold) (of : List ℕ) (worker from : ℕ) (motes :
   pub fates : HaveFates n.radio ended.log.items
   pub rest : List RadioCopy
   pub rest_is : (s : ℕ) → filter (is_from_sender s) rest
-      ≡ filter (is_to_come (is_own of worker) from) (copies_known (system_of n) (is_own of worker) motes taken s)
+      ≡ filter (is_to_come (is_own of worker) from) (copies_seen (system_of n) (is_own of worker) motes taken s)
   pub left : ended.left ≡ length rest

@@ -1,6 +1,6 @@
 pub mod Calls
 pub mod Ended
-pub mod Leaving
+pub mod Lending
 pub mod Log
 pub mod Next
 pub mod Sending

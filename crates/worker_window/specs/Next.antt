@@ -5,7 +5,7 @@ use Rattle.radio_packet.specs.declared.copy.RadioCopy.{RadioCopy}
 use Rattle.mote_net.specs.Net.{NetTold}
 use Rattle.window_laws.specs.Windows.{WakesFrom}
 use Rattle.net_agenda.specs.NetSystem.{system_of}
-use Rattle.worker_cut.specs.Crossed.{is_own, copies_known}
+use Rattle.worker_cut.specs.Crossed.{is_own, copies_seen}
 use Rattle.worker_window.specs.declared.share.Share.{Share}
 use Rattle.worker_window.specs.Share.{Motes, Keeps, is_to_come}
 
@@ -13,7 +13,7 @@ use Rattle.worker_window.specs.Share.{Motes, Keeps, is_to_come}
 abbrev pub copies_to_come : NetTold → (of : List ℕ) → (worker from : ℕ) → Motes → (taken : List RadioCopy)
     → (sender : ℕ) → List RadioCopy
 copies_to_come n of worker from motes taken sender =
-    let own = is_own of worker in filter (is_to_come own from) (copies_known (system_of n) own motes taken sender)
+    let own = is_own of worker in filter (is_to_come own from) (copies_seen (system_of n) own motes taken sender)
 
 -- A share that stands at a moment: nothing comes to it before the next moment. So it stands at each moment up to that
 -- one, and no copy comes before it.

@@ -15,7 +15,7 @@ use Rattle.window_laws.specs.Agenda.{Item, is_wake_of, packets, wake_items}
 use Rattle.window_laws.specs.Windows.{LoneMote, WakesFrom, is_from_sender, is_sent_by}
 use Rattle.net_agenda.specs.Buckets.{Buckets, Holds}
 use Rattle.net_agenda.specs.NetSystem.{tree_at, system_of}
-use Rattle.worker_cut.specs.Crossed.{is_own, copies_known}
+use Rattle.worker_cut.specs.Crossed.{is_own, copies_seen}
 use Rattle.window_run.specs.Window.{number_of}
 use Rattle.worker_window.specs.declared.share.Share.{Share}
 use Rattle.worker_window.specs.Log.{packets_in, HaveFates}
@@ -51,7 +51,7 @@ pub record HasToCome (n : NetTold) (own : ℕ → Bool) (from : ℕ) (motes : Mo
   pub wakes : (k : ℕ) → filter (is_wake_of k) items
       ≡ (if own k then wake_items k (wake_from from (motes k).wake) else [])
   pub copies : (s : ℕ) → filter (is_from_sender s) (packets items)
-      ≡ filter (is_to_come own from) (copies_known (system_of n) own motes taken s)
+      ≡ filter (is_to_come own from) (copies_seen (system_of n) own motes taken s)
 
 -- The share of a worker at a moment, before which no event is pending, while some of its motes are in it: their nodes
 -- and wakes, the lines and packets of all its motes so far, and the agenda. No mote in it has failed, and the last

@@ -1,44 +1,61 @@
 -- What a window makes of a worker's motes, and what they send to others.
-use Rattle.std.specs.Prelude.{ℕ, ◌≡◌, ◌<◌, ◌≤◌, Bool, true, false, if◌then◌else◌, List, [], ◌++◌, length}
+use Rattle.std.specs.Prelude.{ℕ, ◌≡◌, ◌+◌, ◌<◌, ◌≤◌, Bool, true, false, if◌then◌else◌, List, [], ◌++◌, length}
 use Rattle.std.specs.List.{filter, AllByRecursion as Each}
 use Rattle.radio_packet.specs.declared.copy.RadioCopy.{RadioCopy}
 use Rattle.mote_net.specs.Net.{NetTold}
 use Rattle.window_laws.specs.Windows.{Alone, copies_by, is_at, is_from_sender, is_within}
 use Rattle.net_agenda.specs.NetSystem.{system_of}
-use Rattle.worker_cut.specs.Crossed.{leaves, is_own, copies_known, IsDue}
+use Rattle.worker_cut.specs.Crossed.{is_outgoing, is_own, copies_seen, IsDue}
 use Rattle.worker_window.specs.declared.share.Share.{Share}
 use Rattle.worker_window.specs.Share.{Motes, Keeps}
 
--- A mote runs alone on what the worker knows: at each moment of the window, of each sender, the copies for it, in the
--- order of sending.
+-- A mote runs alone on what it is given of the copies that the worker has seen: at each moment of the window, of each
+-- sender, the copies for it, in the order of sending.
 pub record RunsOwn (n : NetTold) (own : ℕ → Bool) (from until : ℕ) (motes next : Motes) (taken : List RadioCopy)
     (number : ℕ) : Type 0 where
-  pub inbox : List RadioCopy
-  pub is_inbox : (moment sender : ℕ)
-      → filter (is_from_sender sender) (filter (is_at moment) inbox)
+  pub given : List RadioCopy
+  pub is_given : (moment sender : ℕ)
+      → filter (is_from_sender sender) (filter (is_at moment) given)
       ≡ filter (is_at moment) (filter (is_within number from until)
-      (copies_known (system_of n) own motes taken sender))
-  pub alone : Alone (system_of n) number until inbox (motes number) (next number)
+      (copies_seen (system_of n) own motes taken sender))
+  pub alone : Alone (system_of n) number until given (motes number) (next number)
 
--- the copies of a mote's packets so far that go from this worker to others, in the order of sending
-abbrev pub copies_out : NetTold → (own : ℕ → Bool) → Motes → (sender : ℕ) → List RadioCopy
-copies_out n own motes sender = if own sender then filter (leaves own) (copies_by (system_of n) motes sender) else []
+-- the outgoing copies of the packets that a mote of this worker has sent so far, in the order of sending
+abbrev pub outgoing_by : NetTold → (own : ℕ → Bool) → Motes → (sender : ℕ) → List RadioCopy
+outgoing_by n own motes sender =
+    if own sender then filter (is_outgoing own) (copies_by (system_of n) motes sender) else []
 
 -- The worker's motes after the window: each ran alone, and the others are as before. The new share keeps them at the
--- window's end; what went out is, of each sender, what it sent to other workers in the window, and none of it comes
--- before the window's end.
+-- window's end; the outgoing copies are, of each sender, what it sent to other workers in the window, and none of them
+-- comes before the window's end.
 pub record RunsWindow (n : NetTold) (of : List ℕ) (worker from until : ℕ) (motes : Motes) (taken : List RadioCopy)
-    (new : Share) (sent : List RadioCopy) : Type 0 where
+    (new : Share) (outgoing : List RadioCopy) : Type 0 where
   pub next : Motes
   pub runs : (k : ℕ) → is_own of worker k ≡ true → RunsOwn n (is_own of worker) from until motes next taken k
   pub others : (k : ℕ) → is_own of worker k ≡ false → next k ≡ motes k
   pub keeps : Keeps n of worker until next taken new
-  pub out : (s : ℕ) → copies_out n (is_own of worker) next s ≡ copies_out n (is_own of worker) motes s
-      ++ filter (is_from_sender s) sent
-  pub late : Each (λ (copy : RadioCopy). until ≤ copy.at) sent
+  pub out : (s : ℕ) → outgoing_by n (is_own of worker) next s ≡ outgoing_by n (is_own of worker) motes s
+      ++ filter (is_from_sender s) outgoing
+  pub late : Each (λ (copy : RadioCopy). until ≤ copy.at) outgoing
+
+-- Wherever the share stood, where its window is no longer than the lookahead and each copy that arrived is due: the new
+-- share is what the window makes of it, and these are the outgoing copies.
+abbrev pub RunsThrough : NetTold → (of : List ℕ) → (until : ℕ) → (arrived : List RadioCopy) → (old new : Share)
+    → (outgoing : List RadioCopy) → Type 0
+RunsThrough n of until arrived old new outgoing = (worker from : ℕ) (motes : Motes) (taken : List RadioCopy)
+    → Keeps n of worker from motes taken old → from ≤ until → until ≤ from + (system_of n).lookahead
+    → Each (IsDue of worker from) arrived
+    → RunsWindow n of worker from until motes (taken ++ arrived) new outgoing
+
+-- wherever the share stood, where each of these copies is due: the new one keeps the same, with them among what it has
+-- taken
+abbrev pub TakesIn : (arrived : List RadioCopy) → (old new : Share) → Type 0
+TakesIn arrived old new = (n : NetTold) (of : List ℕ) (worker from : ℕ) (motes : Motes) (taken : List RadioCopy)
+    → Keeps n of worker from motes taken old → Each (IsDue of worker from) arrived
+    → Keeps n of worker from motes (taken ++ arrived) new
 
 -- from a mote of this worker to one of another
-pub record GoesOut (n : NetTold) (of : List ℕ) (worker : ℕ) (copy : RadioCopy) : Type 0 where
+pub record IsOutgoing (n : NetTold) (of : List ℕ) (worker : ℕ) (copy : RadioCopy) : Type 0 where
   pub sender : is_own of worker copy.sender ≡ true
   pub to : is_own of worker copy.to ≡ false
   pub there : copy.to < length n.motes

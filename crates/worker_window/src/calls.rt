@@ -6,7 +6,7 @@ ghost use Rattle.std.specs.List.{filter};
 ghost use Rattle.net_agenda.specs.Buckets.{Buckets, Holds};
 ghost use Rattle.window_laws.specs.Agenda.{Item};
 ghost use Rattle.net_agenda.specs.Items.{copy_at};
-ghost use Rattle.worker_window.specs.Calls.{copies_for, is_not_before, Gathers, HasItems, TakesCall};
+ghost use Rattle.worker_window.specs.Calls.{copies_for, is_not_before, TakesEventsBefore, HasItems, TakesCall};
 
 use crate::rooms::Rooms;
 use net_agenda::Agenda;
@@ -119,15 +119,15 @@ fn add_copies(
 }
 
 /// Takes all pending events before a moment out of the agenda, mote by mote.
-pub fn gather(
+pub fn take_events_before(
     alloc: Global,
     agenda: &mut Agenda,
     until: u64,
     rooms: &mut Rooms,
 ) -> Result<CalledMotes, AllocError>
     requires { HasItems agenda.old.buckets }
-    ensures gathered { IfOk result (λ calls. (items : List Item) → Holds agenda.old.buckets items
-        → Gathers until items calls.copies.items) }
+    ensures taken { IfOk result (λ calls. (items : List Item) → Holds agenda.old.buckets items
+        → TakesEventsBefore until items calls.copies.items) }
     ensures rest { OnOk result ((items : List Item) → Holds agenda.old.buckets items
         → Holds agenda.new.buckets (filter (is_not_before until) items)) }
 {

@@ -1,6 +1,6 @@
-//! A worker's motes in a window: those that have a turn leave the share, run, and come back.
+//! A worker's motes in a window: those that have a turn are lent out of the share, run, and come back.
 
-ghost use Rattle.std.specs.Prelude.{◌≡◌, ◌+◌, ◌<◌, ◌≤◌, ◌^◌, ◌++◌, ◌∷◌, ◌==◌, ℕ, true, [], length};
+ghost use Rattle.std.specs.Prelude.{◌≡◌, ◌<◌, ◌≤◌, ◌^◌, ◌++◌, ◌∷◌, ◌==◌, ℕ, true, [], length};
 ghost use Rattle.std.specs.Prelude.{map, List, Some, None, IfOk, OnOk, IsSome, slice_set};
 ghost use Rattle.std.specs.List.{filter, flat_map, list_all, AllByRecursion};
 ghost use Rattle.radio_medium.specs.Medium.{copies};
@@ -8,17 +8,15 @@ ghost use Rattle.window_laws.specs.Agenda.{Packet};
 ghost use Rattle.window_run.specs.Window.{is_rising};
 ghost use Rattle.net_agenda.specs.Changes.{Adds};
 ghost use Rattle.worker_window.specs.Calls.{copies_for};
-ghost use Rattle.mote_net.specs.Net.{NetTold, net_of};
-ghost use Rattle.net_agenda.specs.NetSystem.{system_of};
-ghost use Rattle.radio_packet.specs.declared.copy.RadioCopy.{RadioCopy as CopyOfCode};
-ghost use Rattle.worker_cut.specs.Crossed.{is_own, leaves, IsDue};
-ghost use Rattle.worker_window.specs.Share.{Motes, Keeps, mote_here, wake_from};
-ghost use Rattle.worker_window.specs.Window.{CanRun, GoesOut, RunsWindow};
+ghost use Rattle.mote_net.specs.Net.{net_of};
+ghost use Rattle.worker_cut.specs.Crossed.{is_own, is_outgoing};
+ghost use Rattle.worker_window.specs.Share.{mote_here, wake_from};
+ghost use Rattle.worker_window.specs.Window.{CanRun, IsOutgoing, RunsThrough, TakesIn};
 ghost use Rattle.worker_window.specs.Log.{HaveFates, packets_in};
-ghost use Rattle.worker_window.specs.Sending.{copies_away, own_items};
-ghost use Rattle.worker_window.specs.Leaving.{MotesLeave, HasNumber, IsOutOfMote, MoteReturns};
+ghost use Rattle.worker_window.specs.Sending.{outgoing_copies, own_items};
+ghost use Rattle.worker_window.specs.Lending.{MotesAreLent, HasNumber, IsOutOfMote, MoteReturns};
 
-use crate::calls::{CalledMotes, gather};
+use crate::calls::{CalledMotes, take_events_before};
 use crate::rooms::Rooms;
 use crate::share::Share;
 use mote_net::Net;
@@ -58,9 +56,9 @@ fn take_mote(motes: &mut Vec<Option<Mote>>, number: u16) -> Mote
     motes[usize::from(number)].take().unwrap()
 }
 
-/// Takes the motes that are called out of the share. Their wakes that aren't before `until`, which the agenda keeps,
-/// take the place of what the list has.
-pub(crate) fn leave(
+/// Lends the motes that are called: takes them out of the share, until they come back (`take_back`). Their wakes that
+/// aren't before `until`, which the agenda keeps, take the place of what the list has.
+pub(crate) fn lend(
     motes: &mut Vec<Option<Mote>>,
     wakes: &mut Vec<Option<u64>>,
     until: u64,
@@ -71,7 +69,7 @@ pub(crate) fn leave(
     requires rising { (k : ℕ) (copies : List RadioCopy) → copies_for calls.copies.items k ≡ Some copies
         → is_rising copies ≡ true }
     ensures { IfOk result
-        (λ residents. MotesLeave until calls.copies.items motes.old.items motes.new.items residents.items
+        (λ residents. MotesAreLent until calls.copies.items motes.old.items motes.new.items residents.items
         wakes.new.items) }
 {
     wakes.clear();
@@ -99,23 +97,23 @@ fn last_wake(wakes: &mut Vec<Option<u64>>) -> Option<u64>
 }
 
 /// A copy goes on its way: one for a mote of the worker becomes a pending event; one for another worker's mote is
-/// appended to `away`.
+/// appended to `outgoing`.
 fn send_copy(
     of: &[u16],
     worker: u16,
     copy: &RadioCopy,
     agenda: &mut Agenda,
-    away: &mut Vec<RadioCopy>,
+    outgoing: &mut Vec<RadioCopy>,
 ) -> Result<(), AllocError>
     ensures own { OnOk result (Adds agenda.old.buckets agenda.new.buckets
         (map Packet (filter (λ copy. is_own of.now worker copy.to) (copy.now ∷ [])))) }
-    ensures away { OnOk result (away.new.items ≡ away.old.items
-        ++ filter (leaves (is_own of.now worker)) (copy.now ∷ [])) }
+    ensures outgoing { OnOk result (outgoing.new.items ≡ outgoing.old.items
+        ++ filter (is_outgoing (is_own of.now worker)) (copy.now ∷ [])) }
 {
     if is_own(of, worker, copy.to) {
         return agenda.put_copies(from_ref(copy));
     }
-    away.push(*copy)?;
+    outgoing.push(*copy)?;
     Ok(())
 }
 
@@ -126,11 +124,12 @@ fn send_fate(
     sent: &Sent,
     fate: &Fate,
     agenda: &mut Agenda,
-    away: &mut Vec<RadioCopy>,
+    outgoing: &mut Vec<RadioCopy>,
 ) -> Result<(), AllocError>
     ensures own { OnOk result (Adds agenda.old.buckets agenda.new.buckets
         (own_items of.now worker sent.now (fate.now ∷ []))) }
-    ensures away { OnOk result (away.new.items ≡ away.old.items ++ copies_away of.now worker sent.now (fate.now ∷ [])) }
+    ensures outgoing { OnOk result (outgoing.new.items ≡ outgoing.old.items
+        ++ outgoing_copies of.now worker sent.now (fate.now ∷ [])) }
 {
     let Some(at) = fate.at else {
         return Ok(());
@@ -142,7 +141,7 @@ fn send_fate(
         number: sent.number,
         value: sent.value,
     };
-    send_copy(of, worker, &copy, agenda, away)
+    send_copy(of, worker, &copy, agenda, outgoing)
 }
 
 /// Whether all of these fates are of copies for motes of the worker.
@@ -159,43 +158,44 @@ fn send_fates(
     sent: &Sent,
     fates: &[Fate],
     agenda: &mut Agenda,
-    away: &mut Vec<RadioCopy>,
+    outgoing: &mut Vec<RadioCopy>,
 ) -> Result<(), AllocError>
     ensures own { OnOk result (Adds agenda.old.buckets agenda.new.buckets
         (own_items of.now worker sent.now fates.now)) }
-    ensures away { OnOk result (away.new.items ≡ away.old.items ++ copies_away of.now worker sent.now fates.now) }
+    ensures outgoing { OnOk result (outgoing.new.items ≡ outgoing.old.items
+        ++ outgoing_copies of.now worker sent.now fates.now) }
 {
     if are_own(of, worker, fates) {
         return agenda.put_fates(sent, fates);
     }
     for fate in fates {
-        send_fate(of, worker, sent, fate, agenda, away)?;
+        send_fate(of, worker, sent, fate, agenda, outgoing)?;
     }
     Ok(())
 }
 
 /// The packets of a mote go out, and are logged with the fates of their copies: the copies for the worker's own motes
-/// become pending events, the others are appended to `away`.
+/// become pending events, the others are appended to `outgoing`.
 pub(crate) fn send_all(
     medium: &Medium,
     of: &[u16],
     worker: u16,
     sends: &[Sent],
     agenda: &mut Agenda,
-    away: &mut Vec<RadioCopy>,
+    outgoing: &mut Vec<RadioCopy>,
     log: &mut Vec<LogLine>,
 ) -> Result<(), AllocError>
     requires { AllByRecursion (λ sent. (sent.sender < length medium.now.places) × (sent.at ≤ 2 ^ 40)) sends.now }
     ensures own { OnOk result (Adds agenda.old.buckets agenda.new.buckets
         (map Packet (filter (λ copy. is_own of.now worker copy.to) (flat_map (copies medium.now) sends.now)))) }
-    ensures away { OnOk result (away.new.items ≡ away.old.items
-        ++ filter (leaves (is_own of.now worker)) (flat_map (copies medium.now) sends.now)) }
+    ensures outgoing { OnOk result (outgoing.new.items ≡ outgoing.old.items
+        ++ filter (is_outgoing (is_own of.now worker)) (flat_map (copies medium.now) sends.now)) }
     ensures log { OnOk result (packets_in log.new.items ≡ packets_in log.old.items ++ sends.now) }
     ensures fates { OnOk result (HaveFates medium.now log.old.items → HaveFates medium.now log.new.items) }
 {
     for sent in sends {
         let fates = medium.fates(sent)?;
-        send_fates(of, worker, sent, &fates, agenda, away)?;
+        send_fates(of, worker, sent, &fates, agenda, outgoing)?;
         log.push(LogLine { sent: *sent, fates })?;
     }
     Ok(())
@@ -203,20 +203,21 @@ pub(crate) fn send_all(
 
 impl Share {
     /// A mote comes back from its window: its old wake leaves the agenda, its next one enters; its packets go out, and
-    /// its lines and packets are kept. The copies for other workers' motes are appended to `away`.
+    /// its lines and packets are kept. The copies for other workers' motes are appended to `outgoing`.
     fn take_back(
         &mut self,
         medium: &Medium,
         of: &[u16],
         pending: Option<u64>,
         out: WindowOut,
-        away: &mut Vec<RadioCopy>,
+        outgoing: &mut Vec<RadioCopy>,
     ) -> Result<(), AllocError>
         requires motes { IsOutOfMote (length self.old.motes.items) out }
         requires traces { IsOutOfMote (length self.old.traces.items) out }
         requires places { IsOutOfMote (length medium.now.places) out }
         ensures { OnOk result ((number : ℕ) → HasNumber number out.mote
-            → MoteReturns medium.now of.now number pending out self.old self.new away.old.items away.new.items) }
+            → MoteReturns medium.now of.now number pending out self.old self.new
+            outgoing.old.items outgoing.new.items) }
     {
         let number = out.mote.number();
         let WindowOut {
@@ -233,7 +234,7 @@ impl Share {
             self.worker,
             &room.sends,
             &mut self.agenda,
-            away,
+            outgoing,
             &mut self.log,
         )?;
         add_lines(&mut self.traces, number, &mut room.lines)?;
@@ -247,10 +248,7 @@ impl Share {
     /// # Errors
     /// `Memory` alone.
     pub fn take_in(&mut self, arrived: &[RadioCopy]) -> Result<(), AllocError>
-        ensures { OnOk result ((n : NetTold) (of : List ℕ) (worker from : ℕ) (motes : Motes) (taken : List CopyOfCode)
-            → Keeps n of worker from motes taken self.old
-            → AllByRecursion (IsDue of worker from) arrived.now
-            → Keeps n of worker from motes (taken ++ arrived.now) self.new) }
+        ensures { OnOk result (TakesIn arrived.now self.old self.new) }
     {
         self.agenda.put_copies(arrived)?;
         Ok(())
@@ -280,19 +278,15 @@ impl Share {
         requires of { length of.now ≡ length (net_of net.now).motes }
         requires ready { CanRun (net_of net.now) of.now until self.old arrived.items }
         requires to_own { AllByRecursion (λ copy. is_own of.now self.old.worker copy.to ≡ true) arrived.items }
-        ensures window { let n = net_of net.now in
-            IfOk result (λ sent. (worker from : ℕ) (motes : Motes) (taken : List CopyOfCode)
-            → Keeps n of.now worker from motes taken self.old
-            → from ≤ until → until ≤ from + (system_of n).lookahead
-            → AllByRecursion (IsDue of.now worker from) arrived.items
-            → RunsWindow n of.now worker from until motes (taken ++ arrived.items) self.new sent.items) }
+        ensures window { let n = net_of net.now in IfOk result
+            (λ outgoing. RunsThrough n of.now until arrived.items self.old self.new outgoing.items) }
         ensures out { let n = net_of net.now in IfOk result
-            (λ sent. AllByRecursion (GoesOut n of.now self.old.worker) sent.items) }
+            (λ outgoing. AllByRecursion (IsOutgoing n of.now self.old.worker) outgoing.items) }
     {
         self.agenda.put_copies(&arrived)?;
-        let calls = gather(self.alloc, &mut self.agenda, until, &mut self.rooms)?;
+        let calls = take_events_before(self.alloc, &mut self.agenda, until, &mut self.rooms)?;
         let mut wakes = Vec::new(self.alloc);
-        let residents = leave(&mut self.motes, &mut wakes, until, calls, &mut self.rooms)?;
+        let residents = lend(&mut self.motes, &mut wakes, until, calls, &mut self.rooms)?;
         let called = window_run::Residents {
             worker: self.worker,
             residents,
@@ -306,11 +300,11 @@ impl Share {
             gate,
             &mut self.rooms.turns,
         )?;
-        let mut away = Vec::new(self.alloc);
+        let mut outgoing = Vec::new(self.alloc);
         while let Some(out) = outs.pop() {
             let pending = last_wake(&mut wakes);
-            self.take_back(net.medium(), of, pending, out, &mut away)?;
+            self.take_back(net.medium(), of, pending, out, &mut outgoing)?;
         }
-        Ok(away)
+        Ok(outgoing)
     }
 }

@@ -2,7 +2,7 @@ use Rattle.std.proofs.Common.{rules, ◌≡◌, length, map, vec_len, sym, ap, �
 use Rattle.std.proofs.lemmas.Iterator.{YieldsList-from_zip}
 use Rattle.std.proofs.lemmas.Iterator.Adapters.{YieldsList-from_vec}
 use Rattle.std.proofs.lemmas.Iterator.Consumers.{YieldsList-end}
-use Rattle.all_workers.specs.Worker.{worker_of}
+use Rattle.all_workers.specs.Worker.{make_worker}
 use Rattle.all_workers.proofs.worker.workers_of.Goals as goal
 
 pub returns-clause-workers : goal.returns-clause-workers
@@ -15,4 +15,4 @@ returns-clause-workers c =
     (YieldsList-from_vec c.args.shares.items (ap (λ s. s.a.rest.items) d ∙ (ap (λ s. s.rest.items) z.first ∙ c.into_iter.ensures.rest)) (ap (λ s. s.a.rest.len) d ∙ (ap (λ s. s.rest.len) z.first ∙ (c.into_iter.ensures.len ∙ shares_len))))
     (YieldsList-from_vec c.args.endpoints.items (ap (λ s. s.b.rest.items) d ∙ z.second.0) (ap (λ s. s.b.rest.len) d ∙ (z.second.1 ∙ endpoints_len))))
     c.loop-share.yielded c.loop-share.share-iterator c.loop-share.yielded_by c.next.result c.next.new.self c.in-None.is c.next.ensures.steps in
-    c.loop-share.invariant ∙ ap (map worker_of) (sym (map-id c.loop-share.yielded) ∙ t.0)
+    c.loop-share.invariant ∙ ap (map make_worker) (sym (map-id c.loop-share.yielded) ∙ t.0)

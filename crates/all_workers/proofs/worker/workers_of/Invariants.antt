@@ -1,6 +1,6 @@
 use Rattle.std.proofs.Common.{◌≡◌, map}
-use Rattle.all_workers.specs.Worker.{worker_of}
+use Rattle.all_workers.specs.Worker.{make_worker}
 use Rattle.all_workers.proofs.worker.workers_of.Given as goal
 
 abbrev pub invariant-loop-share : goal.invariant-loop-share
-invariant-loop-share l = l.workers.items ≡ map worker_of l.yielded
+invariant-loop-share l = l.workers.items ≡ map make_worker l.yielded

@@ -2,8 +2,8 @@ use Rattle.std.proofs.Common.{◌≡◌, ◌∙◌, ℕ, suc, ◌<◌, ◌≤◌
 use Rattle.mote_net.specs.Net.{net_of}
 use Rattle.net_agenda.specs.NetSystem.{system_of}
 use Rattle.all_workers.specs.declared.workers.Workers.{Workers}
-use Rattle.joined_workers.specs.Laws.{RunsAll}
-use Rattle.joined_workers.specs.Run.{BeginsAt, RunsNext}
+use Rattle.joined_workers.specs.Laws.{GroupRunsUntil}
+use Rattle.joined_workers.specs.Run.{BeginsAt, GroupRunsNext}
 use Rattle.all_workers.specs.WindowWidth.{end_of_window, width_of_window}
 use Rattle.joined_workers.proofs.Runs.{begins_later, short_enough, stands_there}
 use Rattle.joined_workers.proofs.run.run_group.Goals as goal
@@ -39,11 +39,11 @@ windows-preserved g c =
     ∙ (ap (λ e. end_of_window e c.window_width-width.result c.windows.from) c.end-end.ensures.value
     ∙ ap (λ l. end_of_window n.end l c.windows.from) (c.window_width-width.ensures.value ∙ ap (λ l. width_of_window l c.args.longest) c.lookahead_of.ensures.value)) in
     -- the window that was run is the next one
-    let next : RunsNext n c.args.of.now width c.windows.group c.in_ok-group.group = record {
+    let next : GroupRunsNext n c.args.of.now width c.windows.group c.in_ok-group.group = record {
       from = c.windows.from;
       begins = c.windows.invariant.begins;
       there = (let end = c.end-end.ensures.value in let before = c.windows-test.true in omega arith);
-      runs = subst (λ (until : ℕ). RunsAll n c.args.of.now until c.windows.group c.in_ok-group.group) is c.in_ok-group.ensures.runs;
+      runs = subst (λ (until : ℕ). GroupRunsUntil n c.args.of.now until c.windows.group c.in_ok-group.group) is c.in_ok-group.ensures.runs;
     } in
     record {
       at = stands_there (net_of c.args.net.now) c.args.of.now c.window_end-until.result c.end-end.result c.in_ok-group.group _ moved c.window_end-until.ensures.within c.window_start-from-in-windows.ensures.value c.lookahead_of.ensures.forward;

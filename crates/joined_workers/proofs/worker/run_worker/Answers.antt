@@ -4,7 +4,7 @@ use Rattle.radio_packet.specs.declared.copy.RadioCopy.{RadioCopy}
 use Rattle.mote_net.specs.Net.{net_of}
 use Rattle.copy_exchange.specs.Takers.{taken_by, gathered_by}
 use Rattle.worker_cut.specs.Crossed.{is_own}
-use Rattle.worker_window.specs.Window.{RunsWindow, GoesOut}
+use Rattle.worker_window.specs.Window.{RunsWindow, IsOutgoing}
 use Rattle.all_workers.proofs.Sent.{leaves_sent}
 use Rattle.joined_workers.proofs.Arrived.{arrived_have}
 use Rattle.joined_workers.specs.Worker.{IsFirstOf}
@@ -20,21 +20,21 @@ run_window-ran-requires-clause-to_own g c =
 
 pub deliver-requires-clause-leaves : goal.deliver-requires-clause-leaves
 deliver-requires-clause-leaves g c =
-    leaves_sent (net_of c.args.window.now.net.now) c.args.window.now.of.now (length c.args.window.now.inboxes.now) c.collect.new.self.worker c.in-Ok-ran.sent.items c.requires.cut
-    (subst (λ w. Each (GoesOut (net_of c.args.window.now.net.now) c.args.window.now.of.now w) c.in-Ok-ran.sent.items) (c.requires.same ∙ sym c.in-Ok.ensures.collects.stays.worker) c.in-Ok-ran.ensures.out)
+    leaves_sent (net_of c.args.window.now.net.now) c.args.window.now.of.now (length c.args.window.now.inboxes.now) c.collect.new.self.worker c.in-Ok-ran.outgoing.items c.requires.cut
+    (subst (λ w. Each (IsOutgoing (net_of c.args.window.now.net.now) c.args.window.now.of.now w) c.in-Ok-ran.outgoing.items) (c.requires.same ∙ sym c.in-Ok.ensures.collects.stays.worker) c.in-Ok-ran.ensures.out)
 
 pub returns-clause-runs : goal.returns-clause-runs
 returns-clause-runs g c = record {
   arrived = c.in-Ok.arrived.items;
-  sent = c.in-Ok-ran.sent.items;
+  outgoing = c.in-Ok-ran.outgoing.items;
   between = c.collect.new.self;
   collects = c.in-Ok.ensures.collects;
   delivers = c.in-Ok-deliver.ensures.delivers;
   endpoint = c.in-Ok-deliver.ensures.endpoint;
   runs = λ from motes keeps le short later.
-      subst (λ t. RunsWindow (net_of c.args.window.now.net.now) c.args.window.now.of.now c.args.worker.endpoint.worker from c.args.window.now.until motes t c.run_window-ran.new.self c.in-Ok-ran.sent.items)
+      subst (λ t. RunsWindow (net_of c.args.window.now.net.now) c.args.window.now.of.now c.args.worker.endpoint.worker from c.args.window.now.until motes t c.run_window-ran.new.self c.in-Ok-ran.outgoing.items)
       (sym (ap taken_by c.in-Ok-deliver.ensures.delivers.taker ∙ c.in-Ok.ensures.collects.adds))
       (c.in-Ok-ran.ensures.window c.args.worker.endpoint.worker from motes (taken_by c.args.worker.endpoint.taker) keeps le short later);
-  out = subst (λ w. Each (GoesOut (net_of c.args.window.now.net.now) c.args.window.now.of.now w) c.in-Ok-ran.sent.items) c.requires.same c.in-Ok-ran.ensures.out;
+  out = subst (λ w. Each (IsOutgoing (net_of c.args.window.now.net.now) c.args.window.now.of.now w) c.in-Ok-ran.outgoing.items) c.requires.same c.in-Ok-ran.ensures.out;
   first = subst (λ l. IsFirstOf l c.first_of-first_out.result) c.deref.ensures.value c.first_of-first_out.ensures;
 }

@@ -1,7 +1,7 @@
 use Rattle.std.proofs.Common.{map, refl}
 use Rattle.std.specs.List.{zip}
 use Rattle.mote_net.specs.Net.{net_of}
-use Rattle.all_workers.specs.Worker.{worker_of}
+use Rattle.all_workers.specs.Worker.{make_worker}
 use Rattle.all_workers.proofs.Starts.{all_settled}
 use Rattle.marked_workers.specs.Bounds.{windows_of}
 use Rattle.marked_workers.proofs.Ready.{ready, together_first, none_gathered_first}
@@ -35,14 +35,14 @@ gather_endpoints-requires-clause-on_inboxes g c =
     let n = net_of c.args.net.now in
     let ran = rw (c.deref-2.ensures.value, c.in_ok-workers.ensures.workers) at c.in_ok-done.ensures in
     rw (c.deref-3.ensures.value, c.in_ok-shares.ensures.endpoints)
-    (all_on_inboxes n c.args.of.now c.args.width (windows_of c.args.width n.end) c.args.group.inboxes.items (map worker_of (zip c.args.group.shares.items c.in_ok-endpoints.endpoints.items)) c.in_ok-done.done.items ran)
+    (all_on_inboxes n c.args.of.now c.args.width (windows_of c.args.width n.end) c.args.group.inboxes.items (map make_worker (zip c.args.group.shares.items c.in_ok-endpoints.endpoints.items)) c.in_ok-done.done.items ran)
 
 pub returns : goal.returns
 returns g c =
     let ids = c.args.group.inboxes.items in
     let together = rw c.deref.ensures.value at c.in_ok-endpoints.ensures.together in
     record {
-      first = map worker_of (zip c.args.group.shares.items c.in_ok-endpoints.endpoints.items);
+      first = map make_worker (zip c.args.group.shares.items c.in_ok-endpoints.endpoints.items);
       done = c.in_ok-done.done.items;
       together = together_first ids c.args.group.takers.items c.requires.fresh c.in_ok-endpoints.endpoints.items together c.in_ok-endpoints.ensures.starts c.args.group.shares.items c.requires.first.count;
       none_gathered = none_gathered_first ids c.args.group.takers.items c.requires.fresh c.in_ok-endpoints.endpoints.items together c.in_ok-endpoints.ensures.starts c.args.group.shares.items c.requires.first.count;

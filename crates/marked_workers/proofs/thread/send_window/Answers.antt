@@ -11,9 +11,9 @@ returns-clause-sends g c =
     let none = c.new-none.ensures.items in
     let window = rw none at c.in-Ok.ensures.window in
     record {
-      sent = c.in-Ok.sent.items;
+      outgoing = c.in-Ok.outgoing.items;
       runs = λ worker from motes taken keeps up short.
-          subst (λ (l : List RadioCopy). RunsWindow n of worker from c.args.until motes l c.run_window-ran.new.self c.in-Ok.sent.items) (append-nil taken) (window worker from motes taken keeps up short tt);
+          subst (λ (l : List RadioCopy). RunsWindow n of worker from c.args.until motes l c.run_window-ran.new.self c.in-Ok.outgoing.items) (append-nil taken) (window worker from motes taken keeps up short tt);
       out = c.in-Ok.ensures.out;
       pushes = rw c.deref.ensures.value at c.in-Ok-deliver_window.ensures.pushes;
       marks = c.in-Ok-deliver_window.ensures.counts;

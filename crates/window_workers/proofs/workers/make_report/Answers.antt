@@ -8,8 +8,8 @@ use Rattle.copy_exchange.specs.Inboxes.{IsSettled}
 use Rattle.worker_window.specs.declared.share.Ended.{Ended}
 use Rattle.net_report.specs.declared.Report.{Report}
 use Rattle.net_report.specs.Report.{report_of}
-use Rattle.window_workers.specs.Carried.{Pair, AllCarried}
-use Rattle.window_workers.proofs.ByWorkers.{told_is, all_carried}
+use Rattle.window_workers.specs.Crossed.{Pair, AllCrossed}
+use Rattle.window_workers.proofs.ByWorkers.{told_is, all_crossed}
 use Rattle.window_workers.proofs.Joined.{all_fates, all_places, workers_there}
 use Rattle.window_workers.proofs.Logs.{as_many, places_kept, traces_kept}
 use Rattle.window_workers.proofs.Pairs.{each_zip, firsts}
@@ -56,11 +56,11 @@ returns-clause-settled c =
     subst (Each (λ (pair : Pair). IsSettled pair.0 pair.1)) (sym c.in-Ok.ensures)
     (each_zip IsSettled c.args.group.inboxes.items c.args.group.takers.items c.requires.settled)
 
-pub returns-clause-carried : goal.returns-clause-carried
-returns-clause-carried c =
+pub returns-clause-crossed : goal.returns-clause-crossed
+returns-clause-crossed c =
     let n = net_of c.args.net.now in
     let fault : medium_fault n.radio ≡ None = ap medium_fault (sym c.medium.ensures.value) ∙ c.lookahead-ahead.ensures.no_fault in
     let placed : length n.radio.places ≡ length n.motes = ap (λ (r : Radio). length r.places) (sym c.medium.ensures.value) ∙ c.medium.ensures.placed in
     let r : Report = record { traces = c.in_ok-traces.traces; medium = c.in_ok-medium.medium; left = c.in_ok-left.left } in
-    subst (AllCarried n c.args.of.now (report_of r)) (sym c.in-Ok.ensures)
-    (all_carried n fault placed c.args.of.now c.args.group c.requires c.in_ok-ended.ended.items c.in_ok-ended.ensures (report_of r) (returns-clause-report c))
+    subst (AllCrossed n c.args.of.now (report_of r)) (sym c.in-Ok.ensures)
+    (all_crossed n fault placed c.args.of.now c.args.group c.requires c.in_ok-ended.ended.items c.in_ok-ended.ensures (report_of r) (returns-clause-report c))

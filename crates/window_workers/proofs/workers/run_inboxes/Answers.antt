@@ -13,7 +13,7 @@ use Rattle.all_workers.specs.Start.{AreFirst}
 use Rattle.all_workers.specs.Workers.{IsCut}
 use Rattle.net_report.specs.declared.Report.{Report}
 use Rattle.net_report.specs.Report.{report_of}
-use Rattle.window_workers.specs.Carried.{Pair, AllCarried}
+use Rattle.window_workers.specs.Crossed.{Pair, AllCrossed}
 use Rattle.window_workers.specs.Fits.{cut_fault}
 use Rattle.serial_run.specs.NetRun.{IsReportOf}
 use Rattle.window_workers.specs.Sync.{IsFor}
@@ -43,31 +43,31 @@ are_fresh : (pairs : List Pair) (inboxes : List InboxId) (takers : List TakerVie
 are_fresh pairs inboxes takers e f fresh =
     subst (λ l. AllZip IsFresh l takers) (sym e) (subst (λ l. AllZip IsFresh (map (λ (pair : Pair). pair.0) pairs) l) (sym f) (zip_each IsFresh pairs fresh))
 
-pub start-requires-clause-cut : goal.start-requires-clause-cut
-start-requires-clause-cut g c =
+pub new-requires-clause-cut : goal.new-requires-clause-cut
+new-requires-clause-cut g c =
     is_cut c.motes.result (length (net_of c.args.net.now).motes) c.len.result c.args.pairs.items c.in-Ok.inboxes.items c.as_slice-of.result.now
     (sym c.fault_of.ensures ∙ c.in_default.is) c.motes.ensures.value (c.len.ensures ∙ pairs_long c.args.pairs) c.in-Ok.ensures.inboxes
 
-pub start-requires-clause-fresh : goal.start-requires-clause-fresh
-start-requires-clause-fresh g c = are_fresh c.args.pairs.items c.in-Ok.inboxes.items c.in-Ok.takers.items c.in-Ok.ensures.inboxes c.in-Ok.ensures.takers c.requires.fresh
+pub new-requires-clause-fresh : goal.new-requires-clause-fresh
+new-requires-clause-fresh g c = are_fresh c.args.pairs.items c.in-Ok.inboxes.items c.in-Ok.takers.items c.in-Ok.ensures.inboxes c.in-Ok.ensures.takers c.requires.fresh
 
 pub run_by_kind-requires-clause-cut : goal.run_by_kind-requires-clause-cut
 run_by_kind-requires-clause-cut g c κs within =
-    is_cut c.motes.result (length (net_of c.args.net.now).motes) c.len.result c.args.pairs.items c.in-Ok-start.group.inboxes.items c.as_slice-of.result.now
-    (sym c.fault_of.ensures ∙ c.in_default.is) c.motes.ensures.value (c.len.ensures ∙ pairs_long c.args.pairs) (c.in-Ok-start.ensures.inboxes ∙ c.in-Ok.ensures.inboxes)
+    is_cut c.motes.result (length (net_of c.args.net.now).motes) c.len.result c.args.pairs.items c.in-Ok-new.group.inboxes.items c.as_slice-of.result.now
+    (sym c.fault_of.ensures ∙ c.in_default.is) c.motes.ensures.value (c.len.ensures ∙ pairs_long c.args.pairs) (c.in-Ok-new.ensures.inboxes ∙ c.in-Ok.ensures.inboxes)
 
 pub run_by_kind-requires-clause-fresh : goal.run_by_kind-requires-clause-fresh
 run_by_kind-requires-clause-fresh g c κs within =
-    are_fresh c.args.pairs.items c.in-Ok-start.group.inboxes.items c.in-Ok-start.group.takers.items
-    (c.in-Ok-start.ensures.inboxes ∙ c.in-Ok.ensures.inboxes) (c.in-Ok-start.ensures.takers ∙ c.in-Ok.ensures.takers) c.requires.fresh
+    are_fresh c.args.pairs.items c.in-Ok-new.group.inboxes.items c.in-Ok-new.group.takers.items
+    (c.in-Ok-new.ensures.inboxes ∙ c.in-Ok.ensures.inboxes) (c.in-Ok-new.ensures.takers ∙ c.in-Ok.ensures.takers) c.requires.fresh
 
 pub run_by_kind-requires-clause-kind : goal.run_by_kind-requires-clause-kind
 run_by_kind-requires-clause-kind g c κs within =
-    subst (Each (IsFor c.args.sync)) (sym (c.in-Ok-start.ensures.takers ∙ c.in-Ok.ensures.takers)) (seconds_have (IsFor c.args.sync) c.args.pairs.items c.requires.kind)
+    subst (Each (IsFor c.args.sync)) (sym (c.in-Ok-new.ensures.takers ∙ c.in-Ok.ensures.takers)) (seconds_have (IsFor c.args.sync) c.args.pairs.items c.requires.kind)
 
 pub run_by_kind-requires-clause-first : goal.run_by_kind-requires-clause-first
 run_by_kind-requires-clause-first g c κs within =
-    subst (λ l. AreFirst (net_of c.args.net.now) c.as_slice-of.result.now (length l) c.in-Ok-start.group.shares.items) (sym c.in-Ok-start.ensures.inboxes) c.in-Ok-start.ensures.first
+    subst (λ l. AreFirst (net_of c.args.net.now) c.as_slice-of.result.now (length l) c.in-Ok-new.group.shares.items) (sym c.in-Ok-new.ensures.inboxes) c.in-Ok-new.ensures.first
 
 pub returns-clause-traces : goal.returns-clause-traces
 returns-clause-traces g c =
@@ -79,10 +79,10 @@ returns-clause-handed_on g c =
     let n = net_of c.args.net.now in
     if_ok (λ (r : Report × Vec Pair Global). IsReportOf n (report_of r.0)) (λ (r : Report × Vec Pair Global). All (λ (v : Vec Line Global). IsInOrder v.items) r.0.traces.items) c.make_report.result (λ r h. all_hand_on n r.0 h) c.make_report.ensures.report
 
-pub returns-clause-carried : goal.returns-clause-carried
-returns-clause-carried g c =
+pub returns-clause-crossed : goal.returns-clause-crossed
+returns-clause-crossed g c =
     let n = net_of c.args.net.now in
-    subst (λ l. IfOk c.make_report.result (λ (r : Report × Vec Pair Global). AllCarried n l (report_of r.0) r.1.items)) c.as_slice-of.ensures.value c.make_report.ensures.carried
+    subst (λ l. IfOk c.make_report.result (λ (r : Report × Vec Pair Global). AllCrossed n l (report_of r.0) r.1.items)) c.as_slice-of.ensures.value c.make_report.ensures.crossed
 
 pub returns-clause-none_known : goal.returns-clause-none_known
 returns-clause-none_known g c =

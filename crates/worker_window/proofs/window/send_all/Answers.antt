@@ -8,7 +8,7 @@ use Rattle.window_laws.specs.Agenda.{Packet}
 use Rattle.window_laws.proofs.Lists.{every_append}
 use Rattle.net_agenda.specs.Buckets.{Holds}
 use Rattle.net_report.specs.declared.LogLine.{LogLine}
-use Rattle.worker_cut.specs.Crossed.{is_own, leaves}
+use Rattle.worker_cut.specs.Crossed.{is_own, is_outgoing}
 use Rattle.worker_window.specs.Log.{HaveFates, packets_in}
 use Rattle.worker_window.proofs.Sends.{more_sends, more_sent_own, more_sent_away}
 use Rattle.worker_window.proofs.window.send_all.Goals as goal
@@ -28,7 +28,7 @@ loop-sent-preserved c =
     let inv = c.loop-sent.invariant in
     let told = c.in_ok-fates.ensures in
     let given : filter_map (copy_of sent) c.deref.result.now ≡ made sent = ap (filter_map (copy_of sent)) (c.deref.ensures.value ∙ told) in
-    let before = filter (leaves own) (flat_map made (take i sends)) in
+    let before = filter (is_outgoing own) (flat_map made (take i sends)) in
     let line : LogLine = record { sent = sent; fates = c.in_ok-fates.fates } in
     record {
       own = λ items holds.
@@ -36,9 +36,9 @@ loop-sent-preserved c =
           subst (λ l. Holds c.send_fates.new.agenda.buckets l)
           (ap (λ l. all ++ map Packet (filter (λ (copy : RadioCopy). own copy.to) l)) given ∙ more_sent_own (λ copy. own copy.to) made items sends i none c.loop-sent-test.true)
           (c.in_ok-send_fates.ensures.own all (inv.own items holds));
-      away = c.in_ok-send_fates.ensures.away
-          ∙ (ap (λ l. l ++ filter (leaves own) (filter_map (copy_of sent) c.deref.result.now)) inv.away
-          ∙ (ap (λ l. (c.args.away.now.items ++ before) ++ filter (leaves own) l) given ∙ more_sent_away (leaves own) made c.args.away.now.items sends i none c.loop-sent-test.true));
+      outgoing = c.in_ok-send_fates.ensures.outgoing
+          ∙ (ap (λ l. l ++ filter (is_outgoing own) (filter_map (copy_of sent) c.deref.result.now)) inv.outgoing
+          ∙ (ap (λ l. (c.args.outgoing.now.items ++ before) ++ filter (is_outgoing own) l) given ∙ more_sent_away (is_outgoing own) made c.args.outgoing.now.items sends i none c.loop-sent-test.true));
       log = ap packets_in c.in_ok-push.ensures.items
           ∙ (map-append (λ (l : LogLine). l.sent) c.loop-sent.log.items (line ∷ [])
           ∙ (ap (λ l. l ++ sent ∷ []) inv.log ∙ more_sends (packets_in c.args.log.now.items) sends i none c.loop-sent-test.true));

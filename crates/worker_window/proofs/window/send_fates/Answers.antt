@@ -7,8 +7,8 @@ use Rattle.radio_medium.specs.Medium.{copy_of}
 use Rattle.window_laws.specs.Agenda.{Packet}
 use Rattle.net_agenda.specs.Buckets.{Holds}
 use Rattle.net_agenda.specs.Changes.{Adds}
-use Rattle.worker_cut.specs.Crossed.{is_own, leaves}
-use Rattle.worker_window.specs.Sending.{copies_away, own_items}
+use Rattle.worker_cut.specs.Crossed.{is_own, is_outgoing}
+use Rattle.worker_window.specs.Sending.{outgoing_copies, own_items}
 use Rattle.worker_window.proofs.Sends.{more_own, more_away, all_own, none_away, on_ok}
 use Rattle.worker_window.proofs.window.send_fates.Goals as goal
 
@@ -27,8 +27,8 @@ loop-fate-preserved c =
       own = λ items holds.
           subst (λ l. Holds c.send_fate.new.agenda.buckets l) (more_own (λ (copy : RadioCopy). is_own of worker copy.to) (copy_of sent) items fates i none c.loop-fate-test.true)
           (c.in_ok-send_fate.ensures.own (items ++ own_items of worker sent (take i fates)) (inv.own items holds));
-      away = c.in_ok-send_fate.ensures.away
-          ∙ (ap (λ l. l ++ copies_away of worker sent (get_or fates i none ∷ [])) inv.away ∙ more_away (leaves (is_own of worker)) (copy_of sent) c.args.away.now.items fates i none c.loop-fate-test.true);
+      outgoing = c.in_ok-send_fate.ensures.outgoing
+          ∙ (ap (λ l. l ++ outgoing_copies of worker sent (get_or fates i none ∷ [])) inv.outgoing ∙ more_away (is_outgoing (is_own of worker)) (copy_of sent) c.args.outgoing.now.items fates i none c.loop-fate-test.true);
     }
 
 pub returns-clause-own : goal.returns-clause-own
@@ -41,8 +41,8 @@ returns-then-are_own-clause-own c =
     subst (λ l. OnOk c.put_fates.result (Adds c.args.agenda.now.buckets c.put_fates.new.self.buckets (map Packet l)))
     (sym (all_own (is_own c.args.of.now c.args.worker) c.args.sent.now c.args.fates.now (sym c.are_own.ensures ∙ c.if-are_own.true))) c.put_fates.ensures
 
-pub returns-then-are_own-clause-away : goal.returns-then-are_own-clause-away
-returns-then-are_own-clause-away c =
+pub returns-then-are_own-clause-outgoing : goal.returns-then-are_own-clause-outgoing
+returns-then-are_own-clause-outgoing c =
     on_ok c.put_fates.result
-    (sym (ap (λ l. c.args.away.now.items ++ l) (none_away (is_own c.args.of.now c.args.worker) c.args.sent.now c.args.fates.now (sym c.are_own.ensures ∙ c.if-are_own.true))
-    ∙ append-nil c.args.away.now.items))
+    (sym (ap (λ l. c.args.outgoing.now.items ++ l) (none_away (is_own c.args.of.now c.args.worker) c.args.sent.now c.args.fates.now (sym c.are_own.ensures ∙ c.if-are_own.true))
+    ∙ append-nil c.args.outgoing.now.items))

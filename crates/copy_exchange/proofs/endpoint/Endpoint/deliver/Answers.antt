@@ -3,7 +3,7 @@ use Rattle.std.proofs.Math.Seq.{take-length}
 use Rattle.std.proofs.lemmas.List.{take_more}
 use Rattle.radio_packet.specs.declared.copy.RadioCopy.{RadioCopy}
 use Rattle.copy_exchange.specs.Endpoints.{Delivers, Leaves}
-use Rattle.copy_exchange.proofs.Delivered.{delivers_none, delivers_more, on_inboxes, endpoint_again}
+use Rattle.copy_exchange.proofs.Delivered.{delivers_none, delivers_more, endpoint_again}
 use Rattle.copy_exchange.proofs.Lists.{each_at}
 use Rattle.copy_exchange.proofs.endpoint.Endpoint.deliver.Goals as goal
 
@@ -21,7 +21,7 @@ deliver_one-requires-clause-leaves g c =
     subst (λ (worker : ℕ). P worker c.deref-copy-items.result.now) (sym c.loop-copy.invariant.delivers.stays.worker) there
 
 pub loop-copy-init : goal.loop-copy-init
-loop-copy-init g c = record { on_inboxes = on_inboxes c.args.inboxes.now c.args.self.now c.requires.endpoint; delivers = delivers_none c.args.of.now c.args.self.now }
+loop-copy-init g c = record { on_inboxes = c.requires.endpoint.on_inboxes; delivers = delivers_none c.args.of.now c.args.self.now }
 
 pub loop-copy-preserved : goal.loop-copy-preserved
 loop-copy-preserved g c =

@@ -16,7 +16,9 @@ loop-preserved g c =
     record { drained = d; long = omega arith; room = omega arith }
 
 pub returns-clause-whole : goal.returns-clause-whole
-returns-clause-whole g c = λ all later.
+returns-clause-whole g c = λ takes.
+    let all = takes.0 in
+    let later = takes.1 in
     let P : TakerView → Type 0 = λ t. TookFronts t.state.gathered t.state.taken in
     let begun = subst P c.taker.view_is c.taker.invariant.0.taker.begun in
     let end = c.loop-test.false in
@@ -26,7 +28,9 @@ returns-clause-whole g c = λ all later.
     whole_of c.loop.taker.state.gathered c.loop.taker.state.taken none begun
 
 pub returns-clause-others : goal.returns-clause-others
-returns-clause-others g c = λ all later.
+returns-clause-others g c = λ takes.
+    let all = takes.0 in
+    let later = takes.1 in
     let end = c.loop-test.false in
     let top = c.loop.auto.counter-end in
     c.loop.invariant.drained.others later (omega arith)

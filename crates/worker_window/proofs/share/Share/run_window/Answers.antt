@@ -8,74 +8,74 @@ use Rattle.window_laws.proofs.Lists.{every_append}
 use Rattle.net_agenda.specs.Buckets.{Holds}
 use Rattle.net_agenda.proofs.Gathered.{zero_from}
 use Rattle.worker_window.specs.declared.share.Share.{Share}
-use Rattle.worker_cut.specs.Crossed.{is_own, leaves}
-use Rattle.worker_window.specs.Window.{GoesOut}
+use Rattle.worker_cut.specs.Crossed.{is_own, is_outgoing}
+use Rattle.worker_window.specs.Window.{IsOutgoing}
 use Rattle.window_run.specs.Shares.{ResidentGives}
-use Rattle.worker_window.specs.Leaving.{HasNumber, IsWakeOf, MoteReturns}
-use Rattle.worker_window.proofs.Parts.{inbox, inbox_is}
-use Rattle.worker_window.proofs.Left.{zip_length}
+use Rattle.worker_window.specs.Lending.{HasNumber, IsWakeOf, MoteReturns}
+use Rattle.worker_window.proofs.Parts.{window_copies, window_copies_are}
+use Rattle.worker_window.proofs.Lent.{zip_length}
 use Rattle.worker_window.proofs.Comings.{Coming, IsFitOwn, fits, go_out, one_back, all_back}
 use Rattle.worker_window.proofs.Starts.{starts, go_on}
 use Rattle.worker_window.proofs.Fits.{kept_of, called_here, in_net, all_fit, every_split}
 use Rattle.worker_window.proofs.share.Share.run_window.Goals as goal
 
-pub gather-requires : goal.gather-requires
-gather-requires g c =
+pub take_events_before-requires : goal.take_events_before-requires
+take_events_before-requires g c =
     let kept = c.requires.ready.keeps in record {
       items = kept.agenda.items ++ map Packet c.args.arrived.items;
       holds = subst (λ l. Holds c.put_copies.new.self.buckets (kept.agenda.items ++ map Packet l)) c.deref.ensures.value (c.in_ok-put_copies.ensures kept.agenda.items kept.agenda.holds);
     }
 
-pub leave-requires-clause-here : goal.leave-requires-clause-here
-leave-requires-clause-here g c =
+pub lend-requires-clause-here : goal.lend-requires-clause-here
+lend-requires-clause-here g c =
     let kept = c.requires.ready.keeps in
     let base = subst (λ l. Holds c.put_copies.new.self.buckets (kept.agenda.items ++ map Packet l)) c.deref.ensures.value (c.in_ok-put_copies.ensures kept.agenda.items kept.agenda.holds) in
-    called_here (net_of c.args.net.now) c.args.of.now c.args.self.now (kept_of c.requires.ready) c.args.arrived.items c.requires.to_own c.requires.of c.args.until c.in_ok-calls.calls.copies.items (c.in_ok-calls.ensures.gathered _ base)
+    called_here (net_of c.args.net.now) c.args.of.now c.args.self.now (kept_of c.requires.ready) c.args.arrived.items c.requires.to_own c.requires.of c.args.until c.in_ok-calls.calls.copies.items (c.in_ok-calls.ensures.taken _ base)
 
-pub leave-requires-clause-rising : goal.leave-requires-clause-rising
-leave-requires-clause-rising g c = λ k copies e.
+pub lend-requires-clause-rising : goal.lend-requires-clause-rising
+lend-requires-clause-rising g c = λ k copies e.
     let kept = c.requires.ready.keeps in
     let base = subst (λ l. Holds c.put_copies.new.self.buckets (kept.agenda.items ++ map Packet l)) c.deref.ensures.value (c.in_ok-put_copies.ensures kept.agenda.items kept.agenda.holds) in
-    ((c.in_ok-calls.ensures.gathered _ base).copies k copies e).rising
+    ((c.in_ok-calls.ensures.taken _ base).copies k copies e).rising
 
 pub run_share-requires-clause-there : goal.run_share-requires-clause-there
 run_share-requires-clause-there g c =
     let kept = c.requires.ready.keeps in
     let base = subst (λ l. Holds c.put_copies.new.self.buckets (kept.agenda.items ++ map Packet l)) c.deref.ensures.value (c.in_ok-put_copies.ensures kept.agenda.items kept.agenda.holds) in
-    in_net (net_of c.args.net.now) c.args.of.now c.args.self.now (kept_of c.requires.ready) c.args.arrived.items c.requires.to_own c.requires.of c.args.until c.in_ok-calls.calls.copies.items (c.in_ok-calls.ensures.gathered _ base)
-    c.leave.new.motes.items c.in_ok-residents.residents.items c.leave.new.wakes.items c.in_ok-residents.ensures c.requires.ready.order
+    in_net (net_of c.args.net.now) c.args.of.now c.args.self.now (kept_of c.requires.ready) c.args.arrived.items c.requires.to_own c.requires.of c.args.until c.in_ok-calls.calls.copies.items (c.in_ok-calls.ensures.taken _ base)
+    c.lend.new.motes.items c.in_ok-residents.residents.items c.lend.new.wakes.items c.in_ok-residents.ensures c.requires.ready.order
 
 pub run_share-requires-clause-go_on : goal.run_share-requires-clause-go_on
 run_share-requires-clause-go_on g c =
     let n = net_of c.args.net.now in
     let r = c.requires.ready in
     let at = subst (λ l. Holds c.put_copies.new.self.buckets (r.keeps.agenda.items ++ map Packet l)) c.deref.ensures.value (c.in_ok-put_copies.ensures r.keeps.agenda.items r.keeps.agenda.holds) in
-    let share : Share = record c.args.self.now { motes = c.leave.new.motes; agenda = c.gather.new.agenda; rooms = c.leave.new.rooms } in
+    let share : Share = record c.args.self.now { motes = c.lend.new.motes; agenda = c.take_events_before.new.agenda; rooms = c.lend.new.rooms } in
     go_on n c.args.of.now r.worker r.from c.args.until r.motes r.taken c.args.arrived.items c.args.self.now share r.keeps r.order r.come c.requires.of c.in_ok-calls.calls.copies.items
-    c.in_ok-residents.residents.items c.leave.new.wakes.items (c.in_ok-calls.ensures.gathered _ at) (c.in_ok-calls.ensures.rest _ at) c.in_ok-residents.ensures
+    c.in_ok-residents.residents.items c.lend.new.wakes.items (c.in_ok-calls.ensures.taken _ at) (c.in_ok-calls.ensures.rest _ at) c.in_ok-residents.ensures
 
 pub loop-out-init : goal.loop-out-init
 loop-out-init g c =
     let n = net_of c.args.net.now in
     let kept = c.requires.ready.keeps in
     let base = subst (λ l. Holds c.put_copies.new.self.buckets (kept.agenda.items ++ map Packet l)) c.deref.ensures.value (c.in_ok-put_copies.ensures kept.agenda.items kept.agenda.holds) in
-    let left = c.in_ok-residents.ensures in
-    let share : Share = record c.args.self.now { motes = c.leave.new.motes; agenda = c.gather.new.agenda; rooms = record c.leave.new.rooms { turns = c.run_share.new.room } } in
+    let lent = c.in_ok-residents.ensures in
+    let share : Share = record c.args.self.now { motes = c.lend.new.motes; agenda = c.take_events_before.new.agenda; rooms = record c.lend.new.rooms { turns = c.run_share.new.room } } in
     record {
-      motes = left.places ∙ kept.places;
+      motes = lent.places ∙ kept.places;
       traces = kept.traces_kept;
       worker = refl;
-      wakes = sym (zip_length (IsWakeOf c.args.until) _ _ left.told) ∙ zip_length (ResidentGives n c.args.until) _ _ c.in_ok-outs.ensures;
+      wakes = sym (zip_length (IsWakeOf c.args.until) _ _ lent.told) ∙ zip_length (ResidentGives n c.args.until) _ _ c.in_ok-outs.ensures;
       fits =
-          all_fit n c.args.of.now c.args.self.now (kept_of c.requires.ready) c.args.arrived.items c.requires.to_own c.requires.of c.args.until c.in_ok-calls.calls.copies.items (c.in_ok-calls.ensures.gathered _ base)
-          c.leave.new.motes.items c.in_ok-residents.residents.items c.leave.new.wakes.items left c.requires.ready.order c.in_ok-outs.outs.items c.in_ok-outs.ensures;
-      go_out = subst (AllByRecursion (GoesOut n c.args.of.now c.args.self.now.worker)) (sym c.new-away.ensures.items) tt;
+          all_fit n c.args.of.now c.args.self.now (kept_of c.requires.ready) c.args.arrived.items c.requires.to_own c.requires.of c.args.until c.in_ok-calls.calls.copies.items (c.in_ok-calls.ensures.taken _ base)
+          c.lend.new.motes.items c.in_ok-residents.residents.items c.lend.new.wakes.items lent c.requires.ready.order c.in_ok-outs.outs.items c.in_ok-outs.ensures;
+      go_out = subst (AllByRecursion (IsOutgoing n c.args.of.now c.args.self.now.worker)) (sym c.new-outgoing.ensures.items) tt;
       coming = λ worker from motes taken keeps le short come.
           let at = subst (λ l. Holds c.put_copies.new.self.buckets (keeps.agenda.items ++ map Packet l)) c.deref.ensures.value (c.in_ok-put_copies.ensures keeps.agenda.items keeps.agenda.holds) in
-          subst (λ l. Coming n c.args.of.now worker from c.args.until motes (taken ++ c.args.arrived.items) (inbox n c.args.of.now worker from c.args.until motes taken c.args.arrived.items c.args.self.now keeps le come) share c.in_ok-outs.outs.items c.leave.new.wakes.items l)
-          (sym c.new-away.ensures.items)
-          (starts n c.args.of.now worker from c.args.until motes taken c.args.arrived.items c.args.self.now share keeps le come c.requires.of c.in_ok-calls.calls.copies.items c.in_ok-residents.residents.items c.leave.new.wakes.items
-          (c.in_ok-calls.ensures.gathered _ at) (c.in_ok-calls.ensures.rest _ at) left c.in_ok-outs.outs.items c.in_ok-outs.ensures (refl, refl, refl));
+          subst (λ l. Coming n c.args.of.now worker from c.args.until motes (taken ++ c.args.arrived.items) (window_copies n c.args.of.now worker from c.args.until motes taken c.args.arrived.items c.args.self.now keeps le come) share c.in_ok-outs.outs.items c.lend.new.wakes.items l)
+          (sym c.new-outgoing.ensures.items)
+          (starts n c.args.of.now worker from c.args.until motes taken c.args.arrived.items c.args.self.now share keeps le come c.requires.of c.in_ok-calls.calls.copies.items c.in_ok-residents.residents.items c.lend.new.wakes.items
+          (c.in_ok-calls.ensures.taken _ at) (c.in_ok-calls.ensures.rest _ at) lent c.in_ok-outs.outs.items c.in_ok-outs.ensures (refl, refl, refl));
     }
 
 pub last_wake-pending-requires : goal.last_wake-pending-requires
@@ -119,8 +119,8 @@ loop-out-preserved g c =
     let split = every_split P c.pop.new.self.items out (subst (AllByRecursion P) c.in-Some.ensures.items inv.fits) in
     let fit = split.1 in
     let placed : length n.radio.places ≡ length n.motes = ap (λ (r : Radio). length r.places) (sym c.medium.ensures.value) ∙ c.medium.ensures.placed in
-    let returns : (k : ℕ) → HasNumber k out.mote → MoteReturns n.radio of k c.last_wake-pending.result out c.loop-out.self c.take_back.new.self c.loop-out.away.items c.take_back.new.away.items = λ k numbered.
-    subst (λ (r : Radio). MoteReturns r of k c.last_wake-pending.result out c.loop-out.self c.take_back.new.self c.loop-out.away.items c.take_back.new.away.items) c.medium.ensures.value (c.in_ok-take_back.ensures k numbered) in
+    let returns : (k : ℕ) → HasNumber k out.mote → MoteReturns n.radio of k c.last_wake-pending.result out c.loop-out.self c.take_back.new.self c.loop-out.outgoing.items c.take_back.new.outgoing.items = λ k numbered.
+    subst (λ (r : Radio). MoteReturns r of k c.last_wake-pending.result out c.loop-out.self c.take_back.new.self c.loop-out.outgoing.items c.take_back.new.outgoing.items) c.medium.ensures.value (c.in_ok-take_back.ensures k numbered) in
     let one = returns fit.number fit.numbered in
     record {
       motes = ap length one.motes ∙ (length-set c.loop-out.self.motes.items fit.number _ ∙ inv.motes);
@@ -133,12 +133,12 @@ loop-out-preserved g c =
           omega arith);
       fits = split.0;
       go_out =
-          subst (AllByRecursion (GoesOut n of self.worker)) (sym (one.away ∙ ap (λ w. c.loop-out.away.items ++ filter (leaves (is_own of w)) (flat_map (copies n.radio) out.sends.items)) inv.worker))
-          (every_append _ c.loop-out.away.items _ inv.go_out (go_out n of self.worker c.args.until out placed fit));
+          subst (AllByRecursion (IsOutgoing n of self.worker)) (sym (one.outgoing ∙ ap (λ w. c.loop-out.outgoing.items ++ filter (is_outgoing (is_own of w)) (flat_map (copies n.radio) out.sends.items)) inv.worker))
+          (every_append _ c.loop-out.outgoing.items _ inv.go_out (go_out n of self.worker c.args.until out placed fit));
       coming = λ worker from motes taken keeps le short come.
-          one_back n of worker from c.args.until motes (taken ++ c.args.arrived.items) (inbox n of worker from c.args.until motes taken c.args.arrived.items self keeps le come) placed short
+          one_back n of worker from c.args.until motes (taken ++ c.args.arrived.items) (window_copies n of worker from c.args.until motes taken c.args.arrived.items self keeps le come) placed short
           c.loop-out.self c.take_back.new.self c.loop-out.outs.items c.pop.new.self.items out c.in-Some.ensures.items
-          c.loop-out.wakes.items c.last_wake-pending.new.wakes.items c.last_wake-pending.result c.last_wake-pending.ensures c.loop-out.away.items c.take_back.new.away.items
+          c.loop-out.wakes.items c.last_wake-pending.new.wakes.items c.last_wake-pending.result c.last_wake-pending.ensures c.loop-out.outgoing.items c.take_back.new.outgoing.items
           (inv.coming worker from motes taken keeps le short come) returns;
     }
 
@@ -149,6 +149,6 @@ returns-clause-window g c = λ worker from motes taken keeps le short come.
     let self = c.args.self.now in
     let zero = zero_from _ (λ p. subst IsSome c.in_default.is (c.pop.ensures.variant.1 p)) in
     let none = nil_from_length c.loop-out.outs.items (omega (arith, zero, c.loop-out.outs.ok.0)) in
-    all_back n of worker from c.args.until motes (taken ++ c.args.arrived.items) (inbox n of worker from c.args.until motes taken c.args.arrived.items self keeps le come)
-    c.loop-out.self c.loop-out.outs.items c.loop-out.wakes.items c.loop-out.away.items none (c.loop-out.invariant.coming worker from motes taken keeps le short come)
-    (inbox_is n of worker from c.args.until motes taken c.args.arrived.items self keeps le come)
+    all_back n of worker from c.args.until motes (taken ++ c.args.arrived.items) (window_copies n of worker from c.args.until motes taken c.args.arrived.items self keeps le come)
+    c.loop-out.self c.loop-out.outs.items c.loop-out.wakes.items c.loop-out.outgoing.items none (c.loop-out.invariant.coming worker from motes taken keeps le short come)
+    (window_copies_are n of worker from c.args.until motes taken c.args.arrived.items self keeps le come)

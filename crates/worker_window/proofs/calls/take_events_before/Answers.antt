@@ -1,8 +1,8 @@
 use Rattle.std.proofs.Common.{◌<◌, sym, subst, arith}
 use Rattle.net_agenda.specs.Buckets.{Holds}
-use Rattle.worker_window.proofs.Gathers.{none_yet, one_bucket, bucket_later, least_over, empty_over, gathers, rest_is}
-use Rattle.worker_window.proofs.calls.gather.Goals as goal
-use Rattle.worker_window.proofs.calls.gather.Goals.{in-Some+then-moment-until, in_default}
+use Rattle.worker_window.proofs.TakesEvents.{none_yet, one_bucket, bucket_later, least_over, empty_over, takes_events, rest_is}
+use Rattle.worker_window.proofs.calls.take_events_before.Goals as goal
+use Rattle.worker_window.proofs.calls.take_events_before.Goals.{in-Some+then-moment-until, in_default}
 
 pub loop-moment-init : goal.loop-moment-init
 loop-moment-init c = λ items holds. none_yet c.args.until items c.new-calls.result.copies.items c.args.agenda.now.buckets holds c.new-calls.ensures
@@ -21,10 +21,10 @@ loop-moment-preserved c = λ items holds.
     one_bucket c.args.until items c.loop-moment.calls.copies.items c.add.new.self.copies.items c.loop-moment.agenda.buckets c.take_due_into.new.self.buckets part c.in-Some.moment c.in-Some.mote
     (c.in-Some.ensures.least part.rest part.holds) c.if-moment-until.false c.take_due_into.new.arrivals.items (c.in_ok-take_due_into.ensures.copies part.rest part.holds) (c.take_due_into.ensures.rest part.rest part.holds) (rw (sym c.deref.ensures.value) c.in_ok-add.ensures)
 
-pub returns-clause-gathered : goal.returns-clause-gathered
-returns-clause-gathered c = λ items holds.
+pub returns-clause-taken : goal.returns-clause-taken
+returns-clause-taken c = λ items holds.
     let part = c.loop-moment.invariant items holds in
-    gathers c.args.until items c.loop-moment.calls.copies.items c.loop-moment.agenda.buckets part
+    takes_events c.args.until items c.loop-moment.calls.copies.items c.loop-moment.agenda.buckets part
     (elim c.match-first.branch [
       | in-Some+then-moment-until w ↦ least_over c.args.until w.in-Some.moment w.in-Some.mote part.rest (w.in-Some.ensures.least part.rest part.holds) w.if-moment-until.true
       | in_default w ↦ empty_over c.args.until part.rest (w.in_default.ensures.least part.rest part.holds)

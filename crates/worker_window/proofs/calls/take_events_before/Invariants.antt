@@ -2,8 +2,8 @@ use Rattle.std.proofs.Common.{List}
 use Rattle.window_laws.specs.Agenda.{Item}
 use Rattle.net_agenda.specs.Buckets.{Holds, first_key}
 use Rattle.net_agenda.proofs.Ranks.{turns_left}
-use Rattle.worker_window.proofs.Gathers.{Part}
-use Rattle.worker_window.proofs.calls.gather.Given as goal
+use Rattle.worker_window.proofs.TakesEvents.{Part}
+use Rattle.worker_window.proofs.calls.take_events_before.Given as goal
 
 abbrev pub invariant-loop-moment : goal.invariant-loop-moment
 invariant-loop-moment l = (items : List Item) → Holds l.fn.agenda.buckets items → Part l.until items l.calls.copies.items l.agenda.buckets

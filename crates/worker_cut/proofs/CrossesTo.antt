@@ -13,7 +13,7 @@ use Rattle.window_laws.specs.Windows.{LoneMote, copies_by, is_from_sender, is_se
 use Rattle.window_laws.proofs.Lists.{filter_filter, filter_every, filter_none, filter_never, every_weaker}
 use Rattle.window_laws.proofs.Order.{in_order_same}
 use Rattle.worker_cut.specs.Crossed.{is_own, crossed}
-use Rattle.worker_cut.specs.Carried.{crosses_to, AreThoseTo}
+use Rattle.worker_cut.specs.CrossesTo.{crosses_to, AreThoseTo}
 
 module _ {X : Type 0} (first second : X → ℕ) where
   inserted : (x : X) (ys : List X) → IsPermutation (x ∷ ys) (insert_by first second x ys)
@@ -94,11 +94,11 @@ module _ {S L : Type 0} (system : System S L) (fine : RunsForward system) where
       of_one (inr e) = rw e (ap (λ l. l ++ flat_map system.copies (filter (is_sent_by s) xs)) (filter_none (is_from_sender s) (system.copies x) (every_weaker _ _ (λ c h. ap (λ k. eqb k s) h.sender ∙ e) (system.copies x) (fine.copies_later x))))
 
   -- what was gathered, sender by sender, is what crossed
-  pub carried : (of : List ℕ) (motes : ℕ → LoneMote S L) (v : ℕ) (gathered : List RadioCopy) (joined : List Sent)
+  pub crossed_once : (of : List ℕ) (motes : ℕ → LoneMote S L) (v : ℕ) (gathered : List RadioCopy) (joined : List Sent)
       → ((s : ℕ) → AllByRecursion (λ copy. copy.sender ≡ s) (copies_by system motes s)) → IsJoined system motes joined
       → ((s : ℕ) → filter (is_from_sender s) gathered ≡ crossed system of motes v s)
       → AreThoseTo system.copies of v (as_log joined) gathered
-  carried of motes v gathered joined senders is told =
+  crossed_once of motes v gathered joined senders is told =
       IsPermutation-trans _ _ _
       (IsPermutation-sym _ _ (sorted_passing system.copies (crosses_to of v) (λ sent. sent.at) (λ sent. sent.sender) joined))
       (same_by_sender _ gathered each)

@@ -1,4 +1,4 @@
--- Motes leave a share for a window, and come back.
+-- Motes are lent out of a share for a window, and come back.
 use Rattle.std.specs.Prelude.{ℕ, ◌≡◌, ◌<◌, ◌≤◌, ◌^◌, Bool, true, not, ◌&&◌, ◌==◌, if◌then◌else◌, List, []}
 use Rattle.std.specs.Prelude.{◌∷◌, ◌++◌, length, map, Option, Some, None, is_some, slice_index_or, slice_set, Vec}
 use Rattle.std.specs.List.{filter, flat_map, list_any, AllByRecursion, AllZip}
@@ -18,7 +18,7 @@ use Rattle.net_agenda.specs.Changes.{without_wakes}
 use Rattle.worker_window.specs.declared.share.Share.{Share}
 use Rattle.worker_window.specs.Calls.{CalledMotes, copies_for}
 use Rattle.worker_window.specs.Log.{packets_in, HaveFates}
-use Rattle.worker_cut.specs.Crossed.{is_own, leaves}
+use Rattle.worker_cut.specs.Crossed.{is_own, is_outgoing}
 use Rattle.window_run.specs.Window.{number_of}
 use Rattle.worker_window.specs.Share.{mote_here, wake_from}
 
@@ -41,8 +41,8 @@ pub record IsCalled (calls : CalledMotes) (motes : List (Option Mote)) (resident
 abbrev pub IsWakeOf : (until : ℕ) → Resident → (wake : Option ℕ) → Type 0
 IsWakeOf until resident wake = (tree : Tree) → wake ≡ wake_from until (wake_in (node_in tree resident.mote))
 
--- the motes that are called left, and these are the wakes that they tell
-pub record MotesLeave (until : ℕ) (calls : CalledMotes) (old new : List (Option Mote)) (residents : List Resident)
+-- the motes that are called are lent, and these are the wakes that they tell
+pub record MotesAreLent (until : ℕ) (calls : CalledMotes) (old new : List (Option Mote)) (residents : List Resident)
     (wakes : List (Option ℕ)) : Type 0 where
   pub different : are_different (numbers_of residents) ≡ true
   pub all : (k : ℕ) → is_one_of k (numbers_of residents) ≡ is_some (copies_for calls k)
@@ -79,4 +79,4 @@ pub record MoteReturns (radio : Radio) (of : List ℕ) (number : ℕ) (wake : Op
       ≡ wake_items number wake
       → Holds new.agenda.buckets ((without_wakes number items ++ wake_items number out.wake)
       ++ map Packet (filter (λ copy. is_own of old.worker copy.to) (flat_map (copies radio) out.sends.items)))
-  pub away : after ≡ before ++ filter (leaves (is_own of old.worker)) (flat_map (copies radio) out.sends.items)
+  pub outgoing : after ≡ before ++ filter (is_outgoing (is_own of old.worker)) (flat_map (copies radio) out.sends.items)

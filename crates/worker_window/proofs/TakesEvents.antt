@@ -1,4 +1,4 @@
--- What is gathered from an agenda, bucket by bucket.
+-- What is taken out of an agenda, bucket by bucket.
 use Rattle.std.proofs.Common.{◌≡◌, ℕ, ◌<◌, ◌≤◌, Bool, true, false, cond, not, ◌&&◌, ◌||◌, ltb, eqb, if◌then◌else◌, List, [], ◌∷◌, ◌++◌, map, refl, sym, ap, ◌∙◌, subst, inl, inr, arith, append_assoc, append-nil, Some, None, unwrap_or, is_some}
 use Rattle.std.specs.List.{filter, list_any, AllByRecursion}
 use Rattle.std.proofs.lemmas.Bool.{cases_Bool, cases_eq, eq-eqb, ne_eqb, eqb-true, and_parts}
@@ -14,14 +14,14 @@ use Rattle.window_laws.proofs.Ahead.{on_from}
 use Rattle.net_agenda.specs.Buckets.{Buckets, Holds, arrivals_at, first_key}
 use Rattle.net_agenda.proofs.Ranks.{turns_left, left_falls}
 use Rattle.net_agenda.specs.Items.{copy_at}
-use Rattle.worker_window.specs.Calls.{CalledMotes, copies_for, is_not_before, calls_for, Gathers}
+use Rattle.worker_window.specs.Calls.{CalledMotes, copies_for, is_not_before, calls_for, TakesEventsBefore}
 use Rattle.worker_window.proofs.Rises.{Rises, in_order_rises, rises_on, is_rising_from, copies_again, every_sorted}
 
--- the copies gathered for a mote
+-- the copies taken for a mote
 abbrev pub given : CalledMotes → ℕ → List RadioCopy
 given calls k = unwrap_or (copies_for calls k) []
 
--- some items were gathered, and the buckets hold the rest
+-- some items were taken, and the buckets hold the rest
 pub record Part (until : ℕ) (items : List Item) (calls : CalledMotes) (buckets : Buckets) : Type 0 where
   pub rest : List Item
   pub holds : Holds buckets rest
@@ -29,7 +29,7 @@ pub record Part (until : ℕ) (items : List Item) (calls : CalledMotes) (buckets
   pub called : (k : ℕ) → list_any (calls_for until k) items ≡ (is_some (copies_for calls k) || list_any (calls_for until k) rest)
   pub parts : (t k : ℕ) → in_order (packets (filter (comes_at t k) items)) ≡ filter (is_at t) (given calls k) ++ in_order (packets (filter (comes_at t k) rest))
   pub early : (k : ℕ) → AllByRecursion (λ c. c.at < until) (given calls k)
-  -- what is to come to a mote comes later than what was gathered for it
+  -- what is to come to a mote comes later than what was taken for it
   pub ahead : (k : ℕ) → AllByRecursion (λ item. mote_of item ≡ k → AllByRecursion (λ c. c.at < moment_of item) (given calls k)) rest
   pub rises : (k : ℕ) → Rises (given calls k)
 
@@ -125,7 +125,7 @@ module _ (until : ℕ) (items : List Item) (calls new : CalledMotes) (buckets af
   abbrev rest : List Item
   rest = filter (λ item. not (comes_at t m item)) part.rest
 
-  -- the copies that are gathered now
+  -- the copies that are taken now
   abbrev now : List RadioCopy
   now = in_order (packets (filter (comes_at t m) part.rest))
 
@@ -270,8 +270,8 @@ module _ (until : ℕ) (items : List Item) (calls : CalledMotes) (buckets : Buck
       not_soon : ltb t until ≡ false → until ≤ t
       not_soon e = grind (arith, nat_tests)
 
-  pub gathers : Gathers until items calls
-  gathers = record {
+  pub takes_events : TakesEventsBefore until items calls
+  takes_events = record {
     called = λ k.
         sym (part.called k
         ∙ (ap (λ b. is_some (copies_for calls k) || b) (any_none (calls_for until k) part.rest (every_weaker _ _ (λ item h. none_calls until (moment_of item) (mote_of item) k h) part.rest over))

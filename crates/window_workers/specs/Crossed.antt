@@ -6,7 +6,7 @@ use Rattle.radio_medium.specs.Medium.{copies}
 use Rattle.mote_net.specs.Net.{NetTold}
 use Rattle.copy_inbox.specs.Handles.{InboxId, TakerView}
 use Rattle.copy_exchange.specs.Takers.{taken_by, gathered_by}
-use Rattle.worker_cut.specs.Carried.{AreThoseTo}
+use Rattle.worker_cut.specs.CrossesTo.{AreThoseTo}
 use Rattle.net_report.specs.Report.{ReportTold}
 use Rattle.serial_run.specs.Counted.{is_by}
 
@@ -20,11 +20,11 @@ packets_told r = map (λ packet. packet.sent) r.log
 
 -- The senders of this worker's inbox were given the copies of these packets that go from a mote of another worker to
 -- one of this worker, each once and no others; and those that arrive at or before the end were taken.
-pub record HasCarried (n : NetTold) (of : List ℕ) (log : List Sent) (worker : ℕ) (taker : TakerView) : Type 0 where
+pub record CrossedTo (n : NetTold) (of : List ℕ) (log : List Sent) (worker : ℕ) (taker : TakerView) : Type 0 where
   pub gathered : AreThoseTo (copies n.radio) of worker log (gathered_by taker)
   pub taken : IsPermutation (filter (is_by n.end) (gathered_by taker)) (filter (is_by n.end) (taken_by taker))
 
--- the inboxes, in the order of the workers, carried the copies of the report's log
-abbrev pub AllCarried : NetTold → (of : List ℕ) → ReportTold → List Pair → Type 0
-AllCarried n of r pairs = (worker : ℕ) (pair : Pair) → slice_get pairs worker ≡ Some pair
-    → HasCarried n of (packets_told r) worker pair.1
+-- of the report's log, the copies for each worker crossed to it; the inboxes are in the order of the workers
+abbrev pub AllCrossed : NetTold → (of : List ℕ) → ReportTold → List Pair → Type 0
+AllCrossed n of r pairs = (worker : ℕ) (pair : Pair) → slice_get pairs worker ≡ Some pair
+    → CrossedTo n of (packets_told r) worker pair.1

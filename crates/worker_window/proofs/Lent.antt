@@ -1,4 +1,4 @@
--- Motes leave a share one after another.
+-- Motes are lent out of a share one after another.
 use Rattle.std.proofs.Common.{◌≡◌, ℕ, zero, suc, ◌<◌, Bool, true, false, cond, not, ◌||◌, eqb, List, [], ◌∷◌, ◌++◌, length, get_or, set, refl, sym, ap, ◌∙◌, subst, inl, inr, arith, Option, Some, None, is_some, get_or-set_same, get_or-set_other}
 use Rattle.std.specs.List.{AllByRecursion, AllZip}
 use Rattle.std.proofs.lemmas.Bool.{cases_Bool, cases_eq, eq-eqb, ne_eqb, eqb-true, false≢true, and_parts}
@@ -8,10 +8,10 @@ use Rattle.window_laws.proofs.Lists.{every_append}
 use Rattle.window_run.specs.declared.share.Resident.{Resident}
 use Rattle.worker_window.specs.Calls.{CalledMotes, copies_for}
 use Rattle.worker_window.specs.Share.{mote_here}
-use Rattle.worker_window.specs.Leaving.{is_one_of, are_different, numbers_of, IsCalled, IsWakeOf, MotesLeave}
+use Rattle.worker_window.specs.Lending.{is_one_of, are_different, numbers_of, IsCalled, IsWakeOf, MotesAreLent}
 
--- some of the motes that are called left, and the rest are still to leave
-pub record Left (until : ℕ) (calls rest : CalledMotes) (old now : List (Option Mote)) (residents : List Resident) (wakes : List (Option ℕ)) : Type 0 where
+-- some of the motes that are called are lent, and the rest are still to be
+pub record Lent (until : ℕ) (calls rest : CalledMotes) (old now : List (Option Mote)) (residents : List Resident) (wakes : List (Option ℕ)) : Type 0 where
   pub different : are_different (numbers_of residents) ≡ true
   pub others : (k : ℕ) → copies_for rest k ≡ cond (is_one_of k (numbers_of residents)) None (copies_for calls k)
   pub called : AllByRecursion (IsCalled calls old) residents
@@ -93,11 +93,11 @@ zip_more R [] (b ∷ ys) x y z r = absurd z
 zip_more R (a ∷ xs) [] x y z r = absurd z
 zip_more R (a ∷ xs) (b ∷ ys) x y z r = (z.0, zip_more R xs ys x y z.1 r)
 
-pub none_left : (until : ℕ) (calls rest : CalledMotes) (motes : List (Option Mote)) (residents : List Resident) (wakes : List (Option ℕ)) → residents ≡ [] → wakes ≡ []
-    → ((k : ℕ) → copies_for rest k ≡ copies_for calls k) → Left until calls rest motes motes residents wakes
-none_left until calls rest motes residents wakes e f same =
-    subst (λ ws. Left until calls rest motes motes residents ws) (sym f)
-    (subst (λ rs. Left until calls rest motes motes rs []) (sym e) (record {
+pub none_lent : (until : ℕ) (calls rest : CalledMotes) (motes : List (Option Mote)) (residents : List Resident) (wakes : List (Option ℕ)) → residents ≡ [] → wakes ≡ []
+    → ((k : ℕ) → copies_for rest k ≡ copies_for calls k) → Lent until calls rest motes motes residents wakes
+none_lent until calls rest motes residents wakes e f same =
+    subst (λ ws. Lent until calls rest motes motes residents ws) (sym f)
+    (subst (λ rs. Lent until calls rest motes motes rs []) (sym e) (record {
       different = refl;
       others = same;
       called = tt;
@@ -106,7 +106,7 @@ none_left until calls rest motes residents wakes e f same =
       told = tt;
     }))
 
-module _ (until : ℕ) (calls rest rest' : CalledMotes) (old now now' : List (Option Mote)) (residents residents' : List Resident) (wakes wakes' : List (Option ℕ)) (left : Left until calls rest old now residents wakes)
+module _ (until : ℕ) (calls rest rest' : CalledMotes) (old now now' : List (Option Mote)) (residents residents' : List Resident) (wakes wakes' : List (Option ℕ)) (lent : Lent until calls rest old now residents wakes)
     (r : Resident) (pushed : residents' ≡ residents ++ r ∷ []) (popped : copies_for rest r.number ≡ Some r.copies.items)
     (updated : (k : ℕ) → copies_for rest' k ≡ cond (eqb r.number k) None (copies_for rest k)) where
   abbrev ks : List ℕ
@@ -120,7 +120,7 @@ module _ (until : ℕ) (calls rest rest' : CalledMotes) (old now now' : List (Op
 
   pub new : is_one_of k ks ≡ false
   new = elim (cases_Bool (is_one_of k ks)) [
-    | inl e ↦ absurd (let h = rw e at (left.others k) in none_is_not r.copies.items (sym h ∙ popped))
+    | inl e ↦ absurd (let h = rw e at (lent.others k) in none_is_not r.copies.items (sym h ∙ popped))
     | inr e ↦ e
   ]
     where
@@ -128,10 +128,10 @@ module _ (until : ℕ) (calls rest rest' : CalledMotes) (old now now' : List (Op
       none_is_not x e = cc
 
   pub is_called : copies_for calls k ≡ Some r.copies.items
-  is_called = let h = rw new at (left.others k) in sym h ∙ popped
+  is_called = let h = rw new at (lent.others k) in sym h ∙ popped
 
   pub still_here : mote_here now k ≡ mote_here old k
-  still_here = let h = rw new at (left.gone k) in h
+  still_here = let h = rw new at (lent.gone k) in h
 
   among : (j : ℕ) → is_one_of j (numbers_of residents') ≡ (is_one_of j ks || eqb k j)
   among j = ap (is_one_of j) numbers ∙ among_more j ks k
@@ -143,7 +143,7 @@ module _ (until : ℕ) (calls rest rest' : CalledMotes) (old now now' : List (Op
   none_more false false x = refl
 
   others' : (j : ℕ) → copies_for rest' j ≡ cond (is_one_of j (numbers_of residents')) None (copies_for calls j)
-  others' j = updated j ∙ (ap (λ o. cond (eqb k j) None o) (left.others j) ∙ (none_more (is_one_of j ks) (eqb k j) (copies_for calls j) ∙ ap (λ b. cond b None (copies_for calls j)) (sym (among j))))
+  others' j = updated j ∙ (ap (λ o. cond (eqb k j) None o) (lent.others j) ∙ (none_more (is_one_of j ks) (eqb k j) (copies_for calls j) ∙ ap (λ b. cond b None (copies_for calls j)) (sym (among j))))
 
   module _ (mote : mote_here now k ≡ Some r.mote) (put : now' ≡ set now k None) (wake : Option ℕ) (told : IsWakeOf until r wake) (woken : wakes' ≡ wakes ++ wake ∷ []) where
     within : k < length now
@@ -156,7 +156,7 @@ module _ (until : ℕ) (calls rest rest' : CalledMotes) (old now now' : List (Op
           | inl e ↦ subst (λ i. get_or (set now k None) i None ≡ cond (is_one_of i (numbers_of residents')) None (mote_here old i)) (sym e)
               (get_or-set_same now k None None within ∙ sym (ap (λ b. cond b None (mote_here old k)) yes))
           | inr ne ↦ get_or-set_other now k j None None ne
-              ∙ (left.gone j ∙ ap (λ b. cond b None (mote_here old j)) (sym (no j ne)))
+              ∙ (lent.gone j ∙ ap (λ b. cond b None (mote_here old j)) (sym (no j ne)))
         ]
       where
         or_yes : (b : Bool) → (b || true) ≡ true
@@ -173,26 +173,26 @@ module _ (until : ℕ) (calls rest rest' : CalledMotes) (old now now' : List (Op
         no : (j : ℕ) → (j ≡ k → ⊥) → is_one_of j (numbers_of residents') ≡ is_one_of j ks
         no j ne = among j ∙ (ap (λ b. is_one_of j ks || b) (ne_eqb k j (λ f. ne (sym f))) ∙ or_none (is_one_of j ks))
 
-    pub one_left : Left until calls rest' old now' residents' wakes'
-    one_left = record {
-      different = ap are_different numbers ∙ different_more ks k left.different new;
+    pub one_lent : Lent until calls rest' old now' residents' wakes'
+    one_lent = record {
+      different = ap are_different numbers ∙ different_more ks k lent.different new;
       others = others';
-      called = subst (AllByRecursion (IsCalled calls old)) (sym pushed) (every_append _ residents (r ∷ []) left.called (record { mote = sym still_here ∙ mote; copies = is_called }, tt));
-      places = ap length put ∙ (length-set now k None ∙ left.places);
+      called = subst (AllByRecursion (IsCalled calls old)) (sym pushed) (every_append _ residents (r ∷ []) lent.called (record { mote = sym still_here ∙ mote; copies = is_called }, tt));
+      places = ap length put ∙ (length-set now k None ∙ lent.places);
       gone = gone';
       told = subst (λ rs. AllZip (IsWakeOf until) rs wakes') (sym pushed)
-          (subst (λ ws. AllZip (IsWakeOf until) (residents ++ r ∷ []) ws) (sym woken) (zip_more (IsWakeOf until) residents wakes r wake left.told told));
+          (subst (λ ws. AllZip (IsWakeOf until) (residents ++ r ∷ []) ws) (sym woken) (zip_more (IsWakeOf until) residents wakes r wake lent.told told));
     }
 
-pub all_left : (until : ℕ) (calls rest : CalledMotes) (old now : List (Option Mote)) (residents : List Resident) (wakes : List (Option ℕ)) → Left until calls rest old now residents wakes
-    → ((k : ℕ) → copies_for rest k ≡ None) → MotesLeave until calls old now residents wakes
-all_left until calls rest old now residents wakes left none = record {
-  different = left.different;
+pub all_lent : (until : ℕ) (calls rest : CalledMotes) (old now : List (Option Mote)) (residents : List Resident) (wakes : List (Option ℕ)) → Lent until calls rest old now residents wakes
+    → ((k : ℕ) → copies_for rest k ≡ None) → MotesAreLent until calls old now residents wakes
+all_lent until calls rest old now residents wakes lent none = record {
+  different = lent.different;
   all = λ k. each k (is_one_of k (numbers_of residents)) refl;
-  called = left.called;
-  places = left.places;
-  gone = left.gone;
-  told = left.told;
+  called = lent.called;
+  places = lent.places;
+  gone = lent.gone;
+  told = lent.told;
 }
   where
     called_one : (k : ℕ) (rs : List Resident) → AllByRecursion (IsCalled calls old) rs → is_one_of k (numbers_of rs) ≡ true → is_some (copies_for calls k) ≡ true
@@ -204,5 +204,5 @@ all_left until calls rest old now residents wakes left none = record {
         ]
 
     each : (k : ℕ) (b : Bool) → is_one_of k (numbers_of residents) ≡ b → is_one_of k (numbers_of residents) ≡ is_some (copies_for calls k)
-    each k true e = e ∙ sym (called_one k residents left.called e)
-    each k false e = let h = rw e at (left.others k) in e ∙ ap is_some (sym (none k) ∙ h)
+    each k true e = e ∙ sym (called_one k residents lent.called e)
+    each k false e = let h = rw e at (lent.others k) in e ∙ ap is_some (sym (none k) ∙ h)

@@ -1,0 +1,5 @@
+use Rattle.worker_cut.proofs.Crossed.{given_is}
+use Rattle.worker_cut.proofs.laws.window_copies_are_whole.Goals as goal
+
+pub returns : goal.returns
+returns g c = λ system of motes gathered taken v k from bound h told whole given is. given_is system of motes gathered taken v k from bound h told whole given is

@@ -1,9 +1,0 @@
-use Rattle.std.proofs.Common.{length}
-use Rattle.worker_window.proofs.Left.{Left}
-use Rattle.worker_window.proofs.window.leave.Given as goal
-
-abbrev pub invariant-loop-number : goal.invariant-loop-number
-invariant-loop-number l = Left l.until l.fn.calls.copies.items l.calls.copies.items l.fn.motes.items l.motes.items l.residents.items l.wakes.items
-
-abbrev pub decreases-loop-number : goal.decreases-loop-number
-decreases-loop-number l = length l.calls.copies.items
