@@ -5,7 +5,7 @@ ghost use Rattle.std.specs.List.{AllByRecursion as Each};
 ghost use Rattle.copy_exchange.specs.Endpoints.{HasMarks, IsOnInboxes, Reaches};
 ghost use Rattle.mark_exchange.specs.Delivers.{PushesWindow};
 ghost use Rattle.mark_exchange.specs.declared.take.MarkError.TheVariants.{Undue};
-ghost use Rattle.mark_exchange.specs.Due.{TakesDue, TakesUndue};
+ghost use Rattle.mark_exchange.specs.Due.{TakesDue, TakesUndue, position_of};
 ghost use Rattle.mark_exchange.specs.Marks.{Counts, AllPast};
 
 use crate::heard::no_marks;
@@ -84,15 +84,15 @@ impl MarkEndpoint {
     ) -> Result<Vec<RadioCopy>, MarkError>
         requires inbox { self.old.base.taker.inbox ≡ inbox.now }
         requires counts { Counts self.old.marks.items self.old.base.taker.state }
-        ensures took { IfOk result (λ copies. TakesDue standing.now.of.now standing.now.worker standing.now.from
-            self.old.base.taker self.new.base.taker copies.items) }
+        ensures took { IfOk result
+            (λ copies. TakesDue (position_of standing.now) self.old.base.taker self.new.base.taker copies.items) }
         ensures counts { OnOk result (Counts self.new.marks.items self.new.base.taker.state) }
         ensures marked { OnOk result (AllPast window self.new.marks.items) }
         ensures worker { self.new.base.worker ≡ self.old.base.worker }
         ensures senders { self.new.base.senders ≡ self.old.base.senders }
         ensures undue { IfErr result
-            (λ error. error ≡ Undue → TakesUndue standing.now.of.now standing.now.worker standing.now.from
-            self.old.base.taker self.new.base.taker) }
+            (λ error. error ≡ Undue → TakesUndue (position_of standing.now) self.old.base.taker
+            self.new.base.taker) }
     {
         let MarkEndpoint {
             base,

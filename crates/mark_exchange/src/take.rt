@@ -3,9 +3,8 @@
 ghost use Rattle.std.specs.Prelude.{◌≡◌, ◌↔◌, IfOk, IfErr, OnOk, OnErr, IsTrue};
 ghost use Rattle.copy_inbox.specs.declared.rule.TakerState.{TakerState};
 ghost use Rattle.copy_inbox.specs.Handles.{IsNextTaken, state_with};
-ghost use Rattle.worker_cut.specs.Crossed.{IsDue};
 ghost use Rattle.mark_exchange.specs.declared.take.MarkError.TheVariants.{Stopped, Undue};
-ghost use Rattle.mark_exchange.specs.Due.{AddsCopy, Refuses, TakesDue, TakesUndue};
+ghost use Rattle.mark_exchange.specs.Due.{AddsCopy, IsDueAt, Refuses, TakesDue, TakesUndue, position_of};
 ghost use Rattle.mark_exchange.specs.Marks.{Counts, AllPast};
 
 use crate::heard::all_past;
@@ -60,7 +59,7 @@ pub struct Standing<'a> {
 
 /// Whether the copy is for a mote of the worker, from a mote of another, and comes no sooner than it stands.
 fn is_due(standing: &Standing<'_>, copy: RadioCopy) -> bool
-    ensures { IsTrue result ↔ IsDue standing.now.of.now standing.now.worker standing.now.from copy }
+    ensures { IsTrue result ↔ IsDueAt (position_of standing.now) copy }
 {
     if !is_own(standing.of, standing.worker, copy.to) {
         return false;
@@ -83,8 +82,8 @@ fn hear(
         ((d : TakerState) → Counts marks.old.items d → IsNextTaken d item
         → Counts marks.new.items (state_with d item)) }
     ensures arrived { OnOk result
-        (AddsCopy standing.now.of.now standing.now.worker standing.now.from item arrived.old.items arrived.new.items) }
-    ensures refused { IfErr result (Refuses standing.now.of.now standing.now.worker standing.now.from item) }
+        (AddsCopy (position_of standing.now) item arrived.old.items arrived.new.items) }
+    ensures refused { IfErr result (Refuses (position_of standing.now) item) }
 {
     match item.what {
         Carried::Packet(copy) => {
@@ -112,14 +111,13 @@ fn take_waiting<R: Wait>(
 ) -> Result<Vec<RadioCopy>, MarkError>
     requires inbox { taker.old.inbox ≡ inbox.now }
     requires counts { Counts marks.old.items taker.old.state }
-    ensures took { IfOk result (λ copies. TakesDue standing.now.of.now standing.now.worker standing.now.from taker.old
-        taker.new copies.items) }
+    ensures took { IfOk result
+        (λ copies. TakesDue (position_of standing.now) taker.old taker.new copies.items) }
     ensures counts { OnOk result (Counts marks.new.items taker.new.state) }
     ensures marked { OnOk result (AllPast window marks.new.items) }
     ensures stopped { IfErr result (λ error. error ≡ Stopped → IsTrue waiting.new.stopped) }
     ensures undue { IfErr result
-        (λ error. error ≡ Undue → TakesUndue standing.now.of.now standing.now.worker standing.now.from taker.old
-        taker.new) }
+        (λ error. error ≡ Undue → TakesUndue (position_of standing.now) taker.old taker.new) }
 {
     let mut arrived = Vec::new(alloc);
     for _ in rt.forever() {
@@ -151,13 +149,12 @@ pub fn take_marks<R: Wait>(
 ) -> Result<Vec<RadioCopy>, MarkError>
     requires inbox { taker.old.inbox ≡ inbox.now }
     requires counts { Counts marks.old.items taker.old.state }
-    ensures took { IfOk result (λ copies. TakesDue standing.now.of.now standing.now.worker standing.now.from taker.old
-        taker.new copies.items) }
+    ensures took { IfOk result
+        (λ copies. TakesDue (position_of standing.now) taker.old taker.new copies.items) }
     ensures counts { OnOk result (Counts marks.new.items taker.new.state) }
     ensures marked { OnOk result (AllPast window marks.new.items) }
     ensures undue { IfErr result
-        (λ error. error ≡ Undue → TakesUndue standing.now.of.now standing.now.worker standing.now.from taker.old
-        taker.new) }
+        (λ error. error ≡ Undue → TakesUndue (position_of standing.now) taker.old taker.new) }
 {
     waiting.begin();
     take_waiting(
