@@ -208,7 +208,6 @@ fn put_recv(page: &mut Page, at: u64, from: u16, number: u64, value: u16) -> Res
 }
 
 /// Puts a line of the trace of a mote with this program.
-#[inline(always)]
 pub fn put_trace_line(page: &mut Page, program: &Program, line: &Line) -> Result<(), AllocError>
     ensures { OnOk result (page.new ≡ page.old ++ line_text (tree_of program.now) line.now) }
 {
