@@ -72,8 +72,8 @@ module _ (n : NetTold) (fine : RunsForward (system_of n)) (of : List ℕ) (width
     own_runs v lv m mine =
         let ran = ((all.ran v lv).runs k low).runs m mine in
         record {
-          inbox = ran.given;
-          is_inbox = λ t s. ran.is_given t s ∙ ap (filter (is_at t)) (same_known v lv m s);
+          given = ran.given;
+          is_given = λ t s. ran.is_given t s ∙ ap (filter (is_at t)) (same_known v lv m s);
           alone = subst (λ x. Alone (system_of n) m until ran.given x ((all.histories v).motes (suc k) m)) (own_stage v lv k m mine) ran.alone;
         }
 
