@@ -69,7 +69,7 @@ impl Machine {
         self.walk_polls(program, members.as_slice())
     }
 
-    /// Calls each of these incarnations whose mark is set at its turn.
+    /// Calls each of these incarnations whose mark is set at its turn. It ends as soon as no mark is left.
     #[inline(always)]
     fn walk_polls(&mut self, program: &Program, members: &[Member]) -> Result<(), Stop>
         requires { HasRoom 0 self.old }
@@ -77,6 +77,9 @@ impl Machine {
     {
         for member in members {
             self.poll_in_turn(program, *member)?;
+            if self.marked == 0 {
+                return Ok(());
+            }
         }
         Ok(())
     }

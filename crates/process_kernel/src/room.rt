@@ -104,6 +104,7 @@ impl Machine {
             started: 0,
             is_numbered: false,
             flag: false,
+            marked: 0,
             sent: 0,
             fuel: Fuel::new(0),
             out: Out::new(alloc),
@@ -125,6 +126,7 @@ impl Machine {
     {
         let places = usize::from(program.processes()) + 3;
         self.marks = vec![in alloc; false; places]?;
+        self.marked = 0;
         self.members = Vec::with_capacity(alloc, places)?;
         self.threads = fresh_bodies(alloc, program)?;
         self.variables = first_variables(alloc, program)?;
