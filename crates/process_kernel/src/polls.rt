@@ -76,10 +76,10 @@ impl Machine {
         ensures { Follows program.now self.old result self.new (λ calls. walk_polls calls members.now) }
     {
         for member in members {
-            self.poll_in_turn(program, *member)?;
             if self.marked == 0 {
                 return Ok(());
             }
+            self.poll_in_turn(program, *member)?;
         }
         Ok(())
     }
