@@ -155,7 +155,7 @@ impl Machine {
         }
     }
 
-    #[tactic(auto, unfolding(crate::specs::Processes::with_mark), using(crate::proofs::Counted::counted_set))]
+    #[tactic(auto, unfolding(crate::specs::Processes::with_mark))]
     pub fn set_mark(&mut self, process: Proc, mark: bool)
         ensures exact { (t : Tree) → state_of t self.new ≡ with_mark (state_of t self.old) process mark }
         ensures kept { KeepsCounts self.old self.new }
