@@ -50,7 +50,8 @@ impl<T: Drop> From<AllocFailed<T>> for Stop {
 /// The kernel of a mote. The tables have the system processes first, then those of the program in their order; threads
 /// and variables are those of the program's processes alone. While a body runs, a fresh one stands in its place.
 /// Whether the incarnations on the process list are known to have the numbers from 0 on is kept, so that they aren't
-/// numbered anew for nothing; and so is how many are marked. What a run touches stands together, so that it takes few cache lines.
+/// numbered anew for nothing; and so is how many are marked. What a run touches stands together, so that it takes few
+/// cache lines.
 #[derive(Drop)]
 pub struct Machine {
     pub(crate) shown: Shown,
