@@ -1,4 +1,5 @@
 pub mod Absent
+pub mod Counted
 pub mod Depth
 pub mod First
 pub mod Given
