@@ -1,5 +1,4 @@
 pub mod Absent
-pub mod Counted
 pub mod Depth
 pub mod First
 pub mod Given

@@ -9,10 +9,7 @@ use Rattle.process_kernel.specs.declared.process.Member.{Member}
 use Rattle.process_kernel.specs.State.{State, Goes, ◌>>=◌}
 use Rattle.process_kernel.specs.Processes.{flag_at, is_on_list, with_mark}
 use Rattle.process_kernel.specs.Calls.{Calls, told}
-use Rattle.process_kernel.specs.Marks.{marked_in}
-use Rattle.process_kernel.specs.Members.{place_of}
 use Rattle.process_kernel.specs.Polls.{poll_turn_of, walk_polls}
-use Rattle.process_kernel.proofs.Counted.{none_set}
 
 and_false : (b : Bool) → (b && false) ≡ false
 and_false true = refl
@@ -63,9 +60,3 @@ module _ (calls : Calls) (s : State) where
       cond_both (nat_lt (position_or_len marked ms) (length ms)) (Some (position_or_len marked ms)) None
       (λ (o : Option ℕ). o ≡ None → walk_polls calls ms s ≡ Goes tt s)
       (λ _ here. cc) (λ past _. skips ms ∙ ap (λ l. walk_polls calls l s) (none_behind ms _ (ltb-false _ _ past))) is
-
-  -- where no mark is left, nothing more is done
-  pub ends : (ms : List Member) → marked_in s.marks ≡ 0 → walk_polls calls ms s ≡ Goes tt s
-  ends [] none = refl
-  ends (m ∷ ms) none =
-      ap (λ o. o >>= λ _ s1. walk_polls calls ms s1) (passes m (none_set s.marks (place_of m.process) none)) ∙ ends ms none

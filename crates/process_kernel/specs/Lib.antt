@@ -12,7 +12,6 @@ pub mod Heard
 pub mod Kill
 pub mod Laws
 pub mod Looks
-pub mod Marks
 pub mod Members
 pub mod Mote
 pub mod Operation

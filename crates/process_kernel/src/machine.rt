@@ -2,7 +2,6 @@
 
 ghost use Rattle.std.specs.Prelude.{◌≡◌, ◌≤◌, ◌^◌, true, length};
 ghost use Rattle.process_kernel.specs.Members.{AreMembers};
-ghost use Rattle.process_kernel.specs.Marks.{marked_in};
 ghost use Rattle.process_kernel.specs.ProcessList.{numbered_from};
 ghost use Rattle.std.proofs.Props.{props};
 
@@ -50,8 +49,7 @@ impl<T: Drop> From<AllocFailed<T>> for Stop {
 /// The kernel of a mote. The tables have the system processes first, then those of the program in their order; threads
 /// and variables are those of the program's processes alone. While a body runs, a fresh one stands in its place.
 /// Whether the incarnations on the process list are known to have the numbers from 0 on is kept, so that they aren't
-/// numbered anew for nothing; and so is how many are marked. What a run touches stands together, so that it takes few
-/// cache lines.
+/// numbered anew for nothing. What a run touches stands together, so that it takes few cache lines.
 #[derive(Drop)]
 pub struct Machine {
     pub(crate) shown: Shown,
@@ -59,7 +57,6 @@ pub struct Machine {
     pub(crate) started: u32,
     pub(crate) is_numbered: bool,
     pub(crate) flag: bool,
-    pub(crate) marked: usize,
     pub(crate) fuel: Fuel,
     pub(crate) marks: Vec<bool>,
     pub(crate) threads: Vec<Thread>,
@@ -71,7 +68,6 @@ pub struct Machine {
     pub(crate) callbacks: Callbacks,
     pub(crate) exiting: Vec<bool>,
     ghost numbered: { is_numbered ≡ true → members.items ≡ numbered_from 0 members.items } by { Prim.hlevel props },
-    ghost counted: { marked ≡ marked_in marks.items },
     ghost few_processes: { length shown.states.items ≤ 67 },
     ghost few_members: { length members.items ≤ 67 },
     ghost are_members: { AreMembers members.items (length shown.states.items) },

@@ -69,16 +69,13 @@ impl Machine {
         self.walk_polls(program, members.as_slice())
     }
 
-    /// Calls each of these incarnations whose mark is set at its turn. It ends as soon as no mark is left.
+    /// Calls each of these incarnations whose mark is set at its turn.
     #[inline(always)]
     fn walk_polls(&mut self, program: &Program, members: &[Member]) -> Result<(), Stop>
         requires { HasRoom 0 self.old }
         ensures { Follows program.now self.old result self.new (λ calls. walk_polls calls members.now) }
     {
         for member in members {
-            if self.marked == 0 {
-                return Ok(());
-            }
             self.poll_in_turn(program, *member)?;
         }
         Ok(())

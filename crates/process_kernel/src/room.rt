@@ -104,7 +104,6 @@ impl Machine {
             started: 0,
             is_numbered: false,
             flag: false,
-            marked: 0,
             sent: 0,
             fuel: Fuel::new(0),
             out: Out::new(alloc),
@@ -113,7 +112,6 @@ impl Machine {
 
     /// Makes the tables of the processes, none of which is listed, and room for a list of all of them. What a run
     /// touches is made one after another, right after the timers and the states, so that it lies close together.
-    #[tactic(auto, using(crate::proofs::Counted::none_counted))]
     fn make_tables(&mut self, alloc: Global, program: &Program) -> Result<(), AllocError>
         ensures { let t = tree_of program.now in let n = length t.processes + 3 in
             OnOk result (state_of t self.new
@@ -127,7 +125,6 @@ impl Machine {
     {
         let places = usize::from(program.processes()) + 3;
         self.marks = vec![in alloc; false; places]?;
-        self.marked = 0;
         self.members = Vec::with_capacity(alloc, places)?;
         self.threads = fresh_bodies(alloc, program)?;
         self.variables = first_variables(alloc, program)?;

@@ -164,8 +164,6 @@ impl Machine {
     {
         let place = place_of(process);
         if place < self.marks.len() {
-            let others = self.marked - usize::from(self.is_marked(process));
-            self.marked = others + usize::from(mark);
             self.marks[place] = mark;
         }
     }
