@@ -51,6 +51,13 @@ def told_of(name: str, said: str) -> Told:
     return Told(max(0, int(ran) - failed - skipped), failed, skipped, ''.join(lines))
 
 
+def heed_signals() -> None:
+    """Has the tests heed the signals that a shell has its background jobs ignore, since some test what these do."""
+    for one in signal.SIGHUP, signal.SIGINT, signal.SIGQUIT:
+        if signal.getsignal(one) == signal.SIG_IGN:
+            signal.signal(one, signal.default_int_handler if one == signal.SIGINT else signal.SIG_DFL)
+
+
 def run_file(path: Path) -> Told:
     words = [sys.executable, '-B', '-m', 'unittest', '-v', path.stem]
     with subprocess.Popen(words, cwd=TESTS, stdin=subprocess.DEVNULL, stdout=subprocess.PIPE, stderr=subprocess.STDOUT,
@@ -78,6 +85,7 @@ def files_of(names: Sequence[str]) -> list[Path]:
 @command('test_tools')
 def main() -> int:
     words = words_of(__doc__)
+    heed_signals()
     words.add_argument('names', nargs='*', metavar='NAME', help='a file of tools/tests, or a part of its name')
     with ThreadPoolExecutor(os.cpu_count()) as pool:
         told = list(pool.map(run_file, files_of(words.parse_args().names)))
