@@ -75,8 +75,8 @@ module _ (n : NetTold) (fine : RunsForward (system_of n)) (of : List ℕ) (worke
           let mine = own_by of v k e in
           let ran = runs v h k mine in
           record {
-            inbox = ran.given;
-            is_inbox = given_is (system_of n) of motes (gathered v) (taken v) v k from until mine (told v h) (took v h) ran.given ran.is_given;
+            given = ran.given;
+            is_given = given_is (system_of n) of motes (gathered v) (taken v) v k from until mine (told v h) (took v h) ran.given ran.is_given;
             alone = subst (λ m. Alone (system_of n) k until ran.given (motes k) m) (next_is v k mine) ran.alone;
           }
 

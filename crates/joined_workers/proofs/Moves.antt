@@ -11,7 +11,7 @@ use Rattle.copy_inbox.specs.Items.{copies_of}
 use Rattle.worker_window.specs.declared.share.Share.{Share}
 use Rattle.worker_window.specs.Share.{Keeps}
 use Rattle.worker_window.specs.Window.{RunsWindow}
-use Rattle.worker_cut.specs.Crossed.{IsDue}
+use Rattle.worker_cut.specs.Crossed.{IsExpected}
 use Rattle.all_workers.specs.declared.workers.Workers.{Workers}
 use Rattle.all_workers.specs.declared.worker.Worker.{Worker}
 use Rattle.all_workers.specs.Workers.{IsAt, IsWorkerAt}
@@ -69,7 +69,7 @@ module _ (n : NetTold) (of : List ℕ) (from until : ℕ) (old new : Workers) (a
     taken_same : taken_by p.endpoint.taker ≡ taken_by p.taker
     taken_same = ap copies_of p.starts.same_taken
 
-    pub comes : Each (IsDue of v from) p.ran.arrived
+    pub comes : Each (IsExpected of v from) p.ran.arrived
     comes = arrived_come n of from at.motes old.first_out v p.share p.taker p.here at.first p.endpoint p.starts p.ran.between p.ran.arrived p.ran.collects
 
     pub window : RunsWindow n of v from until at.motes (taken_by p.done.endpoint.taker) p.done.share p.ran.outgoing
@@ -78,4 +78,4 @@ module _ (n : NetTold) (of : List ℕ) (from until : ℕ) (old new : Workers) (a
         (p.ran.runs from at.motes
         (subst (λ w. Keeps n of w from at.motes (taken_by p.endpoint.taker) p.share) (sym p.number) (subst (λ t. Keeps n of v from at.motes t p.share) (sym taken_same) p.here.keeps))
         up short
-        (subst (λ w. Each (IsDue of w from) p.ran.arrived) (sym p.number) comes))
+        (subst (λ w. Each (IsExpected of w from) p.ran.arrived) (sym p.number) comes))

@@ -15,7 +15,7 @@ use Rattle.copy_exchange.specs.Takers.{copies_gathered, taken_by, gathered_by}
 use Rattle.copy_exchange.specs.Inboxes.{IsPlain}
 use Rattle.worker_window.specs.declared.share.Share.{Share}
 use Rattle.worker_window.specs.Share.{Motes}
-use Rattle.worker_cut.specs.Crossed.{is_own, IsDue}
+use Rattle.worker_cut.specs.Crossed.{is_own, IsExpected}
 use Rattle.all_workers.specs.declared.workers.Workers.{Workers}
 use Rattle.all_workers.specs.Workers.{IsAt, IsWorkerAt}
 use Rattle.all_workers.specs.Worker.{make_worker}
@@ -58,7 +58,7 @@ module _ (n : NetTold) (of : List ℕ) (from : ℕ) (motes : Motes) (first : Opt
   all_later : Each (λ (c : RadioCopy). from ≤ c.at) arrived
   all_later = every_of_each (λ (c : RadioCopy). from ≤ c.at) arrived (λ s. subst (Each (λ (c : RadioCopy). from ≤ c.at)) (sym (waited s)) (every_weaker _ _ (λ c g. not_before from first c first_from g) _ (here.waits s).later))
 
-  pub arrived_come : Each (IsDue of v from) arrived
+  pub arrived_come : Each (IsExpected of v from) arrived
   arrived_come = every_weaker _ _ (λ c g. record { to = g.0.0; sender = g.0.1; later = g.1 }) _ (every_both (λ (c : RadioCopy). (is_own of v c.to ≡ true) × (is_own of v c.sender ≡ false)) (λ (c : RadioCopy). from ≤ c.at) arrived all_foreign all_later)
 
 module _ (n : NetTold) (of : List ℕ) (from until : ℕ) (old : Workers) (at : IsAt n of from old) (up : from ≤ until) (early : until ≤ 2 ^ 40) (plain : Each IsPlain old.takers.items)

@@ -10,7 +10,7 @@ use Rattle.copy_exchange.specs.declared.endpoint.Endpoint.{Endpoint}
 use Rattle.copy_exchange.specs.Endpoints.{IsEndpoint, Collects, Delivers}
 use Rattle.copy_exchange.specs.Takers.{taken_by, gathered_by}
 use Rattle.copy_exchange.specs.Inboxes.{IsPlain}
-use Rattle.worker_cut.specs.Crossed.{is_own, IsDue}
+use Rattle.worker_cut.specs.Crossed.{is_own, IsExpected}
 use Rattle.worker_window.specs.Share.{Motes, Keeps}
 use Rattle.worker_window.specs.Window.{CanRun, RunsWindow, IsOutgoing}
 use Rattle.all_workers.specs.Workers.{IsCut, IsNotBefore}
@@ -34,14 +34,14 @@ pub record IsFirstOf (copies : List RadioCopy) (first : Option ℕ) : Type 0 whe
   pub none_before : Each (IsNotBefore first) copies
   pub greatest : (moment : ℕ) → Each (λ (copy : RadioCopy). moment ≤ copy.at) copies → WakesFrom moment first
 
--- Wherever the share stood, where its window is no longer than the lookahead and each copy that arrived is due: the new
--- share is what the window makes of it, on all that the worker has then taken, and these are the outgoing copies.
+-- Wherever the share stood, where its window is no longer than the lookahead and each copy that arrived is expected: the
+-- new share is what the window makes of it, on all that the worker has then taken, and these are the outgoing copies.
 abbrev pub RunsItsMotes : NetTold → (of : List ℕ) → (until : ℕ) → (arrived outgoing : List RadioCopy)
     → (old new : Worker) → Type 0
 RunsItsMotes n of until arrived outgoing old new = (from : ℕ) (motes : Motes)
     → Keeps n of old.endpoint.worker from motes (taken_by old.endpoint.taker) old.share
     → from ≤ until → until ≤ from + (system_of n).lookahead
-    → Each (IsDue of old.endpoint.worker from) arrived
+    → Each (IsExpected of old.endpoint.worker from) arrived
     → RunsWindow n of old.endpoint.worker from until motes (taken_by new.endpoint.taker) new.share outgoing
 
 -- The worker took in what was sent to it, ran its motes, and delivered the outgoing copies.

@@ -13,7 +13,7 @@ use Rattle.copy_inbox.specs.Handles.{TakerView, after_taking, IsNextTaken, state
 use Rattle.copy_inbox.proofs.Parts.{part-append, part-here, part-else}
 use Rattle.copy_exchange.proofs.Lists.{each_join}
 use Rattle.copy_exchange.proofs.Parts.{copies-append}
-use Rattle.mark_exchange.specs.Due.{Position, IsDueAt, IsUndue, AddsCopy, TakesDue, TakesUndue}
+use Rattle.mark_exchange.specs.Expected.{Position, IsExpectedAt, IsUnexpected, AddsCopy, TakesExpected, TakesUnexpected}
 use Rattle.mark_exchange.specs.Marks.{marks_of, Counts, AreNone}
 use Rattle.mark_exchange.specs.Pushes.{marks_in}
 use Rattle.mark_exchange.proofs.Whole.{marks_append}
@@ -73,19 +73,19 @@ counts_mark marks d x n m c next is at =
 
 -- ---- what was taken so far, with one item more
 module _ (p : Position) where
-  pub takes_none : (t : TakerView) → TakesDue p t t []
+  pub takes_none : (t : TakerView) → TakesExpected p t t []
   takes_none t = record {
     items = [];
     made = tt;
     taker = λ i. record { inbox = t.inbox; state = record { marked = t.state.marked; made = t.state.made; taken = sym (append-nil t.state.taken) i; gathered = t.state.gathered } };
     arrived = refl;
-    due = tt;
+    expected = tt;
   }
 
-  pub takes_more : (old mid new : TakerView) (x : Item) (copies more : List RadioCopy) → TakesDue p old mid copies → x.sender < mid.state.made → new ≡ after_taking mid (x ∷ []) → AddsCopy p x copies more
-      → TakesDue p old new more
+  pub takes_more : (old mid new : TakerView) (x : Item) (copies more : List RadioCopy) → TakesExpected p old mid copies → x.sender < mid.state.made → new ≡ after_taking mid (x ∷ []) → AddsCopy p x copies more
+      → TakesExpected p old new more
   takes_more old mid new x copies more h lt e a =
-      let P : List RadioCopy → Type 0 = λ l. Each (IsDueAt p) l in
+      let P : List RadioCopy → Type 0 = λ l. Each (IsExpectedAt p) l in
       let same : mid.state.made ≡ old.state.made = ap (λ (t : TakerView). t.state.made) h.taker in
       let Q : ℕ → Type 0 = λ made. x.sender < made in
       record {
@@ -94,7 +94,7 @@ module _ (p : Position) where
         taker = e ∙ (ap (λ t. after_taking t (x ∷ [])) h.taker
             ∙ (λ i. record { inbox = old.inbox; state = record { marked = old.state.marked; made = old.state.made; taken = append_assoc old.state.taken h.items (x ∷ []) i; gathered = old.state.gathered } }));
         arrived = a.adds ∙ (ap (λ l. l ++ copies_of (x ∷ [])) h.arrived ∙ sym (copies-append h.items (x ∷ [])));
-        due = subst P (sym a.adds) (each_join (IsDueAt p) copies (copies_of (x ∷ [])) h.due a.due);
+        expected = subst P (sym a.adds) (each_join (IsExpectedAt p) copies (copies_of (x ∷ [])) h.expected a.expected);
       }
 
 -- ---- counts one by one
@@ -112,13 +112,13 @@ none_more [] h (suc s) none lt = absurd (omega arith)
 none_more (x ∷ xs) h zero none lt = h 0 none (omega arith)
 none_more (x ∷ xs) h (suc s) none lt = none_more xs (λ t d less. h (suc t) d (omega arith)) s none (omega arith)
 
--- ---- the last item carries a copy that isn't due
-pub takes_undue : (p : Position) (old mid new : TakerView) (x : Item) (copies : List RadioCopy) → TakesDue p old mid copies → new ≡ after_taking mid (x ∷ []) → IsUndue p x
-    → TakesUndue p old new
-takes_undue p old mid new x copies h e undue = record {
+-- ---- the last item carries a copy that isn't expected
+pub takes_unexpected : (p : Position) (old mid new : TakerView) (x : Item) (copies : List RadioCopy) → TakesExpected p old mid copies → new ≡ after_taking mid (x ∷ []) → IsUnexpected p x
+    → TakesUnexpected p old new
+takes_unexpected p old mid new x copies h e unexpected = record {
   items = h.items;
   last = x;
   taker = e ∙ (ap (λ t. after_taking t (x ∷ [])) h.taker
       ∙ (λ i. record { inbox = old.inbox; state = record { marked = old.state.marked; made = old.state.made; taken = append_assoc old.state.taken h.items (x ∷ []) i; gathered = old.state.gathered } }));
-  undue = undue;
+  unexpected = unexpected;
 }

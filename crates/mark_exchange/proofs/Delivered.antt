@@ -9,7 +9,7 @@ use Rattle.copy_exchange.specs.Endpoints.{IsOnInboxes, Stays, PushesOut, PushesM
 use Rattle.copy_exchange.proofs.Delivered.{stays_on}
 use Rattle.copy_exchange.proofs.Marked.{on_inboxes_stays}
 use Rattle.mark_exchange.specs.Delivers.{PushesWindow}
-use Rattle.mark_exchange.specs.Due.{TakesDue, position}
+use Rattle.mark_exchange.specs.Expected.{TakesExpected, position}
 
 -- first the copies, and then the mark
 pub pushes_window : (of : List ℕ) (workers window : ℕ) (a b c : Endpoint) (copies : List RadioCopy) → PushesOut of a b copies → PushesMarks workers window b c → PushesWindow of workers window a c copies
@@ -22,7 +22,7 @@ pushes_window of workers window a b c copies out marks = record {
 }
 
 -- what it takes changes the identity of no sender
-pub takes_stays : (of : List ℕ) (from : ℕ) (old new : Endpoint) (copies : List RadioCopy) → TakesDue (position of old.worker from) old.taker new.taker copies → new.worker ≡ old.worker → new.senders ≡ old.senders → Stays old new
+pub takes_stays : (of : List ℕ) (from : ℕ) (old new : Endpoint) (copies : List RadioCopy) → TakesExpected (position of old.worker from) old.taker new.taker copies → new.worker ≡ old.worker → new.senders ≡ old.senders → Stays old new
 takes_stays of from old new copies took worker senders = record {
   worker = worker;
   inbox = ap (λ (t : TakerView). t.inbox) took.taker;
@@ -32,7 +32,7 @@ takes_stays of from old new copies took worker senders = record {
   identities = ap (λ s. map identity_of s.items) senders;
 }
 
-pub takes_on_inboxes : (inboxes : List InboxId) (of : List ℕ) (from : ℕ) (old new : Endpoint) (copies : List RadioCopy) → TakesDue (position of old.worker from) old.taker new.taker copies → new.worker ≡ old.worker → new.senders ≡ old.senders
+pub takes_on_inboxes : (inboxes : List InboxId) (of : List ℕ) (from : ℕ) (old new : Endpoint) (copies : List RadioCopy) → TakesExpected (position of old.worker from) old.taker new.taker copies → new.worker ≡ old.worker → new.senders ≡ old.senders
     → IsOnInboxes inboxes old → IsOnInboxes inboxes new
 takes_on_inboxes inboxes of from old new copies took worker senders on_inboxes =
     on_inboxes_stays inboxes old new (takes_stays of from old new copies took worker senders) on_inboxes

@@ -1,5 +1,5 @@
 pub mod Delivers
-pub mod Due
+pub mod Expected
 pub mod Laws
 pub mod Marks
 pub mod Pushes

@@ -4,8 +4,8 @@ ghost use Rattle.std.specs.Prelude.{◌≡◌, [], length, IfErr, IfOk, OnOk};
 ghost use Rattle.std.specs.List.{AllByRecursion as Each};
 ghost use Rattle.copy_exchange.specs.Endpoints.{HasMarks, IsOnInboxes, Reaches};
 ghost use Rattle.mark_exchange.specs.Delivers.{PushesWindow};
-ghost use Rattle.mark_exchange.specs.declared.take.MarkError.TheVariants.{Undue};
-ghost use Rattle.mark_exchange.specs.Due.{TakesDue, TakesUndue, position_of};
+ghost use Rattle.mark_exchange.specs.declared.take.MarkError.TheVariants.{Unexpected};
+ghost use Rattle.mark_exchange.specs.Expected.{TakesExpected, TakesUnexpected, position_of};
 ghost use Rattle.mark_exchange.specs.Marks.{Counts, AllPast};
 
 use crate::heard::no_marks;
@@ -71,8 +71,8 @@ impl MarkEndpoint {
     /// before, and gives the copies. `stop` is the flag that a worker sets which fails.
     ///
     /// # Errors
-    /// `Memory`; `Stopped` where the flag was seen set while a mark was missing; `Undue` where a copy came that isn't
-    /// for a mote of this worker from a mote of another, or that arrives before this worker's next window.
+    /// `Memory`; `Stopped` where the flag was seen set while a mark was missing; `Unexpected` where a copy came that
+    /// isn't for a mote of this worker from a mote of another, or that arrives before this worker's next window.
     pub fn take_window<R: Wait>(
         &mut self,
         rt: &R,
@@ -85,13 +85,13 @@ impl MarkEndpoint {
         requires inbox { self.old.base.taker.inbox ≡ inbox.now }
         requires counts { Counts self.old.marks.items self.old.base.taker.state }
         ensures took { IfOk result
-            (λ copies. TakesDue (position_of standing.now) self.old.base.taker self.new.base.taker copies.items) }
+            (λ copies. TakesExpected (position_of standing.now) self.old.base.taker self.new.base.taker copies.items) }
         ensures counts { OnOk result (Counts self.new.marks.items self.new.base.taker.state) }
         ensures marked { OnOk result (AllPast window self.new.marks.items) }
         ensures worker { self.new.base.worker ≡ self.old.base.worker }
         ensures senders { self.new.base.senders ≡ self.old.base.senders }
-        ensures undue { IfErr result
-            (λ error. error ≡ Undue → TakesUndue (position_of standing.now) self.old.base.taker
+        ensures unexpected { IfErr result
+            (λ error. error ≡ Unexpected → TakesUnexpected (position_of standing.now) self.old.base.taker
             self.new.base.taker) }
     {
         let MarkEndpoint {

@@ -3,8 +3,9 @@
 ghost use Rattle.std.specs.Prelude.{◌≡◌, ◌↔◌, IfOk, IfErr, OnOk, OnErr, IsTrue};
 ghost use Rattle.copy_inbox.specs.declared.rule.TakerState.{TakerState};
 ghost use Rattle.copy_inbox.specs.Handles.{IsNextTaken, state_with};
-ghost use Rattle.mark_exchange.specs.declared.take.MarkError.TheVariants.{Stopped, Undue};
-ghost use Rattle.mark_exchange.specs.Due.{AddsCopy, IsDueAt, Refuses, TakesDue, TakesUndue, position_of};
+ghost use Rattle.mark_exchange.specs.declared.take.MarkError.TheVariants.{Stopped, Unexpected};
+ghost use Rattle.mark_exchange.specs.Expected.{AddsCopy, IsExpectedAt, Refuses, TakesExpected, TakesUnexpected};
+ghost use Rattle.mark_exchange.specs.Expected.{position_of};
 ghost use Rattle.mark_exchange.specs.Marks.{Counts, AllPast};
 
 use crate::heard::all_past;
@@ -23,8 +24,8 @@ pub enum MarkError {
     Memory = 1,
     /// The flag was set: another worker failed, or wasn't started.
     Stopped = 2,
-    /// A copy came that isn't due. In a run in which all workers keep to the protocol none comes.
-    Undue = 3,
+    /// A copy came that isn't expected. In a run in which all workers keep to the protocol none comes.
+    Unexpected = 3,
 }
 
 impl From<AllocError> for MarkError {
@@ -58,8 +59,8 @@ pub struct Standing<'a> {
 }
 
 /// Whether the copy is for a mote of the worker, from a mote of another, and comes no sooner than it stands.
-fn is_due(standing: &Standing<'_>, copy: RadioCopy) -> bool
-    ensures { IsTrue result ↔ IsDueAt (position_of standing.now) copy }
+fn is_expected(standing: &Standing<'_>, copy: RadioCopy) -> bool
+    ensures { IsTrue result ↔ IsExpectedAt (position_of standing.now) copy }
 {
     if !is_own(standing.of, standing.worker, copy.to) {
         return false;
@@ -70,7 +71,7 @@ fn is_due(standing: &Standing<'_>, copy: RadioCopy) -> bool
     standing.from <= copy.at
 }
 
-/// Counts an item that was taken, where it is a mark; adds its copy to those that arrived, where that is due.
+/// Counts an item that was taken, where it is a mark; adds its copy to those that arrived, where that is expected.
 fn hear(
     standing: &Standing<'_>,
     marks: &mut Vec<u64>,
@@ -87,8 +88,8 @@ fn hear(
 {
     match item.what {
         Carried::Packet(copy) => {
-            if !is_due(standing, copy) {
-                return Err(MarkError::Undue);
+            if !is_expected(standing, copy) {
+                return Err(MarkError::Unexpected);
             }
             arrived.push(copy)?;
         }
@@ -112,12 +113,12 @@ fn take_waiting<R: Wait>(
     requires inbox { taker.old.inbox ≡ inbox.now }
     requires counts { Counts marks.old.items taker.old.state }
     ensures took { IfOk result
-        (λ copies. TakesDue (position_of standing.now) taker.old taker.new copies.items) }
+        (λ copies. TakesExpected (position_of standing.now) taker.old taker.new copies.items) }
     ensures counts { OnOk result (Counts marks.new.items taker.new.state) }
     ensures marked { OnOk result (AllPast window marks.new.items) }
     ensures stopped { IfErr result (λ error. error ≡ Stopped → IsTrue waiting.new.stopped) }
-    ensures undue { IfErr result
-        (λ error. error ≡ Undue → TakesUndue (position_of standing.now) taker.old taker.new) }
+    ensures unexpected { IfErr result
+        (λ error. error ≡ Unexpected → TakesUnexpected (position_of standing.now) taker.old taker.new) }
 {
     let mut arrived = Vec::new(alloc);
     for _ in rt.forever() {
@@ -135,7 +136,8 @@ fn take_waiting<R: Wait>(
 /// Takes items until of each sender more marks have come than `window`, and gives their copies.
 ///
 /// # Errors
-/// `Memory`; `Stopped` where the flag was seen set while a mark was missing; `Undue` where a copy came that isn't due.
+/// `Memory`; `Stopped` where the flag was seen set while a mark was missing; `Unexpected` where a copy came that
+/// isn't expected.
 pub fn take_marks<R: Wait>(
     rt: &R,
     alloc: Global,
@@ -150,11 +152,11 @@ pub fn take_marks<R: Wait>(
     requires inbox { taker.old.inbox ≡ inbox.now }
     requires counts { Counts marks.old.items taker.old.state }
     ensures took { IfOk result
-        (λ copies. TakesDue (position_of standing.now) taker.old taker.new copies.items) }
+        (λ copies. TakesExpected (position_of standing.now) taker.old taker.new copies.items) }
     ensures counts { OnOk result (Counts marks.new.items taker.new.state) }
     ensures marked { OnOk result (AllPast window marks.new.items) }
-    ensures undue { IfErr result
-        (λ error. error ≡ Undue → TakesUndue (position_of standing.now) taker.old taker.new) }
+    ensures unexpected { IfErr result
+        (λ error. error ≡ Unexpected → TakesUnexpected (position_of standing.now) taker.old taker.new) }
 {
     waiting.begin();
     take_waiting(

@@ -1,3 +1,3 @@
 pub mod Apart
 pub mod Binds
-pub mod Due
+pub mod Expected

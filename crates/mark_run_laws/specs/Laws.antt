@@ -4,7 +4,7 @@ use Rattle.radio_packet.specs.declared.copy.RadioCopy.{RadioCopy}
 use Rattle.mote_net.specs.Net.{NetTold}
 use Rattle.copy_inbox.specs.declared.items.Carried.TheVariants.{Packet}
 use Rattle.copy_inbox.specs.Items.{part}
-use Rattle.worker_cut.specs.Crossed.{IsDue}
+use Rattle.worker_cut.specs.Crossed.{IsExpected}
 use Rattle.mark_exchange.specs.Pushes.{marks_in}
 use Rattle.mark_laws.specs.State.{State, IsPair}
 use Rattle.mark_laws.specs.Steps.{MayTake, IsAtEnd}
@@ -42,10 +42,10 @@ SendersAreApart = (n : NetTold) (of : List ℕ) (width windows workers : ℕ) (a
     → IsPair (plan_of of windows workers all.histories) v u → IsPair (plan_of of windows workers all.histories) w u
     → number_of (all.sender u v) ≡ number_of (all.sender u w) → v ≡ w
 
--- where each other worker ran its motes in each window that it has begun, each copy that a worker may take is due
-abbrev pub NoCopyIsUndue : Type 0
-NoCopyIsUndue = (n : NetTold) (of : List ℕ) (width windows workers : ℕ) (histories : ℕ → WorkerHistory) (w : State)
+-- where each other worker ran its motes in each window that it has begun, each copy that a worker may take is expected
+abbrev pub NoCopyIsUnexpected : Type 0
+NoCopyIsUnexpected = (n : NetTold) (of : List ℕ) (width windows workers : ℕ) (histories : ℕ → WorkerHistory) (w : State)
     → IsReached (plan_of of windows workers histories) w → (worker other : ℕ)
     → ((k : ℕ) → k ≤ w.finished other → k < windows → RanWindow n of width other (histories other) k)
     → (copy : RadioCopy) → MayTake (plan_of of windows workers histories) w worker other (Packet copy)
-    → IsDue of worker (bound width n.end (suc (w.finished worker))) copy
+    → IsExpected of worker (bound width n.end (suc (w.finished worker))) copy

@@ -6,7 +6,7 @@ use Rattle.radio_packet.specs.declared.copy.RadioCopy.{RadioCopy}
 use Rattle.mote_net.specs.Net.{NetTold}
 use Rattle.window_laws.proofs.Lists.{every_weaker}
 use Rattle.net_agenda.specs.NetSystem.{system_of}
-use Rattle.worker_cut.specs.Crossed.{is_to, IsDue}
+use Rattle.worker_cut.specs.Crossed.{is_to, IsExpected}
 use Rattle.copy_inbox.specs.declared.items.Carried.{Carried}
 use Rattle.copy_inbox.specs.declared.items.Carried.TheVariants.{Packet, Mark}
 use Rattle.copy_inbox.specs.declared.items.Item.{Item}
@@ -151,8 +151,8 @@ module _ (n : NetTold) (of : List ℕ) (width k until : ℕ) (inboxes : List Inb
         ap (λ s. pushed_list (get_or s.items v None)) takes.senders
         ∙ sends.pushes.pushes v there (ap (λ w. v == w) stands.stays.worker ∙ ne_eqb v worker other)
 
-    arrived_come : Each (IsDue of worker until) takes.arrived
-    arrived_come = subst (λ w. Each (IsDue of w until) takes.arrived) (sends.pushes.stays.worker ∙ stands.stays.worker) takes.took.due
+    arrived_come : Each (IsExpected of worker until) takes.arrived
+    arrived_come = subst (λ w. Each (IsExpected of w until) takes.arrived) (sends.pushes.stays.worker ∙ stands.stays.worker) takes.took.expected
 
     keeps : Keeps n of worker until ran.next (copies_of state.taken ++ copies_of more) new.share
     keeps = subst (λ l. Keeps n of worker until ran.next (copies_of state.taken ++ l) new.share) takes.took.arrived

@@ -2,10 +2,10 @@
 use Rattle.fork_join.specs.declared.work.Refused.{Refused}
 use Rattle.fork_join.specs.declared.work.Refused.TheVariants as why
 use Rattle.mark_exchange.specs.declared.take.MarkError.{MarkError}
-use Rattle.mark_exchange.specs.declared.take.MarkError.TheVariants.{Memory, Stopped, Undue}
+use Rattle.mark_exchange.specs.declared.take.MarkError.TheVariants.{Memory, Stopped, Unexpected}
 
 -- where it took no further
 abbrev pub refused_of_marks : MarkError → Refused
 refused_of_marks Memory = why.Memory
 refused_of_marks Stopped = why.Stopped
-refused_of_marks Undue = why.Stopped
+refused_of_marks Unexpected = why.Stopped

@@ -8,7 +8,7 @@ use Rattle.net_agenda.specs.NetSystem.{system_of}
 use Rattle.copy_inbox.specs.Handles.{InboxId}
 use Rattle.copy_exchange.specs.Endpoints.{HasMarks, HasPushedNothing, IsOnInboxes, Stays, pushed_to}
 use Rattle.mark_exchange.specs.Delivers.{PushesWindow}
-use Rattle.mark_exchange.specs.Due.{TakesDue, position}
+use Rattle.mark_exchange.specs.Expected.{TakesExpected, position}
 use Rattle.mark_exchange.specs.Marks.{AllPast, Counts}
 use Rattle.worker_window.specs.Share.{Keeps, Motes}
 use Rattle.worker_window.specs.Window.{IsOutgoing, RunsWindow, TakesIn}
@@ -58,7 +58,7 @@ pub record SendsWindow (n : NetTold) (of : List ℕ) (workers window until : ℕ
 -- it took items until the window's mark of each other worker had come, and what they carry is in its share
 pub record TakesWindow (of : List ℕ) (window until : ℕ) (old new : MarkWorker) : Type 0 where
   pub arrived : List RadioCopy
-  pub took : TakesDue (position of old.endpoint.base.worker until) old.endpoint.base.taker new.endpoint.base.taker
+  pub took : TakesExpected (position of old.endpoint.base.worker until) old.endpoint.base.taker new.endpoint.base.taker
       arrived
   pub counts : Counts new.endpoint.marks.items new.endpoint.base.taker.state
   pub past : AllPast window new.endpoint.marks.items

@@ -77,14 +77,14 @@ fn send_window<R: Wait + RandomSource + AllocGlobal, G: Gate>(
     Ok(())
 }
 
-/// Why a worker gave up that took no further. A copy that isn't due comes only where another worker has broken the
+/// Why a worker gave up that took no further. A copy that isn't expected comes only where another worker has broken the
 /// protocol, which none does.
 fn gave_up(error: MarkError) -> Refused
     ensures { result ≡ refused_of_marks error }
 {
     match error {
         MarkError::Memory => Refused::Memory,
-        MarkError::Stopped | MarkError::Undue => Refused::Stopped,
+        MarkError::Stopped | MarkError::Unexpected => Refused::Stopped,
     }
 }
 

@@ -88,8 +88,8 @@ wakes_sooner : (t u : ℕ) (wake : Option ℕ) → t ≤ u → WakesFrom u wake 
 wakes_sooner t u None h k = tt
 wakes_sooner t u (Some wake) h k = omega arith
 
-quiet_sooner : (t u : ℕ) (wake : Option ℕ) (inbox : List RadioCopy) → t ≤ u → IsQuiet u wake inbox → IsQuiet t wake inbox
-quiet_sooner t u wake inbox h q = record { no_wake = wakes_sooner t u wake h q.no_wake; no_copies = every_weaker _ _ (λ c g. le_chain t u c.at h g) inbox q.no_copies }
+quiet_sooner : (t u : ℕ) (wake : Option ℕ) (given : List RadioCopy) → t ≤ u → IsQuiet u wake given → IsQuiet t wake given
+quiet_sooner t u wake given h q = record { no_wake = wakes_sooner t u wake h q.no_wake; no_copies = every_weaker _ _ (λ c g. le_chain t u c.at h g) given q.no_copies }
   where
     le_chain : (a b c : ℕ) → a ≤ b → b ≤ c → a ≤ c
     le_chain a b c h k = omega arith
@@ -160,9 +160,9 @@ module _ {S L : Type 0} (system : System S L) (fine : RunsForward system) where
   from_given p moment s = filter_filter (is_from_sender s) p (pool system (history system moment)) ∙ ap (filter p) (from_pool moment s)
 
   module _ (number from bound : ℕ) (short : bound ≤ from + system.lookahead) where
-    -- what is left in the inbox at a moment of the window
+    -- what is left of the copies given, at a moment of the window
     abbrev pub Holds : ℕ → List RadioCopy → Type 0
-    Holds t inbox = (u s : ℕ) → filter (is_from_sender s) (filter (is_at u) inbox) ≡ filter (is_at u) (filter (is_within number t bound) (copies_by system (history system from) s))
+    Holds t given = (u s : ℕ) → filter (is_from_sender s) (filter (is_at u) given) ≡ filter (is_at u) (filter (is_within number t bound) (copies_by system (history system from) s))
 
     -- a moment later: nothing of this moment is left, and all else is
     hold_on : (t : ℕ) (before after : List RadioCopy) → Holds t before → filter (is_at t) after ≡ [] → ((u : ℕ) → (u ≡ t → ⊥) → filter (is_at u) after ≡ filter (is_at u) before) → Holds (suc t) after
@@ -177,10 +177,10 @@ module _ {S L : Type 0} (system : System S L) (fine : RunsForward system) where
               ∙ sym (filter_both (is_at u) (is_within number (suc t) bound) (λ c. is_within number t bound c && is_at u c) (λ c. sym (other_within number t bound u c.to c.at ne)) (copies_by system (history system from) s))))
         ]
 
-    seen : (t j : ℕ) (inbox : List RadioCopy) → t ≡ from + j → t < bound → Holds t inbox
-        → in_order (filter (is_at t) inbox) ≡ given_at system t (history system t) number
+    seen : (t j : ℕ) (given : List RadioCopy) → t ≡ from + j → t < bound → Holds t given
+        → in_order (filter (is_at t) given) ≡ given_at system t (history system t) number
     unfolding given_at
-    seen t j inbox e h holds =
+    seen t j given e h holds =
         in_order_same _ _ (λ s.
         holds t s
         ∙ ((filter_both (is_at t) (is_within number t bound) (is_within number t (suc t)) (λ c. at_within number t bound c.to c.at h) (copies_by system (history system from) s)
@@ -188,60 +188,60 @@ module _ {S L : Type 0} (system : System S L) (fine : RunsForward system) where
         ∙ (ap (λ u. filter (is_within number t (suc t)) (copies_by system (history system u) s)) (sym e)
         ∙ sym (from_given (is_within number t (suc t)) t s))))))
 
-    idle : (t j : ℕ) (mote : LoneMote S L) (inbox : List RadioCopy) → t ≡ from + j → t < bound → Holds t inbox → mote ≡ history system t number
-        → IsQuiet (suc t) mote.wake inbox → (mote ≡ history system (suc t) number) × Holds (suc t) inbox
+    idle : (t j : ℕ) (mote : LoneMote S L) (given : List RadioCopy) → t ≡ from + j → t < bound → Holds t given → mote ≡ history system t number
+        → IsQuiet (suc t) mote.wake given → (mote ≡ history system (suc t) number) × Holds (suc t) given
     unfolding is_busy
-    idle t j mote inbox e h holds is quiet = (is ∙ sym (history_idle system t number (rest)), later)
+    idle t j mote given e h holds is quiet = (is ∙ sym (history_idle system t number (rest)), later)
       where
-        none : list_any (is_at t) inbox ≡ false
-        none = any_none (is_at t) inbox (every_weaker _ _ (λ c g. ne_eqb c.at t (λ k. absurd (omega arith))) inbox quiet.no_copies)
+        none : list_any (is_at t) given ≡ false
+        none = any_none (is_at t) given (every_weaker _ _ (λ c g. ne_eqb c.at t (λ k. absurd (omega arith))) given quiet.no_copies)
 
         rest : is_busy system t (history system t) number ≡ false
         rest =
             let a : wakes_at t (history system t number).wake ≡ false = ap (λ m. wakes_at t m.wake) (sym is) ∙ no_wake t mote.wake quiet.no_wake in
-            let b : is_filled (given_at system t (history system t) number) ≡ false = ap is_filled (sym (seen t j inbox e h holds)) ∙ (filled_given (is_at t) inbox ∙ none) in
+            let b : is_filled (given_at system t (history system t) number) ≡ false = ap is_filled (sym (seen t j given e h holds)) ∙ (filled_given (is_at t) given ∙ none) in
             rw (a, b) refl
 
-        later : Holds (suc t) inbox
-        later = hold_on t inbox inbox holds (filter_none (is_at t) inbox (every_weaker _ _ (λ c g. ne_eqb c.at t (λ k. absurd (omega arith))) inbox quiet.no_copies)) (λ u ne. refl)
+        later : Holds (suc t) given
+        later = hold_on t given given holds (filter_none (is_at t) given (every_weaker _ _ (λ c g. ne_eqb c.at t (λ k. absurd (omega arith))) given quiet.no_copies)) (λ u ne. refl)
 
-    jump : (i t j : ℕ) (u : ℕ) (mote : LoneMote S L) (inbox : List RadioCopy) → t ≡ from + j → t + i ≡ u → u ≤ bound → Holds t inbox → mote ≡ history system t number
-        → IsQuiet u mote.wake inbox → (mote ≡ history system u number) × Holds u inbox
-    jump zero t j u mote inbox e g h holds is quiet = let k : t ≡ u = omega arith in (is ∙ ap (λ n. history system n number) k, subst (λ n. Holds n inbox) k holds)
-    jump (suc i) t j u mote inbox e g h holds is quiet =
+    jump : (i t j : ℕ) (u : ℕ) (mote : LoneMote S L) (given : List RadioCopy) → t ≡ from + j → t + i ≡ u → u ≤ bound → Holds t given → mote ≡ history system t number
+        → IsQuiet u mote.wake given → (mote ≡ history system u number) × Holds u given
+    jump zero t j u mote given e g h holds is quiet = let k : t ≡ u = omega arith in (is ∙ ap (λ n. history system n number) k, subst (λ n. Holds n given) k holds)
+    jump (suc i) t j u mote given e g h holds is quiet =
         let lt : t < bound = omega arith in
         let le : suc t ≤ u = omega arith in
         let e' : suc t ≡ from + suc j = omega arith in
         let g' : suc t + i ≡ u = omega arith in
-        let next = idle t j mote inbox e lt holds is (quiet_sooner (suc t) u mote.wake inbox le quiet) in
-        jump i (suc t) (suc j) u mote inbox e' g' h next.1 next.0 quiet
+        let next = idle t j mote given e lt holds is (quiet_sooner (suc t) u mote.wake given le quiet) in
+        jump i (suc t) (suc j) u mote given e' g' h next.1 next.0 quiet
 
-    turns : (t j : ℕ) (mote : LoneMote S L) (inbox : List RadioCopy) → t ≡ from + j → t < bound → Holds t inbox → mote ≡ history system t number
-        → (wakes_at t mote.wake || list_any (is_at t) inbox) ≡ true
-        → (own_turn system t number mote (in_order (filter (is_at t) inbox)) ≡ history system (suc t) number) × Holds (suc t) (filter (λ copy. not (is_at t copy)) inbox)
+    turns : (t j : ℕ) (mote : LoneMote S L) (given : List RadioCopy) → t ≡ from + j → t < bound → Holds t given → mote ≡ history system t number
+        → (wakes_at t mote.wake || list_any (is_at t) given) ≡ true
+        → (own_turn system t number mote (in_order (filter (is_at t) given)) ≡ history system (suc t) number) × Holds (suc t) (filter (λ copy. not (is_at t copy)) given)
     unfolding is_busy
-    turns t j mote inbox e h holds is called =
-        (ap (λ g. own_turn system t number mote g) given ∙ (ap (λ m. own_turn system t number m (given_at system t (history system t) number)) is ∙ sym (history_busy system t number busy)), later)
+    turns t j mote given e h holds is called =
+        (ap (λ g. own_turn system t number mote g) agrees ∙ (ap (λ m. own_turn system t number m (given_at system t (history system t) number)) is ∙ sym (history_busy system t number busy)), later)
       where
-        given : in_order (filter (is_at t) inbox) ≡ given_at system t (history system t) number
-        given = seen t j inbox e h holds
+        agrees : in_order (filter (is_at t) given) ≡ given_at system t (history system t) number
+        agrees = seen t j given e h holds
 
         busy : is_busy system t (history system t) number ≡ true
         busy =
             let a : wakes_at t (history system t number).wake ≡ wakes_at t mote.wake = ap (λ m. wakes_at t m.wake) (sym is) in
-            let b : is_filled (given_at system t (history system t) number) ≡ list_any (is_at t) inbox = ap is_filled (sym given) ∙ filled_given (is_at t) inbox in
+            let b : is_filled (given_at system t (history system t) number) ≡ list_any (is_at t) given = ap is_filled (sym agrees) ∙ filled_given (is_at t) given in
             rw (a, b) called
 
-        later : Holds (suc t) (filter (λ copy. not (is_at t copy)) inbox)
-        later = hold_on t inbox _ holds
-            (filter_both (is_at t) (λ copy. not (is_at t copy)) (λ c. false) (λ c. not_at t c.at) inbox ∙ filter_never inbox)
-            (λ u ne. filter_stronger (is_at u) (λ copy. not (is_at t copy)) (λ c e. other_at t u c.at ne e) inbox)
+        later : Holds (suc t) (filter (λ copy. not (is_at t copy)) given)
+        later = hold_on t given _ holds
+            (filter_both (is_at t) (λ copy. not (is_at t copy)) (λ c. false) (λ c. not_at t c.at) given ∙ filter_never given)
+            (λ u ne. filter_stronger (is_at u) (λ copy. not (is_at t copy)) (λ c e. other_at t u c.at ne e) given)
 
-    early_none : (t u : ℕ) (inbox : List RadioCopy) → Holds t inbox → u < t → list_any (is_at u) inbox ≡ false
+    early_none : (t u : ℕ) (given : List RadioCopy) → Holds t given → u < t → list_any (is_at u) given ≡ false
     unfolding sorted_by
-    early_none t u inbox holds h =
-        sym (filled_given (is_at u) inbox)
-        ∙ ap is_filled (in_order_same (filter (is_at u) inbox) [] (λ s.
+    early_none t u given holds h =
+        sym (filled_given (is_at u) given)
+        ∙ ap is_filled (in_order_same (filter (is_at u) given) [] (λ s.
         holds u s
         ∙ ((filter_both (is_at u) (is_within number t bound) (λ c. false) (λ c. early_within number t u bound c.to c.at h) (copies_by system (history system from) s)
         ∙ nothing (copies_by system (history system from) s)))))
@@ -250,25 +250,25 @@ module _ {S L : Type 0} (system : System S L) (fine : RunsForward system) where
         nothing [] = refl
         nothing (x ∷ xs) = nothing xs
 
-    pub alone : (inbox : List RadioCopy) (mote last : LoneMote S L) → Alone system number bound inbox mote last → (t j : ℕ) → t ≡ from + j → t ≤ bound → Holds t inbox → mote ≡ history system t number
+    pub alone : (given : List RadioCopy) (mote last : LoneMote S L) → Alone system number bound given mote last → (t j : ℕ) → t ≡ from + j → t ≤ bound → Holds t given → mote ≡ history system t number
         → last ≡ history system bound number
-    alone inbox mote last (Rests quiet) t j e h holds is =
+    alone given mote last (Rests quiet) t j e h holds is =
         let g : t + (bound - t) ≡ bound = omega arith in
         let b : bound ≤ bound = omega arith in
-        (jump (bound - t) t j bound mote inbox e g b holds is quiet).0
-    alone inbox mote last (Turns u quiet called before rest) t j e h holds is =
+        (jump (bound - t) t j bound mote given e g b holds is quiet).0
+    alone given mote last (Turns u quiet called before rest) t j e h holds is =
         let i : t + (u - t) ≡ u = omega (arith, first) in
         let b : u ≤ bound = omega arith in
         let at_u : u ≡ from + (j + (u - t)) = omega (arith, i) in
-        let here = jump (u - t) t j u mote inbox e i b holds is quiet in
-        let after = turns u (j + (u - t)) mote inbox at_u before here.1 here.0 called in
+        let here = jump (u - t) t j u mote given e i b holds is quiet in
+        let after = turns u (j + (u - t)) mote given at_u before here.1 here.0 called in
         let next : suc u ≡ from + suc (j + (u - t)) = omega (arith, at_u) in
         alone _ _ last rest (suc u) (suc (j + (u - t))) next before after.1 after.0
       where
         first : t ≤ u
         first = elim (cases_lt u t) [
           | inl k ↦ (let a : wakes_at u mote.wake ≡ false = ap (λ m. wakes_at u m.wake) is ∙ no_early_wake t u _ k (wakes_from t number) in
-              let b = early_none t u inbox holds k in absurd (false≢true (sym (or_both _ _ a b) ∙ called)))
+              let b = early_none t u given holds k in absurd (false≢true (sym (or_both _ _ a b) ∙ called)))
           | inr k ↦ k
         ]
 
@@ -280,7 +280,7 @@ module _ {S L : Type 0} (system : System S L) (fine : RunsForward system) where
       let w = each k h in
       let at : from ≡ from + 0 = omega arith in
       let in_time : from ≤ bound = omega arith in
-      alone k from bound short w.inbox (motes k) (next k) w.alone from 0 at in_time (λ u s. w.is_inbox u s ∙ ap (λ l. filter (is_at u) (filter (is_within k from bound) l)) (same s)) (is k h))
+      alone k from bound short w.given (motes k) (next k) w.alone from 0 at in_time (λ u s. w.is_given u s ∙ ap (λ l. filter (is_at u) (filter (is_within k from bound) l)) (same s)) (is k h))
     where
       same : (s : ℕ) → copies_by system motes s ≡ copies_by system (history system from) s
       same s = elim (cases_Bool (ltb s system.motes)) [ inl e ↦ rw e (ap (λ m. flat_map system.copies m.sends) (is s (ltb-true s system.motes e))) | inr e ↦ rw e refl ]

@@ -7,7 +7,7 @@ use Rattle.std.proofs.lemmas.List.Elements.{filter-append, filter_agree}
 use Rattle.window_laws.specs.System.{System}
 use Rattle.radio_packet.specs.declared.copy.RadioCopy.{RadioCopy}
 use Rattle.window_laws.specs.Pending.{comes_from, IsPending}
-use Rattle.window_laws.specs.Windows.{IsQuiet, Rests, Windows, Window, WakesFrom, LoneMote, is_at, is_within, is_from_sender, copies_by, IsInbox, IsLeft}
+use Rattle.window_laws.specs.Windows.{IsQuiet, Rests, Windows, Window, WakesFrom, LoneMote, is_at, is_within, is_from_sender, copies_by, IsGiven, IsLeft}
 use Rattle.window_laws.proofs.Lists.{filter_filter, filter_stronger, filter_every, filter_none, every_weaker}
 
 for_comes : (number from bound a c : ℕ) → (eqb a number && (not (ltb c from) && ltb c bound)) ≡ true → not (ltb c from) ≡ true
@@ -20,8 +20,8 @@ beyond_comes : (end c : ℕ) → not (ltb c (suc end)) ≡ ltb end c
 beyond_comes end c = grind (arith, nat_tests)
 
 module _ {S L : Type 0} (system : System S L) (motes : ℕ → LoneMote S L) (rest : List RadioCopy) where
-  pub pending_inbox : (from bound number : ℕ) → IsPending system from motes rest → IsInbox system from bound motes number (filter (is_within number from bound) rest)
-  pending_inbox from bound number h u s =
+  pub pending_given : (from bound number : ℕ) → IsPending system from motes rest → IsGiven system from bound motes number (filter (is_within number from bound) rest)
+  pending_given from bound number h u s =
       filter_filter (is_from_sender s) (is_at u) (filter (is_within number from bound) rest) ∙ ap (filter (is_at u)) (filter_filter (is_from_sender s) (is_within number from bound) rest
       ∙ (ap (filter (is_within number from bound)) (h s)
       ∙ filter_stronger (is_within number from bound) (comes_from from) (λ c e. for_comes number from bound c.to c.at e) (copies_by system motes s)))
@@ -55,7 +55,7 @@ pub gap : {S L : Type 0} (system : System S L) → 0 < system.lookahead → (end
 gap system look end to zero from e motes last rest held wakes later after = let g : to ≡ from = omega arith in subst (λ u. Windows system u end motes last) g after
 gap system look end to (suc i) from e motes last rest held wakes later after =
     Window (suc from) motes up short
-    (λ k h. record { inbox = filter (is_within k from (suc from)) rest; is_inbox = pending_inbox system motes rest from (suc from) k held; alone = Rests (quiet k h) })
+    (λ k h. record { given = filter (is_within k from (suc from)) rest; is_given = pending_given system motes rest from (suc from) k held; alone = Rests (quiet k h) })
     (gap system look end to i (suc from) e' motes last rest on wakes later after)
   where
     up : from < suc from

@@ -49,22 +49,22 @@ WakesFrom moment None = Unit {0}
 WakesFrom moment (Some wake) = moment ≤ wake
 
 -- nothing comes to the mote before this moment
-pub record IsQuiet (moment : ℕ) (wake : Option ℕ) (inbox : List RadioCopy) : Type 0 where
+pub record IsQuiet (moment : ℕ) (wake : Option ℕ) (given : List RadioCopy) : Type 0 where
   pub no_wake : WakesFrom moment wake
-  pub no_copies : AllByRecursion (λ copy. moment ≤ copy.at) inbox
+  pub no_copies : AllByRecursion (λ copy. moment ≤ copy.at) given
 
 -- A mote alone, up to a bound: while the lesser of its wake and the least moment of a copy is below the bound, it
 -- turns at that moment on all copies of the moment, in order.
-pub data Alone {S L : Type 0} (system : System S L) (number bound : ℕ) : (inbox : List RadioCopy)
+pub data Alone {S L : Type 0} (system : System S L) (number bound : ℕ) : (given : List RadioCopy)
     → (mote last : LoneMote S L) → Type 0 where
-  Rests : {inbox : List RadioCopy} {mote : LoneMote S L} → IsQuiet bound mote.wake inbox
-      → Alone system number bound inbox mote mote
-  Turns : {inbox : List RadioCopy} {mote last : LoneMote S L} (moment : ℕ)
-      → IsQuiet moment mote.wake inbox → (wakes_at moment mote.wake || list_any (is_at moment) inbox) ≡ true
+  Rests : {given : List RadioCopy} {mote : LoneMote S L} → IsQuiet bound mote.wake given
+      → Alone system number bound given mote mote
+  Turns : {given : List RadioCopy} {mote last : LoneMote S L} (moment : ℕ)
+      → IsQuiet moment mote.wake given → (wakes_at moment mote.wake || list_any (is_at moment) given) ≡ true
       → moment < bound
-      → Alone system number bound (filter (λ copy. not (is_at moment copy)) inbox)
-      (own_turn system moment number mote (in_order (filter (is_at moment) inbox))) last
-      → Alone system number bound inbox mote last
+      → Alone system number bound (filter (λ copy. not (is_at moment copy)) given)
+      (own_turn system moment number mote (in_order (filter (is_at moment) given))) last
+      → Alone system number bound given mote last
 
 -- the packets that this mote has sent so far, and their copies
 abbrev pub sends_by : {S L : Type 0} → System S L → (motes : (number : ℕ) → LoneMote S L) → (sender : ℕ) → List Sent
@@ -83,18 +83,18 @@ is_within number from bound copy = (copy.to == number) && (not (nat_lt copy.at f
 
 -- What a mote is given for a window: at each moment of the window, of each sender, the copies for it that earlier
 -- windows sent, in the order of sending; in any mixture otherwise.
-abbrev pub IsInbox : {S L : Type 0} → System S L → (from bound : ℕ) → (motes : (number : ℕ) → LoneMote S L)
+abbrev pub IsGiven : {S L : Type 0} → System S L → (from bound : ℕ) → (motes : (number : ℕ) → LoneMote S L)
     → (number : ℕ) → List RadioCopy → Type 0
-IsInbox system from bound motes number inbox = (moment sender : ℕ)
-    → filter (is_from_sender sender) (filter (is_at moment) inbox)
+IsGiven system from bound motes number given = (moment sender : ℕ)
+    → filter (is_from_sender sender) (filter (is_at moment) given)
     ≡ filter (is_at moment) (filter (is_within number from bound) (copies_by system motes sender))
 
--- what a window makes of one mote: alone, on some such inbox
+-- what a window makes of one mote: it runs alone, on copies that it may be given
 pub record RunsAlone {S L : Type 0} (system : System S L) (from bound : ℕ) (motes next : (number : ℕ) → LoneMote S L)
     (number : ℕ) : Type 0 where
-  pub inbox : List RadioCopy
-  pub is_inbox : IsInbox system from bound motes number inbox
-  pub alone : Alone system number bound inbox (motes number) (next number)
+  pub given : List RadioCopy
+  pub is_given : IsGiven system from bound motes number given
+  pub alone : Alone system number bound given (motes number) (next number)
 
 -- windows one after another up to the end, none longer than the lookahead
 pub data Windows {S L : Type 0} (system : System S L) : (from end : ℕ) → (motes last : (number : ℕ) → LoneMote S L)

@@ -7,7 +7,7 @@ use Rattle.std.proofs.lemmas.Bool.Decides.{nat_tests}
 use Rattle.std.proofs.lemmas.List.Elements.{filter-append}
 use Rattle.radio_packet.specs.declared.copy.RadioCopy.{RadioCopy}
 use Rattle.window_laws.specs.System.{System}
-use Rattle.window_laws.specs.Windows.{LoneMote, copies_by, is_at, is_from_sender, is_within, IsInbox}
+use Rattle.window_laws.specs.Windows.{LoneMote, copies_by, is_at, is_from_sender, is_within, IsGiven}
 use Rattle.window_laws.proofs.Lists.{filter_stronger}
 use Rattle.worker_cut.specs.Crossed.{is_own, is_to, is_outgoing, crossed, copies_seen}
 
@@ -26,7 +26,7 @@ module _ {S L : Type 0} (system : System S L) (of : List ℕ) where
       → ((s : ℕ) → filter (is_from_sender s) taken ≡ filter (is_from_sender s) gathered)
       → (given : List RadioCopy)
       → ((t s : ℕ) → filter (is_from_sender s) (filter (is_at t) given) ≡ filter (is_at t) (filter (is_within k from bound) (copies_seen system (is_own of v) motes taken s)))
-      → IsInbox system from bound motes k given
+      → IsGiven system from bound motes k given
   given_is motes gathered taken v k from bound h told whole given is t s = is t s ∙ ap (filter (is_at t)) (of_case (cases_Bool (is_own of v s)))
     where
       of_case : (is_own of v s ≡ true) ⊎ (is_own of v s ≡ false) → filter (is_within k from bound) (copies_seen system (is_own of v) motes taken s) ≡ filter (is_within k from bound) (copies_by system motes s)

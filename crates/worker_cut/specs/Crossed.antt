@@ -19,7 +19,7 @@ abbrev pub is_outgoing : (own : ℕ → Bool) → RadioCopy → Bool
 is_outgoing own copy = not (own copy.to)
 
 -- the copy is for a mote of this worker, from a mote of another, and comes at this moment or later
-pub record IsDue (of : List ℕ) (worker from : ℕ) (copy : RadioCopy) : Type 0 where
+pub record IsExpected (of : List ℕ) (worker from : ℕ) (copy : RadioCopy) : Type 0 where
   pub to : is_own of worker copy.to ≡ true
   pub sender : is_own of worker copy.sender ≡ false
   pub later : from ≤ copy.at

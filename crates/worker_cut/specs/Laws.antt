@@ -4,7 +4,7 @@ use Rattle.std.specs.List.{filter}
 use Rattle.radio_packet.specs.declared.sent.Sent.{Sent}
 use Rattle.radio_packet.specs.declared.copy.RadioCopy.{RadioCopy}
 use Rattle.window_laws.specs.System.{System, RunsForward}
-use Rattle.window_laws.specs.Windows.{LoneMote, first_mote, Windows, is_at, is_from_sender, is_within, IsInbox}
+use Rattle.window_laws.specs.Windows.{LoneMote, first_mote, Windows, is_at, is_from_sender, is_within, IsGiven}
 use Rattle.window_laws.specs.Windows.{IsJoined, as_log}
 use Rattle.worker_cut.specs.Crossed.{is_own, crossed, copies_seen}
 use Rattle.worker_cut.specs.CrossesTo.{AreThoseTo}
@@ -33,7 +33,7 @@ WindowCopiesAreWhole {S} {L} system =
     → is_own of worker number ≡ true
     → GatheredCopies system of motes worker gathered → HasTaken gathered taken
     → (given : List RadioCopy) → IsFromSources system (is_own of worker) from bound motes taken number given
-    → IsInbox system from bound motes number given
+    → IsGiven system from bound motes number given
 
 abbrev pub CrossedOnce : {S L : Type 0} → System S L → Type 0
 CrossedOnce {S} {L} system = RunsForward system → (of : List ℕ) (from : ℕ) (motes : (number : ℕ) → LoneMote S L)

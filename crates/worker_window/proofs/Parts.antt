@@ -15,7 +15,7 @@ use Rattle.window_laws.proofs.Order.{sorted_rising}
 use Rattle.net_agenda.specs.NetSystem.{system_of}
 use Rattle.worker_window.specs.declared.share.Share.{Share}
 use Rattle.worker_window.specs.Calls.{is_not_before, calls_for, TakesCopiesFor}
-use Rattle.worker_cut.specs.Crossed.{is_own, copies_seen, IsDue}
+use Rattle.worker_cut.specs.Crossed.{is_own, copies_seen, IsExpected}
 use Rattle.worker_window.specs.Share.{Motes, Keeps, is_to_come, wake_from}
 use Rattle.worker_window.specs.Lending.{is_one_of}
 use Rattle.worker_window.proofs.Items.{inside, all_wakes, packets_of_all}
@@ -62,7 +62,7 @@ late_wakes until k None = refl
 late_wakes until k (Some t) = elim (cases_Bool (ltb t until)) [ inl e ↦ rw e refl | inr e ↦ rw e refl ]
 
 module _ (n : NetTold) (of : List ℕ) (worker from until : ℕ) (motes : Motes) (taken arrived : List RadioCopy) (share : Share) (keeps : Keeps n of worker from motes taken share)
-    (le : from ≤ until) (come : AllByRecursion (IsDue of worker from) arrived) where
+    (le : from ≤ until) (come : AllByRecursion (IsExpected of worker from) arrived) where
   abbrev pub own : ℕ → Bool
   own = is_own of worker
 

@@ -17,7 +17,7 @@ use Rattle.net_agenda.specs.Buckets.{Holds}
 use Rattle.net_agenda.specs.NetSystem.{tree_at, system_of}
 use Rattle.worker_window.specs.declared.share.Share.{Share}
 use Rattle.worker_window.specs.Calls.{CalledMotes, copies_for, calls_for, TakesEventsBefore}
-use Rattle.worker_cut.specs.Crossed.{is_own, IsDue}
+use Rattle.worker_cut.specs.Crossed.{is_own, IsExpected}
 use Rattle.worker_window.specs.Log.{HaveFates, packets_in}
 use Rattle.worker_window.specs.Share.{Motes, IsShare, Keeps, node_at, mote_here, wake_from}
 use Rattle.worker_window.specs.Window.{outgoing_by}
@@ -39,7 +39,7 @@ abbrev pub IsLeft : (old new : Share) → Type 0
 IsLeft old new = (new.worker ≡ old.worker) × (new.traces.items ≡ old.traces.items) × (new.log.items ≡ old.log.items)
 
 module _ (n : NetTold) (of : List ℕ) (worker from until : ℕ) (motes : Motes) (taken arrived : List RadioCopy) (old new : Share) (keeps : Keeps n of worker from motes taken old)
-    (le : from ≤ until) (come : AllByRecursion (IsDue of worker from) arrived) (long : length of ≡ length n.motes)
+    (le : from ≤ until) (come : AllByRecursion (IsExpected of worker from) arrived) (long : length of ≡ length n.motes)
     (calls : CalledMotes) (residents : List Resident) (wakes : List (Option ℕ)) (takes_events : TakesEventsBefore until (items n of worker from until motes taken arrived old keeps le come) calls)
     (holds : Holds new.agenda.buckets (later n of worker from until motes taken arrived old keeps le come))
     (lent : MotesAreLent until calls old.motes.items new.motes.items residents wakes) where

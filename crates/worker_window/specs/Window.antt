@@ -5,7 +5,7 @@ use Rattle.radio_packet.specs.declared.copy.RadioCopy.{RadioCopy}
 use Rattle.mote_net.specs.Net.{NetTold}
 use Rattle.window_laws.specs.Windows.{Alone, copies_by, is_at, is_from_sender, is_within}
 use Rattle.net_agenda.specs.NetSystem.{system_of}
-use Rattle.worker_cut.specs.Crossed.{is_outgoing, is_own, copies_seen, IsDue}
+use Rattle.worker_cut.specs.Crossed.{is_outgoing, is_own, copies_seen, IsExpected}
 use Rattle.worker_window.specs.declared.share.Share.{Share}
 use Rattle.worker_window.specs.Share.{Motes, Keeps}
 
@@ -38,20 +38,20 @@ pub record RunsWindow (n : NetTold) (of : List ℕ) (worker from until : ℕ) (m
       ++ filter (is_from_sender s) outgoing
   pub late : Each (λ (copy : RadioCopy). until ≤ copy.at) outgoing
 
--- Wherever the share stood, where its window is no longer than the lookahead and each copy that arrived is due: the new
--- share is what the window makes of it, and these are the outgoing copies.
+-- Wherever the share stood, where its window is no longer than the lookahead and each copy that arrived is expected: the
+-- new share is what the window makes of it, and these are the outgoing copies.
 abbrev pub RunsThrough : NetTold → (of : List ℕ) → (until : ℕ) → (arrived : List RadioCopy) → (old new : Share)
     → (outgoing : List RadioCopy) → Type 0
 RunsThrough n of until arrived old new outgoing = (worker from : ℕ) (motes : Motes) (taken : List RadioCopy)
     → Keeps n of worker from motes taken old → from ≤ until → until ≤ from + (system_of n).lookahead
-    → Each (IsDue of worker from) arrived
+    → Each (IsExpected of worker from) arrived
     → RunsWindow n of worker from until motes (taken ++ arrived) new outgoing
 
--- wherever the share stood, where each of these copies is due: the new one keeps the same, with them among what it has
--- taken
+-- wherever the share stood, where each of these copies is expected: the new one keeps the same, with them among what it
+-- has taken
 abbrev pub TakesIn : (arrived : List RadioCopy) → (old new : Share) → Type 0
 TakesIn arrived old new = (n : NetTold) (of : List ℕ) (worker from : ℕ) (motes : Motes) (taken : List RadioCopy)
-    → Keeps n of worker from motes taken old → Each (IsDue of worker from) arrived
+    → Keeps n of worker from motes taken old → Each (IsExpected of worker from) arrived
     → Keeps n of worker from motes (taken ++ arrived) new
 
 -- from a mote of this worker to one of another
@@ -69,4 +69,4 @@ pub record CanRun (n : NetTold) (of : List ℕ) (until : ℕ) (share : Share) (a
   pub taken : List RadioCopy
   pub keeps : Keeps n of worker from motes taken share
   pub order : from ≤ until
-  pub come : Each (IsDue of worker from) arrived
+  pub come : Each (IsExpected of worker from) arrived

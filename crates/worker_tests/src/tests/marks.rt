@@ -214,5 +214,5 @@ fn windows_by_hand(rt: HostRuntime) -> Result<(), Fail> {
     let mut text = String::new(rt.alloc());
     write_taken(&rt, rt.alloc(), &mut text)?;
     write_stopped(&rt, rt.alloc(), &mut text)?;
-    same_text(text.as_str(), "5 0, 9 1, marks|marks|Undue|Stopped|")
+    same_text(text.as_str(), "5 0, 9 1, marks|marks|Unexpected|Stopped|")
 }

@@ -1,6 +1,6 @@
 use Rattle.std.proofs.Common.{sym, subst}
 use Rattle.copy_inbox.specs.Handles.{TakerView}
-use Rattle.mark_exchange.specs.Due.{position_of}
+use Rattle.mark_exchange.specs.Expected.{position_of}
 use Rattle.mark_exchange.specs.Marks.{Counts}
 use Rattle.mark_exchange.proofs.Counted.{takes_more}
 use Rattle.mark_exchange.proofs.take.take_waiting.Goals as goal

@@ -5,7 +5,7 @@ use Rattle.mote_net.specs.Net.{net_of}
 use Rattle.net_agenda.specs.NetSystem.{system_of}
 use Rattle.worker_window.specs.Share.{Motes, Keeps}
 use Rattle.worker_window.specs.Window.{IsOutgoing}
-use Rattle.worker_cut.specs.Crossed.{IsDue}
+use Rattle.worker_cut.specs.Crossed.{IsExpected}
 use Rattle.worker_window.proofs.Parts.{window_copies}
 use Rattle.worker_window.proofs.Comings.{Coming, IsFitOwn}
 use Rattle.worker_window.proofs.share.Share.run_window.Given as goal
@@ -19,7 +19,7 @@ invariant-loop-out g l = let n = net_of l.net in record {
   fits : AllByRecursion (IsFitOwn n l.of l.fn.self.worker l.until) l.outs.items;
   go_out : AllByRecursion (IsOutgoing n l.of l.fn.self.worker) l.outgoing.items;
   coming : (worker from : ℕ) (motes : Motes) (taken : List RadioCopy) (keeps : Keeps n l.of worker from motes taken l.fn.self) (le : from ≤ l.until) → l.until ≤ from + (system_of n).lookahead
-      → (come : AllByRecursion (IsDue l.of worker from) l.fn.arrived.items)
+      → (come : AllByRecursion (IsExpected l.of worker from) l.fn.arrived.items)
       → Coming n l.of worker from l.until motes (taken ++ l.fn.arrived.items) (window_copies n l.of worker from l.until motes taken l.fn.arrived.items l.fn.self keeps le come) l.self l.outs.items l.wakes.items l.outgoing.items;
 }
 

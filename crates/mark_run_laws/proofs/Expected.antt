@@ -1,4 +1,4 @@
--- Each copy that may be taken is due.
+-- Each copy that may be taken is expected.
 use Rattle.std.proofs.Common.{◌≡◌, ℕ, suc, ◌<◌, ◌≤◌, Bool, true, false, not, List, refl, ap, arith, suc-mul}
 use Rattle.radio_packet.specs.declared.copy.RadioCopy.{RadioCopy}
 use Rattle.mote_net.specs.Net.{NetTold}
@@ -10,12 +10,12 @@ use Rattle.all_workers.proofs.Step.{own_of}
 use Rattle.mark_laws.specs.State.{State}
 use Rattle.mark_laws.specs.Steps.{MayTake}
 use Rattle.mark_laws.specs.Laws.{IsReached}
-use Rattle.mark_laws.proofs.Late.{no_copy_is_undue as comes_later, each_taken_passes}
+use Rattle.mark_laws.proofs.Late.{no_copy_is_unexpected as comes_later, each_taken_passes}
 use Rattle.marked_workers.specs.Bounds.{bound}
 use Rattle.marked_workers.specs.WorkerHistory.{WorkerHistory}
 use Rattle.marked_workers.proofs.Pairs.{not_other}
 use Rattle.mark_run_laws.specs.Plan.{plan_of, RanWindow}
-use Rattle.mark_run_laws.specs.Laws.{NoCopyIsUndue}
+use Rattle.mark_run_laws.specs.Laws.{NoCopyIsUnexpected}
 
 bounds_rise : (width end k : ℕ) → bound width end k ≤ bound width end (suc k)
 bounds_rise width end k = let m = suc-mul k width in omega arith
@@ -51,8 +51,8 @@ module _ (n : NetTold) (of : List ℕ) (width windows workers : ℕ) (histories 
   sender : is_own of worker copy.sender ≡ false
   sender = not_true (is_own of worker copy.sender) passes_not
 
-pub no_copy_is_undue : NoCopyIsUndue
-no_copy_is_undue n of width windows workers histories w reached worker other ran copy may = record {
+pub no_copy_is_unexpected : NoCopyIsUnexpected
+no_copy_is_unexpected n of width windows workers histories w reached worker other ran copy may = record {
   to = to n of width windows workers histories w reached worker other ran copy may;
   sender = sender n of width windows workers histories w reached worker other ran copy may;
   later = later n of width windows workers histories w reached worker other ran copy may;

@@ -2,14 +2,14 @@
 use Rattle.std.specs.Prelude.{◌≡◌, ℕ, ◌<◌, List, [], ◌∷◌, ◌++◌}
 use Rattle.std.specs.List.{AllByRecursion as Each}
 use Rattle.radio_packet.specs.declared.copy.RadioCopy.{RadioCopy}
-use Rattle.worker_cut.specs.Crossed.{IsDue}
+use Rattle.worker_cut.specs.Crossed.{IsExpected}
 use Rattle.copy_inbox.specs.declared.items.Carried.TheVariants.{Packet}
 use Rattle.copy_inbox.specs.declared.items.Item.{Item}
 use Rattle.copy_inbox.specs.Items.{copies_of}
 use Rattle.copy_inbox.specs.Handles.{TakerView, after_taking}
 use Rattle.mark_exchange.specs.declared.take.MarkError.{MarkError}
 use Rattle.mark_exchange.specs.declared.take.Standing.{Standing}
-use Rattle.mark_exchange.specs.declared.take.MarkError.TheVariants.{Memory, Stopped, Undue}
+use Rattle.mark_exchange.specs.declared.take.MarkError.TheVariants.{Memory, Stopped, Unexpected}
 
 -- where a worker stands between two windows: the worker of each mote, which it is, and when its next window begins
 pub record Position : Type 0 where
@@ -23,35 +23,35 @@ position of worker from = record { of = of; worker = worker; from = from }
 abbrev pub position_of : Standing → Position
 position_of s = position s.of.now s.worker s.from
 
-abbrev pub IsDueAt : Position → RadioCopy → Type 0
-IsDueAt p copy = IsDue p.of p.worker p.from copy
+abbrev pub IsExpectedAt : Position → RadioCopy → Type 0
+IsExpectedAt p copy = IsExpected p.of p.worker p.from copy
 
--- the item is a copy that isn't due
-abbrev pub IsUndue : Position → Item → Type 0
-IsUndue p x = (copy : RadioCopy) × (x.what ≡ Packet copy) × (IsDueAt p copy → ⊥)
+-- the item is a copy that isn't expected
+abbrev pub IsUnexpected : Position → Item → Type 0
+IsUnexpected p x = (copy : RadioCopy) × (x.what ≡ Packet copy) × (IsExpectedAt p copy → ⊥)
 
--- why an item wasn't taken in: an allocation failed for a copy that is due, or the copy isn't due
+-- why an item wasn't taken in: an allocation failed for a copy that is expected, or the copy isn't expected
 abbrev pub Refuses : Position → Item → MarkError → Type 0
-Refuses p x Memory = Each (IsDueAt p) (copies_of (x ∷ []))
+Refuses p x Memory = Each (IsExpectedAt p) (copies_of (x ∷ []))
 Refuses p x Stopped = ⊥
-Refuses p x Undue = IsUndue p x
+Refuses p x Unexpected = IsUnexpected p x
 
--- the copy of the item, if there is one, was appended to the others, and is due
+-- the copy of the item, if there is one, was appended to the others, and is expected
 pub record AddsCopy (p : Position) (x : Item) (old new : List RadioCopy) : Type 0 where
   pub adds : new ≡ old ++ copies_of (x ∷ [])
-  pub due : Each (IsDueAt p) (copies_of (x ∷ []))
+  pub expected : Each (IsExpectedAt p) (copies_of (x ∷ []))
 
--- items of senders that the taker made were taken, these are their copies, in order, and each is due
-pub record TakesDue (p : Position) (old new : TakerView) (copies : List RadioCopy) : Type 0 where
+-- items of senders that the taker made were taken, these are their copies, in order, and each is expected
+pub record TakesExpected (p : Position) (old new : TakerView) (copies : List RadioCopy) : Type 0 where
   pub items : List Item
   pub made : Each (λ (x : Item). x.sender < old.state.made) items
   pub taker : new ≡ after_taking old items
   pub arrived : copies ≡ copies_of items
-  pub due : Each (IsDueAt p) copies
+  pub expected : Each (IsExpectedAt p) copies
 
--- the last of the items that were taken is a copy that isn't due
-pub record TakesUndue (p : Position) (old new : TakerView) : Type 0 where
+-- the last of the items that were taken is a copy that isn't expected
+pub record TakesUnexpected (p : Position) (old new : TakerView) : Type 0 where
   pub items : List Item
   pub last : Item
   pub taker : new ≡ after_taking old (items ++ last ∷ [])
-  pub undue : IsUndue p last
+  pub unexpected : IsUnexpected p last
