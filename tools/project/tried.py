@@ -1,19 +1,23 @@
-"""When each wrong body was last tried, and over which text of its crate: log/wrong_bodies.tsv.
+"""When each wrong body was last tried, and over which texts: log/wrong_bodies.tsv.
 
-tools/wrong_bodies notes what it tries. A line has the wrong body, the day, `refused` or `open`, and a digest of the
-crate and of the wrong body, by which it can be told whether either has changed since.
+tools/wrong_bodies notes what it tries. A line has the wrong body, the day, `refused` or `open`, and a digest of all that
+the answer rests on, by which it can be told whether any of that has changed since: the wrong body, its crate, the code
+and the definitions of the crates below, and the kit.
 """
 from __future__ import annotations
 
 import hashlib
 import time
-from collections.abc import Callable, Mapping
+from collections.abc import Callable, Iterable, Mapping
 from pathlib import Path
 from typing import NamedTuple
 
+from motesim.version import KIT
 from project.tree import PARTS, TOP
 
 KEPT = TOP / 'log/wrong_bodies.tsv'
+# What a crate's functions take of a crate below: its contracts, and the words in which they are said.
+SEEN_ABOVE = 'src', 'specs'
 
 
 class Tried(NamedTuple):
@@ -23,15 +27,17 @@ class Tried(NamedTuple):
     digest: str
 
 
-def digest(crate: Path, edit: Path) -> str:
-    """A digest of a crate's files and of a wrong body."""
+def digest(crate: Path, edit: Path, below: Iterable[Path] = ()) -> str:
+    """A digest of a wrong body, of its crate's files, of those of the crates below, and of the kit."""
     found = hashlib.sha256(edit.read_bytes())
-    for part in PARTS:
-        for path in sorted((crate / part).rglob('*')):
-            if path.is_file():
-                data = path.read_bytes()
-                found.update(b'%s %d\n' % (str(path.relative_to(crate)).encode(), len(data)))
-                found.update(data)
+    found.update(KIT.encode())
+    for folder, parts in [(crate, PARTS), *((it, SEEN_ABOVE) for it in sorted(below))]:
+        for part in parts:
+            for path in sorted((folder / part).rglob('*')):
+                if path.is_file():
+                    data = path.read_bytes()
+                    found.update(b'%s %d\n' % (str(path.relative_to(folder.parent)).encode(), len(data)))
+                    found.update(data)
     return found.hexdigest()[:16]
 
 
@@ -60,9 +66,15 @@ def note(answers: Mapping[str, tuple[bool, str]], is_known: Callable[[str], bool
     KEPT.write_text('# written by tools/wrong_bodies: wrong body, day, answer, digest\n' + ''.join(rows), 'utf-8')
 
 
+def refused(names: Mapping[str, str]) -> set[str]:
+    """Those of these wrong bodies, which come with their digests of now, that are noted as refused over the same."""
+    kept = noted()
+    return {name for name, now in names.items() if name in kept and kept[name].is_refused and kept[name].digest == now}
+
+
 def told(names: Mapping[str, str]) -> list[str]:
     """A line for each of these wrong bodies, which come with their digests of now, and one that counts them."""
-    kept, lines, counts = noted(), [], {'as it is': 0, 'before': 0, 'never': 0}
+    kept, lines, counts = noted(), [], {'as they are': 0, 'before': 0, 'never': 0}
     for name, now in names.items():
         it = kept.get(name)
         if it is None:
@@ -70,9 +82,9 @@ def told(names: Mapping[str, str]) -> list[str]:
         else:
             is_same = it.digest == now
             said = '%s  %s%s' % (it.day, 'refused' if it.is_refused else 'NOT REFUSED',
-                                 '' if is_same else ', over an earlier text of the crate')
-            key = 'as it is' if is_same else 'before'
+                                 '' if is_same else ', over earlier texts')
+            key = 'as they are' if is_same else 'before'
         counts[key] += 1
         lines.append('%-55s %s' % (name, said))
-    return lines + ['%d wrong bodies: %d tried over the crate as it is, %d over an earlier text, %d not noted' % (
-        len(names), counts['as it is'], counts['before'], counts['never'])]
+    return lines + ['%d wrong bodies: %d tried over the texts as they are, %d over earlier texts, %d not noted' % (
+        len(names), counts['as they are'], counts['before'], counts['never'])]

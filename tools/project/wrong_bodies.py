@@ -14,9 +14,10 @@ FUNCTION`, which names the function to look at.
 
 The libraries below are those that lie in crates/*/out; what is missing or older than its sources is built first. With
 --built they are taken as they lie there: rt ci has just built them, or taken them from what it keeps on this machine,
-whose files are older than a fresh clone's sources. What is tried is noted in log/wrong_bodies.tsv. As many checks run
-side by side as there are processors and memory, or as RT_JOBS says. The last line is `N passed, M failed`, and the
-status 1 where one failed.
+whose files are older than a fresh clone's sources. What is tried is noted in log/wrong_bodies.tsv, with a digest of all
+that the answer rests on; --changed leaves out those that are noted there as refused over the very same, as a second try
+could only answer the same. As many checks run side by side as there are processors and memory, or as RT_JOBS says. The
+last line is `N passed, M failed`, and the status 1 where one failed.
 """
 from __future__ import annotations
 
@@ -46,6 +47,8 @@ def words() -> argparse.Namespace:
     asked.add_argument('--folder', choices=FOLDERS, help='those of this folder alone; without it, of all three')
     asked.add_argument('--built', action='store_true',
                        help='take the libraries as rt ci has left them, and build none')
+    asked.add_argument('--changed', action='store_true',
+                       help='leave out what log/wrong_bodies.tsv notes as refused, where nothing has changed since')
     asked.add_argument('names', nargs='*', metavar='CRATE or CRATE/NAME',
                        help='crates, or single wrong bodies; without them, all')
     return asked.parse_args()
@@ -80,8 +83,17 @@ def label(bodies: Bodies, edit: Edit) -> str:
 
 def digests(of_crates: Sequence[Bodies]) -> dict[str, str]:
     """Of each wrong body that can be applied a digest of what it is tried over."""
-    return {label(bodies, edit): tried.digest(Path(bodies.crate.folder), Path(edit.file))
+    return {label(bodies, edit): tried.digest(Path(bodies.crate.folder), Path(edit.file),
+                                              [Path(it.folder) for it in bodies.crate.below()])
             for bodies in of_crates for edit in bodies.edits if not edit.trouble}
+
+
+def changed(of_crates: Sequence[Bodies], folders: Sequence[str]) -> list[Bodies]:
+    """Those of these wrong bodies that aren't noted as refused over the texts as they are."""
+    known = tried.refused(digests(of_crates))
+    print('%d were refused before, and nothing has changed since (log/wrong_bodies.tsv)' % len(known), flush=True)
+    left = [(bodies.crate, [edit.name for edit in bodies.edits if label(bodies, edit) not in known]) for bodies in of_crates]
+    return [Bodies(crate, folders, names) for crate, names in left if names]
 
 
 def list_groups(of_crates: Sequence[Bodies]) -> None:
@@ -147,7 +159,10 @@ def main() -> int:
     os.chdir(TOP)
     kit.without_c()
     kit.guarded()
-    of_crates = bodies_asked_for(asked.names, [asked.folder] if asked.folder else FOLDERS)
+    folders = [asked.folder] if asked.folder else FOLDERS
+    of_crates = bodies_asked_for(asked.names, folders)
+    if asked.changed:
+        of_crates = changed(of_crates, folders)
     if asked.list:
         list_groups(of_crates)
         return 0

@@ -38,9 +38,29 @@ class Tried(unittest.TestCase):
         self.note({'low/a': (True, '1'), 'low/b': (False, '1')})
         lines = tried.told({'low/a': '1', 'low/b': '2', 'low/c': '3'})
         self.assertRegex(lines[0], r'^low/a +\d{4}-\d\d-\d\d  refused$')
-        self.assertRegex(lines[1], r'^low/b +\S+  NOT REFUSED, over an earlier text of the crate$')
+        self.assertRegex(lines[1], r'^low/b +\S+  NOT REFUSED, over earlier texts$')
         self.assertRegex(lines[2], r'^low/c +not noted$')
-        self.assertEqual(lines[3], '3 wrong bodies: 1 tried over the crate as it is, 1 over an earlier text, 1 not noted')
+        self.assertEqual(lines[3], '3 wrong bodies: 1 tried over the texts as they are, 1 over earlier texts, 1 not noted')
+
+    def test_what_was_refused_over_the_same_is_known(self):
+        self.note({'low/a': (True, '1'), 'low/b': (True, '1'), 'low/c': (False, '1')})
+        self.assertEqual(tried.refused({'low/a': '1', 'low/b': '2', 'low/c': '1', 'low/d': '1'}), {'low/a'})
+
+    def test_a_digest_has_what_is_seen_of_crates_below(self):
+        crate, below, edit = self.room / 'high', self.room / 'low', self.room / 'a.edit'
+        for part in 'src', 'specs', 'proofs':
+            (below / part).mkdir(parents=True)
+        edit.write_text('file: src/lib.rt\n')
+        sums = [tried.digest(crate, edit, [below])]
+        (below / 'proofs/Lib.antt').write_text('pub mod Laws\n')
+        self.assertEqual(tried.digest(crate, edit, [below]), sums[0])
+        (below / 'specs/Lib.antt').write_text('pub mod Words\n')
+        sums.append(tried.digest(crate, edit, [below]))
+        (below / 'src/lib.rt').write_text('fn a() {}\n')
+        sums.append(tried.digest(crate, edit, [below]))
+        with mock.patch.object(tried, 'KIT', 'another'):
+            sums.append(tried.digest(crate, edit, [below]))
+        self.assertEqual(len(set(sums)), 4)
 
     def test_a_digest_has_all_that_is_read(self):
         crate, edit = self.room / 'low', self.room / 'a.edit'
