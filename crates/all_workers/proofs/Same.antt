@@ -8,7 +8,7 @@ use Rattle.mote_node.specs.Wake.{wake_of}
 use Rattle.radio_packet.specs.declared.copy.RadioCopy.{RadioCopy}
 use Rattle.mote_net.specs.Net.{NetTold}
 use Rattle.window_laws.specs.Agenda.{Item, wake_items}
-use Rattle.window_laws.specs.Windows.{WakesFrom, copies_by}
+use Rattle.window_laws.specs.Windows.{NoneBefore, copies_by}
 use Rattle.net_agenda.specs.NetSystem.{system_of}
 use Rattle.worker_window.specs.declared.share.Share.{Share}
 use Rattle.worker_cut.specs.Crossed.{is_own, copies_seen}
@@ -35,7 +35,7 @@ module _ (n : NetTold) (of : List ℕ) (worker : ℕ) (a b : Motes) (same : (k :
     numbers = λ k m. subst (λ x. number_of x.state ≡ k) (same k m) (h.numbers k m);
     nodes = λ k m. h.nodes k m ∙ ap (λ x. Some x.state) (same k m);
     wakes = λ k m. subst (λ x. x.wake ≡ wake_of x.state) (same k m) (h.wakes k m);
-    quiet = λ k m. subst (λ x. WakesFrom from x.wake) (same k m) (h.quiet k m);
+    quiet = λ k m. subst (λ x. NoneBefore from x.wake) (same k m) (h.quiet k m);
     turned_before = λ k m. subst (λ x. is_past from x.state.last ≡ false) (same k m) (h.turned_before k m);
     traces_kept = h.traces_kept;
     traces = λ k m d. h.traces k m d ∙ ap (λ x. x.lines) (same k m);

@@ -11,12 +11,12 @@ use Rattle.window_laws.specs.Windows.{Alone, first_mote, Windows, RunsAlone, cop
 use Rattle.window_laws.proofs.Lists.{filter_filter, filter_none, every_weaker}
 use Rattle.window_laws.proofs.History.{history, unseen_since}
 use Rattle.net_agenda.specs.NetSystem.{system_of}
-use Rattle.worker_cut.specs.Crossed.{is_own, is_to, crossed, is_outgoing}
+use Rattle.worker_cut.specs.Crossed.{is_own, is_to, crossed, is_for_others}
 use Rattle.worker_cut.specs.Laws.{GatheredCopies}
 use Rattle.worker_cut.proofs.Crossed.{given_is, crossed_next}
 use Rattle.worker_cut.proofs.Windows.{one_more, same_copies}
 use Rattle.worker_window.specs.Share.{Motes}
-use Rattle.worker_window.specs.Window.{RunsOwn, IsOutgoing, outgoing_by}
+use Rattle.worker_window.specs.Window.{RunsOwnMote, IsOutgoing, outgoing_by}
 use Rattle.all_workers.specs.Workers.{IsCut}
 use Rattle.all_workers.proofs.Same.{own_copies_same}
 use Rattle.all_workers.proofs.Sent.{every_of_each}
@@ -56,7 +56,7 @@ module _ (n : NetTold) (fine : RunsForward (system_of n)) (of : List ℕ) (worke
     (taken gathered : ℕ → List RadioCopy) (outgoing : ℕ → List RadioCopy) (nexts : ℕ → Motes)
     (told : (v : ℕ) → v < workers → GatheredCopies (system_of n) of motes v (gathered v))
     (took : (v : ℕ) → v < workers → (s : ℕ) → filter (is_from_sender s) (taken v) ≡ filter (is_from_sender s) (gathered v))
-    (runs : (v : ℕ) → v < workers → (k : ℕ) → is_own of v k ≡ true → RunsOwn n (is_own of v) from until motes (nexts v) (taken v) k)
+    (runs : (v : ℕ) → v < workers → (k : ℕ) → is_own of v k ≡ true → RunsOwnMote n (is_own of v) from until motes (nexts v) (taken v) k)
     (out : (v : ℕ) → v < workers → (s : ℕ) → outgoing_by n (is_own of v) (nexts v) s ≡ outgoing_by n (is_own of v) motes s ++ filter (is_from_sender s) (outgoing v))
     (goes : (v : ℕ) → v < workers → Each (IsOutgoing n of v) (outgoing v)) where
   -- all motes after the window
@@ -89,9 +89,9 @@ module _ (n : NetTold) (fine : RunsForward (system_of n)) (of : List ℕ) (worke
 
   -- what went to one other worker was for one of its motes
   out_copies : (u : ℕ) → u < workers → (s : ℕ) → is_own of u s ≡ true
-      → filter (is_outgoing (is_own of u)) (copies_by (system_of n) next s) ≡ filter (is_outgoing (is_own of u)) (copies_by (system_of n) motes s) ++ filter (is_from_sender s) (outgoing u)
+      → filter (is_for_others (is_own of u)) (copies_by (system_of n) next s) ≡ filter (is_for_others (is_own of u)) (copies_by (system_of n) motes s) ++ filter (is_from_sender s) (outgoing u)
   out_copies u h s e =
-      ap (filter (is_outgoing (is_own of u))) (sym (own_copies_same n of u (nexts u) next (λ k m. next_is u k m) s e))
+      ap (filter (is_for_others (is_own of u))) (sym (own_copies_same n of u (nexts u) next (λ k m. next_is u k m) s e))
       ∙ (let o = out u h s in rw e at o)
 
   not_own : (u : ℕ) → u < workers → (s : ℕ) → is_own of u s ≡ false → filter (is_from_sender s) (outgoing u) ≡ []
@@ -157,8 +157,8 @@ module _ (n : NetTold) (fine : RunsForward (system_of n)) (of : List ℕ) (worke
       of_sender : (s : ℕ) → (is_own of v s ≡ true) ⊎ (is_own of v s ≡ false) → Each (λ (copy : RadioCopy). until ≤ copy.at) (filter (is_from_sender s) (outgoing v))
       of_sender s (inr e) = subst (Each (λ (copy : RadioCopy). until ≤ copy.at)) (sym (not_own v h s e)) tt
       of_sender s (inl e) = none_early until (filter (is_from_sender s) (outgoing v)) (cancelled _ _ (
-          sym (filter-append (λ (copy : RadioCopy). ltb copy.at until) (filter (is_outgoing (is_own of v)) (copies_by (system_of n) motes s)) (filter (is_from_sender s) (outgoing v)))
+          sym (filter-append (λ (copy : RadioCopy). ltb copy.at until) (filter (is_for_others (is_own of v)) (copies_by (system_of n) motes s)) (filter (is_from_sender s) (outgoing v)))
           ∙ (ap (filter (λ (copy : RadioCopy). ltb copy.at until)) (sym (out_copies v h s e))
-          ∙ (filter_filter (λ (copy : RadioCopy). ltb copy.at until) (is_outgoing (is_own of v)) (copies_by (system_of n) next s)
-          ∙ (ap (filter (is_outgoing (is_own of v))) (same_early s)
-          ∙ filter_filter (is_outgoing (is_own of v)) (λ (copy : RadioCopy). ltb copy.at until) (copies_by (system_of n) motes s))))))
+          ∙ (filter_filter (λ (copy : RadioCopy). ltb copy.at until) (is_for_others (is_own of v)) (copies_by (system_of n) next s)
+          ∙ (ap (filter (is_for_others (is_own of v))) (same_early s)
+          ∙ filter_filter (is_for_others (is_own of v)) (λ (copy : RadioCopy). ltb copy.at until) (copies_by (system_of n) motes s))))))

@@ -10,7 +10,7 @@ use Rattle.mote_net.specs.Net.{NetTold}
 use Rattle.window_laws.specs.Agenda.{up_to}
 use Rattle.window_laws.specs.Pending.{comes_from}
 use Rattle.window_laws.specs.System.{RunsForward}
-use Rattle.window_laws.specs.Windows.{first_mote, Windows, WakesFrom, copies_by, is_from_sender}
+use Rattle.window_laws.specs.Windows.{first_mote, Windows, NoneBefore, copies_by, is_from_sender}
 use Rattle.window_laws.proofs.Alone.{from_pieces}
 use Rattle.window_laws.proofs.Lists.{filter_filter, filter_both, filter_every, every_passes, every_weaker}
 use Rattle.window_laws.proofs.Order.{in_order_same, sorted_permutes}
@@ -24,7 +24,7 @@ use Rattle.worker_window.specs.Share.{Motes, is_to_come}
 use Rattle.all_workers.specs.Workers.{IsWorkerAt}
 use Rattle.all_workers.specs.Workers.{IsNotBefore}
 
-not_before : (from : ℕ) (first : Option ℕ) (c : RadioCopy) → WakesFrom from first → IsNotBefore first c → from ≤ c.at
+not_before : (from : ℕ) (first : Option ℕ) (c : RadioCopy) → NoneBefore from first → IsNotBefore first c → from ≤ c.at
 not_before from None c w h = absurd h
 not_before from (Some m) c w h = omega arith
 
@@ -45,7 +45,7 @@ same_copies xs ys h =
     IsPermutation-trans _ _ _ (sorted_permutes (λ copy. copy.sender) (λ copy. copy.number) xs)
     (subst (λ l. IsPermutation l ys) (sym (in_order_same xs ys h)) (IsPermutation-sym _ _ (sorted_permutes (λ copy. copy.sender) (λ copy. copy.number) ys)))
 
-module _ (n : NetTold) (fine : RunsForward (system_of n)) (of : List ℕ) (from : ℕ) (motes : Motes) (led : Windows (system_of n) 0 from (first_mote (system_of n)) motes) (first : Option ℕ) (starts : WakesFrom from first)
+module _ (n : NetTold) (fine : RunsForward (system_of n)) (of : List ℕ) (from : ℕ) (motes : Motes) (led : Windows (system_of n) 0 from (first_mote (system_of n)) motes) (first : Option ℕ) (starts : NoneBefore from first)
     (v : ℕ) (share : Share) (taker : TakerView) (here : IsWorkerAt n of from motes first v share taker) where
   -- of one sender, what lies in the inbox
   abbrev rest_of : ℕ → List RadioCopy

@@ -3,7 +3,7 @@ use Rattle.std.specs.Prelude.{ℕ, ◌≡◌, ◌<◌, ◌≤◌, ◌++◌, List
 use Rattle.std.specs.List.{filter, AllByRecursion as Each}
 use Rattle.radio_packet.specs.declared.copy.RadioCopy.{RadioCopy}
 use Rattle.mote_net.specs.Net.{NetTold}
-use Rattle.window_laws.specs.Windows.{first_mote, Windows, WakesFrom, is_from_sender}
+use Rattle.window_laws.specs.Windows.{first_mote, Windows, NoneBefore, is_from_sender}
 use Rattle.net_agenda.specs.NetSystem.{system_of}
 use Rattle.worker_cut.specs.Laws.{GatheredCopies}
 use Rattle.copy_inbox.specs.Handles.{TakerView}
@@ -45,7 +45,7 @@ pub record IsAt (n : NetTold) (of : List ℕ) (from : ℕ) (group : Workers) : T
   pub cut : IsCut (length n.motes) (length group.inboxes.items) of
   pub shares : length group.shares.items ≡ length group.inboxes.items
   pub settled : Settled group.inboxes.items group.takers.items
-  pub first : WakesFrom from group.first_out
+  pub first : NoneBefore from group.first_out
   pub each : (worker : ℕ) → worker < length group.inboxes.items → (share : Share) (taker : TakerView)
       → IsWorkerAt n of from motes group.first_out worker
       (slice_index_or group.shares.items worker share) (slice_index_or group.takers.items worker taker)

@@ -1,4 +1,4 @@
--- What goes through workers' endpoints in one window.
+-- What goes through workers' endpoints.
 use Rattle.std.specs.Prelude.{◌≡◌, ℕ, ◌+◌, ◌<◌, ◌≤◌, ◌==◌, Bool, true, false, List, [], ◌∷◌, ◌++◌, length, map, filter}
 use Rattle.std.specs.Prelude.{slice_get, slice_index, slice_index_or, Option, Some, None}
 use Rattle.std.specs.List.{AllByRecursion as Each, AllZip, filter_map, flat_map, range_with_len}
@@ -23,7 +23,7 @@ abbrev pub pushed_by : Option SenderView → List RadioCopy
 pushed_by None = []
 pushed_by (Some s) = copies_in s.state.pushed
 
--- what it delivered to worker v in this window
+-- the copies that it delivered to worker v
 abbrev pub delivered : Endpoint → (v : ℕ) → List RadioCopy
 delivered e v = pushed_by (sender_to e v)
 
@@ -53,7 +53,7 @@ HasMarks e = (v : ℕ) (s : SenderView) → sender_to e v ≡ Some s → s.state
 abbrev pub HasPushedNothing : Endpoint → Type 0
 HasPushedNothing e = (v : ℕ) → pushed_to e v ≡ []
 
--- its taker and its senders are those of these inboxes
+-- its taker is that of its own worker's inbox; it has a sender on each other inbox, and none on its own
 pub record IsOnInboxes (inboxes : List InboxId) (e : Endpoint) : Type 0 where
   pub taker : slice_get inboxes e.worker ≡ Some e.taker.inbox
   pub count : length e.senders.items ≡ length inboxes

@@ -58,9 +58,9 @@ after_taking t xs = record {
 abbrev pub TakesCopies : TakerView → TakerView → List RadioCopy → Type 0
 TakesCopies old new copies = (items : List Item) × ArePackets items copies × (new ≡ after_taking old items)
 
--- `n` items are all that is known, and no sender that isn't gathered can stand before them
-abbrev pub TakesAllKnown : TakerState → ℕ → Type 0
-TakesAllKnown d n = (n ≡ known_of d.gathered d.taken) × Later d.made d.gathered
+-- so many items are known, and no item of a sender that isn't gathered can stand before one of them
+abbrev pub IsAllKnown : TakerState → ℕ → Type 0
+IsAllKnown state n = (n ≡ known_of state.gathered state.taken) × Later state.made state.gathered
 
 -- each sender that was made is gathered
 abbrev pub AllGathered : TakerState → Type 0
@@ -131,5 +131,5 @@ pub record IsNextTaken (d : TakerState) (x : Item) : Type 0 where
       ≡ cond (is_gathered d.gathered x.sender) 1 0 + known_of d.gathered (d.taken ++ x ∷ [])
   -- it is a packet where nothing else can come, and then nothing else comes after it
   pub packet : TakesPackets d → (is_packet x.what ≡ true) × TakesPackets (state_with d x)
-  -- its sender was gathered where something is known and no sender that isn't gathered can stand before that
+  -- its sender was gathered where something is known and no item of a sender that isn't gathered can stand before that
   pub first : Later d.made d.gathered → 0 < known_of d.gathered d.taken → is_gathered d.gathered x.sender ≡ true

@@ -9,7 +9,7 @@ ghost use Rattle.copy_inbox.specs.Gathered.{known_of, TookFronts, Whole, NoOther
 ghost use Rattle.copy_inbox.specs.Views.{make_taker_state, make_sender_state};
 ghost use Rattle.copy_inbox.specs.Handles.{InboxId, TakerView, SenderView, after_sender, after_pushing, after_gather};
 ghost use Rattle.copy_inbox.specs.Handles.{after_taking, TakesCopies, Empties, AllGathered, NoMarkLeft, TakesPackets};
-ghost use Rattle.copy_inbox.specs.Handles.{taker_state_in, sender_state_in, IsSender, IsNextTaken, TakesAllKnown};
+ghost use Rattle.copy_inbox.specs.Handles.{taker_state_in, sender_state_in, IsSender, IsNextTaken, IsAllKnown};
 ghost use Rattle.copy_inbox.specs.Kept.{KeepsCounts};
 
 use crate::count::{Count, count_taken, forget_first};
@@ -335,13 +335,13 @@ impl Inbox {
         ensures begun { OnOk result (TookFronts taker.new.state.gathered taker.new.state.taken) }
         ensures made { OnOk result (OfMade taker.new.state.made taker.new.state.taken) }
 
-        // All that is known, where no sender that isn't gathered can stand before it.
+        // All that is known, where no item of a sender that isn't gathered can stand before it.
         ensures whole { OnOk result
-            (TakesAllKnown taker.old.state n → Whole taker.new.state.gathered taker.new.state.taken) }
+            (IsAllKnown taker.old.state n → Whole taker.new.state.gathered taker.new.state.taken) }
 
         // And then it is of gathered senders alone.
         ensures others { OnOk result
-            (TakesAllKnown taker.old.state n
+            (IsAllKnown taker.old.state n
             → NoOthers taker.old.state.gathered taker.old.state.taken taker.new.state.taken) }
 
         ensures refused { OnErr result (taker.new ≡ taker.old) }
@@ -364,9 +364,9 @@ impl Inbox {
         ensures begun { OnOk result (TookFronts taker.new.state.gathered taker.new.state.taken) }
         ensures made { OnOk result (OfMade taker.new.state.made taker.new.state.taken) }
         ensures whole { OnOk result
-            (TakesAllKnown taker.old.state n → Whole taker.new.state.gathered taker.new.state.taken) }
+            (IsAllKnown taker.old.state n → Whole taker.new.state.gathered taker.new.state.taken) }
         ensures others { OnOk result
-            (TakesAllKnown taker.old.state n
+            (IsAllKnown taker.old.state n
             → NoOthers taker.old.state.gathered taker.old.state.taken taker.new.state.taken) }
         ensures refused { OnErr result (taker.new ≡ taker.old) }
     {

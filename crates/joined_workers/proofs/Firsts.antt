@@ -6,7 +6,7 @@ use Rattle.radio_packet.specs.declared.copy.RadioCopy.{RadioCopy}
 use Rattle.window_laws.proofs.Lists.{every_append, every_weaker}
 use Rattle.joined_workers.specs.Worker.{IsFirstOf}
 use Rattle.all_workers.specs.Workers.{IsNotBefore}
-use Rattle.window_laws.specs.Windows.{WakesFrom}
+use Rattle.window_laws.specs.Windows.{NoneBefore}
 
 nothing_before : (xs : List RadioCopy) (first result : Option ℕ) → ((copy : RadioCopy) → IsNotBefore first copy → IsNotBefore result copy) → AllByRecursion (IsNotBefore first) xs → AllByRecursion (IsNotBefore result) xs
 nothing_before xs first result f h = every_weaker _ _ f xs h
@@ -17,7 +17,7 @@ front_of P (x ∷ xs) c h = let g = front_of P xs c h.1 in ((h.0, g.0), g.1)
 
 pub first_more : (xs : List RadioCopy) (c : RadioCopy) (first result : Option ℕ) → IsFirstOf xs first
     → ((copy : RadioCopy) → IsNotBefore (Some c.at) copy → IsNotBefore result copy) → ((copy : RadioCopy) → IsNotBefore first copy → IsNotBefore result copy)
-    → ((moment : ℕ) → WakesFrom moment (Some c.at) → WakesFrom moment first → WakesFrom moment result) → IsFirstOf (xs ++ c ∷ []) result
+    → ((moment : ℕ) → NoneBefore moment (Some c.at) → NoneBefore moment first → NoneBefore moment result) → IsFirstOf (xs ++ c ∷ []) result
 first_more xs c first result h one other greatest = record {
   none_before = every_append _ xs (c ∷ []) (nothing_before xs first result other h.none_before) (one c (omega arith), tt);
   greatest = λ m g. let f = front_of _ xs c g in greatest m f.1 (h.greatest m f.0);

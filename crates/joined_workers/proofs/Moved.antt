@@ -18,7 +18,7 @@ use Rattle.worker_cut.specs.Crossed.{is_own, is_to}
 use Rattle.worker_cut.specs.Laws.{GatheredCopies}
 use Rattle.worker_window.specs.declared.share.Share.{Share}
 use Rattle.worker_window.specs.Share.{Motes, Keeps}
-use Rattle.worker_window.specs.Window.{RunsOwn, IsOutgoing, outgoing_by}
+use Rattle.worker_window.specs.Window.{RunsOwnMote, IsOutgoing, outgoing_by}
 use Rattle.all_workers.specs.declared.workers.Workers.{Workers}
 use Rattle.all_workers.specs.declared.worker.Worker.{Worker}
 use Rattle.all_workers.specs.Workers.{IsAt, IsWorkerAt}
@@ -47,7 +47,7 @@ module _ (n : NetTold) (fine : RunsForward (system_of n)) (of : List ℕ) (from 
   record IsPart (v : ℕ) (z : Told) : Type 0 where
     told : GatheredCopies (system_of n) of at.motes v z.gathered
     took : (s : ℕ) → filter (is_from_sender s) z.taken ≡ filter (is_from_sender s) z.gathered
-    runs : (k : ℕ) → is_own of v k ≡ true → RunsOwn n (is_own of v) from until at.motes z.next z.taken k
+    runs : (k : ℕ) → is_own of v k ≡ true → RunsOwnMote n (is_own of v) from until at.motes z.next z.taken k
     out : (s : ℕ) → outgoing_by n (is_own of v) z.next s ≡ outgoing_by n (is_own of v) at.motes s ++ filter (is_from_sender s) z.outgoing
     goes : Each (IsOutgoing n of v) z.outgoing
     first : (d : Worker) → slice_get all.done v ≡ Some d → IsFirstOf z.outgoing d.first_out
@@ -118,7 +118,7 @@ module _ (n : NetTold) (fine : RunsForward (system_of n)) (of : List ℕ) (from 
   unfolding taken gathered
   took v h = (is_part v h).took
 
-  runs : (v : ℕ) → v < workers → (k : ℕ) → is_own of v k ≡ true → RunsOwn n (is_own of v) from until at.motes (nexts v) (taken v) k
+  runs : (v : ℕ) → v < workers → (k : ℕ) → is_own of v k ≡ true → RunsOwnMote n (is_own of v) from until at.motes (nexts v) (taken v) k
   unfolding nexts taken
   runs v h = (is_part v h).runs
 

@@ -5,7 +5,7 @@ use Rattle.std.proofs.lemmas.List.Elements.{filter-append}
 use Rattle.std.proofs.lemmas.List.FromFn.{get_or-range_with_len}
 use Rattle.radio_packet.specs.declared.copy.RadioCopy.{RadioCopy}
 use Rattle.mote_net.specs.Net.{NetTold}
-use Rattle.window_laws.specs.Windows.{WakesFrom, is_from_sender}
+use Rattle.window_laws.specs.Windows.{NoneBefore, is_from_sender}
 use Rattle.window_laws.proofs.Lists.{every_weaker, every_both}
 use Rattle.copy_inbox.specs.Items.{copies_of}
 use Rattle.copy_inbox.specs.Handles.{TakerView}
@@ -31,12 +31,12 @@ goes_on : (xs ys zs : List RadioCopy) → xs ++ ys ≡ xs ++ zs → ys ≡ zs
 goes_on [] ys zs e = e
 goes_on (x ∷ xs) ys zs e = goes_on xs ys zs (cc)
 
-not_before : (from : ℕ) (first : Option ℕ) (c : RadioCopy) → WakesFrom from first → IsNotBefore first c → from ≤ c.at
+not_before : (from : ℕ) (first : Option ℕ) (c : RadioCopy) → NoneBefore from first → IsNotBefore first c → from ≤ c.at
 not_before from None c w h = absurd h
 not_before from (Some m) c w h = omega arith
 
 -- what a worker takes in at the start of a window is what waited in its inbox
-module _ (n : NetTold) (of : List ℕ) (from : ℕ) (motes : Motes) (first : Option ℕ) (v : ℕ) (share : Share) (taker : TakerView) (here : IsWorkerAt n of from motes first v share taker) (first_from : WakesFrom from first)
+module _ (n : NetTold) (of : List ℕ) (from : ℕ) (motes : Motes) (first : Option ℕ) (v : ℕ) (share : Share) (taker : TakerView) (here : IsWorkerAt n of from motes first v share taker) (first_from : NoneBefore from first)
     (endpoint : Endpoint) (starts : StartsAs taker endpoint) (between : Endpoint) (arrived : List RadioCopy) (collects : Collects endpoint between arrived) where
   gathered_same : gathered_by endpoint.taker ≡ gathered_by taker
   gathered_same = ap copies_gathered starts.same_gathered
@@ -83,7 +83,7 @@ module _ (n : NetTold) (of : List ℕ) (from until : ℕ) (old : Workers) (at : 
           taken = taken_by t.0;
           keeps = here.keeps;
           order = up;
-          come = arrived_come n of from at.motes old.first_out v s t.0 here at.first c set between arrived collects;
+          expected = arrived_come n of from at.motes old.first_out v s t.0 here at.first c set between arrived collects;
         };
         same = here.keeps.is_worker ∙ sym number;
         plain = set.same_marked ∙ each_at IsPlain old.takers.items v t.0 plain t.1;

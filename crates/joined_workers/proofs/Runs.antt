@@ -3,18 +3,18 @@ use Rattle.std.proofs.Common.{ℕ, ◌≡◌, ◌+◌, ◌≤◌, List, Option, 
 use Rattle.std.proofs.Math.Nat.{le-min, min-le_left}
 use Rattle.mote_net.specs.Net.{NetTold}
 use Rattle.window_laws.specs.System.{RunsForward}
-use Rattle.window_laws.specs.Windows.{WakesFrom}
+use Rattle.window_laws.specs.Windows.{NoneBefore}
 use Rattle.net_agenda.specs.NetSystem.{system_of}
 use Rattle.all_workers.specs.declared.workers.Workers.{Workers}
 use Rattle.all_workers.specs.Workers.{IsAt}
 use Rattle.joined_workers.specs.Run.{BeginsAt, start_of_window}
 use Rattle.joined_workers.proofs.Stands.{comes_no_sooner, stands}
 
-no_sooner : (reached end : ℕ) (next : Option ℕ) → WakesFrom reached next → reached ≤ end + 1 → reached ≤ start_of_window end next
+no_sooner : (reached end : ℕ) (next : Option ℕ) → NoneBefore reached next → reached ≤ end + 1 → reached ≤ start_of_window end next
 no_sooner reached end None wakes low = low
 no_sooner reached end (Some moment) wakes low = le-min wakes low
 
-quiet : (end : ℕ) (next : Option ℕ) → WakesFrom (start_of_window end next) next
+quiet : (end : ℕ) (next : Option ℕ) → NoneBefore (start_of_window end next) next
 quiet end None = tt
 quiet end (Some moment) = min-le_left moment (end + 1)
 
@@ -23,7 +23,7 @@ module _ (n : NetTold) (of : List ℕ) (reached end : ℕ) (group : Workers) (fr
   begins_later = subst (λ m. reached ≤ m) (sym begins.start) (no_sooner reached end begins.next (comes_no_sooner n of reached group begins.next at begins.is) low)
 
   pub stands_there : RunsForward (system_of n) → IsAt n of from group
-  stands_there fine = stands n fine of reached from group begins.next at begins.is begins_later (subst (λ m. WakesFrom m begins.next) (sym begins.start) (quiet end begins.next))
+  stands_there fine = stands n fine of reached from group begins.next at begins.is begins_later (subst (λ m. NoneBefore m begins.next) (sym begins.start) (quiet end begins.next))
 
 pub short_enough : (from width lookahead told until : ℕ) → until ≤ from + width → width ≤ lookahead → lookahead ≡ told → until ≤ from + told
 short_enough from width lookahead told until short within value = omega arith

@@ -5,7 +5,7 @@ use Rattle.std.proofs.lemmas.Bool.{cases_Bool, le-ltb}
 use Rattle.radio_packet.specs.declared.copy.RadioCopy.{RadioCopy}
 use Rattle.mote_net.specs.Net.{NetTold}
 use Rattle.window_laws.specs.System.{RunsForward}
-use Rattle.window_laws.specs.Windows.{WakesFrom, copies_by}
+use Rattle.window_laws.specs.Windows.{NoneBefore, copies_by}
 use Rattle.window_laws.proofs.Lists.{every_append, every_weaker}
 use Rattle.net_agenda.specs.NetSystem.{system_of}
 use Rattle.copy_inbox.specs.Handles.{TakerView}
@@ -22,7 +22,7 @@ use Rattle.all_workers.specs.Workers.{IsNotBefore}
 use Rattle.all_workers.proofs.Lookups.{there, read, inside, as_long, each_at, each_from}
 use Rattle.all_workers.proofs.Step.{own_by, some_worker}
 
-not_sooner : (moment : ℕ) (first : Option ℕ) (c : RadioCopy) → WakesFrom moment first → IsNotBefore first c → moment ≤ c.at
+not_sooner : (moment : ℕ) (first : Option ℕ) (c : RadioCopy) → NoneBefore moment first → IsNotBefore first c → moment ≤ c.at
 not_sooner moment None c w h = absurd h
 not_sooner moment (Some m) c w h = omega arith
 
@@ -55,7 +55,7 @@ by_some : (workers : ℕ) (A : ℕ → RadioCopy → Type 0) (Q : RadioCopy → 
 by_some workers A Q [] h k = tt
 by_some workers A Q (x ∷ xs) h k = ((h k.0.0 k.0.1).0 k.0.2, by_some workers A Q xs (λ v l. (h v l).1) k.1)
 
-module _ (n : NetTold) (fine : RunsForward (system_of n)) (of : List ℕ) (from moment : ℕ) (group : Workers) (next : Option ℕ) (at : IsAt n of from group) (is : IsNextOfAll group.first_out group.shares.items next) (le : from ≤ moment) (wakes : WakesFrom moment next) where
+module _ (n : NetTold) (fine : RunsForward (system_of n)) (of : List ℕ) (from moment : ℕ) (group : Workers) (next : Option ℕ) (at : IsAt n of from group) (is : IsNextOfAll group.first_out group.shares.items next) (le : from ≤ moment) (wakes : NoneBefore moment next) where
   abbrev workers : ℕ
   workers = length group.inboxes.items
 
@@ -68,7 +68,7 @@ module _ (n : NetTold) (fine : RunsForward (system_of n)) (of : List ℕ) (from 
     here : IsWorkerAt n of from at.motes group.first_out v share taker
     first : Option ℕ
     tells : TellsNext share first
-    later : WakesFrom moment first
+    later : NoneBefore moment first
 
   takers_long : length group.takers.items ≡ workers
   takers_long = as_long _ group.inboxes.items group.takers.items at.settled
@@ -93,7 +93,7 @@ module _ (n : NetTold) (fine : RunsForward (system_of n)) (of : List ℕ) (from 
   keeps_on : (v : ℕ) → (p : Piece v) → Keeps n of v moment at.motes (taken_by p.taker) p.share
   keeps_on v p = (p.tells n of v from at.motes (taken_by p.taker) p.here.keeps).idle moment le p.later
 
-  no_wake : (k : ℕ) → k < length n.motes → WakesFrom moment (at.motes k).wake
+  no_wake : (k : ℕ) → k < length n.motes → NoneBefore moment (at.motes k).wake
   no_wake k h =
       let w = some_worker (length n.motes) workers of at.cut k h in
       (keeps_on w.0 (piece w.0 w.2)).quiet k (own_by of w.0 k w.1)
@@ -146,10 +146,10 @@ module _ (n : NetTold) (of : List ℕ) (from : ℕ) (group : Workers) (next : Op
   takers_here : length group.takers.items ≡ length group.inboxes.items
   takers_here = as_long _ group.inboxes.items group.takers.items at.settled
 
-  pub comes_no_sooner : WakesFrom from next
+  pub comes_no_sooner : NoneBefore from next
   comes_no_sooner = is.greatest from at.first (each_from _ group.shares.items from_share)
     where
-      from_share : (v : ℕ) (s : Share) → slice_get group.shares.items v ≡ Some s → (first : Option ℕ) → TellsNext s first → WakesFrom from first
+      from_share : (v : ℕ) (s : Share) → slice_get group.shares.items v ≡ Some s → (first : Option ℕ) → TellsNext s first → NoneBefore from first
       from_share v s e first tells =
           let h : v < length group.inboxes.items = subst (λ l. v < l) at.shares (inside group.shares.items v s e) in
           let t = there group.takers.items v (subst (λ l. v < l) (sym takers_here) h) in

@@ -3,7 +3,7 @@ use Rattle.std.specs.Prelude.{ℕ, ◌≡◌, ◌+◌, ◌<◌, ◌≤◌, List,
 use Rattle.std.specs.List.{zip, AllZip}
 use Rattle.mote_net.specs.Net.{NetTold}
 use Rattle.window_laws.specs.System.{RunsForward}
-use Rattle.window_laws.specs.Windows.{WakesFrom}
+use Rattle.window_laws.specs.Windows.{NoneBefore}
 use Rattle.net_agenda.specs.NetSystem.{system_of}
 use Rattle.copy_exchange.specs.declared.endpoint.Endpoint.{Endpoint}
 use Rattle.copy_exchange.specs.Endpoints.{Together, StartsAs, GathersDelivered}
@@ -40,4 +40,4 @@ WindowMovesOn = (n : NetTold) → RunsForward (system_of n) → (of : List ℕ) 
 abbrev pub StandsUntilNext : Type 0
 StandsUntilNext = (n : NetTold) → RunsForward (system_of n) → (of : List ℕ) (from : ℕ) (group : Workers)
     → (next : Option ℕ) → IsAt n of from group → IsNextOfAll group.first_out group.shares.items next
-    → WakesFrom from next × ((moment : ℕ) → from ≤ moment → WakesFrom moment next → IsAt n of moment group)
+    → NoneBefore from next × ((moment : ℕ) → from ≤ moment → NoneBefore moment next → IsAt n of moment group)

@@ -2,7 +2,7 @@
 use Rattle.std.specs.Prelude.{ℕ, List, Option}
 use Rattle.std.specs.List.{AllByRecursion as Each}
 use Rattle.radio_packet.specs.declared.copy.RadioCopy.{RadioCopy}
-use Rattle.window_laws.specs.Windows.{WakesFrom}
+use Rattle.window_laws.specs.Windows.{NoneBefore}
 use Rattle.worker_window.specs.declared.share.Share.{Share}
 use Rattle.worker_window.specs.Next.{TellsNext}
 use Rattle.all_workers.specs.Workers.{IsNotBefore}
@@ -12,14 +12,14 @@ use Rattle.all_workers.specs.declared.worker.Worker.{Worker}
 pub record FirstOfAll (workers : List Worker) (first : Option ℕ) : Type 0 where
   pub none_before : Each (λ (worker : Worker). (copy : RadioCopy)
       → IsNotBefore worker.first_out copy → IsNotBefore first copy) workers
-  pub greatest : (moment : ℕ) → Each (λ (worker : Worker). WakesFrom moment worker.first_out) workers
-      → WakesFrom moment first
+  pub greatest : (moment : ℕ) → Each (λ (worker : Worker). NoneBefore moment worker.first_out) workers
+      → NoneBefore moment first
 
--- nothing comes before this moment, neither what lies in the inboxes nor the pending events of the shares
+-- when something comes first, out of an inbox or to a share; none where nothing comes
 pub record IsNextOfAll (first_out : Option ℕ) (shares : List Share) (next : Option ℕ) : Type 0 where
-  pub out : (moment : ℕ) → WakesFrom moment next → WakesFrom moment first_out
+  pub out : (moment : ℕ) → NoneBefore moment next → NoneBefore moment first_out
   pub each : Each (λ share. (first : Option ℕ) × TellsNext share first
-      × ((moment : ℕ) → WakesFrom moment next → WakesFrom moment first)) shares
-  pub greatest : (moment : ℕ) → WakesFrom moment first_out
-      → Each (λ share. (first : Option ℕ) → TellsNext share first → WakesFrom moment first) shares
-      → WakesFrom moment next
+      × ((moment : ℕ) → NoneBefore moment next → NoneBefore moment first)) shares
+  pub greatest : (moment : ℕ) → NoneBefore moment first_out
+      → Each (λ share. (first : Option ℕ) → TellsNext share first → NoneBefore moment first) shares
+      → NoneBefore moment next

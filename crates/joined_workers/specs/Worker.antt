@@ -3,7 +3,7 @@ use Rattle.std.specs.Prelude.{ℕ, ◌≡◌, ◌+◌, ◌≤◌, ◌^◌, true,
 use Rattle.std.specs.List.{AllByRecursion as Each}
 use Rattle.radio_packet.specs.declared.copy.RadioCopy.{RadioCopy}
 use Rattle.mote_net.specs.Net.{NetTold}
-use Rattle.window_laws.specs.Windows.{WakesFrom}
+use Rattle.window_laws.specs.Windows.{NoneBefore}
 use Rattle.net_agenda.specs.NetSystem.{system_of}
 use Rattle.copy_inbox.specs.Handles.{InboxId}
 use Rattle.copy_exchange.specs.declared.endpoint.Endpoint.{Endpoint}
@@ -16,8 +16,9 @@ use Rattle.worker_window.specs.Window.{CanRun, RunsWindow, IsOutgoing}
 use Rattle.all_workers.specs.Workers.{IsCut, IsNotBefore}
 use Rattle.all_workers.specs.declared.worker.Worker.{Worker}
 
--- A worker that can run through a window: its share and its endpoint are those of one worker, its inbox has no marks,
--- all that was sent to it is for its motes, and what it takes in comes no sooner than its share stands.
+-- A worker that can run through a window that ends at 2^40 or sooner: the cut fits, its share and its endpoint are
+-- those of one worker, its inbox has no marks, all that was gathered is for its motes, and each copy that it takes in
+-- is expected.
 pub record IsReady (n : NetTold) (of : List ℕ) (inboxes : List InboxId) (until : ℕ) (worker : Worker) : Type 0 where
   pub early : until ≤ 2 ^ 40
   pub cut : IsCut (length n.motes) (length inboxes) of
@@ -32,10 +33,11 @@ pub record IsReady (n : NetTold) (of : List ℕ) (inboxes : List InboxId) (until
 -- the moment at which the first of these copies arrives, if there are any
 pub record IsFirstOf (copies : List RadioCopy) (first : Option ℕ) : Type 0 where
   pub none_before : Each (IsNotBefore first) copies
-  pub greatest : (moment : ℕ) → Each (λ (copy : RadioCopy). moment ≤ copy.at) copies → WakesFrom moment first
+  pub greatest : (moment : ℕ) → Each (λ (copy : RadioCopy). moment ≤ copy.at) copies → NoneBefore moment first
 
--- Wherever the share stood, where its window is no longer than the lookahead and each copy that arrived is expected: the
--- new share is what the window makes of it, on all that the worker has then taken, and these are the outgoing copies.
+-- Wherever the share stood at or before the window's end, where the window is no longer than the lookahead and each
+-- copy that arrived is expected: the new share is what the window makes of it, on all that the worker has then taken,
+-- and these are the outgoing copies.
 abbrev pub RunsItsMotes : NetTold → (of : List ℕ) → (until : ℕ) → (arrived outgoing : List RadioCopy)
     → (old new : Worker) → Type 0
 RunsItsMotes n of until arrived outgoing old new = (from : ℕ) (motes : Motes)
@@ -44,7 +46,7 @@ RunsItsMotes n of until arrived outgoing old new = (from : ℕ) (motes : Motes)
     → Each (IsExpected of old.endpoint.worker from) arrived
     → RunsWindow n of old.endpoint.worker from until motes (taken_by new.endpoint.taker) new.share outgoing
 
--- The worker took in what was sent to it, ran its motes, and delivered the outgoing copies.
+-- The worker took in all that it had gathered and not taken, ran its motes, and delivered the outgoing copies.
 pub record RunsWorker (n : NetTold) (of : List ℕ) (inboxes : List InboxId) (until : ℕ) (old new : Worker) : Type 0 where
   pub arrived : List RadioCopy
   pub outgoing : List RadioCopy

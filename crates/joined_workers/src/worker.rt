@@ -4,7 +4,7 @@ ghost use Rattle.std.specs.Prelude.{◌≢◌, ℕ, IfErr, IfOk};
 ghost use Rattle.fork_join.specs.declared.work.Refused.TheVariants.{Stopped};
 ghost use Rattle.mote_net.specs.Net.{net_of};
 ghost use Rattle.radio_packet.specs.declared.copy.RadioCopy.{RadioCopy};
-ghost use Rattle.window_laws.specs.Windows.{WakesFrom};
+ghost use Rattle.window_laws.specs.Windows.{NoneBefore};
 ghost use Rattle.joined_workers.specs.Worker.{IsReady, RunsWorker, IsFirstOf};
 ghost use Rattle.all_workers.specs.Workers.{IsNotBefore};
 
@@ -50,8 +50,8 @@ impl<R, G> Drop for Runner<'_, R, G> {
 pub fn sooner(one: Option<u64>, other: Option<u64>) -> Option<u64>
     ensures one { (copy : RadioCopy) → IsNotBefore one copy → IsNotBefore result copy }
     ensures other { (copy : RadioCopy) → IsNotBefore other copy → IsNotBefore result copy }
-    ensures greatest { (moment : ℕ) → WakesFrom moment one → WakesFrom moment other → WakesFrom moment result }
-    ensures least { (moment : ℕ) → WakesFrom moment result → WakesFrom moment one × WakesFrom moment other }
+    ensures greatest { (moment : ℕ) → NoneBefore moment one → NoneBefore moment other → NoneBefore moment result }
+    ensures least { (moment : ℕ) → NoneBefore moment result → NoneBefore moment one × NoneBefore moment other }
 {
     let Some(moment) = one else {
         return other;

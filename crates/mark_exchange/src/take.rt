@@ -58,7 +58,8 @@ pub struct Standing<'a> {
     pub from: u64,
 }
 
-/// Whether the copy is for a mote of the worker, from a mote of another, and comes no sooner than it stands.
+/// Whether the copy is for a mote of the worker, isn't from one of them, and comes no sooner than the worker's next
+/// window begins.
 fn is_expected(standing: &Standing<'_>, copy: RadioCopy) -> bool
     ensures { IsTrue result ↔ IsExpectedAt (position_of standing.now) copy }
 {

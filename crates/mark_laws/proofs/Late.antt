@@ -8,7 +8,7 @@ use Rattle.copy_inbox.specs.declared.items.Carried.{Carried}
 use Rattle.copy_inbox.specs.declared.items.Carried.TheVariants.{Packet, Mark}
 use Rattle.mark_exchange.specs.Pushes.{marks_in, pushes}
 use Rattle.mark_exchange.proofs.Whole.{marks_pushes}
-use Rattle.mark_laws.specs.Laws.{EachTakenPasses, IsOfWindow, TakenIsOfWindow, NoCopyIsUnexpected}
+use Rattle.mark_laws.specs.Laws.{EachTakenPasses, IsOfWindow, TakenIsOfWindow, NoCopyIsTooSoon}
 use Rattle.mark_laws.proofs.Begins.{begins_trans}
 use Rattle.mark_laws.proofs.Stands.{all_stand, one_window_ahead}
 
@@ -80,8 +80,8 @@ ends_later ends up j (suc k) le = elim (cases_eq j (suc k)) [
   | inr ne ↦ (let a = ends_later ends up j k (omega (arith, ne)) in let b = up k in omega arith)
 ]
 
-pub no_copy_is_unexpected : NoCopyIsUnexpected
-no_copy_is_unexpected ends up p w reached v u late copy may =
+pub no_copy_is_too_soon : NoCopyIsTooSoon
+no_copy_is_too_soon ends up p w reached v u late copy may =
     let k : ℕ = marks_in (w.taken u v) in
     let from = taken_is_of_window p w reached v u (Packet copy) may in
     let D : RadioCopy → Type 0 = λ c. ends k ≤ c.at in

@@ -79,8 +79,8 @@ InBegunWindows p w u v Holds = (k : ℕ) → k ≤ w.finished u → k < p.window
 
 -- Windows end one after another, and in the windows that the other has begun each of its copies comes when the window
 -- has ended, or later: then what a worker takes comes when the window that it is in has ended, or later.
-abbrev pub NoCopyIsUnexpected : Type 0
-NoCopyIsUnexpected = (ends : ℕ → ℕ) → ((k : ℕ) → ends k ≤ ends (suc k)) → (p : Plan) (w : State) → IsReached p w
+abbrev pub NoCopyIsTooSoon : Type 0
+NoCopyIsTooSoon = (ends : ℕ → ℕ) → ((k : ℕ) → ends k ≤ ends (suc k)) → (p : Plan) (w : State) → IsReached p w
     → (v u : ℕ)
     → InBegunWindows p w u v (λ k c. ends k ≤ c.at)
     → (copy : RadioCopy) → MayTake p w v u (Packet copy) → ends (w.finished v) ≤ copy.at

@@ -2,7 +2,7 @@
 
 ghost use Rattle.mark_laws.specs.Laws.{AllStand, OneWindowAhead, SomeoneGoesOn, StuckIsAtEnd, EndIsStuck};
 ghost use Rattle.mark_laws.specs.Laws.{RunsAreBounded, FullRunsAreOfOneLength, EveryRunCanEnd, NobodyIsHeldUp};
-ghost use Rattle.mark_laws.specs.Laws.{NobodyQueuedIsHeldUp, SendersAreThere, TakenIsOfWindow, NoCopyIsUnexpected};
+ghost use Rattle.mark_laws.specs.Laws.{NobodyQueuedIsHeldUp, SendersAreThere, TakenIsOfWindow, NoCopyIsTooSoon};
 ghost use Rattle.mark_laws.specs.Laws.{EachTakenPasses, TwoWindowsLieThere, QueuedRunsAreRuns, QueuedSomeoneGoesOn};
 ghost use Rattle.mark_laws.specs.Laws.{QueuedStuckIsAtEnd, EveryQueuedRunCanEnd, OwnOrderDoesNotStick};
 ghost use Rattle.mark_laws.specs.Laws.{TurnsAreRuns, FlaggedStuckIsOver, UnlessOneFails, TurnsAreBounded};
@@ -56,8 +56,8 @@ pub fn taken_is_of_window()
 
 /// Where each copy comes when the window in which it was sent has ended, or later, a worker takes none that comes
 /// before the end of the window that the worker is in.
-pub fn no_copy_is_unexpected()
-    ensures { NoCopyIsUnexpected }
+pub fn no_copy_is_too_soon()
+    ensures { NoCopyIsTooSoon }
 {}
 
 /// The same for any test of copies that passes none for a window which it doesn't pass for the window before.

@@ -4,7 +4,7 @@ use Rattle.std.specs.List.{slice_get, AllByRecursion as Each}
 use Rattle.std.proofs.lemmas.Bool.{cases_Bool, false≢true}
 use Rattle.mote_net.specs.Net.{NetTold}
 use Rattle.window_laws.specs.System.{RunsForward}
-use Rattle.window_laws.specs.Windows.{first_mote, Windows, WakesFrom}
+use Rattle.window_laws.specs.Windows.{first_mote, Windows, NoneBefore}
 use Rattle.net_agenda.specs.NetSystem.{system_of}
 use Rattle.worker_cut.specs.Crossed.{is_own, crossed}
 use Rattle.copy_inbox.specs.declared.rule.TakerState.{TakerState}
@@ -208,7 +208,7 @@ module _ (n : NetTold) (of : List ℕ) (width windows : ℕ) (group : Workers) (
       cut = h.cut;
       shares = h.shares;
       settled = zip_each IsSettled group.inboxes.items group.takers.items h.takers (λ v id taker low. settled_one v low id taker);
-      first = subst (WakesFrom (suc n.end)) (sym h.first_out) tt;
+      first = subst (NoneBefore (suc n.end)) (sym h.first_out) tt;
       each = λ v low share taker. worker_at v low share taker;
     }
 

@@ -8,13 +8,13 @@ use Rattle.mote_net.specs.Net.{NetTold}
 use Rattle.window_laws.specs.System.{RunsForward}
 use Rattle.window_laws.specs.Windows.{Alone, first_mote, Windows, is_at, Last}
 use Rattle.net_agenda.specs.NetSystem.{system_of}
-use Rattle.worker_cut.specs.Crossed.{is_own, is_to, copies_seen, is_outgoing}
+use Rattle.worker_cut.specs.Crossed.{is_own, is_to, copies_seen, is_for_others}
 use Rattle.worker_cut.specs.Laws.{GatheredCopies}
 use Rattle.copy_inbox.specs.Items.{copies_of}
 use Rattle.copy_exchange.proofs.Parts.{from, from-append}
 use Rattle.mark_exchange.specs.Pushes.{sent_before}
 use Rattle.worker_window.specs.Share.{Motes}
-use Rattle.worker_window.specs.Window.{RunsOwn, outgoing_by}
+use Rattle.worker_window.specs.Window.{RunsOwnMote, outgoing_by}
 use Rattle.all_workers.specs.Workers.{IsCut}
 use Rattle.all_workers.proofs.Lookups.{each_at}
 use Rattle.all_workers.proofs.Same.{own_copies_same}
@@ -68,7 +68,7 @@ module _ (n : NetTold) (fine : RunsForward (system_of n)) (of : List ℕ) (width
       | inr e ↦ rw e (seen n of width windows workers all cut are v lv k low m s e)
     ]
 
-    own_runs : (v : ℕ) → v < workers → (m : ℕ) → is_own of v m ≡ true → RunsOwn n (is_own of v) start until (stage k) ((all.histories v).motes (suc k)) (so_far v k) m
+    own_runs : (v : ℕ) → v < workers → (m : ℕ) → is_own of v m ≡ true → RunsOwnMote n (is_own of v) start until (stage k) ((all.histories v).motes (suc k)) (so_far v k) m
     own_runs v lv m mine =
         let ran = ((all.ran v lv).runs k low).runs m mine in
         record {
@@ -79,7 +79,7 @@ module _ (n : NetTold) (fine : RunsForward (system_of n)) (of : List ℕ) (width
 
     same_out : (v : ℕ) → v < workers → (s : ℕ) → outgoing_by n (is_own of v) ((all.histories v).motes k) s ≡ outgoing_by n (is_own of v) (stage k) s
     same_out v lv s = elim (cases_Bool (is_own of v s)) [
-      | inl e ↦ rw e (ap (filter (is_outgoing (is_own of v))) (own_copies_same n of v ((all.histories v).motes k) (stage k) (own_stage v lv k) s e))
+      | inl e ↦ rw e (ap (filter (is_for_others (is_own of v))) (own_copies_same n of v ((all.histories v).motes k) (stage k) (own_stage v lv k) s e))
       | inr e ↦ rw e refl
     ]
 

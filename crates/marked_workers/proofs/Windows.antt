@@ -104,7 +104,7 @@ module _ (n : NetTold) (of : List ℕ) (width k until : ℕ) (inboxes : List Inb
     taken = copies_of old.endpoint.base.taker.state.taken;
     keeps = stands.promise.keeps;
     order = up;
-    come = tt;
+    expected = tt;
   }
 
   -- and once it did, it is behind one more

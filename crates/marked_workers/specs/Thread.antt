@@ -66,7 +66,7 @@ pub record TakesWindow (of : List ℕ) (window until : ℕ) (old new : MarkWorke
   pub senders : new.endpoint.base.senders ≡ old.endpoint.base.senders
   pub keeps : TakesIn arrived old.share new.share
 
--- a worker after so many windows, since its first
+-- a worker that has run so many windows since it was the first one
 pub record HasRun (n : NetTold) (of : List ℕ) (width windows : ℕ) (inboxes : List InboxId)
     (first now : MarkWorker) : Type 0 where
   pub stays : Stays first.endpoint.base now.endpoint.base
@@ -76,7 +76,8 @@ pub record HasRun (n : NetTold) (of : List ℕ) (width windows : ℕ) (inboxes :
   pub marked : HasMarks now.endpoint.base
   pub counts : Counts now.endpoint.marks.items now.endpoint.base.taker.state
 
--- where windows are no longer than the lookahead: from whichever worker the windows had led here, one more has led on
+-- Where windows are no longer than the lookahead: from whichever first worker so many windows had led to the old one,
+-- one window more has led to the new one.
 abbrev pub LeadsOn : NetTold → (of : List ℕ) → (width window : ℕ) → (inboxes : List InboxId)
     → (old new : MarkWorker) → Type 0
 LeadsOn n of width window inboxes old new = width ≤ (system_of n).lookahead → (first : MarkWorker)

@@ -13,7 +13,7 @@ use Rattle.copy_inbox.specs.Items.{copies_of, part, OfMade}
 use Rattle.mark_exchange.specs.Pushes.{marks_in, pushes}
 use Rattle.worker_window.specs.declared.share.Share.{Share}
 use Rattle.worker_window.specs.Share.{Motes, Keeps}
-use Rattle.worker_window.specs.Window.{RunsOwn, IsOutgoing, outgoing_by}
+use Rattle.worker_window.specs.Window.{RunsOwnMote, IsOutgoing, outgoing_by}
 use Rattle.marked_workers.specs.Bounds.{bound}
 
 -- What a worker had before each window, its motes and all items that it had taken by then, and the outgoing copies of
@@ -26,7 +26,7 @@ pub record WorkerHistory : Type 0 where
 -- one window of the worker's motes, on the copies that it had taken by then
 pub record RunsMotes (n : NetTold) (of : List ℕ) (worker from until : ℕ) (motes next : Motes)
     (taken outgoing : List RadioCopy) : Type 0 where
-  pub runs : (k : ℕ) → is_own of worker k ≡ true → RunsOwn n (is_own of worker) from until motes next taken k
+  pub runs : (k : ℕ) → is_own of worker k ≡ true → RunsOwnMote n (is_own of worker) from until motes next taken k
   pub out : (s : ℕ) → outgoing_by n (is_own of worker) next s
       ≡ outgoing_by n (is_own of worker) motes s ++ filter (is_from_sender s) outgoing
   pub goes : Each (IsOutgoing n of worker) outgoing

@@ -27,21 +27,21 @@ square_lt m n less =
 far_by : (range dx dy : ℕ) → range < dx → square range < square dx + square dy
 far_by range dx dy far = let less : square range < square dx = square_lt range dx far in omega arith
 
-pub beyond_x : (group : Group) (range : ℕ) (from : Place) → nat_le (unsigned_abs (from.x -ℤ group.centre.x) - range) group.x ≡ false → IsBeyond group range from
+pub beyond_x : (group : Group) (range : ℕ) (from : Place) → nat_le (unsigned_abs (from.x -ℤ group.centre.x) - range) group.far_x ≡ false → IsBeyond group range from
 unfolding square_distance
 beyond_x group range from far place holds =
     let parts : unsigned_abs (from.x -ℤ group.centre.x) ≤ unsigned_abs (from.x -ℤ place.x) + unsigned_abs (group.centre.x -ℤ place.x) = gap_by from.x group.centre.x place.x in
-    let past : group.x < unsigned_abs (from.x -ℤ group.centre.x) - range = leb-false _ _ far in
-    let near : unsigned_abs (group.centre.x -ℤ place.x) ≤ group.x = holds.x in
+    let past : group.far_x < unsigned_abs (from.x -ℤ group.centre.x) - range = leb-false _ _ far in
+    let near : unsigned_abs (group.centre.x -ℤ place.x) ≤ group.far_x = holds.x in
     let gap : range < unsigned_abs (from.x -ℤ place.x) = omega arith in
     lt-leb _ _ (far_by range (unsigned_abs (from.x -ℤ place.x)) (unsigned_abs (from.y -ℤ place.y)) gap)
 
-pub beyond_y : (group : Group) (range : ℕ) (from : Place) → nat_le (unsigned_abs (from.y -ℤ group.centre.y) - range) group.y ≡ false → IsBeyond group range from
+pub beyond_y : (group : Group) (range : ℕ) (from : Place) → nat_le (unsigned_abs (from.y -ℤ group.centre.y) - range) group.far_y ≡ false → IsBeyond group range from
 unfolding square_distance
 beyond_y group range from far place holds =
     let parts : unsigned_abs (from.y -ℤ group.centre.y) ≤ unsigned_abs (from.y -ℤ place.y) + unsigned_abs (group.centre.y -ℤ place.y) = gap_by from.y group.centre.y place.y in
-    let past : group.y < unsigned_abs (from.y -ℤ group.centre.y) - range = leb-false _ _ far in
-    let near : unsigned_abs (group.centre.y -ℤ place.y) ≤ group.y = holds.y in
+    let past : group.far_y < unsigned_abs (from.y -ℤ group.centre.y) - range = leb-false _ _ far in
+    let near : unsigned_abs (group.centre.y -ℤ place.y) ≤ group.far_y = holds.y in
     let gap : range < unsigned_abs (from.y -ℤ place.y) = omega arith in
     let x : ℕ = square (unsigned_abs (from.x -ℤ place.x)) in
     let less : square range < square (unsigned_abs (from.y -ℤ place.y)) = square_lt range (unsigned_abs (from.y -ℤ place.y)) gap in

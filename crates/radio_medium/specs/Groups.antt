@@ -5,24 +5,24 @@ use Rattle.radio_medium.specs.declared.groups.Group.{Group}
 use Rattle.radio_medium.specs.declared.place.Place.{Place}
 use Rattle.radio_medium.specs.Medium.{square, square_distance}
 
--- a place no farther from the centre than the group tells
+-- a place no farther from the centre, along each axis, than the group says
 pub record Holds (group : Group) (place : Place) : Type 0 where
-  pub x : unsigned_abs (group.centre.x -ℤ place.x) ≤ group.x
-  pub y : unsigned_abs (group.centre.y -ℤ place.y) ≤ group.y
+  pub x : unsigned_abs (group.centre.x -ℤ place.x) ≤ group.far_x
+  pub y : unsigned_abs (group.centre.y -ℤ place.y) ≤ group.far_y
 
--- each place of the group is farther from this one than the range
+-- each place that the group holds is farther from this one than the range
 abbrev pub IsBeyond : Group → (range : ℕ) → (from : Place) → Type 0
 IsBeyond group range from =
     (place : Place) → Holds group place → nat_le (square_distance from place) (square range) ≡ false
 
--- a group of the motes from the first on, before the one behind them
+-- the group holds the place of each mote from number first on, before number after
 abbrev pub HoldsMotes : List Place → (first after : ℕ) → Group → Type 0
 HoldsMotes places first after group =
-    (k : ℕ) (none : Place) → first ≤ k → k < after → Holds group (slice_index_or places k none)
+    (k : ℕ) (any : Place) → first ≤ k → k < after → Holds group (slice_index_or places k any)
 
--- groups of all motes: of the first 32, of the next, and so on
+-- groups of all motes: of the first 32, of the next, and so on; none is empty
 pub record AreGroups (places : List Place) (groups : List Group) : Type 0 where
   pub enough : length places ≤ length groups * 32
   pub filled : (i : ℕ) → i < length groups → i * 32 < length places
-  pub hold : (i : ℕ) (none : Group) → i < length groups
-      → HoldsMotes places (i * 32) (min (length places) (i * 32 + 32)) (slice_index_or groups i none)
+  pub hold : (i : ℕ) (any : Group) → i < length groups
+      → HoldsMotes places (i * 32) (min (length places) (i * 32 + 32)) (slice_index_or groups i any)

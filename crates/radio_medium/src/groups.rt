@@ -13,8 +13,8 @@ pub(crate) const GROUP_SIZE: usize = 32;
 #[derive(Clone, Copy)]
 pub(crate) struct Group {
     pub(crate) centre: Place,
-    pub(crate) x: u64,
-    pub(crate) y: u64,
+    pub(crate) far_x: u64,
+    pub(crate) far_y: u64,
 }
 
 impl Group {
@@ -25,8 +25,8 @@ impl Group {
     {
         Group {
             centre: self.centre,
-            x: self.x.max(gap(self.centre.x, place.x)),
-            y: self.y.max(gap(self.centre.y, place.y)),
+            far_x: self.far_x.max(gap(self.centre.x, place.x)),
+            far_y: self.far_y.max(gap(self.centre.y, place.y)),
         }
     }
 
@@ -38,8 +38,8 @@ impl Group {
     {
         let mut group = Group {
             centre: places[first],
-            x: 0,
-            y: 0,
+            far_x: 0,
+            far_y: 0,
         };
         for mote in first..after {
             group = group.with(places[mote]);
@@ -52,12 +52,13 @@ impl Group {
     pub(crate) fn is_near(self, range: u32, from: Place) -> bool
         ensures { result ≡ false → IsBeyond self range from }
     {
-        reaches(range, from.x, self.centre.x, self.x)
-            && reaches(range, from.y, self.centre.y, self.y)
+        reaches(range, from.x, self.centre.x, self.far_x)
+            && reaches(range, from.y, self.centre.y, self.far_y)
     }
 }
 
-/// Whether a number is no farther from the centre of a group than the range and its farthest mote together.
+/// Whether a coordinate is no farther from that of a group's centre than the range and the group's farthest mote
+/// together.
 fn reaches(range: u32, from: i32, centre: i32, farthest: u64) -> bool
     ensures { result ≡ nat_le (unsigned_abs (from -ℤ centre) - range) farthest }
 {

@@ -11,7 +11,7 @@ use Rattle.window_laws.specs.System.{System, RunsForward, IsLater}
 use Rattle.window_laws.specs.Order.{insert_by, sorted_by, in_order, is_before}
 use Rattle.window_laws.specs.NetStep.{stamped}
 use Rattle.window_laws.specs.Agenda.{up_to}
-use Rattle.window_laws.specs.Windows.{LoneMote, own_turn, wakes_at, WakesFrom, is_at, is_within, is_from_sender, copies_by, IsQuiet, Alone, Rests, Turns, Windows, Last, Window}
+use Rattle.window_laws.specs.Windows.{LoneMote, lone_turn, wakes_at, NoneBefore, is_at, is_within, is_from_sender, copies_by, IsQuiet, Alone, Rests, Turns, Windows, Last, Window}
 use Rattle.window_laws.proofs.Lists.{filter_none, filter_every, filter_both, filter_filter, filter_never, filter_stronger, every_flat_map, every_weaker, every_append, is_filled, filled_any}
 use Rattle.window_laws.proofs.Order.{in_order_same}
 use Rattle.window_laws.proofs.History.{pool, given_at, is_busy, history, history_busy, history_idle, grown, unseen_since}
@@ -80,11 +80,11 @@ not_at t c = grind (arith, nat_tests)
 at_soon : (number t a c : ℕ) → (eqb a number && (not (ltb c t) && ltb c (suc t))) ≡ true → c ≡ t
 at_soon number t a c h = grind (arith, nat_tests)
 
-no_wake : (t : ℕ) (wake : Option ℕ) → WakesFrom (suc t) wake → wakes_at t wake ≡ false
+no_wake : (t : ℕ) (wake : Option ℕ) → NoneBefore (suc t) wake → wakes_at t wake ≡ false
 no_wake t None h = refl
 no_wake t (Some wake) h = ne_eqb wake t (λ e. absurd (omega arith))
 
-wakes_sooner : (t u : ℕ) (wake : Option ℕ) → t ≤ u → WakesFrom u wake → WakesFrom t wake
+wakes_sooner : (t u : ℕ) (wake : Option ℕ) → t ≤ u → NoneBefore u wake → NoneBefore t wake
 wakes_sooner t u None h k = tt
 wakes_sooner t u (Some wake) h k = omega arith
 
@@ -97,20 +97,20 @@ quiet_sooner t u wake given h q = record { no_wake = wakes_sooner t u wake h q.n
 early_within : (number t u bound a c : ℕ) → u < t → false ≡ ((eqb a number && (not (ltb c t) && ltb c bound)) && eqb c u)
 early_within number t u bound a c h = grind (arith, nat_tests)
 
-no_early_wake : (t u : ℕ) (wake : Option ℕ) → u < t → WakesFrom t wake → wakes_at u wake ≡ false
+no_early_wake : (t u : ℕ) (wake : Option ℕ) → u < t → NoneBefore t wake → wakes_at u wake ≡ false
 no_early_wake t u None h k = refl
 no_early_wake t u (Some wake) h k = ne_eqb wake u (λ e. absurd (omega arith))
 
 -- a wake that isn't now is later
-not_now : (t : ℕ) (wake : Option ℕ) → wakes_at t wake ≡ false → WakesFrom t wake → WakesFrom (suc t) wake
+not_now : (t : ℕ) (wake : Option ℕ) → wakes_at t wake ≡ false → NoneBefore t wake → NoneBefore (suc t) wake
 not_now t None e h = tt
 not_now t (Some wake) e h = let ne = eqb-false wake t e in omega arith
 
-later_is : (t : ℕ) (wake : Option ℕ) → IsLater t wake → WakesFrom (suc t) wake
+later_is : (t : ℕ) (wake : Option ℕ) → IsLater t wake → NoneBefore (suc t) wake
 later_is t None h = tt
 later_is t (Some wake) h = h
 
-at_start : (b : Bool) → WakesFrom 0 (cond b (Some 0) None)
+at_start : (b : Bool) → NoneBefore 0 (cond b (Some 0) None)
 at_start true = zero-le
 at_start false = tt
 
@@ -119,14 +119,14 @@ module _ {S L : Type 0} (system : System S L) (fine : RunsForward system) where
   unfolding is_busy
   no_wake_now t number e = (or_parts _ _ e).0
 
-  pub wakes_from : (t number : ℕ) → WakesFrom t (history system t number).wake
+  pub wakes_from : (t number : ℕ) → NoneBefore t (history system t number).wake
   unfolding history
   wakes_from zero number = at_start (ltb number system.motes)
   wakes_from (suc t) number = step (wakes_from t number) (cases_Bool (is_busy system t (history system t) number))
     where
-      step : WakesFrom t (history system t number).wake → (is_busy system t (history system t) number ≡ true) ⊎ (is_busy system t (history system t) number ≡ false) → WakesFrom (suc t) (history system (suc t) number).wake
-      step ih (inl e) = subst (λ m. WakesFrom (suc t) m.wake) (sym (history_busy system t number e)) (later_is t _ (fine.wakes_later number (history system t number).state t (given_at system t (history system t) number)))
-      step ih (inr e) = subst (λ m. WakesFrom (suc t) m.wake) (sym (history_idle system t number e)) (not_now t _ (no_wake_now t number e) ih)
+      step : NoneBefore t (history system t number).wake → (is_busy system t (history system t) number ≡ true) ⊎ (is_busy system t (history system t) number ≡ false) → NoneBefore (suc t) (history system (suc t) number).wake
+      step ih (inl e) = subst (λ m. NoneBefore (suc t) m.wake) (sym (history_busy system t number e)) (later_is t _ (fine.wakes_later number (history system t number).state t (given_at system t (history system t) number)))
+      step ih (inr e) = subst (λ m. NoneBefore (suc t) m.wake) (sym (history_idle system t number e)) (not_now t _ (no_wake_now t number e) ih)
 
   -- a mote's sends bear its number
   own_sends : (moment number : ℕ) → AllByRecursion (λ sent. sent.sender ≡ number) (history system moment number).sends
@@ -218,10 +218,10 @@ module _ {S L : Type 0} (system : System S L) (fine : RunsForward system) where
 
     turns : (t j : ℕ) (mote : LoneMote S L) (given : List RadioCopy) → t ≡ from + j → t < bound → Holds t given → mote ≡ history system t number
         → (wakes_at t mote.wake || list_any (is_at t) given) ≡ true
-        → (own_turn system t number mote (in_order (filter (is_at t) given)) ≡ history system (suc t) number) × Holds (suc t) (filter (λ copy. not (is_at t copy)) given)
+        → (lone_turn system t number mote (in_order (filter (is_at t) given)) ≡ history system (suc t) number) × Holds (suc t) (filter (λ copy. not (is_at t copy)) given)
     unfolding is_busy
     turns t j mote given e h holds is called =
-        (ap (λ g. own_turn system t number mote g) agrees ∙ (ap (λ m. own_turn system t number m (given_at system t (history system t) number)) is ∙ sym (history_busy system t number busy)), later)
+        (ap (λ g. lone_turn system t number mote g) agrees ∙ (ap (λ m. lone_turn system t number m (given_at system t (history system t) number)) is ∙ sym (history_busy system t number busy)), later)
       where
         agrees : in_order (filter (is_at t) given) ≡ given_at system t (history system t) number
         agrees = seen t j given e h holds

@@ -6,7 +6,7 @@ use Rattle.std.proofs.lemmas.Bool.Decides.{nat_tests}
 use Rattle.window_laws.specs.System.{System, RunsForward}
 use Rattle.radio_packet.specs.declared.copy.RadioCopy.{RadioCopy}
 use Rattle.window_laws.specs.Order.{in_order}
-use Rattle.window_laws.specs.Windows.{own_turn, wakes_at, WakesFrom, is_at, is_within, is_from_sender, IsQuiet, IsGiven, Alone, Rests, Turns, Windows, Last, Window, WindowsAreThere}
+use Rattle.window_laws.specs.Windows.{lone_turn, wakes_at, NoneBefore, is_at, is_within, is_from_sender, IsQuiet, IsGiven, Alone, Rests, Turns, Windows, Last, Window, WindowsAreThere}
 use Rattle.window_laws.proofs.Lists.{unfilled, every_weaker, every_passes, filter_every, filter_none, filter_filter, is_filled, filled_any}
 use Rattle.window_laws.proofs.History.{pool, given_at, is_busy, history, history_busy, history_idle}
 use Rattle.window_laws.proofs.Alone.{wakes_from, from_given, filled_in_order}
@@ -14,7 +14,7 @@ use Rattle.window_laws.proofs.Alone.{wakes_from, from_given, filled_in_order}
 moment_is : (number t a c : ℕ) → (eqb a number && (not (ltb c t) && ltb c (suc t))) ≡ true → c ≡ t
 moment_is number t a c h = grind (arith, nat_tests)
 
-quiet_empty : (t : ℕ) (wake : Option ℕ) (given : List RadioCopy) → WakesFrom t wake → given ≡ [] → IsQuiet t wake given
+quiet_empty : (t : ℕ) (wake : Option ℕ) (given : List RadioCopy) → NoneBefore t wake → given ≡ [] → IsQuiet t wake given
 quiet_empty t wake given w e = record { no_wake = w; no_copies = subst (AllByRecursion (λ copy. t ≤ copy.at)) (sym e) tt }
 
 module _ {S L : Type 0} (system : System S L) (fine : RunsForward system) where
@@ -50,7 +50,7 @@ module _ {S L : Type 0} (system : System S L) (fine : RunsForward system) where
   one_alone t k =
       elim (cases_Bool (is_busy system t (history system t) k)) [
         | inl e ↦ (let up : t < suc t = omega arith in
-            let is = ap (own_turn system t k (history system t k)) (turned t k) ∙ sym (history_busy system t k e) in
+            let is = ap (lone_turn system t k (history system t k)) (turned t k) ∙ sym (history_busy system t k e) in
             Turns t (quiet t k) (sym (called t k) ∙ e) up
             (subst (λ m. Alone system k (suc t) (filter (λ copy. not (is_at t copy)) (given_of t k)) m (history system (suc t) k)) (sym is)
             (Rests (quiet_empty (suc t) _ _ (wakes_from system fine (suc t) k) (nothing t k)))))

@@ -10,7 +10,7 @@ use Rattle.window_laws.specs.System.{System, RunsForward}
 use Rattle.window_laws.specs.Order.{in_order}
 use Rattle.window_laws.specs.NetStep.{stamped}
 use Rattle.window_laws.specs.Agenda.{up_to}
-use Rattle.window_laws.specs.Windows.{LoneMote, first_mote, own_turn, wakes_at, is_within, copies_by}
+use Rattle.window_laws.specs.Windows.{LoneMote, first_mote, lone_turn, wakes_at, is_within, copies_by}
 use Rattle.window_laws.proofs.Lists.{filter_none, every_flat_map, every_weaker, is_filled}
 
 module _ {S L : Type 0} (system : System S L) where
@@ -25,14 +25,14 @@ module _ {S L : Type 0} (system : System S L) where
   is_busy moment motes number = wakes_at moment (motes number).wake || is_filled (given_at moment motes number)
 
   unfoldable pub tick : ℕ → (ℕ → LoneMote S L) → ℕ → LoneMote S L
-  tick moment motes number = cond (is_busy moment motes number) (own_turn system moment number (motes number) (given_at moment motes number)) (motes number)
+  tick moment motes number = cond (is_busy moment motes number) (lone_turn system moment number (motes number) (given_at moment motes number)) (motes number)
 
   unfoldable pub history : ℕ → ℕ → LoneMote S L
   history zero number = first_mote system number
   history (suc moment) number = tick moment (history moment) number
 
   pub history_busy : (moment number : ℕ) → is_busy moment (history moment) number ≡ true
-      → history (suc moment) number ≡ own_turn system moment number (history moment number) (given_at moment (history moment) number)
+      → history (suc moment) number ≡ lone_turn system moment number (history moment number) (given_at moment (history moment) number)
   unfolding history tick
   history_busy moment number e = rw e
 

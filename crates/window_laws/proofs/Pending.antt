@@ -7,7 +7,7 @@ use Rattle.std.proofs.lemmas.List.Elements.{filter-append, filter_agree}
 use Rattle.window_laws.specs.System.{System}
 use Rattle.radio_packet.specs.declared.copy.RadioCopy.{RadioCopy}
 use Rattle.window_laws.specs.Pending.{comes_from, IsPending}
-use Rattle.window_laws.specs.Windows.{IsQuiet, Rests, Windows, Window, WakesFrom, LoneMote, is_at, is_within, is_from_sender, copies_by, IsGiven, IsLeft}
+use Rattle.window_laws.specs.Windows.{IsQuiet, Rests, Windows, Window, NoneBefore, LoneMote, is_at, is_within, is_from_sender, copies_by, IsGiven, IsLeft}
 use Rattle.window_laws.proofs.Lists.{filter_filter, filter_stronger, filter_every, filter_none, every_weaker}
 
 for_comes : (number from bound a c : ℕ) → (eqb a number && (not (ltb c from) && ltb c bound)) ≡ true → not (ltb c from) ≡ true
@@ -44,13 +44,13 @@ module _ {S L : Type 0} (system : System S L) (motes : ℕ → LoneMote S L) (re
 not_for : (number t a c : ℕ) → suc t ≤ c → (eqb a number && (not (ltb c t) && ltb c (suc t))) ≡ false
 not_for number t a c h = grind (arith, nat_tests)
 
-sooner : (t u : ℕ) (wake : Option ℕ) → t ≤ u → WakesFrom u wake → WakesFrom t wake
+sooner : (t u : ℕ) (wake : Option ℕ) → t ≤ u → NoneBefore u wake → NoneBefore t wake
 sooner t u None h k = tt
 sooner t u (Some wake) h k = omega arith
 
 -- a stretch in which no mote has a turn, of any length, is windows too
 pub gap : {S L : Type 0} (system : System S L) → 0 < system.lookahead → (end to i from : ℕ) → from + i ≡ to → (motes last : ℕ → LoneMote S L) (rest : List RadioCopy)
-    → IsPending system from motes rest → ((k : ℕ) → k < system.motes → WakesFrom to (motes k).wake) → AllByRecursion (λ copy. to ≤ copy.at) rest
+    → IsPending system from motes rest → ((k : ℕ) → k < system.motes → NoneBefore to (motes k).wake) → AllByRecursion (λ copy. to ≤ copy.at) rest
     → Windows system to end motes last → Windows system from end motes last
 gap system look end to zero from e motes last rest held wakes later after = let g : to ≡ from = omega arith in subst (λ u. Windows system u end motes last) g after
 gap system look end to (suc i) from e motes last rest held wakes later after =

@@ -11,7 +11,7 @@ use Rattle.window_laws.specs.System.{Turned, System, RunsForward, IsLater}
 use Rattle.window_laws.specs.Agenda.{Item, Wake, Packet, comes_at, is_left, is_wake_of, is_from, moment_of, mote_of, packets, wake_items, up_to}
 use Rattle.window_laws.specs.NetStep.{NetState, Run, Done, Turn, put, after_turn, turn_at, boot, stamped, sends_of}
 use Rattle.window_laws.specs.Order.{in_order}
-use Rattle.window_laws.specs.Windows.{LoneMote, first_mote, after_own, wakes_at, is_within, is_from_sender, is_sent_by, sends_by, copies_by}
+use Rattle.window_laws.specs.Windows.{LoneMote, first_mote, after_lone_turn, wakes_at, is_within, is_from_sender, is_sent_by, sends_by, copies_by}
 use Rattle.window_laws.proofs.Lists.{filter_none, filter_every, filter_both, filter_filter, filter_stronger, every_map, every_weaker, every_filter, every_append, every_not_any, filter_never, is_filled}
 use Rattle.window_laws.proofs.Order.{in_order_same, IsRising, rising_append}
 use Rattle.window_laws.proofs.History.{given_at, is_busy, history, history_busy, history_idle, copies_of_turn, unseen}
@@ -208,7 +208,7 @@ module _ {S L : Type 0} (system : System S L) (fine : RunsForward system) where
   left_no_wake t m (Packet c) = never_packet _
 
   module _ (t m : ℕ) (net : NetState S L) (inside : m < system.motes) (meets : Meets t m net) (turned : Turned S L)
-      (own : history system (suc t) m ≡ after_own t m (history system t m) turned) (later : IsLater t turned.wake) where
+      (own : history system (suc t) m ≡ after_lone_turn t m (history system t m) turned) (later : IsLater t turned.wake) where
     abbrev after : NetState S L
     after = after_turn system t m net turned
 
@@ -219,7 +219,7 @@ module _ {S L : Type 0} (system : System S L) (fine : RunsForward system) where
     new = flat_map system.copies stamps
 
     -- the mote that turned
-    mixed : mix t (suc m) m ≡ after_own t m (history system t m) turned
+    mixed : mix t (suc m) m ≡ after_lone_turn t m (history system t m) turned
     mixed = let h : m < suc m = omega arith in mix_before t (suc m) m h ∙ own
 
     old : mix t m m ≡ history system t m

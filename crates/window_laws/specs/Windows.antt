@@ -17,6 +17,7 @@ pub record LoneMote (S L : Type 0) : Type 0 where
   pub lines : List L
   pub sends : List Sent
 
+-- before its first turn each mote of the net wakes at 0
 abbrev pub first_mote : {S L : Type 0} → System S L → (number : ℕ) → LoneMote S L
 first_mote system number = record {
   state = system.first number;
@@ -25,8 +26,8 @@ first_mote system number = record {
   sends = [];
 }
 
-abbrev pub after_own : {S L : Type 0} → (moment number : ℕ) → LoneMote S L → Turned S L → LoneMote S L
-after_own moment number mote turned = record {
+abbrev pub after_lone_turn : {S L : Type 0} → (moment number : ℕ) → LoneMote S L → Turned S L → LoneMote S L
+after_lone_turn moment number mote turned = record {
   state = turned.state;
   wake = turned.wake;
   lines = mote.lines ++ turned.lines;
@@ -34,8 +35,9 @@ after_own moment number mote turned = record {
 }
 
 -- the mote after its turn on these copies
-abbrev pub own_turn : {S L : Type 0} → System S L → (moment number : ℕ) → LoneMote S L → List RadioCopy → LoneMote S L
-own_turn system moment number mote given = after_own moment number mote (system.turn number mote.state moment given)
+abbrev pub lone_turn : {S L : Type 0} → System S L → (moment number : ℕ) → LoneMote S L → List RadioCopy → LoneMote S L
+lone_turn system moment number mote given =
+    after_lone_turn moment number mote (system.turn number mote.state moment given)
 
 abbrev pub is_at : (moment : ℕ) → RadioCopy → Bool
 is_at moment copy = copy.at == moment
@@ -44,13 +46,14 @@ abbrev pub wakes_at : (moment : ℕ) → Option ℕ → Bool
 wakes_at moment None = false
 wakes_at moment (Some wake) = wake == moment
 
-abbrev pub WakesFrom : (moment : ℕ) → Option ℕ → Type 0
-WakesFrom moment None = Unit {0}
-WakesFrom moment (Some wake) = moment ≤ wake
+-- not before this moment, or never
+abbrev pub NoneBefore : (moment : ℕ) → Option ℕ → Type 0
+NoneBefore moment None = Unit {0}
+NoneBefore moment (Some wake) = moment ≤ wake
 
 -- nothing comes to the mote before this moment
 pub record IsQuiet (moment : ℕ) (wake : Option ℕ) (given : List RadioCopy) : Type 0 where
-  pub no_wake : WakesFrom moment wake
+  pub no_wake : NoneBefore moment wake
   pub no_copies : AllByRecursion (λ copy. moment ≤ copy.at) given
 
 -- A mote alone, up to a bound: while the lesser of its wake and the least moment of a copy is below the bound, it
@@ -63,7 +66,7 @@ pub data Alone {S L : Type 0} (system : System S L) (number bound : ℕ) : (give
       → IsQuiet moment mote.wake given → (wakes_at moment mote.wake || list_any (is_at moment) given) ≡ true
       → moment < bound
       → Alone system number bound (filter (λ copy. not (is_at moment copy)) given)
-      (own_turn system moment number mote (in_order (filter (is_at moment) given))) last
+      (lone_turn system moment number mote (in_order (filter (is_at moment) given))) last
       → Alone system number bound given mote last
 
 -- the packets that this mote has sent so far, and their copies
@@ -82,7 +85,7 @@ abbrev pub is_within : (number from bound : ℕ) → RadioCopy → Bool
 is_within number from bound copy = (copy.to == number) && (not (nat_lt copy.at from) && nat_lt copy.at bound)
 
 -- What a mote is given for a window: at each moment of the window, of each sender, the copies for it that earlier
--- windows sent, in the order of sending; in any mixture otherwise.
+-- windows sent, in the order of sending, and nothing at other moments; in any mixture otherwise.
 abbrev pub IsGiven : {S L : Type 0} → System S L → (from bound : ℕ) → (motes : (number : ℕ) → LoneMote S L)
     → (number : ℕ) → List RadioCopy → Type 0
 IsGiven system from bound motes number given = (moment sender : ℕ)
@@ -96,14 +99,14 @@ pub record RunsAlone {S L : Type 0} (system : System S L) (from bound : ℕ) (mo
   pub is_given : IsGiven system from bound motes number given
   pub alone : Alone system number bound given (motes number) (next number)
 
--- windows one after another up to the end, none longer than the lookahead
-pub data Windows {S L : Type 0} (system : System S L) : (from end : ℕ) → (motes last : (number : ℕ) → LoneMote S L)
+-- windows one after another from one moment up to another, none empty and none longer than the lookahead
+pub data Windows {S L : Type 0} (system : System S L) : (from until : ℕ) → (motes last : (number : ℕ) → LoneMote S L)
     → Type 0 where
-  Last : {end : ℕ} {motes : (number : ℕ) → LoneMote S L} → Windows system end end motes motes
-  Window : {from end : ℕ} {motes last : (number : ℕ) → LoneMote S L} (bound : ℕ) (next : (number : ℕ) → LoneMote S L)
+  Last : {until : ℕ} {motes : (number : ℕ) → LoneMote S L} → Windows system until until motes motes
+  Window : {from until : ℕ} {motes last : (number : ℕ) → LoneMote S L} (bound : ℕ) (next : (number : ℕ) → LoneMote S L)
       → from < bound → bound ≤ from + system.lookahead
       → ((number : ℕ) → number < system.motes → RunsAlone system from bound motes next number)
-      → Windows system bound end next last → Windows system from end motes last
+      → Windows system bound until next last → Windows system from until motes last
 
 abbrev pub is_sent_by : (sender : ℕ) → Sent → Bool
 is_sent_by sender sent = sent.sender == sender
@@ -131,7 +134,8 @@ pub record IsSame {S L : Type 0} (system : System S L) (end : ℕ) (net : NetSta
   pub log : (joined : List Sent) → IsJoined system motes joined → net.log ≡ as_log joined
   pub left : (rest : List RadioCopy) → IsLeft system end motes rest → length (packets net.agenda) ≡ length rest
 
--- Windows commute: whatever the windows from 0 to the end, the net has a run, and its end is the same.
+-- Windows commute: whatever windows lead from 0 past the end, the net has a run, and what it has to tell at its end is
+-- the same.
 abbrev pub WindowsCommute : {S L : Type 0} → System S L → Type 0
 WindowsCommute {S} {L} system = RunsForward system → (end : ℕ) (motes : (number : ℕ) → LoneMote S L)
     → Windows system 0 (suc end) (first_mote system) motes
@@ -144,8 +148,8 @@ WindowsReport {S} {L} system = RunsForward system → (end : ℕ) (motes : (numb
     → (joined : List Sent) → IsJoined system motes joined → (rest : List RadioCopy) → IsLeft system end motes rest
     → IsReport system end (map (λ number. (motes number).lines) (up_to system.motes)) (as_log joined) (length rest)
 
--- a net that runs forward has windows up to any end
+-- a net that runs forward has windows up to any moment
 abbrev pub WindowsAreThere : {S L : Type 0} → System S L → Type 0
 WindowsAreThere {S} {L} system =
-    RunsForward system → (end : ℕ)
-    → (motes : (number : ℕ) → LoneMote S L) × Windows system 0 end (first_mote system) motes
+    RunsForward system → (until : ℕ)
+    → (motes : (number : ℕ) → LoneMote S L) × Windows system 0 until (first_mote system) motes

@@ -8,7 +8,7 @@ use Rattle.mote_node.proofs.WakeLaws.{wakes_later}
 use Rattle.radio_packet.specs.declared.copy.RadioCopy.{RadioCopy}
 use Rattle.window_laws.specs.Order.{in_order}
 use Rattle.window_laws.specs.System.{IsLater}
-use Rattle.window_laws.specs.Windows.{is_at, WakesFrom, IsQuiet}
+use Rattle.window_laws.specs.Windows.{is_at, NoneBefore, IsQuiet}
 use Rattle.net_agenda.specs.Buckets.{arrival_of}
 use Rattle.window_run.specs.Laws.{NoTurnIsPast}
 use Rattle.window_run.proofs.Ends.{not_before}
@@ -24,7 +24,7 @@ later_copies m (x ∷ xs) h =
     apart : (a m : ℕ) → (a ≡ m → ⊥) → m ≤ a → suc m ≤ a
     apart a m ne low = omega arith
 
-later_wake : (m : ℕ) (wake : Option ℕ) → IsLater m wake → WakesFrom (suc m) wake
+later_wake : (m : ℕ) (wake : Option ℕ) → IsLater m wake → NoneBefore (suc m) wake
 later_wake m None h = tt
 later_wake m (Some w) h = omega arith
 

@@ -20,10 +20,10 @@ use Rattle.window_run.specs.Window.{LoneNode}
 use Rattle.window_run.proofs.Ends.{some_system}
 
 module _ (system : System Node Line) (number bound : ℕ) (lines : List Line) (sends : List Sent) where
-  alone_behind : {inbox : List RadioCopy} {mote last : LoneNode} → Alone system number bound inbox mote last → Alone system number bound inbox (with_earlier lines sends mote) (with_earlier lines sends last)
+  alone_behind : {given : List RadioCopy} {mote last : LoneNode} → Alone system number bound given mote last → Alone system number bound given (with_earlier lines sends mote) (with_earlier lines sends last)
   alone_behind (Rests quiet) = Rests quiet
-  alone_behind {inbox} {mote} (Turns m quiet comes below rest) =
-      let t = system.turn number mote.state m (in_order (filter (is_at m) inbox)) in
+  alone_behind {given} {mote} (Turns m quiet comes below rest) =
+      let t = system.turn number mote.state m (in_order (filter (is_at m) given)) in
       Turns m quiet comes below (rw (append_assoc lines mote.lines t.lines, append_assoc sends mote.sends (sends_of m number t)) (alone_behind rest))
 
 pub earlier_stays_in_front : EarlierStaysInFront
@@ -39,9 +39,9 @@ module _ (system : System Node Line) (turns : system.turn ≡ node_turn) (number
       let P : ((number : ℕ) → Node → (moment : ℕ) → List RadioCopy → Turned Node Line) → Type 0 = λ turn. (turn number n m given).wake ≡ wake_of (turn number n m given).state in
       subst P (sym turns) (turn_wakes m (map arrival_of given) n)
 
-  alone_wakes : {inbox : List RadioCopy} {mote last : LoneNode} → mote.wake ≡ wake_of mote.state → Alone system number bound inbox mote last → last.wake ≡ wake_of last.state
+  alone_wakes : {given : List RadioCopy} {mote last : LoneNode} → mote.wake ≡ wake_of mote.state → Alone system number bound given mote last → last.wake ≡ wake_of last.state
   alone_wakes wakes (Rests quiet) = wakes
-  alone_wakes {inbox} {mote} wakes (Turns m quiet comes below rest) = alone_wakes (turned_wakes m (in_order (filter (is_at m) inbox)) mote.state) rest
+  alone_wakes {given} {mote} wakes (Turns m quiet comes below rest) = alone_wakes (turned_wakes m (in_order (filter (is_at m) given)) mote.state) rest
 
 pub ends_with_its_wake : EndsWithItsWake
 ends_with_its_wake window last wakes run =

@@ -7,7 +7,7 @@ use Rattle.mote_node.specs.Node.{Node}
 use Rattle.radio_packet.specs.declared.copy.RadioCopy.{RadioCopy}
 use Rattle.window_laws.specs.Order.{in_order}
 use Rattle.window_laws.specs.System.{System}
-use Rattle.window_laws.specs.Windows.{LoneMote, own_turn, is_at, wakes_at, IsQuiet, Alone}
+use Rattle.window_laws.specs.Windows.{LoneMote, lone_turn, is_at, wakes_at, IsQuiet, Alone}
 use Rattle.window_laws.specs.Windows.Alone.{Rests, Turns}
 use Rattle.net_agenda.specs.NetSystem.{node_turn}
 use Rattle.window_run.specs.Laws.{EndIsOne}
@@ -30,15 +30,15 @@ not_before k m (Some wake) xs quiet comes =
     ]
 
 module _ {S L : Type 0} (system : System S L) (number bound : ℕ) where
-  pub alone_is_one : {inbox : List RadioCopy} {mote a b : LoneMote S L} → Alone system number bound inbox mote a → Alone system number bound inbox mote b → b ≡ a
+  pub alone_is_one : {given : List RadioCopy} {mote a b : LoneMote S L} → Alone system number bound given mote a → Alone system number bound given mote b → b ≡ a
   alone_is_one (Rests q) (Rests r) = refl
-  alone_is_one {inbox} {mote} (Rests q) (Turns m quiet comes below rest) = let le = not_before bound m mote.wake inbox q comes in absurd (omega arith)
-  alone_is_one {inbox} {mote} (Turns m quiet comes below rest) (Rests q) = let le = not_before bound m mote.wake inbox q comes in absurd (omega arith)
-  alone_is_one {inbox} {mote} {a} {b} (Turns m quiet comes below rest) (Turns k quiet' comes' below' rest') =
-      let le = not_before m k mote.wake inbox quiet comes' in
-      let ge = not_before k m mote.wake inbox quiet' comes in
+  alone_is_one {given} {mote} (Rests q) (Turns m quiet comes below rest) = let le = not_before bound m mote.wake given q comes in absurd (omega arith)
+  alone_is_one {given} {mote} (Turns m quiet comes below rest) (Rests q) = let le = not_before bound m mote.wake given q comes in absurd (omega arith)
+  alone_is_one {given} {mote} {a} {b} (Turns m quiet comes below rest) (Turns k quiet' comes' below' rest') =
+      let le = not_before m k mote.wake given quiet comes' in
+      let ge = not_before k m mote.wake given quiet' comes in
       let same : k ≡ m = omega arith in
-      let P : ℕ → Type 0 = λ t. Alone system number bound (filter (λ copy. not (is_at t copy)) inbox) (own_turn system t number mote (in_order (filter (is_at t) inbox))) b in
+      let P : ℕ → Type 0 = λ t. Alone system number bound (filter (λ copy. not (is_at t copy)) given) (lone_turn system t number mote (in_order (filter (is_at t) given))) b in
       alone_is_one rest (subst P same rest')
 
 -- a net of such motes, with no medium

@@ -9,7 +9,7 @@ use Rattle.radio_packet.specs.declared.arrival.Arrival.{Arrival}
 use Rattle.radio_packet.specs.declared.copy.RadioCopy.{RadioCopy}
 use Rattle.window_laws.proofs.Lists.{filter_none, filter_every, every_weaker, every_filter}
 use Rattle.window_laws.specs.Order.{is_before, insert_by, sorted_by, in_order}
-use Rattle.window_laws.specs.Windows.{is_at, WakesFrom, IsQuiet}
+use Rattle.window_laws.specs.Windows.{is_at, NoneBefore, IsQuiet}
 use Rattle.net_agenda.specs.Buckets.{arrival_of}
 use Rattle.window_run.specs.Window.{IsNextOf, comes_before, is_rising}
 
@@ -120,7 +120,7 @@ quiet_before m until wake xs h le = record {
   no_copies = every_weaker _ _ (λ y f. omega arith) xs h.quiet.no_copies;
 }
   where
-    wake_before : (wake : Option ℕ) → WakesFrom m wake → WakesFrom until wake
+    wake_before : (wake : Option ℕ) → NoneBefore m wake → NoneBefore until wake
     wake_before None g = tt
     wake_before (Some w) g = omega arith
 

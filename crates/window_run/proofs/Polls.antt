@@ -11,7 +11,7 @@ use Rattle.mote_laws.proofs.Stamps.{turns_stamp}
 use Rattle.radio_packet.specs.declared.copy.RadioCopy.{RadioCopy}
 use Rattle.window_laws.specs.Order.{in_order}
 use Rattle.window_laws.specs.System.{Turned}
-use Rattle.window_laws.specs.Windows.{after_own, is_at, Alone}
+use Rattle.window_laws.specs.Windows.{after_lone_turn, is_at, Alone}
 use Rattle.window_laws.specs.Windows.Alone.{Rests, Turns}
 use Rattle.net_agenda.specs.Buckets.{arrival_of}
 use Rattle.window_run.specs.declared.out.WindowOut.{WindowOut}
@@ -41,7 +41,7 @@ turn_before w v moment last left made run = λ system turns. (
     let after = run_at made system turns in
     let same : number_of (window_after_turn moment w).mote.state ≡ number = (turns_stamp moment (map arrival_of given) w.mote.state).mote in
     let P : ℕ → Type 0 = λ k. Alone system k w.until rest (window_after_turn moment w).mote last in
-    let Q : ((number : ℕ) → Node → (moment : ℕ) → List RadioCopy → Turned Node Line) → Type 0 = λ turn. Alone system number w.until rest (after_own moment number w.mote (turn number w.mote.state moment given)) last in
+    let Q : ((number : ℕ) → Node → (moment : ℕ) → List RadioCopy → Turned Node Line) → Type 0 = λ turn. Alone system number w.until rest (after_lone_turn moment number w.mote (turn number w.mote.state moment given)) last in
     Turns moment left.next.quiet left.next.comes left.in_window (subst Q (sym turns) (subst P same after)))
   where
     run_at : v ≡ window_after_turn moment w → EndsAs (window_after_turn moment w) last

@@ -8,7 +8,7 @@ use Rattle.mote_node.specs.Wake.{wake_of}
 use Rattle.radio_packet.specs.declared.copy.RadioCopy.{RadioCopy}
 use Rattle.window_laws.specs.System.{System}
 use Rattle.window_laws.specs.Order.{in_order}
-use Rattle.window_laws.specs.Windows.{LoneMote, after_own, is_at, wakes_at, IsQuiet, Alone}
+use Rattle.window_laws.specs.Windows.{LoneMote, after_lone_turn, is_at, wakes_at, IsQuiet, Alone}
 use Rattle.net_agenda.specs.NetSystem.{node_turn}
 
 -- a mote in its window: its node and its wake, with the lines and packets of the window so far
@@ -61,7 +61,7 @@ pub record HasTurn (moment : ℕ) (window : Window) : Type 0 where
 -- what a mote is after its turn on these copies
 abbrev pub lone_turn : (moment : ℕ) → LoneNode → (given : List RadioCopy) → LoneNode
 lone_turn moment mote given =
-    let number = number_of mote.state in after_own moment number mote (node_turn number mote.state moment given)
+    let number = number_of mote.state in after_lone_turn moment number mote (node_turn number mote.state moment given)
 
 -- the window after the turn at this moment
 abbrev pub window_after_turn : (moment : ℕ) → Window → Window

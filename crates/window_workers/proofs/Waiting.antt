@@ -8,7 +8,7 @@ use Rattle.std.proofs.lemmas.List.Sorted.{length_permutation}
 use Rattle.radio_packet.specs.declared.copy.RadioCopy.{RadioCopy}
 use Rattle.mote_net.specs.Net.{NetTold}
 use Rattle.window_laws.specs.System.{RunsForward}
-use Rattle.window_laws.specs.Windows.{first_mote, Windows, WakesFrom, is_from_sender}
+use Rattle.window_laws.specs.Windows.{first_mote, Windows, NoneBefore, is_from_sender}
 use Rattle.window_laws.proofs.Lists.{filter_filter, filter_none, every_weaker}
 use Rattle.net_agenda.specs.NetSystem.{system_of}
 use Rattle.copy_inbox.specs.Handles.{TakerView}
@@ -24,7 +24,7 @@ use Rattle.serial_run.specs.Counted.{is_by}
 is_late : (end at : ℕ) → suc end ≤ at → not (ltb end at) ≡ false
 is_late end at h = grind (arith, nat_tests)
 
-module _ (n : NetTold) (fine : RunsForward (system_of n)) (of : List ℕ) (from : ℕ) (motes : Motes) (led : Windows (system_of n) 0 from (first_mote (system_of n)) motes) (first : Option ℕ) (starts : WakesFrom from first)
+module _ (n : NetTold) (fine : RunsForward (system_of n)) (of : List ℕ) (from : ℕ) (motes : Motes) (led : Windows (system_of n) 0 from (first_mote (system_of n)) motes) (first : Option ℕ) (starts : NoneBefore from first)
     (v : ℕ) (share : Share) (taker : TakerView) (here : IsWorkerAt n of from motes first v share taker) where
   -- all that lies in the inbox
   abbrev lying : List RadioCopy

@@ -9,7 +9,7 @@ use Rattle.radio_packet.specs.declared.copy.RadioCopy.{RadioCopy}
 use Rattle.window_laws.specs.System.{System}
 use Rattle.window_laws.specs.Windows.{LoneMote, copies_by, is_at, is_from_sender, is_within, IsGiven}
 use Rattle.window_laws.proofs.Lists.{filter_stronger}
-use Rattle.worker_cut.specs.Crossed.{is_own, is_to, is_outgoing, crossed, copies_seen}
+use Rattle.worker_cut.specs.Crossed.{is_own, is_to, is_for_others, crossed, copies_seen}
 
 and_left : (a b : Bool) → (a && b) ≡ true → a ≡ true
 and_left true b e = refl
@@ -35,7 +35,7 @@ module _ {S L : Type 0} (system : System S L) (of : List ℕ) where
           let f : filter (is_from_sender s) taken ≡ filter (is_to of v) (copies_by system motes s) = whole s ∙ (told s ∙ (rw e refl)) in
           rw e (ap (filter (is_within k from bound)) f ∙ filter_stronger (is_within k from bound) (is_to of v) (within_to v k from bound h) (copies_by system motes s))
 
-  to_outgoing : (u v : ℕ) → (u ≡ v → ⊥) → (c : RadioCopy) → is_to of v c ≡ true → is_outgoing (is_own of u) c ≡ true
+  to_outgoing : (u v : ℕ) → (u ≡ v → ⊥) → (c : RadioCopy) → is_to of v c ≡ true → is_for_others (is_own of u) c ≡ true
   to_outgoing u v ne c e = at (slice_get of c.to) e
     where
       at : (o : Option ℕ) → option_map_or (λ w. eqb w v) o false ≡ true → not (option_map_or (λ w. eqb w u) o false) ≡ true
@@ -46,12 +46,12 @@ module _ {S L : Type 0} (system : System S L) (of : List ℕ) where
 
   -- what is pushed in a window goes on with what crossed before
   pub crossed_next : (u v s : ℕ) → is_own of u s ≡ true → is_own of v s ≡ false → (u ≡ v → ⊥) → (motes next : ℕ → LoneMote S L) (out : List RadioCopy)
-      → filter (is_outgoing (is_own of u)) (copies_by system next s) ≡ filter (is_outgoing (is_own of u)) (copies_by system motes s) ++ filter (is_from_sender s) out
+      → filter (is_for_others (is_own of u)) (copies_by system next s) ≡ filter (is_for_others (is_own of u)) (copies_by system motes s) ++ filter (is_from_sender s) out
       → crossed system of motes v s ++ filter (is_to of v) (filter (is_from_sender s) out) ≡ crossed system of next v s
   crossed_next u v s h g ne motes next out e = rw g (
       ap (λ l. l ++ filter (is_to of v) (filter (is_from_sender s) out)) (sym (strong (copies_by system motes s)))
-      ∙ (sym (filter-append (is_to of v) (filter (is_outgoing (is_own of u)) (copies_by system motes s)) (filter (is_from_sender s) out))
+      ∙ (sym (filter-append (is_to of v) (filter (is_for_others (is_own of u)) (copies_by system motes s)) (filter (is_from_sender s) out))
       ∙ (ap (filter (is_to of v)) (sym e) ∙ strong (copies_by system next s))))
     where
-      strong : (xs : List RadioCopy) → filter (is_to of v) (filter (is_outgoing (is_own of u)) xs) ≡ filter (is_to of v) xs
-      strong xs = filter_stronger (is_to of v) (is_outgoing (is_own of u)) (to_outgoing u v ne) xs
+      strong : (xs : List RadioCopy) → filter (is_to of v) (filter (is_for_others (is_own of u)) xs) ≡ filter (is_to of v) xs
+      strong xs = filter_stronger (is_to of v) (is_for_others (is_own of u)) (to_outgoing u v ne) xs

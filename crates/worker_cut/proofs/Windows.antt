@@ -8,7 +8,7 @@ use Rattle.window_laws.specs.System.{System, RunsForward}
 use Rattle.window_laws.specs.Agenda.{up_to}
 use Rattle.window_laws.specs.Pending.{comes_from, IsPending}
 use Rattle.window_laws.specs.Report.{IsReport}
-use Rattle.window_laws.specs.Windows.{LoneMote, first_mote, Windows, Last, Window, RunsAlone, WakesFrom, copies_by, is_from_sender, IsJoined, as_log}
+use Rattle.window_laws.specs.Windows.{LoneMote, first_mote, Windows, Last, Window, RunsAlone, NoneBefore, copies_by, is_from_sender, IsJoined, as_log}
 use Rattle.window_laws.proofs.Lists.{filter_filter, every_weaker, every_flat_map, every_filter}
 use Rattle.window_laws.proofs.Pending.{gap, pending_left}
 use Rattle.window_laws.proofs.History.{history}
@@ -61,7 +61,7 @@ module _ {S L : Type 0} (system : System S L) (fine : RunsForward system) where
 
   -- where nothing is to come before a moment, the windows lead there
   pub idle : (from next : ℕ) (motes : ℕ → LoneMote S L) → from ≤ next → LedTo from motes
-      → ((k : ℕ) → k < system.motes → WakesFrom next (motes k).wake)
+      → ((k : ℕ) → k < system.motes → NoneBefore next (motes k).wake)
       → ((s : ℕ) → AllByRecursion (λ copy. from ≤ copy.at → next ≤ copy.at) (copies_by system motes s))
       → LedTo next motes
   idle from next motes le led wakes copies =

@@ -14,17 +14,17 @@ is_own of worker mote = option_map_or (λ w. w == worker) (slice_get of mote) fa
 abbrev pub is_to : (of : List ℕ) → (worker : ℕ) → RadioCopy → Bool
 is_to of worker copy = is_own of worker copy.to
 
--- the copy is for a mote of another worker
-abbrev pub is_outgoing : (own : ℕ → Bool) → RadioCopy → Bool
-is_outgoing own copy = not (own copy.to)
+-- the copy isn't for a mote of this worker
+abbrev pub is_for_others : (own : ℕ → Bool) → RadioCopy → Bool
+is_for_others own copy = not (own copy.to)
 
--- the copy is for a mote of this worker, from a mote of another, and comes at this moment or later
+-- the copy is for a mote of this worker, isn't from one of them, and comes at this moment or later
 pub record IsExpected (of : List ℕ) (worker from : ℕ) (copy : RadioCopy) : Type 0 where
   pub to : is_own of worker copy.to ≡ true
   pub sender : is_own of worker copy.sender ≡ false
   pub later : from ≤ copy.at
 
--- what this mote has sent for motes of the worker, where it is another worker's
+-- the copies that this mote has sent for motes of this worker; none where it is one of them
 abbrev pub crossed : {S L : Type 0} → System S L → (of : List ℕ) → (motes : (number : ℕ) → LoneMote S L)
     → (worker sender : ℕ) → List RadioCopy
 crossed system of motes worker sender =

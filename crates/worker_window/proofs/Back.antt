@@ -16,7 +16,7 @@ use Rattle.radio_medium.specs.Medium.{copies}
 use Rattle.mote_net.specs.Net.{NetTold}
 use Rattle.window_laws.specs.Agenda.{Item, Wake, Packet, is_wake_of, packets, wake_items}
 use Rattle.window_laws.specs.NetStep.{put}
-use Rattle.window_laws.specs.Windows.{LoneMote, WakesFrom, copies_by, is_from_sender, is_sent_by}
+use Rattle.window_laws.specs.Windows.{LoneMote, NoneBefore, copies_by, is_from_sender, is_sent_by}
 use Rattle.window_laws.proofs.Agenda.{packets_append, packets_map, packets_wake, no_wake_in_packets, own_wake, other_wake}
 use Rattle.window_laws.proofs.Lists.{filter_none, filter_every, filter_stronger, every_filter, every_passes, every_weaker}
 use Rattle.window_run.specs.declared.out.WindowOut.{WindowOut}
@@ -24,7 +24,7 @@ use Rattle.net_agenda.specs.Buckets.{Holds}
 use Rattle.net_agenda.specs.Changes.{without_wakes}
 use Rattle.net_agenda.specs.NetSystem.{tree_at, system_of}
 use Rattle.worker_window.specs.declared.share.Share.{Share}
-use Rattle.worker_cut.specs.Crossed.{is_own, copies_seen, is_outgoing}
+use Rattle.worker_cut.specs.Crossed.{is_own, copies_seen, is_for_others}
 use Rattle.window_run.specs.Window.{number_of}
 use Rattle.worker_window.specs.Share.{Motes, IsShare, HasToCome, node_at, mote_here, is_to_come, wake_from}
 use Rattle.worker_window.specs.Window.{outgoing_by}
@@ -141,21 +141,21 @@ module _ (n : NetTold) (of : List ℕ) (worker from until : ℕ) (before now : M
   come_own = filter_same (λ copy. own copy.to) (is_to_come own until) sent (every_weaker _ _ (λ c h. and_true (own c.to) (not (ltb c.at until)) (late c.at until h.late)) sent late_ones)
 
   -- the outgoing copies
-  pub out_more : (s : ℕ) → outgoing_by n own next s ≡ outgoing_by n own now s ++ filter (is_from_sender s) (filter (is_outgoing own) sent)
-  out_more = by_mote (λ s. outgoing_by n own next s ≡ outgoing_by n own now s ++ filter (is_from_sender s) (filter (is_outgoing own) sent)) one other
+  pub out_more : (s : ℕ) → outgoing_by n own next s ≡ outgoing_by n own now s ++ filter (is_from_sender s) (filter (is_for_others own) sent)
+  out_more = by_mote (λ s. outgoing_by n own next s ≡ outgoing_by n own now s ++ filter (is_from_sender s) (filter (is_for_others own) sent)) one other
     where
-      one : outgoing_by n own next k ≡ outgoing_by n own now k ++ filter (is_from_sender k) (filter (is_outgoing own) sent)
+      one : outgoing_by n own next k ≡ outgoing_by n own now k ++ filter (is_from_sender k) (filter (is_for_others own) sent)
       one =
           let e = back.mine in
-          rw e (ap (filter (is_outgoing own)) copies_more
-          ∙ (filter-append (is_outgoing own) (copies_by (system_of n) now k) sent
-          ∙ ap (λ l. filter (is_outgoing own) (copies_by (system_of n) now k) ++ l)
-          (sym (filter_every (is_from_sender k) (filter (is_outgoing own) sent) (every_filter _ _ (is_outgoing own) (λ c h e. eq-eqb c.sender k h.sender) sent late_ones)))))
+          rw e (ap (filter (is_for_others own)) copies_more
+          ∙ (filter-append (is_for_others own) (copies_by (system_of n) now k) sent
+          ∙ ap (λ l. filter (is_for_others own) (copies_by (system_of n) now k) ++ l)
+          (sym (filter_every (is_from_sender k) (filter (is_for_others own) sent) (every_filter _ _ (is_for_others own) (λ c h e. eq-eqb c.sender k h.sender) sent late_ones)))))
 
-      other : (s : ℕ) → (s ≡ k → ⊥) → outgoing_by n own next s ≡ outgoing_by n own now s ++ filter (is_from_sender s) (filter (is_outgoing own) sent)
+      other : (s : ℕ) → (s ≡ k → ⊥) → outgoing_by n own next s ≡ outgoing_by n own now s ++ filter (is_from_sender s) (filter (is_for_others own) sent)
       other s ne =
-          ap (λ l. cond (own s) (filter (is_outgoing own) l) []) (copies_put s ne)
-          ∙ sym (ap (λ l. outgoing_by n own now s ++ l) (from_others (is_outgoing own) s ne) ∙ append-nil (outgoing_by n own now s))
+          ap (λ l. cond (own s) (filter (is_for_others own) l) []) (copies_put s ne)
+          ∙ sym (ap (λ l. outgoing_by n own now s ++ l) (from_others (is_for_others own) s ne) ∙ append-nil (outgoing_by n own now s))
 
   module _ (old share : Share) (stands : IsShare n of worker outgoing until now taken old) (gone later : List RadioCopy)
       (wake : Option ℕ) (pending : wake ≡ wake_from until (before k).wake) (ret : MoteReturns n.radio of k wake out old share gone later) where
@@ -248,7 +248,7 @@ module _ (n : NetTold) (of : List ℕ) (worker from until : ℕ) (before now : M
           (λ _. ap (node_at (tree_at n k)) mote_k ∙ (back.node ∙ ap (λ m. Some m.state) (sym at_k)))
           (λ j ne h. ap (node_at (tree_at n j)) (mote_else j ne) ∙ (stands.nodes j (same_here j ne ∙ h) ∙ ap (λ m. Some m.state) (sym (elsewhere j ne))));
       wakes = all_here (λ j m. m.wake ≡ wake_of m.state) back.wakes stands.wakes;
-      quiet = all_here (λ j m. WakesFrom until m.wake) back.quiet stands.quiet;
+      quiet = all_here (λ j m. NoneBefore until m.wake) back.quiet stands.quiet;
       turned_before = all_here (λ j m. is_past until m.state.last ≡ false) back.turned_before stands.turned_before;
       traces_kept = ret.traces_kept ∙ stands.traces_kept;
       traces =

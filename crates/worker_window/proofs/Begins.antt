@@ -12,7 +12,7 @@ use Rattle.mote_node.specs.Node.{is_past}
 use Rattle.mote_node.specs.Wake.{wake_of}
 use Rattle.mote_net.specs.Net.{NetTold}
 use Rattle.window_laws.specs.Agenda.{Wake, packets, is_wake_of, wake_items, mote_of, up_to}
-use Rattle.window_laws.specs.Windows.{WakesFrom, first_mote, is_from_sender, is_sent_by}
+use Rattle.window_laws.specs.Windows.{NoneBefore, first_mote, is_from_sender, is_sent_by}
 use Rattle.window_laws.proofs.Agenda.{first_wakes, packets_wakes}
 use Rattle.window_laws.proofs.Lists.{filter_filter}
 use Rattle.net_agenda.specs.Buckets.{Holds}
@@ -66,7 +66,7 @@ module _ (n : NetTold) (of : List ℕ) (worker : ℕ) (long : length of ≡ leng
       ∙ (filter_filter (is_wake_of k) (λ item. own (mote_of item)) (map (λ k. Wake 0 k) (up_to (length n.motes)))
       ∙ (ap (filter (λ item. own (mote_of item))) (first_wakes (length n.motes) k) ∙ only_own own k (cond (ltb k (length n.motes)) (Some 0) None)))
 
-  quiet : (k : ℕ) → own k ≡ true → WakesFrom 0 (first_mote (system_of n) k).wake
+  quiet : (k : ℕ) → own k ≡ true → NoneBefore 0 (first_mote (system_of n) k).wake
   quiet k mine = let e = wakes_at_0 k mine in rw e zero-le
 
   no_copies : (s : ℕ) → filter (is_from_sender s) (packets (map (λ k. Wake 0 k) (filter own (up_to (length n.motes))))) ≡ filter (is_to_come own 0) (copies_seen (system_of n) own (first_mote (system_of n)) [] s)

@@ -13,7 +13,7 @@ use Rattle.window_run.specs.declared.out.WindowOut.{WindowOut}
 use Rattle.window_run.specs.declared.share.Resident.{Resident}
 use Rattle.net_agenda.specs.NetSystem.{tree_at, system_of}
 use Rattle.worker_window.specs.declared.share.Share.{Share}
-use Rattle.worker_cut.specs.Crossed.{is_own, copies_seen, is_outgoing}
+use Rattle.worker_cut.specs.Crossed.{is_own, copies_seen, is_for_others}
 use Rattle.worker_window.specs.Share.{Motes, IsShare, wake_from}
 use Rattle.worker_window.specs.Window.{IsOutgoing, RunsWindow, outgoing_by}
 use Rattle.worker_window.specs.Lending.{HasNumber, IsOutOfMote, MoteReturns, is_one_of, are_different, numbers_of}
@@ -41,9 +41,9 @@ fits n of worker until motes out fit e early = record {
     le_chain a b c h k = omega arith
 
 pub go_out : (n : NetTold) (of : List ℕ) (worker until : ℕ) (out : WindowOut) → length n.radio.places ≡ length n.motes → IsFitOwn n of worker until out
-    → AllByRecursion (IsOutgoing n of worker) (filter (is_outgoing (is_own of worker)) (flat_map (copies n.radio) out.sends.items))
+    → AllByRecursion (IsOutgoing n of worker) (filter (is_for_others (is_own of worker)) (flat_map (copies n.radio) out.sends.items))
 go_out n of worker until out placed fit =
-    every_filter _ _ (is_outgoing (is_own of worker)) (λ c h e. record { sender = ap (is_own of worker) h.0 ∙ fit.mine; to = not_true (is_own of worker c.to) e; there = h.1 }) (flat_map (copies n.radio) out.sends.items)
+    every_filter _ _ (is_for_others (is_own of worker)) (λ c h e. record { sender = ap (is_own of worker) h.0 ∙ fit.mine; to = not_true (is_own of worker c.to) e; there = h.1 }) (flat_map (copies n.radio) out.sends.items)
     (every_flat_map (λ c. (c.sender ≡ fit.number) × (c.to < length n.motes)) (copies n.radio) out.sends.items
     (every_weaker _ _ (λ x g. every_weaker _ _ (λ c i. (i.sender ∙ g.sender, let t = i.there in omega arith)) (copies n.radio x) (copies_later n.radio x)) out.sends.items fit.sent))
   where
@@ -172,22 +172,22 @@ module _ (n : NetTold) (of : List ℕ) (worker from until : ℕ) (motes : Motes)
           | inr ne ↦ subst (λ m. Alone (system_of n) j until (window_copies j) (motes j) m) (sym (else_same j ne)) (coming.alone j h (among_else j ne ∙ e))
         ]
 
-    away_is : after ≡ before ++ filter (is_outgoing mine) (flat_map (copies n.radio) out.sends.items)
-    away_is = ret.outgoing ∙ ap (λ w. before ++ filter (is_outgoing (is_own of w)) (flat_map (copies n.radio) out.sends.items)) coming.stands.is_worker
+    away_is : after ≡ before ++ filter (is_for_others mine) (flat_map (copies n.radio) out.sends.items)
+    away_is = ret.outgoing ∙ ap (λ w. before ++ filter (is_for_others (is_own of w)) (flat_map (copies n.radio) out.sends.items)) coming.stands.is_worker
 
     sent_then : (s : ℕ) → outgoing_by n mine after_it s ≡ outgoing_by n mine motes s ++ filter (is_from_sender s) after
     sent_then s =
         out_more n of worker from until motes coming.now taken window_copies placed short front k d.1 out l.last waited s
-        ∙ (ap (λ x. x ++ filter (is_from_sender s) (filter (is_outgoing mine) (flat_map (copies n.radio) out.sends.items))) (coming.sent s)
-        ∙ (append_assoc (outgoing_by n mine motes s) (filter (is_from_sender s) before) (filter (is_from_sender s) (filter (is_outgoing mine) (flat_map (copies n.radio) out.sends.items)))
+        ∙ (ap (λ x. x ++ filter (is_from_sender s) (filter (is_for_others mine) (flat_map (copies n.radio) out.sends.items))) (coming.sent s)
+        ∙ (append_assoc (outgoing_by n mine motes s) (filter (is_from_sender s) before) (filter (is_from_sender s) (filter (is_for_others mine) (flat_map (copies n.radio) out.sends.items)))
         ∙ ap (λ x. outgoing_by n mine motes s ++ x)
-        (sym (ap (filter (is_from_sender s)) away_is ∙ filter-append (is_from_sender s) before (filter (is_outgoing mine) (flat_map (copies n.radio) out.sends.items))))))
+        (sym (ap (filter (is_from_sender s)) away_is ∙ filter-append (is_from_sender s) before (filter (is_for_others mine) (flat_map (copies n.radio) out.sends.items))))))
 
     late_then : AllByRecursion (λ (copy : RadioCopy). until ≤ copy.at) after
     late_then =
         subst (AllByRecursion (λ (copy : RadioCopy). until ≤ copy.at)) (sym away_is)
         (every_append _ before _ coming.late
-        (every_filter _ _ (is_outgoing mine) (λ copy h e. h.late) (flat_map (copies n.radio) out.sends.items) (come_late n from until placed short k out.sends.items l.last.sent)))
+        (every_filter _ _ (is_for_others mine) (λ copy h e. h.late) (flat_map (copies n.radio) out.sends.items) (come_late n from until placed short k out.sends.items l.last.sent)))
 
     pub one_back : Coming n of worker from until motes taken window_copies share more less after
     one_back = record {

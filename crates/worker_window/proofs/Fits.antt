@@ -7,7 +7,7 @@ use Rattle.mote_node.specs.Node.{Node}
 use Rattle.radio_packet.specs.declared.copy.RadioCopy.{RadioCopy}
 use Rattle.mote_net.specs.Net.{NetTold}
 use Rattle.window_laws.specs.Agenda.{Item, Packet, mote_of}
-use Rattle.window_laws.specs.Windows.{WakesFrom}
+use Rattle.window_laws.specs.Windows.{NoneBefore}
 use Rattle.window_laws.proofs.Lists.{every_weaker, every_append, every_map}
 use Rattle.window_run.specs.declared.out.WindowOut.{WindowOut}
 use Rattle.window_run.specs.declared.share.Resident.{Resident}
@@ -26,7 +26,7 @@ use Rattle.worker_window.proofs.Items.{inside}
 use Rattle.worker_window.proofs.Starts.{called_in}
 use Rattle.worker_window.proofs.Comings.{IsFitOwn, zip_every}
 
-from_0 : (wake : Option ℕ) → WakesFrom 0 wake
+from_0 : (wake : Option ℕ) → NoneBefore 0 wake
 from_0 None = tt
 from_0 (Some t) = zero-le
 

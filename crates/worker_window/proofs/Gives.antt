@@ -16,7 +16,7 @@ use Rattle.radio_medium.proofs.Copies.{copies_later}
 use Rattle.mote_net.specs.Net.{MoteSetup, NetTold}
 use Rattle.window_laws.specs.System.{IsLater}
 use Rattle.window_laws.specs.NetStep.{stamped}
-use Rattle.window_laws.specs.Windows.{LoneMote, WakesFrom, own_turn, IsQuiet, Alone}
+use Rattle.window_laws.specs.Windows.{LoneMote, NoneBefore, lone_turn, IsQuiet, Alone}
 use Rattle.window_laws.proofs.Lists.{every_append, every_weaker, every_flat_map}
 use Rattle.window_run.specs.declared.out.WindowOut.{WindowOut}
 use Rattle.window_run.specs.declared.share.Resident.{Resident}
@@ -49,7 +49,7 @@ pub record IsBack (n : NetTold) (own : ℕ → Bool) (from until : ℕ) (motes :
   pub sends : last.sends ≡ (motes k).sends ++ out.sends.items
   pub number_is : number_of last.state ≡ k
   pub wakes : last.wake ≡ wake_of last.state
-  pub quiet : WakesFrom until last.wake
+  pub quiet : NoneBefore until last.wake
   pub turned_before : is_past until last.state.last ≡ false
   pub sent : AllByRecursion (IsSentIn k from until) out.sends.items
 
@@ -106,11 +106,11 @@ module _ (n : NetTold) (from until : ℕ) where
   unfolding system_of
   turn_is = refl
 
-  number_kept : (k t : ℕ) (mote : LoneMote Node Line) (given : List RadioCopy) → number_of mote.state ≡ k → number_of (own_turn (system_of n) t k mote given).state ≡ k
+  number_kept : (k t : ℕ) (mote : LoneMote Node Line) (given : List RadioCopy) → number_of mote.state ≡ k → number_of (lone_turn (system_of n) t k mote given).state ≡ k
   unfolding system_of
   number_kept k t mote given e = (turns_stamp t (map arrival_of given) mote.state).mote ∙ e
 
-  wake_kept : (k t : ℕ) (mote : LoneMote Node Line) (given : List RadioCopy) → (own_turn (system_of n) t k mote given).wake ≡ wake_of (own_turn (system_of n) t k mote given).state
+  wake_kept : (k t : ℕ) (mote : LoneMote Node Line) (given : List RadioCopy) → (lone_turn (system_of n) t k mote given).wake ≡ wake_of (lone_turn (system_of n) t k mote given).state
   unfolding system_of
   wake_kept k t mote given = turn_wakes k mote.state t given
 
@@ -120,7 +120,7 @@ module _ (n : NetTold) (from until : ℕ) where
 
   -- where a resident's answer is told, the mote is back
   module _ (own : ℕ → Bool) (motes : Motes) (window_copies : ℕ → List RadioCopy) (k : ℕ) (mine : own k ≡ true) (there : k < length n.motes) (numbered : number_of (motes k).state ≡ k)
-      (wakes : (motes k).wake ≡ wake_of (motes k).state) (wakes_from : WakesFrom from (motes k).wake) (window_copies_from : AllByRecursion (λ c. from ≤ c.at) (window_copies k)) (before : is_past until (motes k).state.last ≡ false) where
+      (wakes : (motes k).wake ≡ wake_of (motes k).state) (wakes_from : NoneBefore from (motes k).wake) (window_copies_from : AllByRecursion (λ c. from ≤ c.at) (window_copies k)) (before : is_past until (motes k).state.last ≡ false) where
     front_is : in_front (motes k).lines (motes k).sends (lone_node (motes k).state) ≡ motes k
     front_is =
         ap (λ (l : List Line). record { state = (motes k).state; wake = wake_of (motes k).state; lines = l; sends = (motes k).sends ++ [] }) (append-nil (motes k).lines)
@@ -129,7 +129,7 @@ module _ (n : NetTold) (from until : ℕ) where
 
     module _ (mote : Mote) (given : List RadioCopy) (alike : IsAlike (system_of n) k until given (window_copies k)) (out : WindowOut) where
       quiet : IsQuiet from (lone_node (motes k).state).wake (window_copies k)
-      quiet = record { no_wake = subst (WakesFrom from) wakes wakes_from; no_copies = window_copies_from }
+      quiet = record { no_wake = subst (NoneBefore from) wakes wakes_from; no_copies = window_copies_from }
 
       pub back : Gives (record { program = tree_at n k; until = until; copies = given; mote = lone_node (motes k).state }) out → IsBack n own from until motes window_copies k out
       back gives = record {

@@ -6,7 +6,7 @@ use Rattle.std.proofs.lemmas.Bool.Decides.{nat_tests}
 use Rattle.radio_packet.specs.declared.copy.RadioCopy.{RadioCopy}
 use Rattle.mote_net.specs.Net.{NetTold}
 use Rattle.window_laws.specs.Agenda.{Item, moment_of, mote_of, comes_at, packets, wake_items, IsLeast}
-use Rattle.window_laws.specs.Windows.{WakesFrom, is_from_sender}
+use Rattle.window_laws.specs.Windows.{NoneBefore, is_from_sender}
 use Rattle.window_laws.proofs.Lists.{any_every, every_weaker, every_filter, filter_both, filter_every}
 use Rattle.net_agenda.specs.NetSystem.{system_of}
 use Rattle.worker_window.specs.declared.share.Share.{Share}
@@ -26,7 +26,7 @@ late at moment h = grind (arith, nat_tests)
 later_or_now : (t m u k : ℕ) → (ltb t u || (eqb u t && not (ltb k m))) ≡ true → t ≤ u
 later_or_now t m u k h = grind (arith, nat_tests)
 
-wakes_later : (moment k : ℕ) (wake : Option ℕ) → AllByRecursion (λ item. moment ≤ moment_of item) (wake_items k wake) → WakesFrom moment wake
+wakes_later : (moment k : ℕ) (wake : Option ℕ) → AllByRecursion (λ item. moment ≤ moment_of item) (wake_items k wake) → NoneBefore moment wake
 wakes_later moment k None h = tt
 wakes_later moment k (Some t) h = h.0
 
@@ -43,7 +43,7 @@ module _ (n : NetTold) (of : List ℕ) (worker from : ℕ) (motes : Motes) (take
   pub first_from : (t m : ℕ) → IsLeast t m items → from ≤ t
   first_from t m least = any_every _ (comes_at t m) _ (λ item e h. let f = eqb-true (moment_of item) t (and_parts (eqb (moment_of item) t) (eqb (mote_of item) m) e).0 in omega arith) items least.is_there none_sooner
 
-  wake_then : (moment k : ℕ) → own k ≡ true → AllByRecursion (λ item. moment ≤ moment_of item) items → WakesFrom moment (motes k).wake
+  wake_then : (moment k : ℕ) → own k ≡ true → AllByRecursion (λ item. moment ≤ moment_of item) items → NoneBefore moment (motes k).wake
   wake_then moment k mine h =
       wakes_later moment k (motes k).wake
       (subst (AllByRecursion (λ item. moment ≤ moment_of item)) (keeps.agenda.wakes k ∙ (all_wakes own from motes keeps.quiet k ∙ rw mine refl)) (wake_of_all (λ item. moment ≤ moment_of item) items k h))

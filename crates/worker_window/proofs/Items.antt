@@ -6,7 +6,7 @@ use Rattle.std.proofs.lemmas.Bool.Decides.{nat_tests}
 use Rattle.radio_packet.specs.declared.copy.RadioCopy.{RadioCopy}
 use Rattle.mote_net.specs.Net.{NetTold}
 use Rattle.window_laws.specs.Agenda.{Item, Wake, Packet, moment_of, mote_of, is_wake_of, packets, wake_items}
-use Rattle.window_laws.specs.Windows.{WakesFrom, is_from_sender}
+use Rattle.window_laws.specs.Windows.{NoneBefore, is_from_sender}
 use Rattle.window_laws.proofs.Lists.{every_passes, every_weaker}
 use Rattle.net_agenda.specs.Buckets.{Buckets}
 use Rattle.net_agenda.specs.NetSystem.{system_of}
@@ -58,12 +58,12 @@ not_sooner : (a b : ℕ) → ltb a b ≡ false → b ≤ a
 not_sooner a b h = grind (arith, nat_tests)
 
 -- a wake that is still to come
-pub wake_still : (from : ℕ) (wake : Option ℕ) → WakesFrom from wake → wake_from from wake ≡ wake
+pub wake_still : (from : ℕ) (wake : Option ℕ) → NoneBefore from wake → wake_from from wake ≡ wake
 wake_still from None h = refl
 wake_still from (Some t) h = let e : ltb t from ≡ false = le-ltb t from h in rw e refl
 
 -- where all are still to come
-pub all_wakes : (own : ℕ → Bool) (from : ℕ) (motes : Motes) → ((k : ℕ) → own k ≡ true → WakesFrom from (motes k).wake) → (k : ℕ)
+pub all_wakes : (own : ℕ → Bool) (from : ℕ) (motes : Motes) → ((k : ℕ) → own k ≡ true → NoneBefore from (motes k).wake) → (k : ℕ)
     → cond (own k) (wake_items k (wake_from from (motes k).wake)) [] ≡ cond (own k) (wake_items k (motes k).wake) []
 all_wakes own from motes quiet k = of (own k) refl
   where

@@ -8,7 +8,7 @@ use Rattle.radio_packet.specs.declared.copy.RadioCopy.{RadioCopy}
 use Rattle.window_laws.specs.System.{System, Turned, IsLater}
 use Rattle.window_laws.specs.Order.{in_order}
 use Rattle.window_laws.specs.NetStep.{sends_of}
-use Rattle.window_laws.specs.Windows.{LoneMote, after_own, own_turn, is_at, wakes_at, WakesFrom, IsQuiet, Alone, Rests, Turns}
+use Rattle.window_laws.specs.Windows.{LoneMote, after_lone_turn, lone_turn, is_at, wakes_at, NoneBefore, IsQuiet, Alone, Rests, Turns}
 use Rattle.window_laws.proofs.Lists.{filter_stronger, every_filter, any_every, is_filled}
 use Rattle.window_laws.proofs.Alone.{filled_given}
 
@@ -21,7 +21,7 @@ other_at : (t u c : ℕ) → (u ≡ t → ⊥) → eqb c u ≡ true → not (eqb
 other_at t u c ne e = grind (arith, nat_tests)
 
 module _ {S L : Type 0} (system : System S L) (k bound : ℕ) where
-  turn_in_front : (lines : List L) (sends : List Sent) (t : ℕ) (mote : LoneMote S L) (turned : Turned S L) → after_own t k (in_front lines sends mote) turned ≡ in_front lines sends (after_own t k mote turned)
+  turn_in_front : (lines : List L) (sends : List Sent) (t : ℕ) (mote : LoneMote S L) (turned : Turned S L) → after_lone_turn t k (in_front lines sends mote) turned ≡ in_front lines sends (after_lone_turn t k mote turned)
   turn_in_front lines sends t mote turned =
       ap (λ (l : List L). record { state = turned.state; wake = turned.wake; lines = l; sends = (sends ++ mote.sends) ++ sends_of t k turned }) (append_assoc lines mote.lines turned.lines)
       ∙ ap (λ (l : List Sent). record { state = turned.state; wake = turned.wake; lines = lines ++ (mote.lines ++ turned.lines); sends = l }) (append_assoc sends mote.sends (sends_of t k turned))
@@ -82,19 +82,19 @@ module _ {S L : Type 0} (system : System S L) (k bound : ℕ) where
   alike_from {a} b {mote} {last} other e alike (Turns t quiet comes low rest) =
       Turns t (subst (λ m. IsQuiet t m.wake b) e (quiet_alike t mote.wake a b alike quiet))
       (subst (λ m. (wakes_at t m.wake || list_any (is_at t) b) ≡ true) e (ap (λ x. wakes_at t mote.wake || x) (sym (any_alike a b alike t)) ∙ comes)) low
-      (alike_from (filter (λ copy. not (is_at t copy)) b) (own_turn system t k other (in_order (filter (is_at t) b)))
-      (ap (λ m. own_turn system t k m (in_order (filter (is_at t) a))) e ∙ ap (own_turn system t k other) (alike t)) (rest_alike t a b alike) rest)
+      (alike_from (filter (λ copy. not (is_at t copy)) b) (lone_turn system t k other (in_order (filter (is_at t) b)))
+      (ap (λ m. lone_turn system t k m (in_order (filter (is_at t) a))) e ∙ ap (lone_turn system t k other) (alike t)) (rest_alike t a b alike) rest)
 
   pub alone_alike : {a : List RadioCopy} (b : List RadioCopy) {mote last : LoneMote S L} → IsAlike a b → Alone system k bound a mote last → Alone system k bound b mote last
   alone_alike b {mote} alike run = alike_from b mote refl alike run
 
-  pub rests_quiet : {window_copies : List RadioCopy} {mote last : LoneMote S L} → Alone system k bound window_copies mote last → WakesFrom bound last.wake
+  pub rests_quiet : {window_copies : List RadioCopy} {mote last : LoneMote S L} → Alone system k bound window_copies mote last → NoneBefore bound last.wake
   rests_quiet (Rests quiet) = quiet.no_wake
   rests_quiet (Turns t quiet comes low rest) = rests_quiet rest
 
   -- what each turn of the window keeps holds at its end
   module _ (wakes_later : (mote : ℕ) (state : S) (moment : ℕ) (given : List RadioCopy) → IsLater moment (system.turn mote state moment given).wake) (from : ℕ) where
-    wake_at : (t : ℕ) (wake : Option ℕ) → WakesFrom from wake → wakes_at t wake ≡ true → from ≤ t
+    wake_at : (t : ℕ) (wake : Option ℕ) → NoneBefore from wake → wakes_at t wake ≡ true → from ≤ t
     wake_at t None h e = absurd (false≢true e)
     wake_at t (Some u) h e = let g = eqb-true u t e in omega arith
 
@@ -105,11 +105,11 @@ module _ {S L : Type 0} (system : System S L) (k bound : ℕ) where
           | inr g ↦ (let h = rw g at e in any_every _ (is_at t) _ (λ c f le. (let q = eqb-true c.at t f in omega arith)) window_copies h quiet.no_copies)
         ]
 
-    later_from : (t : ℕ) (wake : Option ℕ) → from ≤ t → IsLater t wake → WakesFrom from wake
+    later_from : (t : ℕ) (wake : Option ℕ) → from ≤ t → IsLater t wake → NoneBefore from wake
     later_from t None h g = tt
     later_from t (Some u) h g = omega arith
 
-    pub alone_keeps : (P : LoneMote S L → Type 0) → ((t : ℕ) (mote : LoneMote S L) (given : List RadioCopy) → from ≤ t → t < bound → P mote → P (own_turn system t k mote given))
+    pub alone_keeps : (P : LoneMote S L → Type 0) → ((t : ℕ) (mote : LoneMote S L) (given : List RadioCopy) → from ≤ t → t < bound → P mote → P (lone_turn system t k mote given))
         → {window_copies : List RadioCopy} {mote last : LoneMote S L} → IsQuiet from mote.wake window_copies → P mote → Alone system k bound window_copies mote last → P last
     alone_keeps P step quiet p (Rests rests) = p
     alone_keeps P step {window_copies} {mote} quiet p (Turns t now comes low rest) =

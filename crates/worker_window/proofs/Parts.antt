@@ -8,7 +8,7 @@ use Rattle.radio_packet.specs.declared.copy.RadioCopy.{RadioCopy}
 use Rattle.mote_net.specs.Net.{NetTold}
 use Rattle.window_laws.specs.Order.{in_order}
 use Rattle.window_laws.specs.Agenda.{Item, Packet, moment_of, mote_of, is_wake_of, comes_at, packets, wake_items}
-use Rattle.window_laws.specs.Windows.{WakesFrom, is_at, is_from_sender, is_within, copies_by, Alone, Rests}
+use Rattle.window_laws.specs.Windows.{NoneBefore, is_at, is_from_sender, is_within, copies_by, Alone, Rests}
 use Rattle.window_laws.proofs.Agenda.{packets_filter, packets_append, packets_map, no_wake_in_packets}
 use Rattle.window_laws.proofs.Lists.{filter_filter, filter_both, filter_none, filter_every, filter_never, every_append, every_weaker, every_filter, every_map, filled_any, unfilled}
 use Rattle.window_laws.proofs.Order.{sorted_rising}
@@ -118,10 +118,10 @@ module _ (n : NetTold) (of : List ℕ) (worker from until : ℕ) (motes : Motes)
       (ap (list_any (calls_for until k)) (wakes_now k ∙ (ap (λ b. cond b (wake_items k (motes k).wake) []) mine ∙ ap (wake_items k) e))
       ∙ (let a : ltb t until ≡ true = lt-ltb t until h in let b : eqb k k ≡ true = eq-eqb k k refl in rw (a, b) refl))
 
-  pub quiet_else : (k : ℕ) → own k ≡ true → called k ≡ false → WakesFrom until (motes k).wake
+  pub quiet_else : (k : ℕ) → own k ≡ true → called k ≡ false → NoneBefore until (motes k).wake
   quiet_else k mine idle = go (motes k).wake refl
     where
-      go : (wake : Option ℕ) → (motes k).wake ≡ wake → WakesFrom until wake
+      go : (wake : Option ℕ) → (motes k).wake ≡ wake → NoneBefore until wake
       go None e = tt
       go (Some t) e = elim (cases_lt t until) [ inl h ↦ absurd (false≢true (sym idle ∙ soon_called k t mine e h)) | inr h ↦ h ]
 

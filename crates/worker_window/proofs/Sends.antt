@@ -12,7 +12,7 @@ use Rattle.radio_packet.specs.declared.fate.Fate.{Fate}
 use Rattle.radio_packet.specs.declared.sent.Sent.{Sent}
 use Rattle.radio_medium.specs.Medium.{copy_of}
 use Rattle.window_laws.specs.Agenda.{Item, Packet}
-use Rattle.worker_cut.specs.Crossed.{is_outgoing}
+use Rattle.worker_cut.specs.Crossed.{is_for_others}
 
 -- what is made of a list piece by piece
 module _ {A B : Type 0} (made : List A → List B) (splits : (xs ys : List A) → made (xs ++ ys) ≡ made xs ++ made ys) where
@@ -75,14 +75,14 @@ module _ (own : ℕ → Bool) (sent : Sent) where
       of None e ih = ih
       of (Some at) e ih = rw e (ap (λ l. record { at = at; to = fate.to; sender = sent.sender; number = sent.number; value = sent.value } ∷ l) ih)
 
-  pub none_away : (fates : List Fate) → list_all (λ (fate : Fate). own fate.to) fates ≡ true → filter (is_outgoing own) (filter_map (copy_of sent) fates) ≡ []
+  pub none_away : (fates : List Fate) → list_all (λ (fate : Fate). own fate.to) fates ≡ true → filter (is_for_others own) (filter_map (copy_of sent) fates) ≡ []
   none_away [] h = refl
   none_away (fate ∷ fates) h =
       let p = and_parts (own fate.to) (list_all (λ (fate : Fate). own fate.to) fates) h in
       of fate.at p.0 (none_away fates p.1)
     where
-      of : (at : Option ℕ) → own fate.to ≡ true → filter (is_outgoing own) (filter_map (copy_of sent) fates) ≡ []
-          → filter (is_outgoing own) (filter_map (copy_of sent) (record { to = fate.to; at = at } ∷ fates)) ≡ []
+      of : (at : Option ℕ) → own fate.to ≡ true → filter (is_for_others own) (filter_map (copy_of sent) fates) ≡ []
+          → filter (is_for_others own) (filter_map (copy_of sent) (record { to = fate.to; at = at } ∷ fates)) ≡ []
       of None e ih = ih
       of (Some at) e ih = rw e ih
 

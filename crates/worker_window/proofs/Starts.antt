@@ -7,7 +7,7 @@ use Rattle.mote_node.specs.Wake.{wake_of}
 use Rattle.radio_packet.specs.declared.copy.RadioCopy.{RadioCopy}
 use Rattle.mote_net.specs.Net.{NetTold}
 use Rattle.window_laws.specs.Agenda.{Item, moment_of, mote_of}
-use Rattle.window_laws.specs.Windows.{is_sent_by, WakesFrom, IsQuiet}
+use Rattle.window_laws.specs.Windows.{is_sent_by, NoneBefore, IsQuiet}
 use Rattle.window_laws.proofs.Lists.{any_every, every_weaker}
 use Rattle.window_run.specs.declared.out.WindowOut.{WindowOut}
 use Rattle.window_run.specs.declared.share.Resident.{Resident}
@@ -106,7 +106,7 @@ module _ (n : NetTold) (of : List ℕ) (worker from until : ℕ) (motes : Motes)
       let same = alike n of worker from until motes taken arrived old keeps le come k r.copies.items (takes_events.copies k r.copies.items called.copies) in
       let wake = wake_of (motes k).state in
       let quiet : IsQuiet from wake r.copies.items =
-      quiet_alike (system_of n) k until from wake (boxes k) r.copies.items (λ t. sym (same t)) (record { no_wake = subst (WakesFrom from) (keeps.wakes k h) (keeps.quiet k h); no_copies = window_copies_from n of worker from until motes taken arrived old keeps le come k }) in
+      quiet_alike (system_of n) k until from wake (boxes k) r.copies.items (λ t. sym (same t)) (record { no_wake = subst (NoneBefore from) (keeps.wakes k h) (keeps.quiet k h); no_copies = window_copies_from n of worker from until motes taken arrived old keeps le come k }) in
       goes_open n until r (motes k).state there (ap (node_at (tree_at n k)) (sym called.mote) ∙ keeps.nodes k h)
       (λ moment next. past_later from moment (not_before from moment wake r.copies.items quiet next.comes) (motes k).state.last (keeps.turned_before k h))
 

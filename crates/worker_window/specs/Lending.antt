@@ -18,7 +18,7 @@ use Rattle.net_agenda.specs.Changes.{without_wakes}
 use Rattle.worker_window.specs.declared.share.Share.{Share}
 use Rattle.worker_window.specs.Calls.{CalledMotes, copies_for}
 use Rattle.worker_window.specs.Log.{packets_in, HaveFates}
-use Rattle.worker_cut.specs.Crossed.{is_own, is_outgoing}
+use Rattle.worker_cut.specs.Crossed.{is_own, is_for_others}
 use Rattle.window_run.specs.Window.{number_of}
 use Rattle.worker_window.specs.Share.{mote_here, wake_from}
 
@@ -79,4 +79,5 @@ pub record MoteReturns (radio : Radio) (of : List ℕ) (number : ℕ) (wake : Op
       ≡ wake_items number wake
       → Holds new.agenda.buckets ((without_wakes number items ++ wake_items number out.wake)
       ++ map Packet (filter (λ copy. is_own of old.worker copy.to) (flat_map (copies radio) out.sends.items)))
-  pub outgoing : after ≡ before ++ filter (is_outgoing (is_own of old.worker)) (flat_map (copies radio) out.sends.items)
+  pub outgoing : after ≡ before
+      ++ filter (is_for_others (is_own of old.worker)) (flat_map (copies radio) out.sends.items)

@@ -3,7 +3,7 @@ use Rattle.std.specs.Prelude.{ℕ, ◌≤◌, List, Option}
 use Rattle.std.specs.List.{filter, AllByRecursion as Each}
 use Rattle.radio_packet.specs.declared.copy.RadioCopy.{RadioCopy}
 use Rattle.mote_net.specs.Net.{NetTold}
-use Rattle.window_laws.specs.Windows.{WakesFrom}
+use Rattle.window_laws.specs.Windows.{NoneBefore}
 use Rattle.net_agenda.specs.NetSystem.{system_of}
 use Rattle.worker_cut.specs.Crossed.{is_own, copies_seen}
 use Rattle.worker_window.specs.declared.share.Share.{Share}
@@ -19,9 +19,9 @@ copies_to_come n of worker from motes taken sender =
 -- one, and no copy comes before it.
 pub record IsNextFrom (n : NetTold) (of : List ℕ) (worker from : ℕ) (motes : Motes) (taken : List RadioCopy)
     (share : Share) (next : Option ℕ) : Type 0 where
-  pub wakes : WakesFrom from next
-  pub idle : (moment : ℕ) → from ≤ moment → WakesFrom moment next → Keeps n of worker moment motes taken share
-  pub no_copies : (moment : ℕ) → WakesFrom moment next → (sender : ℕ)
+  pub wakes : NoneBefore from next
+  pub idle : (moment : ℕ) → from ≤ moment → NoneBefore moment next → Keeps n of worker moment motes taken share
+  pub no_copies : (moment : ℕ) → NoneBefore moment next → (sender : ℕ)
       → Each (λ copy. moment ≤ copy.at) (copies_to_come n of worker from motes taken sender)
 
 -- so it is, whosever share it is and wherever it stands

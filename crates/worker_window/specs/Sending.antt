@@ -6,7 +6,7 @@ use Rattle.radio_packet.specs.declared.fate.Fate.{Fate}
 use Rattle.radio_packet.specs.declared.copy.RadioCopy.{RadioCopy}
 use Rattle.radio_medium.specs.Medium.{copy_of}
 use Rattle.window_laws.specs.Agenda.{Item, Packet}
-use Rattle.worker_cut.specs.Crossed.{is_own, is_outgoing}
+use Rattle.worker_cut.specs.Crossed.{is_own, is_for_others}
 
 -- the copies for the worker's own motes
 abbrev pub own_items : (of : List ℕ) → (worker : ℕ) → Sent → List Fate → List Item
@@ -15,4 +15,4 @@ own_items of worker sent fates = map Packet
 
 -- the copies for motes of other workers
 abbrev pub outgoing_copies : (of : List ℕ) → (worker : ℕ) → Sent → List Fate → List RadioCopy
-outgoing_copies of worker sent fates = filter (is_outgoing (is_own of worker)) (filter_map (copy_of sent) fates)
+outgoing_copies of worker sent fates = filter (is_for_others (is_own of worker)) (filter_map (copy_of sent) fates)

@@ -12,7 +12,7 @@ use Rattle.mote_node.specs.Wake.{wake_of}
 use Rattle.radio_packet.specs.declared.copy.RadioCopy.{RadioCopy}
 use Rattle.mote_net.specs.Net.{NetTold}
 use Rattle.window_laws.specs.Agenda.{Item, is_wake_of, packets, wake_items}
-use Rattle.window_laws.specs.Windows.{LoneMote, WakesFrom, is_from_sender, is_sent_by}
+use Rattle.window_laws.specs.Windows.{LoneMote, NoneBefore, is_from_sender, is_sent_by}
 use Rattle.net_agenda.specs.Buckets.{Buckets, Holds}
 use Rattle.net_agenda.specs.NetSystem.{tree_at, system_of}
 use Rattle.worker_cut.specs.Crossed.{is_own, copies_seen}
@@ -63,7 +63,7 @@ pub record IsShare (n : NetTold) (of : List ℕ) (worker : ℕ) (here : ℕ → 
   pub numbers : (k : ℕ) → here k ≡ true → number_of (motes k).state ≡ k
   pub nodes : (k : ℕ) → here k ≡ true → node_at (tree_at n k) (mote_here share.motes.items k) ≡ Some (motes k).state
   pub wakes : (k : ℕ) → here k ≡ true → (motes k).wake ≡ wake_of (motes k).state
-  pub quiet : (k : ℕ) → here k ≡ true → WakesFrom from (motes k).wake
+  pub quiet : (k : ℕ) → here k ≡ true → NoneBefore from (motes k).wake
   pub turned_before : (k : ℕ) → here k ≡ true → is_past from (motes k).state.last ≡ false
   pub traces_kept : length share.traces.items ≡ length n.motes
   pub traces : (k : ℕ) → is_own of worker k ≡ true → (d : Vec Line Global)

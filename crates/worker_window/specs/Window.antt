@@ -5,13 +5,13 @@ use Rattle.radio_packet.specs.declared.copy.RadioCopy.{RadioCopy}
 use Rattle.mote_net.specs.Net.{NetTold}
 use Rattle.window_laws.specs.Windows.{Alone, copies_by, is_at, is_from_sender, is_within}
 use Rattle.net_agenda.specs.NetSystem.{system_of}
-use Rattle.worker_cut.specs.Crossed.{is_outgoing, is_own, copies_seen, IsExpected}
+use Rattle.worker_cut.specs.Crossed.{is_for_others, is_own, copies_seen, IsExpected}
 use Rattle.worker_window.specs.declared.share.Share.{Share}
 use Rattle.worker_window.specs.Share.{Motes, Keeps}
 
 -- A mote runs alone on what it is given of the copies that the worker has seen: at each moment of the window, of each
--- sender, the copies for it, in the order of sending.
-pub record RunsOwn (n : NetTold) (own : ℕ → Bool) (from until : ℕ) (motes next : Motes) (taken : List RadioCopy)
+-- sender, the copies for it, in the order of sending, and nothing at other moments.
+pub record RunsOwnMote (n : NetTold) (own : ℕ → Bool) (from until : ℕ) (motes next : Motes) (taken : List RadioCopy)
     (number : ℕ) : Type 0 where
   pub given : List RadioCopy
   pub is_given : (moment sender : ℕ)
@@ -20,10 +20,11 @@ pub record RunsOwn (n : NetTold) (own : ℕ → Bool) (from until : ℕ) (motes 
       (copies_seen (system_of n) own motes taken sender))
   pub alone : Alone (system_of n) number until given (motes number) (next number)
 
--- the outgoing copies of the packets that a mote of this worker has sent so far, in the order of sending
+-- the outgoing copies of the packets that a mote of this worker has sent so far, in the order of sending; none where
+-- the mote is another worker's
 abbrev pub outgoing_by : NetTold → (own : ℕ → Bool) → Motes → (sender : ℕ) → List RadioCopy
 outgoing_by n own motes sender =
-    if own sender then filter (is_outgoing own) (copies_by (system_of n) motes sender) else []
+    if own sender then filter (is_for_others own) (copies_by (system_of n) motes sender) else []
 
 -- The worker's motes after the window: each ran alone, and the others are as before. The new share keeps them at the
 -- window's end; the outgoing copies are, of each sender, what it sent to other workers in the window, and none of them
@@ -31,15 +32,15 @@ outgoing_by n own motes sender =
 pub record RunsWindow (n : NetTold) (of : List ℕ) (worker from until : ℕ) (motes : Motes) (taken : List RadioCopy)
     (new : Share) (outgoing : List RadioCopy) : Type 0 where
   pub next : Motes
-  pub runs : (k : ℕ) → is_own of worker k ≡ true → RunsOwn n (is_own of worker) from until motes next taken k
+  pub runs : (k : ℕ) → is_own of worker k ≡ true → RunsOwnMote n (is_own of worker) from until motes next taken k
   pub others : (k : ℕ) → is_own of worker k ≡ false → next k ≡ motes k
   pub keeps : Keeps n of worker until next taken new
   pub out : (s : ℕ) → outgoing_by n (is_own of worker) next s ≡ outgoing_by n (is_own of worker) motes s
       ++ filter (is_from_sender s) outgoing
   pub late : Each (λ (copy : RadioCopy). until ≤ copy.at) outgoing
 
--- Wherever the share stood, where its window is no longer than the lookahead and each copy that arrived is expected: the
--- new share is what the window makes of it, and these are the outgoing copies.
+-- Wherever the share stood at or before the window's end, where the window is no longer than the lookahead and each
+-- copy that arrived is expected: the new share is what the window makes of it, and these are the outgoing copies.
 abbrev pub RunsThrough : NetTold → (of : List ℕ) → (until : ℕ) → (arrived : List RadioCopy) → (old new : Share)
     → (outgoing : List RadioCopy) → Type 0
 RunsThrough n of until arrived old new outgoing = (worker from : ℕ) (motes : Motes) (taken : List RadioCopy)
@@ -54,14 +55,14 @@ TakesIn arrived old new = (n : NetTold) (of : List ℕ) (worker from : ℕ) (mot
     → Keeps n of worker from motes taken old → Each (IsExpected of worker from) arrived
     → Keeps n of worker from motes (taken ++ arrived) new
 
--- from a mote of this worker to one of another
+-- the copy is from a mote of this worker, to a mote of the net that isn't this worker's
 pub record IsOutgoing (n : NetTold) (of : List ℕ) (worker : ℕ) (copy : RadioCopy) : Type 0 where
   pub sender : is_own of worker copy.sender ≡ true
   pub to : is_own of worker copy.to ≡ false
   pub there : copy.to < length n.motes
 
--- The share can run through a window up to this bound: it is that of some worker at some moment, before which none of
--- the copies comes that arrived from other workers.
+-- The share can run through a window up to this bound: it is that of some worker at some moment, the bound or sooner,
+-- and each copy that arrived is expected then.
 pub record CanRun (n : NetTold) (of : List ℕ) (until : ℕ) (share : Share) (arrived : List RadioCopy) : Type 0 where
   pub worker : ℕ
   pub from : ℕ
@@ -69,4 +70,4 @@ pub record CanRun (n : NetTold) (of : List ℕ) (until : ℕ) (share : Share) (a
   pub taken : List RadioCopy
   pub keeps : Keeps n of worker from motes taken share
   pub order : from ≤ until
-  pub come : Each (IsExpected of worker from) arrived
+  pub expected : Each (IsExpected of worker from) arrived

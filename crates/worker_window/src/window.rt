@@ -9,7 +9,7 @@ ghost use Rattle.window_run.specs.Window.{is_rising};
 ghost use Rattle.net_agenda.specs.Changes.{Adds};
 ghost use Rattle.worker_window.specs.Calls.{copies_for};
 ghost use Rattle.mote_net.specs.Net.{net_of};
-ghost use Rattle.worker_cut.specs.Crossed.{is_own, is_outgoing};
+ghost use Rattle.worker_cut.specs.Crossed.{is_own, is_for_others};
 ghost use Rattle.worker_window.specs.Share.{mote_here, wake_from};
 ghost use Rattle.worker_window.specs.Window.{CanRun, IsOutgoing, RunsThrough, TakesIn};
 ghost use Rattle.worker_window.specs.Log.{HaveFates, packets_in};
@@ -108,7 +108,7 @@ fn send_copy(
     ensures own { OnOk result (Adds agenda.old.buckets agenda.new.buckets
         (map Packet (filter (λ copy. is_own of.now worker copy.to) (copy.now ∷ [])))) }
     ensures outgoing { OnOk result (outgoing.new.items ≡ outgoing.old.items
-        ++ filter (is_outgoing (is_own of.now worker)) (copy.now ∷ [])) }
+        ++ filter (is_for_others (is_own of.now worker)) (copy.now ∷ [])) }
 {
     if is_own(of, worker, copy.to) {
         return agenda.put_copies(from_ref(copy));
@@ -189,7 +189,7 @@ pub(crate) fn send_all(
     ensures own { OnOk result (Adds agenda.old.buckets agenda.new.buckets
         (map Packet (filter (λ copy. is_own of.now worker copy.to) (flat_map (copies medium.now) sends.now)))) }
     ensures outgoing { OnOk result (outgoing.new.items ≡ outgoing.old.items
-        ++ filter (is_outgoing (is_own of.now worker)) (flat_map (copies medium.now) sends.now)) }
+        ++ filter (is_for_others (is_own of.now worker)) (flat_map (copies medium.now) sends.now)) }
     ensures log { OnOk result (packets_in log.new.items ≡ packets_in log.old.items ++ sends.now) }
     ensures fates { OnOk result (HaveFates medium.now log.old.items → HaveFates medium.now log.new.items) }
 {

@@ -8,7 +8,7 @@ use Rattle.window_laws.specs.Agenda.{Packet}
 use Rattle.window_laws.proofs.Lists.{every_append}
 use Rattle.net_agenda.specs.Buckets.{Holds}
 use Rattle.net_report.specs.declared.LogLine.{LogLine}
-use Rattle.worker_cut.specs.Crossed.{is_own, is_outgoing}
+use Rattle.worker_cut.specs.Crossed.{is_own, is_for_others}
 use Rattle.worker_window.specs.Log.{HaveFates, packets_in}
 use Rattle.worker_window.proofs.Sends.{more_sends, more_sent_own, more_sent_away}
 use Rattle.worker_window.proofs.window.send_all.Goals as goal
@@ -28,7 +28,7 @@ loop-sent-preserved c =
     let inv = c.loop-sent.invariant in
     let told = c.in_ok-fates.ensures in
     let given : filter_map (copy_of sent) c.deref.result.now ≡ made sent = ap (filter_map (copy_of sent)) (c.deref.ensures.value ∙ told) in
-    let before = filter (is_outgoing own) (flat_map made (take i sends)) in
+    let before = filter (is_for_others own) (flat_map made (take i sends)) in
     let line : LogLine = record { sent = sent; fates = c.in_ok-fates.fates } in
     record {
       own = λ items holds.
@@ -37,8 +37,8 @@ loop-sent-preserved c =
           (ap (λ l. all ++ map Packet (filter (λ (copy : RadioCopy). own copy.to) l)) given ∙ more_sent_own (λ copy. own copy.to) made items sends i none c.loop-sent-test.true)
           (c.in_ok-send_fates.ensures.own all (inv.own items holds));
       outgoing = c.in_ok-send_fates.ensures.outgoing
-          ∙ (ap (λ l. l ++ filter (is_outgoing own) (filter_map (copy_of sent) c.deref.result.now)) inv.outgoing
-          ∙ (ap (λ l. (c.args.outgoing.now.items ++ before) ++ filter (is_outgoing own) l) given ∙ more_sent_away (is_outgoing own) made c.args.outgoing.now.items sends i none c.loop-sent-test.true));
+          ∙ (ap (λ l. l ++ filter (is_for_others own) (filter_map (copy_of sent) c.deref.result.now)) inv.outgoing
+          ∙ (ap (λ l. (c.args.outgoing.now.items ++ before) ++ filter (is_for_others own) l) given ∙ more_sent_away (is_for_others own) made c.args.outgoing.now.items sends i none c.loop-sent-test.true));
       log = ap packets_in c.in_ok-push.ensures.items
           ∙ (map-append (λ (l : LogLine). l.sent) c.loop-sent.log.items (line ∷ [])
           ∙ (ap (λ l. l ++ sent ∷ []) inv.log ∙ more_sends (packets_in c.args.log.now.items) sends i none c.loop-sent-test.true));

@@ -7,7 +7,7 @@ use Rattle.radio_medium.specs.Medium.{copy_of}
 use Rattle.window_laws.specs.Agenda.{Packet}
 use Rattle.net_agenda.specs.Buckets.{Holds}
 use Rattle.net_agenda.specs.Changes.{Adds}
-use Rattle.worker_cut.specs.Crossed.{is_own, is_outgoing}
+use Rattle.worker_cut.specs.Crossed.{is_own, is_for_others}
 use Rattle.worker_window.specs.Sending.{outgoing_copies, own_items}
 use Rattle.worker_window.proofs.Sends.{more_own, more_away, all_own, none_away, on_ok}
 use Rattle.worker_window.proofs.window.send_fates.Goals as goal
@@ -28,7 +28,7 @@ loop-fate-preserved c =
           subst (λ l. Holds c.send_fate.new.agenda.buckets l) (more_own (λ (copy : RadioCopy). is_own of worker copy.to) (copy_of sent) items fates i none c.loop-fate-test.true)
           (c.in_ok-send_fate.ensures.own (items ++ own_items of worker sent (take i fates)) (inv.own items holds));
       outgoing = c.in_ok-send_fate.ensures.outgoing
-          ∙ (ap (λ l. l ++ outgoing_copies of worker sent (get_or fates i none ∷ [])) inv.outgoing ∙ more_away (is_outgoing (is_own of worker)) (copy_of sent) c.args.outgoing.now.items fates i none c.loop-fate-test.true);
+          ∙ (ap (λ l. l ++ outgoing_copies of worker sent (get_or fates i none ∷ [])) inv.outgoing ∙ more_away (is_for_others (is_own of worker)) (copy_of sent) c.args.outgoing.now.items fates i none c.loop-fate-test.true);
     }
 
 pub returns-clause-own : goal.returns-clause-own

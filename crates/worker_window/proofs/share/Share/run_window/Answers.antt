@@ -8,7 +8,7 @@ use Rattle.window_laws.proofs.Lists.{every_append}
 use Rattle.net_agenda.specs.Buckets.{Holds}
 use Rattle.net_agenda.proofs.Gathered.{zero_from}
 use Rattle.worker_window.specs.declared.share.Share.{Share}
-use Rattle.worker_cut.specs.Crossed.{is_own, is_outgoing}
+use Rattle.worker_cut.specs.Crossed.{is_own, is_for_others}
 use Rattle.worker_window.specs.Window.{IsOutgoing}
 use Rattle.window_run.specs.Shares.{ResidentGives}
 use Rattle.worker_window.specs.Lending.{HasNumber, IsWakeOf, MoteReturns}
@@ -51,7 +51,7 @@ run_share-requires-clause-go_on g c =
     let r = c.requires.ready in
     let at = subst (λ l. Holds c.put_copies.new.self.buckets (r.keeps.agenda.items ++ map Packet l)) c.deref.ensures.value (c.in_ok-put_copies.ensures r.keeps.agenda.items r.keeps.agenda.holds) in
     let share : Share = record c.args.self.now { motes = c.lend.new.motes; agenda = c.take_events_before.new.agenda; rooms = c.lend.new.rooms } in
-    go_on n c.args.of.now r.worker r.from c.args.until r.motes r.taken c.args.arrived.items c.args.self.now share r.keeps r.order r.come c.requires.of c.in_ok-calls.calls.copies.items
+    go_on n c.args.of.now r.worker r.from c.args.until r.motes r.taken c.args.arrived.items c.args.self.now share r.keeps r.order r.expected c.requires.of c.in_ok-calls.calls.copies.items
     c.in_ok-residents.residents.items c.lend.new.wakes.items (c.in_ok-calls.ensures.taken _ at) (c.in_ok-calls.ensures.rest _ at) c.in_ok-residents.ensures
 
 pub loop-out-init : goal.loop-out-init
@@ -133,7 +133,7 @@ loop-out-preserved g c =
           omega arith);
       fits = split.0;
       go_out =
-          subst (AllByRecursion (IsOutgoing n of self.worker)) (sym (one.outgoing ∙ ap (λ w. c.loop-out.outgoing.items ++ filter (is_outgoing (is_own of w)) (flat_map (copies n.radio) out.sends.items)) inv.worker))
+          subst (AllByRecursion (IsOutgoing n of self.worker)) (sym (one.outgoing ∙ ap (λ w. c.loop-out.outgoing.items ++ filter (is_for_others (is_own of w)) (flat_map (copies n.radio) out.sends.items)) inv.worker))
           (every_append _ c.loop-out.outgoing.items _ inv.go_out (go_out n of self.worker c.args.until out placed fit));
       coming = λ worker from motes taken keeps le short come.
           one_back n of worker from c.args.until motes (taken ++ c.args.arrived.items) (window_copies n of worker from c.args.until motes taken c.args.arrived.items self keeps le come) placed short

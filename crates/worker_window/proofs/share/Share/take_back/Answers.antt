@@ -5,7 +5,7 @@ use Rattle.radio_medium.specs.Medium.{copies}
 use Rattle.window_laws.specs.Agenda.{Packet, is_wake_of, wake_items}
 use Rattle.net_agenda.specs.Buckets.{Holds}
 use Rattle.net_agenda.specs.Changes.{without_wakes}
-use Rattle.worker_cut.specs.Crossed.{is_own, is_outgoing}
+use Rattle.worker_cut.specs.Crossed.{is_own, is_for_others}
 use Rattle.worker_window.specs.Log.{packets_in}
 use Rattle.worker_window.proofs.Traces.{as_many, lines_added}
 use Rattle.worker_window.proofs.share.Share.take_back.Goals as goal
@@ -33,5 +33,5 @@ returns c = λ number numbered.
           (c.in_ok-send_all.ensures.own _
           (subst (λ m. Holds c.move_wake.new.self.buckets (without_wakes m items ++ wake_items m out.wake)) same
           (c.in_ok-move_wake.ensures items holds (subst (λ m. filter (is_wake_of m) items ≡ wake_items m c.args.pending) (sym same) pending))));
-      outgoing = c.in_ok-send_all.ensures.outgoing ∙ ap (λ (l : List Sent). c.args.outgoing.now.items ++ filter (is_outgoing (is_own c.args.of.now old.worker)) (flat_map (copies c.args.medium.now) l)) c.deref.ensures.value;
+      outgoing = c.in_ok-send_all.ensures.outgoing ∙ ap (λ (l : List Sent). c.args.outgoing.now.items ++ filter (is_for_others (is_own c.args.of.now old.worker)) (flat_map (copies c.args.medium.now) l)) c.deref.ensures.value;
     }
