@@ -1,10 +1,13 @@
 """Tests of how tools/wrong_bodies reads source files and what a check says: python3 -B -m unittest discover tools/tests"""
+import contextlib
+import io
 import re
 import types
 import unittest
 import unittest.mock
 
 import here  # (it puts tools/ on the path)
+from project import wrong_bodies
 from project.bodies.faults import is_of, own_faults
 from project.bodies.functions import Function, functions_in, names_in, owner_of
 from project.bodies.stated import calls_itself, cited_in, holes_for, is_one_of, left_open, proof_of, types_in
@@ -189,6 +192,29 @@ class AnswersOfTheKit(unittest.TestCase):
     def test_names(self):
         answers = ['refused', 'at a limit', 'proved']
         self.assertEqual(self.told(answers, REFUSED='refused', AT_LIMIT='at a limit'), [True, True, False])
+
+
+class Changed(unittest.TestCase):
+    def left(self, known):
+        """Of the wrong bodies a and b of a crate the names that are tried, where these are noted as refused."""
+        edits = [types.SimpleNamespace(name=name) for name in 'ab']
+        bodies = types.SimpleNamespace(crate=types.SimpleNamespace(name='low'), edits=edits)
+        with contextlib.ExitStack() as patched:
+            for at, name, made in [(wrong_bodies, 'digests', lambda of_crates: {}), (wrong_bodies.tried, 'refused', lambda names: known),
+                                   (wrong_bodies, 'Bodies', lambda crate, folders, names: names)]:
+                patched.enter_context(unittest.mock.patch.object(at, name, made))
+            self.said = patched.enter_context(contextlib.redirect_stdout(io.StringIO()))
+            return wrong_bodies.changed([bodies], ['gate-bodies'])
+
+    def test_what_was_refused_over_the_same_texts_is_left_out(self):
+        self.assertEqual(self.left({'low/a'}), [['b']])
+        self.assertEqual(self.said.getvalue(), '1 were refused before, and nothing has changed since (log/wrong_bodies.tsv)\n')
+
+    def test_a_crate_of_which_nothing_is_left_is_left_out(self):
+        self.assertEqual(self.left({'low/a', 'low/b'}), [])
+
+    def test_all_are_tried_that_were_not(self):
+        self.assertEqual(self.left(set()), [['a', 'b']])
 
 
 if __name__ == '__main__':
