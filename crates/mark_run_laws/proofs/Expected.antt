@@ -10,7 +10,7 @@ use Rattle.all_workers.proofs.Step.{own_of}
 use Rattle.mark_laws.specs.State.{State}
 use Rattle.mark_laws.specs.Steps.{MayTake}
 use Rattle.mark_laws.specs.Laws.{IsReached}
-use Rattle.mark_laws.proofs.Late.{no_copy_is_unexpected as comes_later, each_taken_passes}
+use Rattle.mark_laws.proofs.Late.{no_copy_is_too_soon as comes_later, each_taken_passes}
 use Rattle.marked_workers.specs.Bounds.{bound}
 use Rattle.marked_workers.specs.WorkerHistory.{WorkerHistory}
 use Rattle.marked_workers.proofs.Pairs.{not_other}
