@@ -31,10 +31,10 @@ module _ (inboxes : List InboxId) (of : List ℕ) (c : Endpoint) (copy : RadioCo
   to_is = at_to ∙ ap (λ k. slice_index of k) at_mote
 
   pub to_inside : to < length inboxes
-  to_inside = let e = to_is in let h = leaves.its_worker in omega arith
+  to_inside = let e = to_is in let h = leaves.reaches.its_worker in omega arith
 
   to_other : (to == c.worker) ≡ false
-  to_other = ap (λ k. k == c.worker) to_is ∙ (sym (own_is of copy.to c.worker leaves.there) ∙ leaves.other)
+  to_other = ap (λ k. k == c.worker) to_is ∙ (sym (own_is of copy.to c.worker leaves.reaches.there) ∙ leaves.other)
 
   -- the sender is there
   pub never_none : (s : Option SenderView) → s ≡ get_or c.senders.items to s → s ≡ None → ⊥
@@ -195,8 +195,7 @@ pushes_own of workers c copy reaches own = record {
 
 pub leaves_other : (of : List ℕ) (workers worker : ℕ) (copy : RadioCopy) → Reaches of workers copy → slice_index of copy.to ≢ worker → Leaves of workers worker copy
 leaves_other of workers worker copy reaches other = record {
-  there = reaches.there;
-  its_worker = reaches.its_worker;
+  reaches = reaches;
   other = own_is of copy.to worker reaches.there ∙ ne_eqb (slice_index of copy.to) worker other;
 }
 

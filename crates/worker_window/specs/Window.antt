@@ -3,9 +3,10 @@ use Rattle.std.specs.Prelude.{ℕ, ◌≡◌, ◌+◌, ◌<◌, ◌≤◌, Bool,
 use Rattle.std.specs.List.{filter, AllByRecursion as Each}
 use Rattle.radio_packet.specs.declared.copy.RadioCopy.{RadioCopy}
 use Rattle.mote_net.specs.Net.{NetTold}
-use Rattle.window_laws.specs.Windows.{Alone, copies_by, is_at, is_from_sender, is_within}
+use Rattle.window_laws.specs.Windows.{Alone, copies_by, is_from_sender}
 use Rattle.net_agenda.specs.NetSystem.{system_of}
-use Rattle.worker_cut.specs.Crossed.{is_for_others, is_own, copies_seen, IsExpected}
+use Rattle.worker_cut.specs.Crossed.{is_for_others, is_own, IsExpected}
+use Rattle.worker_cut.specs.Laws.{IsFromSources}
 use Rattle.worker_window.specs.declared.share.Share.{Share}
 use Rattle.worker_window.specs.Share.{Motes, Keeps}
 
@@ -14,10 +15,7 @@ use Rattle.worker_window.specs.Share.{Motes, Keeps}
 pub record RunsOwnMote (n : NetTold) (own : ℕ → Bool) (from until : ℕ) (motes next : Motes) (taken : List RadioCopy)
     (number : ℕ) : Type 0 where
   pub given : List RadioCopy
-  pub is_given : (moment sender : ℕ)
-      → filter (is_from_sender sender) (filter (is_at moment) given)
-      ≡ filter (is_at moment) (filter (is_within number from until)
-      (copies_seen (system_of n) own motes taken sender))
+  pub is_given : IsFromSources (system_of n) own from until motes taken number given
   pub alone : Alone (system_of n) number until given (motes number) (next number)
 
 -- the outgoing copies of the packets that a mote of this worker has sent so far, in the order of sending; none where
