@@ -36,7 +36,7 @@ use Rattle.marked_workers.proofs.Promise.{promise_first, promise_next}
 
 -- what goes out of a worker is for a mote of one of the workers
 pub reaches_sent : (n : NetTold) (of : List ℕ) (workers worker : ℕ) (outgoing : List RadioCopy) → IsCut (length n.motes) workers of → Each (IsOutgoing n of worker) outgoing → Each (Reaches of workers) outgoing
-reaches_sent n of workers worker outgoing cut out = every_weaker _ _ (λ c h. record { there = h.reaches.there; its_worker = h.reaches.its_worker }) outgoing (leaves_sent n of workers worker outgoing cut out)
+reaches_sent n of workers worker outgoing cut out = every_weaker _ _ (λ c h. h.reaches) outgoing (leaves_sent n of workers worker outgoing cut out)
 
 -- items of senders that were made have no part of another
 none_of_others : (made : ℕ) (xs : List Item) → Each (λ (x : Item). x.sender < made) xs → OfMade made xs
