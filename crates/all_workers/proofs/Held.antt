@@ -33,7 +33,7 @@ use Rattle.all_workers.proofs.Waiting.{same_copies, waiting, gathered_is, to_com
 beyond : (end u k : ℕ) → (ltb (suc end) u || (eqb u (suc end) && not (ltb k 0))) ≡ not (ltb u (suc end))
 beyond end u k = grind (arith, nat_tests)
 
--- the agenda behind a run has of each sender what is on its way behind the windows
+-- the agenda after a run has of each sender what is on its way after the windows
 module _ {S L : Type 0} (system : System S L) (fine : RunsForward system) (end : ℕ) (motes : ℕ → LoneMote S L) (led : LedTo system fine (suc end) motes) where
   as_history : (k : ℕ) → k < system.motes → mix system fine (suc end) 0 k ≡ motes k
   as_history k h = mix_from system fine (suc end) 0 k zero-le ∙ sym (is_history system fine (suc end) motes led k h)
@@ -58,7 +58,7 @@ lower w k e = grind (arith, nat_tests)
 just_at : (w k : ℕ) → eqb w k ≡ (ltb w (suc k) && not (ltb w k))
 just_at w k = grind (arith, nat_tests)
 
--- copies for motes of some workers are those for each of them
+-- the copies for motes of the first workers are those for each of these workers
 module _ (of : List ℕ) where
   -- the copy is for a mote of one of the first k workers
   abbrev is_to_first : ℕ → RadioCopy → Bool

@@ -1,4 +1,4 @@
--- What a worker sends leaves it, and what holds of each sender's copies.
+-- Outgoing copies are for motes of other workers; and what holds of each sender's copies holds of all.
 use Rattle.std.proofs.Common.{◌≡◌, ℕ, zero, suc, ◌<◌, true, eqb, List, [], ◌∷◌, length, refl, sym, subst, arith, inl, inr}
 use Rattle.std.specs.Prelude.{slice_index}
 use Rattle.std.specs.List.{filter, AllByRecursion as Each}

@@ -21,7 +21,7 @@ use Rattle.all_workers.specs.Workers.{IsAt, IsWorkerAt}
 use Rattle.all_workers.specs.Start.{AreFirst}
 use Rattle.all_workers.specs.Workers.{IsCut}
 
--- where no sender has a part there is nothing
+-- if no sender has a part, there is nothing
 no_parts : (rest : List Item) → ((s : ℕ) → part s rest ≡ []) → rest ≡ []
 no_parts [] h = refl
 no_parts (x ∷ rest) h = let e = rw (eq-eqb x.sender x.sender refl) at (h x.sender) in cc

@@ -21,7 +21,7 @@ use Rattle.all_workers.specs.Workers.{IsCut}
 use Rattle.all_workers.proofs.Same.{own_copies_same}
 use Rattle.all_workers.proofs.Sent.{every_of_each}
 
--- a mote has the worker that it is said to have, and no other
+-- a worker's own mote has that worker in the cut
 pub own_of : (of : List ℕ) (v k : ℕ) → is_own of v k ≡ true → slice_get of k ≡ Some v
 own_of of v k = at (slice_get of k)
   where
@@ -83,7 +83,7 @@ module _ (n : NetTold) (fine : RunsForward (system_of n)) (of : List ℕ) (worke
       each : (k : ℕ) → k < length n.motes → RunsAlone (system_of n) from until motes next k
       each k h = let w = some_worker (length n.motes) workers of cut k h in of_worker k w.0 w.1 w.2
 
-  -- what a mote's worker sent out to another worker, of this mote
+  -- of this mote, what its worker sent to another worker
   abbrev pub out_of : (v s : ℕ) → List RadioCopy
   out_of v s = option_map_or (λ u. filter (is_from_sender s) (filter (is_to of v) (outgoing u))) (slice_get of s) []
 
@@ -103,7 +103,7 @@ module _ (n : NetTold) (fine : RunsForward (system_of n)) (of : List ℕ) (worke
   unfolding system_of
   told_next v h after more s = more s ∙ (ap (λ l. l ++ out_of v s) (told v h s) ∙ by_worker (slice_get of s) refl)
     where
-      -- a mote that isn't there sends nothing
+      -- a mote that doesn't exist sends nothing
       none_sent : slice_get of s ≡ None → (x : Motes) → copies_by (system_of n) x s ≡ []
       none_sent e x = elim (cases_Bool (ltb s (length n.motes))) [
         | inl t ↦ (let w = some_worker (length n.motes) workers of cut s (ltb-true s (length n.motes) t) in let f = sym e ∙ w.1 in cc)

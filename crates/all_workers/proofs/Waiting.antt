@@ -1,4 +1,4 @@
--- What is on its way to one worker: what is to come to its motes, and what lies in its inbox.
+-- What is on its way to one worker: what is pending for its motes, and what is in its inbox.
 use Rattle.std.proofs.Common.{◌≡◌, ◌⊎◌, ℕ, ◌≤◌, true, false, cond, not, ltb, List, [], ◌∷◌, ◌++◌, length, refl, sym, ap, ap₂, ◌∙◌, subst, inl, inr, arith, append-nil, Option, Some, None}
 use Rattle.std.specs.Prelude.{IsPermutation}
 use Rattle.std.specs.List.{filter, flat_map, AllByRecursion as Each}
@@ -47,7 +47,7 @@ same_copies xs ys h =
 
 module _ (n : NetTold) (fine : RunsForward (system_of n)) (of : List ℕ) (from : ℕ) (motes : Motes) (led : Windows (system_of n) 0 from (first_mote (system_of n)) motes) (first : Option ℕ) (starts : NoneBefore from first)
     (v : ℕ) (share : Share) (taker : TakerView) (here : IsWorkerAt n of from motes first v share taker) where
-  -- of one sender, what lies in the inbox
+  -- of one sender, what is in the inbox
   abbrev rest_of : ℕ → List RadioCopy
   rest_of s = (here.waits s).rest
 
@@ -72,7 +72,7 @@ module _ (n : NetTold) (fine : RunsForward (system_of n)) (of : List ℕ) (from 
   none_own : (s : ℕ) → is_own of v s ≡ true → crossed (system_of n) of motes v s ≡ []
   none_own s e = rw e refl
 
-  -- all that lies in the inbox
+  -- all that is in the inbox
   abbrev pub waiting : List RadioCopy
   waiting = flat_map rest_of (up_to (length n.motes))
 
@@ -90,7 +90,7 @@ module _ (n : NetTold) (fine : RunsForward (system_of n)) (of : List ℕ) (from 
   pub gathered_is : IsPermutation (gathered_by taker) (taken_by taker ++ waiting)
   gathered_is = same_copies (gathered_by taker) (taken_by taker ++ waiting) gathered_each
 
-  -- of one sender, what was still to come and what lies in the inbox are the copies to this worker that come from this moment on
+  -- of one sender, what is pending and what is in the inbox are the copies to this worker from this moment on
   of_sender : (s : ℕ) → filter (is_to_come (is_own of v) from) (copies_seen (system_of n) (is_own of v) motes (taken_by taker) s) ++ rest_of s ≡ filter (comes_from from) (filter (is_to of v) (copies_by (system_of n) motes s))
   of_sender s = of_case (cases_Bool (is_own of v s))
     where
@@ -114,7 +114,7 @@ module _ (n : NetTold) (fine : RunsForward (system_of n)) (of : List ℕ) (from 
           all_to : Each (λ c. is_to of v c ≡ true) (taken_of s)
           all_to = (ends_of (λ c. is_to of v c ≡ true) (taken_of s) (rest_of s) (subst (Each (λ c. is_to of v c ≡ true)) (sym whole) (every_passes (is_to of v) (copies_by (system_of n) motes s)))).0
 
-  -- the copies of each sender that are to come to this worker
+  -- the copies of each sender that are pending for this worker's motes
   abbrev pub AreToCome : List RadioCopy → Type 0
   AreToCome rest = (s : ℕ) → filter (is_from_sender s) rest ≡ filter (is_to_come (is_own of v) from) (copies_seen (system_of n) (is_own of v) motes (taken_by taker) s)
 
@@ -127,6 +127,6 @@ module _ (n : NetTold) (fine : RunsForward (system_of n)) (of : List ℕ) (from 
       ∙ (ap (filter (is_to of v)) (sym (coming_pending (system_of n) fine from motes led s))
       ∙ sym (filter_filter (is_from_sender s) (is_to of v) (coming (system_of n) fine from motes))))))
 
-  -- what comes to this worker is what is to come to its motes, and what waits
+  -- what is on its way to this worker is what is pending for its motes, and what is in its inbox
   pub to_come_is : (rest : List RadioCopy) → AreToCome rest → IsPermutation (filter (is_to of v) (coming (system_of n) fine from motes)) (rest ++ waiting)
   to_come_is rest told = same_copies (filter (is_to of v) (coming (system_of n) fine from motes)) (rest ++ waiting) (λ s. sym (to_come_each rest told s))

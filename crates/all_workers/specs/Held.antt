@@ -24,7 +24,7 @@ pub record AreWith (share : Share) (taker : TakerView) (copies : List RadioCopy)
   pub gathered : IsPermutation (gathered_by taker) (taken_by taker ++ waiting)
   pub both : IsPermutation copies (packets items ++ waiting)
 
--- Where the workers stand before a moment, the copies of the net's agenda after all turns before it are those that the
+-- If the workers stand before a moment, the copies of the net's agenda after all turns before it are those that the
 -- workers hold together with those in the inboxes, each once.
 abbrev pub AgendaIsHeld : Type 0
 AgendaIsHeld = (n : NetTold) → RunsForward (system_of n) → (of : List ℕ) (end : ℕ) (group : Workers)

@@ -6,7 +6,7 @@ use Rattle.net_agenda.specs.NetSystem.{system_of}
 use Rattle.worker_window.specs.declared.share.Share.{Share}
 use Rattle.worker_window.specs.Share.{Keeps}
 
--- the shares of so many workers, in order, in which each mote wakes at 0
+-- the shares of this many workers, in order, in which each mote wakes at 0
 pub record AreFirst (n : NetTold) (of : List ℕ) (workers : ℕ) (shares : List Share) : Type 0 where
   pub count : length shares ≡ workers
   pub each : (worker : ℕ) (share : Share) → worker < workers

@@ -1,7 +1,7 @@
 -- How long a window is, and where it ends.
 use Rattle.std.specs.Prelude.{ℕ, ◌+◌, min, nat_lt, ◌&&◌, if◌then◌else◌}
 
--- a window lasts as long as the lookahead, or less where that is asked for
+-- a window lasts as long as the lookahead, or less if that is asked for
 abbrev pub width_of_window : (lookahead longest : ℕ) → ℕ
 width_of_window lookahead longest = if nat_lt 0 longest && nat_lt longest lookahead then longest else lookahead
 

@@ -4,6 +4,6 @@ use Rattle.copy_exchange.specs.declared.endpoint.Endpoint.{Endpoint}
 use Rattle.worker_window.specs.declared.share.Share.{Share}
 use Rattle.all_workers.specs.declared.worker.Worker.{Worker}
 
--- nothing that it delivered lies in an inbox
+-- nothing that it delivered is in an inbox
 abbrev pub make_worker : Share × Endpoint → Worker
 make_worker p = record { share = p.0; endpoint = p.1; first_out = None }

@@ -13,25 +13,24 @@ use Rattle.worker_window.specs.declared.share.Share.{Share}
 use Rattle.worker_window.specs.Share.{Motes, Keeps}
 use Rattle.all_workers.specs.declared.workers.Workers.{Workers}
 
--- each mote has one of so many workers
+-- each mote has one of this many workers
 pub record IsCut (motes workers : ℕ) (of : List ℕ) : Type 0 where
   pub len : length of ≡ motes
   pub there : Each (λ worker. worker < workers) of
 
--- the copy arrives at this moment or later; where there is no moment, there is no such copy
+-- the copy arrives at this moment or later; without a moment there is no such copy
 abbrev pub IsNotBefore : (first : Option ℕ) → RadioCopy → Type 0
 IsNotBefore None copy = ⊥
 IsNotBefore (Some moment) copy = moment ≤ copy.at
 
--- of what a worker gathered of one mote, it took a prefix; the rest lies in its inbox, and arrives no sooner than at
--- this moment
+-- of what a worker gathered of one mote, it took a prefix; the rest, in its inbox, arrives at this moment or later
 pub record Waits (first : Option ℕ) (sender : ℕ) (taker : TakerView) : Type 0 where
   pub rest : List RadioCopy
   pub all : filter (is_from_sender sender) (gathered_by taker) ≡ filter (is_from_sender sender) (taken_by taker) ++ rest
   pub later : Each (IsNotBefore first) rest
 
--- One worker, where the motes have come: its share keeps its motes, and it gathered, of each mote of another worker,
--- all copies for its own.
+-- One worker, with the motes as they are before a moment: its share keeps its motes, and it gathered, of each mote of
+-- another worker, all copies for its own.
 pub record IsWorkerAt (n : NetTold) (of : List ℕ) (from : ℕ) (motes : Motes) (first : Option ℕ) (worker : ℕ)
     (share : Share) (taker : TakerView) : Type 0 where
   pub keeps : Keeps n of worker from motes (taken_by taker) share

@@ -11,7 +11,7 @@ use copy_inbox::{Inbox, Taker};
 use fork_join::Refused;
 use std::alloc::Global;
 
-/// Makes each worker's endpoint, with a sender on the inbox of each other worker. Out of memory is the one error.
+/// Makes each worker's endpoint, with a sender on the inbox of each other worker. The only error is out of memory.
 pub fn make_endpoints(
     alloc: Global,
     inboxes: &[Inbox],

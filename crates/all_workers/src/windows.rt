@@ -17,7 +17,7 @@ pub fn lookahead_of(net: &Net) -> u64
     net.medium().lookahead(net.end())
 }
 
-/// How long a window lasts: as long as the lookahead, or `longest`, where that is above 0 and less.
+/// How long a window lasts: as long as the lookahead, or `longest`, if that is above 0 and less.
 pub fn window_width(lookahead: u64, longest: u32) -> u64
     requires { 0 < lookahead }
     ensures value { result ≡ width_of_window lookahead longest }
@@ -32,7 +32,7 @@ pub fn window_width(lookahead: u64, longest: u32) -> u64
     longest
 }
 
-/// The moment before which a window ends that begins at or before the end and may last so long.
+/// The moment before which a window ends that begins at `from`, at or before the end, and is at most `width` long.
 pub fn window_end(from: u64, width: u64, end: u64) -> u64
     requires above_zero { 0 < width }
     requires early { end ≤ latest_end }

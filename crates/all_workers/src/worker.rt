@@ -15,11 +15,11 @@ use worker_window::Share;
 pub struct Worker {
     pub share: Share,
     pub endpoint: Endpoint,
-    /// When the first of the copies arrives that it delivered, and that lie in an inbox.
+    /// When the first of the copies that it delivered, and that are still in an inbox, arrives.
     pub first_out: Option<u64>,
 }
 
-/// Each worker, made of its share and its endpoint.
+/// Makes each worker of its share and its endpoint.
 pub fn workers_of(
     alloc: Global,
     shares: Vec<Share>,
@@ -39,7 +39,7 @@ pub fn workers_of(
     Ok(workers)
 }
 
-/// The workers' shares, and their endpoints.
+/// Separates the workers' shares from their endpoints.
 pub fn split_workers(
     alloc: Global,
     workers: Vec<Worker>,

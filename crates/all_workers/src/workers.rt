@@ -14,8 +14,8 @@ use mote_net::Net;
 use std::alloc::Global;
 use worker_window::Share;
 
-/// The workers of a net: their shares, their inboxes with the takers, and when the first of the copies arrives that lie
-/// in the inboxes.
+/// The workers of a net: their shares, their inboxes with the takers, and when the first of the copies in the inboxes
+/// arrives.
 #[derive(Drop)]
 pub struct Workers {
     pub shares: Vec<Share>,
@@ -24,7 +24,7 @@ pub struct Workers {
     pub first_out: Option<u64>,
 }
 
-/// The shares of so many workers: each mote wakes at 0.
+/// The shares of this many workers before the motes' first turns: each mote wakes at 0.
 fn first_shares(alloc: Global, net: &Net, of: &[u16], workers: u16) -> Result<Vec<Share>, Refused>
     requires { length of.now ≡ length (net_of net.now).motes }
     ensures first { let n = net_of net.now in IfOk result (λ shares. AreFirst n of.now workers shares.items) }
@@ -39,11 +39,11 @@ fn first_shares(alloc: Global, net: &Net, of: &[u16], workers: u16) -> Result<Ve
 }
 
 impl Workers {
-    /// The workers before the motes' first turns: each mote wakes at 0, and nothing lies in the inboxes. `of` tells the
+    /// The workers before the motes' first turns: each mote wakes at 0, and nothing is in the inboxes. `of` is the
     /// worker of each mote.
     ///
     /// # Errors
-    /// `Memory` alone.
+    /// Only `Memory`.
     pub fn new(
         alloc: Global,
         net: &Net,

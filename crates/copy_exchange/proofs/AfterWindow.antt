@@ -21,7 +21,7 @@ use Rattle.copy_exchange.proofs.Lists.{each_from, each_join, each_map}
 use Rattle.copy_exchange.proofs.Rows.{into_inbox}
 use Rattle.copy_exchange.proofs.Owns.{workers_of, delivered_is, one_of}
 
--- ---- what stays is what is asked of the endpoints
+-- ---- what stays the same meets the requirements on endpoints
 read_map : (l : List (Option SenderView)) (v : ℕ) → identity_of (get_or l v None) ≡ get_or (map identity_of l) v None
 read_map [] v = refl
 read_map (x ∷ xs) zero = refl
@@ -85,7 +85,7 @@ open_same ss us d e h numbers made gathered =
       newer = λ i le. ap (λ g. is_gathered g i) gathered ∙ h.newer i le;
     }
 
--- whose senders are open stays so while the endpoints stay the same
+-- which senders are open doesn't change while the endpoints stay the same
 pub open_staying : (old new : List Endpoint) → AllZip Stays old new → Each (λ (c : Endpoint). AreOpen (senders_to old c.worker) c.taker.state) old → Each (λ (c : Endpoint). AreOpen (senders_to new c.worker) c.taker.state) new
 open_staying old new stays are_open =
     each_staying (λ c. AreOpen (senders_to old c.worker) c.taker.state) (λ c. AreOpen (senders_to new c.worker) c.taker.state)

@@ -16,7 +16,7 @@ use Rattle.copy_exchange.specs.Inboxes.{IsPlain}
 use Rattle.copy_exchange.specs.Takers.{SameOfEach, taken_by, gathered_by, IsRest, IsOrderly}
 use Rattle.copy_exchange.proofs.Parts.{from, copies-append}
 
--- some of the rest is taken
+-- some items of the rest were taken
 rest_of_rest : (d : TakerState) (items rest : List Item) → NoOthers d.gathered d.taken (d.taken ++ items) → IsRest (make_taker_state d.marked d.made (d.taken ++ items) d.gathered) rest → IsRest d (items ++ rest)
 rest_of_rest d items rest none r =
     let e : (d.taken ++ items) ++ rest ≡ d.taken ++ (items ++ rest) = append_assoc d.taken items rest in

@@ -34,7 +34,7 @@ all_packets (w ∷ ws) h =
     let one = one_more w (copies_in ws) ∙ ap (λ (b : Bool). cond b 1 0 + length (copies_in ws)) h.0 in
     omega arith
 
--- of a bool that is one or the other
+-- by cases of a bool
 either : {P : Type 0} (b : Bool) → (b ≡ true → P) → (b ≡ false → P) → P
 either true f g = f refl
 either false f g = g refl

@@ -1,4 +1,4 @@
--- One copy more is delivered.
+-- One more copy is delivered.
 use Rattle.std.proofs.Common.{◌≡◌, ◌≢◌, ℕ, zero, suc, ◌<◌, ◌==◌, Bool, true, false, cond, eqb, List, [], ◌∷◌, ◌++◌, length, map, filter, get_or, slice_get, slice_index, Option, Some, None, refl, sym, ap, ◌∙◌, subst, ⊎_elim, arith, append-nil, append_assoc, length-set, eq-eqb, ne_eqb}
 use Rattle.std.proofs.Math.Seq.{map-set_same}
 use Rattle.std.proofs.lemmas.Bool.Decides.{eqb_tells}
@@ -36,7 +36,7 @@ module _ (inboxes : List InboxId) (of : List ℕ) (c : Endpoint) (copy : RadioCo
   to_other : (to == c.worker) ≡ false
   to_other = ap (λ k. k == c.worker) to_is ∙ (sym (own_is of copy.to c.worker leaves.reaches.there) ∙ leaves.other)
 
-  -- the sender is there
+  -- there is such a sender
   pub never_none : (s : Option SenderView) → s ≡ get_or c.senders.items to s → s ≡ None → ⊥
   never_none s at_s none =
       let count = endpoint.count in
@@ -152,7 +152,7 @@ delivers_none of c = record {
   pushes = λ v. sym (append-nil (pushed_to c v));
 }
 
--- packets behind packets
+-- packets appended to packets
 packets_on : (of : List ℕ) (v : ℕ) (old : List Carried) (xs ys : List RadioCopy) → (old ++ map Packet (filter (is_to of v) xs)) ++ map Packet (filter (is_to of v) ys) ≡ old ++ map Packet (filter (is_to of v) (xs ++ ys))
 packets_on of v old xs ys =
     append_assoc old (map Packet (filter (is_to of v) xs)) (map Packet (filter (is_to of v) ys))
@@ -166,7 +166,7 @@ delivers_more of a b c xs ys h k = record {
   pushes = λ v. k.pushes v ∙ (ap (λ l. l ++ map Packet (filter (is_to of v) ys)) (h.pushes v) ∙ packets_on of v (pushed_to a v) xs ys);
 }
 
--- ---- an endpoint of joins stays one
+-- ---- an endpoint of joins stays one when it delivers
 pub endpoint_again : (inboxes : List InboxId) (of : List ℕ) (a b : Endpoint) (copies : List RadioCopy) → IsEndpoint inboxes a → Delivers of a b copies → IsOnInboxes inboxes b → IsEndpoint inboxes b
 endpoint_again inboxes of a b copies h d s =
     let P : TakerView → Type 0 = λ t. IsOrderly t.state in

@@ -57,7 +57,7 @@ module _ (P : Gathered → Type 0) (made : ℕ) where
   each_joined [] gs old new = old
   each_joined (s ∷ ss) gs old new = each_joined ss (as_gathered made s ∷ gs) (new.0, old) new.1
 
--- ---- which are gathered
+-- ---- which senders are gathered
 pub gathered_more : (g : Gathered) (gs : List Gathered) (i : ℕ) → i ≢ g.number → is_gathered (g ∷ gs) i ≡ is_gathered gs i
 gathered_more g gs i n = rw (ne_eqb g.number i (λ e. n (sym e))) refl
 

@@ -1,4 +1,4 @@
--- The mark of a window goes out, worker by worker.
+-- The mark of a window is pushed, worker by worker.
 use Rattle.std.proofs.Common.{◌≡◌, ◌≢◌, ℕ, ◌+◌, ◌<◌, ◌≤◌, ◌==◌, Bool, true, false, eqb, List, [], ◌∷◌, ◌++◌, length, get_or, slice_get, Option, Some, None, IfSome, refl, sym, ap, ◌∙◌, subst, ⊎_elim, arith}
 use Rattle.std.proofs.Math.Seq.{map-set_same}
 use Rattle.std.proofs.lemmas.Bool.Decides.{eqb_tells}
@@ -13,7 +13,7 @@ use Rattle.copy_exchange.specs.Steps.{MarksOne, pushed_with_mark}
 use Rattle.copy_exchange.proofs.Delivered.{same_at, stays_on, with_sender}
 use Rattle.copy_exchange.proofs.AfterWindow.{same_identity}
 
--- ---- what the identity of a sender tells
+-- ---- what follows from the identity of a sender
 on_identity : (id : InboxId) (own : Bool) (o p : Option SenderView) → identity_of o ≡ identity_of p → IsSenderOn id own p → IsSenderOn id own o
 on_identity id true None None e h = refl
 on_identity id true None (Some q) e h = absurd cc
@@ -81,7 +81,7 @@ module _ (c : Endpoint) (to window : ℕ) (inside : to < length c.senders.items)
   }
 
 -- ---- worker by worker
--- the mark went out to the workers before this one
+-- the mark was pushed to the workers before this one
 pub record MarkedTo (to window : ℕ) (old new : Endpoint) : Type 0 where
   pub stays : Stays old new
   pub taker : new.taker ≡ old.taker

@@ -1,4 +1,4 @@
--- The senders on an inbox, where endpoints are made once for the whole run.
+-- The senders on an inbox, if endpoints are made once for the whole run.
 use Rattle.std.proofs.Common.{◌≡◌, ◌≢◌, ℕ, zero, suc, ◌+◌, ◌<◌, ◌≤◌, ◌==◌, Bool, true, false, eqb, List, [], ◌∷◌, length, map, get_or, slice_get, Option, Some, None, refl, sym, ap, ◌∙◌, subst, ⊎_elim, arith, eq-eqb, ne_eqb, option_map}
 use Rattle.std.specs.List.{AllByRecursion as Each, AllZip, cons_option, filter_map, range_with_len}
 use Rattle.std.specs.Option.{option_map_or}
@@ -18,7 +18,7 @@ use Rattle.copy_exchange.proofs.Lists.{each_at, each_map}
 use Rattle.copy_exchange.proofs.Owns.{workers_of}
 
 -- ---- place by place
--- what is numbered from 0 has the number of its place
+-- in a list numbered from 0 each element has the number of its place
 pub at_range : {A : Type 0} (f : A → ℕ) (xs : List A) (n : ℕ) → map f xs ≡ range_with_len 0 n → (v : ℕ) (x : A) → slice_get xs v ≡ Some x → f x ≡ v
 at_range f xs n numbered v x at =
     let inside = slice_get_within xs v x at in
@@ -124,7 +124,7 @@ module _ (inboxes : List InboxId) (cs : List Endpoint) (workers : workers_of cs 
       let found : slice_get inboxes v ≡ Some id = slice_get-get_or inboxes v c.taker.inbox (omega arith) in
       one_missing id v 0 cs (omega arith) (omega arith) (workers ∙ ap (range_with_len 0) (sym long)) (each_map (IsOnInboxes inboxes) (On id v) cs (λ x h. h.each v id found) each_on_inboxes) ∙ long
 
--- on the inbox of each worker, where none is gathered yet, there is a sender of each other one
+-- on the inbox of each worker, if none is gathered yet, there is a sender of each other one
 pub made_for_others : (inboxes : List InboxId) (endpoints : List Endpoint) → Together inboxes endpoints → (v : ℕ) (c : Endpoint) → slice_get endpoints v ≡ Some c → c.taker.state.gathered ≡ [] → suc c.taker.state.made ≡ length inboxes
 made_for_others inboxes endpoints h v c at none =
     let each_on_inboxes = each_map (IsEndpoint inboxes) (IsOnInboxes inboxes) endpoints (λ c e. e.on_inboxes) h.each in

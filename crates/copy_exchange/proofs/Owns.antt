@@ -20,7 +20,7 @@ delivered_is [] v = refl
 delivered_is (c ∷ cs) v =
     flat_map-cons (λ (k : Endpoint). delivered k v) c cs ∙ (ap (λ l. delivered c v ++ l) (delivered_is cs v) ∙ sym (by_option (sender_to c v) (senders_to cs v)))
 
--- ---- one endpoint of a mote
+-- ---- a mote has one endpoint
 abbrev pub workers_of : List Endpoint → List ℕ
 workers_of cs = map (λ (c : Endpoint). c.worker) cs
 

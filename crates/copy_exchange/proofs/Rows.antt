@@ -74,7 +74,7 @@ pub sender_fits : (inboxes : List InboxId) (senders : List (Option SenderView)) 
 sender_fits inboxes senders v id None h lt at_id at_sender = tt
 sender_fits inboxes senders v id (Some s) h lt at_id at_sender = h.its v id s lt (sym at_sender) ∙ sym at_id
 
--- the next of the senders that are left
+-- the first of the senders that are left
 pub next_is : (senders rest : List (Option SenderView)) (k : ℕ) (sender : Option SenderView) → drop k senders ≡ sender ∷ rest → (k < length senders) × (sender ≡ at_place senders k) × (rest ≡ drop (k + 1) senders)
 next_is [] rest zero sender e = absurd cc
 next_is [] rest (suc k) sender e = absurd cc

@@ -68,7 +68,7 @@ filter_none p s (x ∷ xs) h = cases (is_from_sender s x) (p x) refl refl (filte
         let k : from s xs ≡ [] = ap (λ (q : Bool). cond q (x ∷ from s xs) (from s xs)) (sym e) ∙ h in
         ap (λ (q : Bool). from s (cond q (x ∷ filter p xs) (filter p xs))) f ∙ rest k
 
--- an endpoint that was made, collected, and delivered copies of its own worker's motes is at the window's end
+-- an endpoint that was made, has collected, and has delivered copies of its own worker's motes, is at the window's end
 pub returns_from : (inboxes : List InboxId) (of : List ℕ) (worker_of : ℕ → ℕ) (t : TakerView) (a b c : Endpoint) (arrived out : List RadioCopy) → StartsAs t a → Collects a b arrived → Delivers of b c out → IsEndpoint inboxes c
     → ((s : ℕ) → (worker_of s == a.worker) ≡ false → filter (is_from_sender s) out ≡ []) → Returns inboxes worker_of a c
 returns_from inboxes of worker_of t a b c arrived out starts collects delivers endpoint own =
@@ -93,7 +93,7 @@ numbers : (x y : ℕ) (xs ys : List ℕ) → x ∷ xs ≡ y ∷ ys → (x ≡ y)
 numbers x y xs ys e = (cc, cc)
 
 module _ (worker_of : ℕ → ℕ) (s v : ℕ) where
-  -- what all of these delivered is what this one delivered, where it is that of the mote's worker
+  -- what all of these delivered is what this one delivered, if it is the endpoint of the mote's worker
   abbrev Alone : List Endpoint → Endpoint → Type 0
   Alone cs c = c.worker ≡ worker_of s → from s (delivered_to cs v) ≡ from s (delivered c v)
 

@@ -1,4 +1,4 @@
--- What goes through workers' endpoints.
+-- What workers take and deliver through their endpoints.
 use Rattle.std.specs.Prelude.{◌≡◌, ℕ, ◌+◌, ◌<◌, ◌≤◌, ◌==◌, Bool, true, false, List, [], ◌∷◌, ◌++◌, length, map, filter}
 use Rattle.std.specs.Prelude.{slice_get, slice_index, slice_index_or, Option, Some, None}
 use Rattle.std.specs.List.{AllByRecursion as Each, AllZip, filter_map, flat_map, range_with_len}
@@ -31,7 +31,7 @@ delivered e v = pushed_by (sender_to e v)
 abbrev pub delivered_to : List Endpoint → (v : ℕ) → List RadioCopy
 delivered_to endpoints v = flat_map (λ e. delivered e v) endpoints
 
--- on a worker's own inbox there is no sender of it, on each other one there is
+-- a worker has no sender on its own inbox, and one on each other inbox
 abbrev pub IsSenderOn : InboxId → (own : Bool) → Option SenderView → Type 0
 IsSenderOn id true s = s ≡ None
 IsSenderOn id false s = IsSomeAnd s (λ sender. sender.inbox ≡ id)
@@ -45,11 +45,11 @@ pushed_list (Some s) = s.state.pushed
 abbrev pub pushed_to : Endpoint → (v : ℕ) → List Carried
 pushed_to e v = pushed_list (sender_to e v)
 
--- its senders are those of inboxes with marks
+-- its senders are on inboxes with marks
 abbrev pub HasMarks : Endpoint → Type 0
 HasMarks e = (v : ℕ) (s : SenderView) → sender_to e v ≡ Some s → s.state.marked ≡ true
 
--- nothing went through its senders yet, no copy and no mark
+-- its senders have pushed nothing yet, no copy and no mark
 abbrev pub HasPushedNothing : Endpoint → Type 0
 HasPushedNothing e = (v : ℕ) → pushed_to e v ≡ []
 
@@ -59,7 +59,7 @@ pub record IsOnInboxes (inboxes : List InboxId) (e : Endpoint) : Type 0 where
   pub count : length e.senders.items ≡ length inboxes
   pub each : (v : ℕ) (id : InboxId) → slice_get inboxes v ≡ Some id → IsSenderOn id (v == e.worker) (sender_to e v)
 
--- an endpoint in a window that ends by a join: it is on these inboxes, and what its taker took is in order
+-- an endpoint in a window that ends with a join: it is on these inboxes, and what its taker took is in order
 pub record IsEndpoint (inboxes : List InboxId) (e : Endpoint) : Type 0 where
   pub on_inboxes : IsOnInboxes inboxes e
   pub orderly : IsOrderly e.taker.state
@@ -68,7 +68,7 @@ pub record IsEndpoint (inboxes : List InboxId) (e : Endpoint) : Type 0 where
 abbrev pub IsCollected : Endpoint → Type 0
 IsCollected e = Whole e.taker.state.gathered e.taker.state.taken
 
--- of motes of other workers it delivered nothing
+-- it delivered nothing from motes of other workers
 abbrev pub DeliversOwn : (worker_of : ℕ → ℕ) → Endpoint → Type 0
 DeliversOwn worker_of e = (s v : ℕ) → (worker_of s == e.worker) ≡ false → filter (is_from_sender s) (delivered e v) ≡ []
 
@@ -87,7 +87,7 @@ pub record Stays (old new : Endpoint) : Type 0 where
   pub gathered : new.taker.state.gathered ≡ old.taker.state.gathered
   pub identities : map identity_of new.senders.items ≡ map identity_of old.senders.items
 
--- it took these copies, which are all that was gathered and not yet taken, of an inbox without marks
+-- from an inbox without marks it took these copies, which are all that was gathered and not yet taken
 pub record Collects (old new : Endpoint) (copies : List RadioCopy) : Type 0 where
   pub stays : Stays old new
   pub plain : IsPlain new.taker
@@ -120,7 +120,7 @@ pub record PushesOut (of : List ℕ) (old new : Endpoint) (copies : List RadioCo
   pub pushes : (v : ℕ) → (v == old.worker) ≡ false
       → pushed_to new v ≡ pushed_to old v ++ map Packet (filter (is_to of v) copies)
 
--- it pushed the mark of this window to each other of so many workers, and nothing else
+-- it pushed the mark of this window to each other worker, and nothing else
 pub record PushesMarks (workers window : ℕ) (old new : Endpoint) : Type 0 where
   pub stays : Stays old new
   pub taker : new.taker ≡ old.taker

@@ -5,11 +5,11 @@ use Rattle.copy_inbox.specs.Views.{make_taker_state}
 use Rattle.copy_inbox.specs.Handles.{InboxId, TakerView, AllGathered, PacketsLeft}
 use Rattle.copy_exchange.specs.Takers.{IsOrderly}
 
--- as `Inbox::make` or `Inbox::make_marked` gives them
+-- an inbox and its taker, as `Inbox::make` or `Inbox::make_marked` returns them
 abbrev pub IsFresh : InboxId → TakerView → Type 0
 IsFresh inbox t = (t.inbox ≡ inbox) × (t.state ≡ make_taker_state t.state.marked 0 [] [])
 
--- its inbox has no marks
+-- the taker's inbox has no marks
 abbrev pub IsPlain : TakerView → Type 0
 IsPlain t = t.state.marked ≡ false
 

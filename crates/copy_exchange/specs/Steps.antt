@@ -29,7 +29,7 @@ abbrev pub opened_sender : (own : Bool) → TakerView → Option SenderView
 opened_sender own t =
     cond own None (Some (record { inbox = t.inbox; state = make_sender_state t.state.marked t.state.made [] }))
 
--- on each inbox but its own the worker has a sender more
+-- the worker has one more sender on each inbox but its own
 pub record Opens (worker : ℕ) (old new : List TakerView) (senders : List (Option SenderView)) : Type 0 where
   pub takers : length new ≡ length old
   pub count : length senders ≡ length old
@@ -49,8 +49,8 @@ pub record AreSendersOn (inboxes : List InboxId) (senders : List (Option SenderV
   pub its : (v : ℕ) (id : InboxId) (s : SenderView) → v < length inboxes → at_place senders v ≡ Some s
       → s.inbox ≡ slice_index_or inboxes v id
 
--- what a taker learns of a sender that it gathers: what it took of it is the beginning of what it pushed, and that is
--- packets where there are no marks
+-- what a taker learns of a sender that it gathers: what it took of it is a prefix of what it pushed, which is packets
+-- if there are no marks
 pub record TellsOf (d : TakerState) (p : SenderState) : Type 0 where
   pub begun : BeginsWith p.pushed (part p.number d.taken)
   pub plain : d.marked ≡ false → Packets p.pushed
@@ -80,7 +80,7 @@ abbrev pub pushed_with_mark : Option SenderView → (window : ℕ) → List Carr
 pushed_with_mark None window = []
 pushed_with_mark (Some s) window = s.state.pushed ++ Mark window ∷ []
 
--- the sender at this place, if there is one, pushed the mark; all else is as it was
+-- the sender at this place, if there is one, pushed the mark; all else is unchanged
 pub record MarksOne (to window : ℕ) (old new : Endpoint) : Type 0 where
   pub stays : Stays old new
   pub taker : new.taker ≡ old.taker

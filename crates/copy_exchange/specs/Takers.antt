@@ -15,7 +15,7 @@ use Rattle.copy_inbox.specs.Handles.{TakerView}
 abbrev pub SameOfEach : List RadioCopy → List RadioCopy → Type 0
 SameOfEach xs ys = (s : ℕ) → filter (is_from_sender s) xs ≡ filter (is_from_sender s) ys
 
--- the copies of what was pushed, in order; marks are left aside
+-- the copies in what was pushed, in order, without the marks
 abbrev pub copies_in : List Carried → List RadioCopy
 copies_in what = filter_map carried_copy what
 
@@ -32,13 +32,13 @@ taken_by t = copies_of t.state.taken
 abbrev pub gathered_by : TakerView → List RadioCopy
 gathered_by t = copies_gathered t.state.gathered
 
--- these items are all that was gathered and isn't taken yet, in any mixture
+-- these items are all that was gathered and isn't taken yet, however interleaved
 abbrev pub IsRest : TakerState → List Item → Type 0
 IsRest d rest = Whole d.gathered (d.taken ++ rest) × NoOthers d.gathered d.taken (d.taken ++ rest)
 
 -- What holds of each taker between windows and in them.
 pub record IsOrderly (d : TakerState) : Type 0 where
-  -- in whatever mixture the rest comes, each mote's copies are taken in the order in which they were gathered
+  -- however the rest is interleaved, each mote's copies are taken in the order in which they were gathered
   pub in_order : (rest : List Item) → IsRest d rest
       → SameOfEach (copies_of (d.taken ++ rest)) (copies_gathered d.gathered)
   pub begun : TookFronts d.gathered d.taken

@@ -11,17 +11,17 @@ use copy_inbox::{Inbox, InboxError, Sender, Taker};
 use radio_packet::RadioCopy;
 use std::sync::Wait;
 
-/// Takes and delivers copies for one worker while its thread runs: it has the worker's taker, and a sender on the inbox
-/// of each other worker.
+/// What a worker takes and delivers copies with while its thread runs: its taker, and a sender on the inbox of each
+/// other worker.
 pub struct Endpoint {
     /// The number of its worker.
     pub worker: u16,
     pub taker: Taker,
-    /// For each worker the sender on its inbox; none on the endpoint's own.
+    /// For each worker, the sender on its inbox; none for the endpoint's own worker.
     pub senders: Vec<Option<Sender>>,
 }
 
-/// By hand, so that an endpoint is dropped by one call: the check of a function that owns one sees no more of it.
+/// By hand, so that dropping an endpoint is one call, which is all that the check of a function that owns one sees.
 impl Drop for Endpoint {
     fn drop(self) {
         let Endpoint {
@@ -45,8 +45,8 @@ impl Endpoint {
         (taker, senders)
     }
 
-    /// Takes all copies that other workers delivered in earlier windows, while they may already deliver more. The inbox
-    /// has no marks. A refusal changes nothing.
+    /// Takes all copies that other workers delivered in earlier windows, while they may already deliver more. The
+    /// inbox has no marks. An error changes nothing.
     pub fn collect<R: Wait>(
         &mut self,
         rt: &R,
@@ -63,8 +63,8 @@ impl Endpoint {
         inbox.drain(rt, &mut self.taker, known)
     }
 
-    /// Delivers each copy, in order, to the worker of its receiver, `of` being the worker of each mote. A copy that
-    /// comes back is [`InboxError::Memory`]; what was delivered before it stays.
+    /// Delivers each copy, in order, to the worker of its receiver; `of` is the worker of each mote. If a push fails,
+    /// the error is [`InboxError::Memory`]; what was delivered before it stays.
     pub fn deliver<R: Wait>(
         &mut self,
         rt: &R,
@@ -83,8 +83,8 @@ impl Endpoint {
         Ok(())
     }
 
-    /// Pushes, of these copies, each one that is for a mote of another worker to that worker, in order; `of` is the
-    /// worker of each mote. A copy that comes back is [`InboxError::Memory`]; what was pushed before it stays.
+    /// Pushes those of the copies that are for motes of other workers, each to that worker, in order; `of` is the
+    /// worker of each mote. If a push fails, the error is [`InboxError::Memory`]; what was pushed before it stays.
     pub fn push_copies<R: Wait>(
         &mut self,
         rt: &R,
@@ -103,7 +103,7 @@ impl Endpoint {
         Ok(())
     }
 
-    // Pushes one copy, where it is for a mote of another worker.
+    // Pushes one copy, if it is for a mote of another worker.
     fn push_out<R: Wait>(
         &mut self,
         rt: &R,
@@ -122,7 +122,7 @@ impl Endpoint {
         self.deliver_one(rt, inboxes, of, copy)
     }
 
-    /// Pushes the mark of a window to each other worker. The inboxes have marks. A mark that comes back is
+    /// Pushes the mark of a window to each other worker. The inboxes have marks. If a push fails, the error is
     /// [`InboxError::Memory`]; what was pushed before it stays.
     pub fn push_marks<R: Wait>(
         &mut self,
@@ -141,7 +141,7 @@ impl Endpoint {
         Ok(())
     }
 
-    // Pushes the mark through the sender at a place, where there is one.
+    // Pushes the mark through the sender at a place, if there is one.
     fn push_mark_to<R: Wait>(
         &mut self,
         rt: &R,
@@ -161,7 +161,6 @@ impl Endpoint {
         Ok(())
     }
 
-    // Delivers one copy.
     fn deliver_one<R: Wait>(
         &mut self,
         rt: &R,

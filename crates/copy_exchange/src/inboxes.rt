@@ -8,7 +8,7 @@ ghost use Rattle.copy_exchange.specs.Inboxes.{IsFresh, IsSettled};
 use copy_inbox::{Inbox, InboxError, Taker};
 use std::alloc::Global;
 
-/// So many new inboxes, each with its taker, with marks or without.
+/// Makes `count` inboxes, each with its taker, with marks or without.
 pub fn make_inboxes(
     alloc: Global,
     count: usize,
@@ -37,7 +37,7 @@ fn make_inbox(alloc: Global, marked: bool) -> Result<(Inbox, Taker), InboxError>
     }
 }
 
-/// The inboxes, and their takers.
+/// Separates the inboxes from their takers.
 pub fn split_pairs(
     alloc: Global,
     pairs: Vec<(Inbox, Taker)>,
@@ -54,7 +54,7 @@ pub fn split_pairs(
     Ok((inboxes, takers))
 }
 
-/// Each inbox with its taker.
+/// Pairs each inbox with its taker.
 pub fn pair_inboxes(
     alloc: Global,
     inboxes: Vec<Inbox>,
@@ -69,7 +69,7 @@ pub fn pair_inboxes(
     Ok(pairs)
 }
 
-/// How many copies were delivered to a worker and not yet taken by it, between windows.
+/// Between windows, how many copies were delivered to a worker that it has not taken yet.
 pub fn known(inbox: &Inbox, taker: &Taker) -> u64
     requires { IsSettled inbox.now taker.now }
     ensures { length (gathered_by taker.now) ≡ length (taken_by taker.now) + result }

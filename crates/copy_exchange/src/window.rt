@@ -13,7 +13,7 @@ use copy_inbox::{Inbox, InboxError, Sender, Taker};
 use std::alloc::Global;
 use std::sync::Wait;
 
-/// Before a window: an endpoint for each worker, with a new sender on the inbox of each other one.
+/// Before a window: makes an endpoint for each worker, with a new sender on the inbox of each other worker.
 pub fn endpoints(
     alloc: Global,
     inboxes: &[Inbox],
@@ -61,7 +61,7 @@ fn senders_of(
     Ok(senders)
 }
 
-// A new sender on an inbox; none on the worker's own.
+// Makes a sender on an inbox; none on the worker's own.
 fn sender_on(inbox: &Inbox, taker: &mut Taker, own: bool) -> Result<Option<Sender>, InboxError>
     requires { taker.old.inbox ≡ inbox.now }
     ensures sender { IfOk result (λ sender. sender ≡ opened_sender own taker.old) }
@@ -74,8 +74,7 @@ fn sender_on(inbox: &Inbox, taker: &mut Taker, own: bool) -> Result<Option<Sende
     Ok(Some(sender))
 }
 
-/// After a window: [`gather_back`] with another contract, on what was delivered to each worker. The inboxes have no
-/// marks.
+/// After a window: [`gather_back`], with a contract on what was delivered to each worker. The inboxes have no marks.
 pub fn gather_window<R: Wait>(
     rt: &R,
     alloc: Global,
@@ -90,8 +89,8 @@ pub fn gather_window<R: Wait>(
     gather_back(rt, alloc, inboxes, endpoints)
 }
 
-/// After the workers have run: each worker's taker gathers the senders on its inbox, one after another, in the order of
-/// the workers.
+/// After the workers have run: each worker's taker gathers the senders on its inbox, one after another, in the order
+/// of the workers.
 pub fn gather_back<R: Wait>(
     rt: &R,
     alloc: Global,
@@ -112,7 +111,7 @@ pub fn gather_back<R: Wait>(
 /// The senders of all workers, each worker's in a row.
 type Rows = Vec<Vec<Option<Sender>>>;
 
-// The takers of the endpoints, and their senders.
+// Separates the takers of the endpoints from their senders.
 fn split_endpoints(
     alloc: Global,
     endpoints: Vec<Endpoint>,
@@ -130,7 +129,7 @@ fn split_endpoints(
     Ok((takers, rows))
 }
 
-// One worker's senders are gathered, each by the taker of its inbox.
+// Gathers one worker's senders, each by the taker of its inbox.
 fn gather_all<R: Wait>(
     rt: &R,
     inboxes: &[Inbox],
@@ -146,7 +145,7 @@ fn gather_all<R: Wait>(
     }
 }
 
-// Gathers a sender, where there is one.
+// Gathers a sender, if there is one.
 fn gather_one<R: Wait>(rt: &R, inbox: &Inbox, taker: &mut Taker, sender: Option<Sender>)
     requires taker { taker.old.inbox ≡ inbox.now }
     requires sender { IfSome sender (λ s. s.inbox ≡ inbox.now) }

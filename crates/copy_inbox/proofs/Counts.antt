@@ -1,4 +1,4 @@
--- How much is known: as many copies as the queue holds of gathered senders.
+-- How much is known: as many items as the queue holds of gathered senders.
 use Rattle.std.proofs.Common.{◌≡◌, ◌≢◌, ℕ, ◌+◌, ◌≤◌, ◌<◌, Bool, true, false, cond, eqb, Option, List, [], ◌∷◌, ◌++◌, length, drop, refl, sym, ap, ◌∙◌, ⊎_elim, arith, sum_by, append-nil, subst}
 use Rattle.std.specs.List.{AllByRecursion as Each}
 use Rattle.std.proofs.lemmas.Bool.Decides.{eqb_tells}
@@ -49,7 +49,7 @@ begun_of gs taken items h = each_map gs (λ g k. (part g.number items, sym k ∙
 pub made_of : (d : TakerState) (pass_of : ℕ → Option ℕ) (pushed : ℕ → List Carried) (items : List Item) → Sound d pass_of pushed items → OfMade d.made d.taken
 made_of d pass_of pushed items s u le = part-nil_left u d.taken items (s.parts u ∙ (s.unmade u le).0)
 
--- ---- one item more at the front
+-- ---- one more item at the head
 pub front_counts : (gs : List Gathered) (x : Item) (items : List Item) → Apart gs → tally gs (x ∷ items) ≡ cond (is_gathered gs x.sender) 1 0 + tally gs items
 front_counts [] x items apart = refl
 front_counts (g ∷ gs) x items apart =
@@ -86,8 +86,8 @@ pub tally-le : (gs : List Gathered) (items : List Item) → Apart gs → tally g
 tally-le gs [] apart = omega (arith, tally-nil gs)
 tally-le gs (x ∷ xs) apart = omega (arith, front_counts gs x xs apart, tally-le gs xs apart, cond-le (is_gathered gs x.sender))
 
--- ---- the front while something is known
--- an item of a sender that isn't gathered stands behind all that is known
+-- ---- the head while something is known
+-- an item of a sender that isn't gathered comes after all that is known
 pub front_known : (made : ℕ) (gs : List Gathered) (x : Item) (items : List Item) → Each (λ (g : Gathered). Behind g.number g.made (x ∷ items)) gs
     → Later made gs → x.sender < made → 0 < tally gs (x ∷ items) → is_gathered gs x.sender ≡ true
 front_known made gs x items behind later lt some = cases (is_gathered gs x.sender) refl
@@ -111,7 +111,7 @@ whole_of (g ∷ gs) taken none b =
     let z : rest ≡ [] = nil_of_length rest (omega arith) in
     (sym (b.0.1 ∙ (ap (λ r. part g.number taken ++ r) z ∙ append-nil (part g.number taken))), whole_of gs taken (omega arith) b.1)
 
--- so all that is left is packets
+-- so what is left, being nothing, is packets
 pub none_left : (gs : List Gathered) (taken : List Item) → known_of gs taken ≡ 0 → Each (λ (g : Gathered). Packets (untaken_of taken g)) gs
 none_left [] taken none = tt
 none_left (g ∷ gs) taken none =

@@ -40,7 +40,7 @@ cond_le : (b : Bool) → cond b 1 0 ≤ 1
 cond_le true = omega arith
 cond_le false = omega arith
 
--- one packet more is taken, and its copy added
+-- one more packet is taken, and its copy appended
 pub drain_goes : (old t u : TakerView) (copies longer : List RadioCopy) (k : ℕ) (x : Item) (copy : RadioCopy) → Drained old t copies k
     → u ≡ after_taking t (x ∷ []) → IsNextTaken t.state x → x.what ≡ Packet copy → longer ≡ copies ++ copy ∷ [] → Drained old u longer (k + 1)
 drain_goes old t u copies longer k x copy d e next of added =

@@ -1,4 +1,4 @@
--- The counts that a taker keeps, where it has forgotten the first ones.
+-- The counts that a taker keeps, once it has dropped the first ones.
 use Rattle.std.proofs.Common.{◌≡◌, ◌≢◌, ℕ, zero, suc, ◌+◌, ◌-◌, ◌^◌, ◌≤◌, ◌<◌, Bool, true, false, cond, eqb, List, [], ◌∷◌, ◌++◌, length, drop, set, get_or, refl, sym, ap, ◌∙◌, subst, ⊎_elim, arith, length-append}
 use Rattle.std.proofs.lemmas.Bool.{cases_lt, true≢false}
 use Rattle.std.proofs.lemmas.Bool.Decides.{eqb_tells}
@@ -16,7 +16,7 @@ use Rattle.copy_inbox.specs.Handles.{taker_state_in, sender_state_in, IsSender}
 use Rattle.copy_inbox.specs.Kept.{KeepsCounts, CountsTaken, Forgets}
 use Rattle.copy_inbox.proofs.Takers.{count, byte_is, more_as, took_as, joined_state, joined_is, joined_seen, joined_leaves, joined_index, next_below, next_known, next_kept, next_fits}
 
--- ---- what is kept of a sender that isn't forgotten
+-- ---- the count of a sender that is still counted
 kept_at : (first s : ℕ) (counts kept : List Count) (c : Count) → kept ≡ drop first counts → first ≤ s → get_or kept (s - first) c ≡ get_or counts s c
 kept_at first s counts kept c rest le =
     let e : first + (s - first) ≡ s = omega arith in
@@ -27,7 +27,7 @@ kept_set first s counts c le =
     let e : first + (s - first) ≡ s = omega arith in
     sym (drop-set-add first counts (s - first) c) ∙ ap (λ j. drop first (set counts j c)) e
 
--- where the counts of all senders are as many as before
+-- as many counts are kept, if there are as many senders as before
 still_made : (first : ℕ) (old new kept now : List Count) → first + length kept ≡ length old → length new ≡ length old → now ≡ drop first new → first + length now ≡ length new
 still_made first old new kept now made same rest =
     let long = ap length rest in
@@ -52,7 +52,7 @@ keeps_none v e = subst (λ (u : View). KeepsCounts u 0 [] 0) (sym e) (record {
   gathered = λ s lt. absurd (omega arith);
 })
 
--- ---- a sender more
+-- ---- one more sender
 pub keeps_more : (v w : View) (first : ℕ) (kept : List Count) (k : ℕ) → w ≡ with_one_more v → KeepsCounts v first kept k → KeepsCounts w first (kept ++ record { taken = 0; gathered = false } ∷ []) k
 keeps_more v w first kept k e t =
     let one : List Count = count 0 false ∷ [] in
@@ -126,10 +126,10 @@ module _ (v : View) (first : ℕ) (kept : List Count) (k : ℕ) (x : Item) (rest
           gathered = λ s lt. ap (λ (u : View). is_gathered (taker_state_in u).gathered s) (e ∙ ap (λ u. with_taken u x) t.taker.is) ∙ t.gathered s lt;
         }
 
--- ---- a sender taken in
+-- ---- a sender gathered
 module _ (v u w : View) (first : ℕ) (kept : List Count) (k pushed number : ℕ) (items : List Item) (t : KeepsCounts v first kept k) (r : IsSender u pushed) (num : number ≡ (sender_state_in u).number)
     (e : w ≡ with_gathered v u) (seen : SeenBy w items) where
-  -- it wasn't gathered before, so it isn't forgotten
+  -- it wasn't gathered before, so its count was not dropped
   pub joined_first : first ≤ number
   joined_first = ⊎_elim
       (λ (lt : number < first).
@@ -171,7 +171,7 @@ module _ (v u w : View) (first : ℕ) (kept : List Count) (k pushed number : ℕ
             ap (λ (z : View). is_gathered (taker_state_in z).gathered s) (same ∙ joined_is v u w t.taker.is r.is e) ∙ is;
       }
 
--- ---- the first count goes
+-- ---- the first count dropped
 drop_one : (n : ℕ) (counts : List Count) → drop 1 (drop n counts) ≡ drop (n + 1) counts
 drop_one zero counts = refl
 drop_one (suc n) [] = let e : suc n + 1 ≡ suc (n + 1) = omega arith in ap (λ k. drop k []) (sym e)

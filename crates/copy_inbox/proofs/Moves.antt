@@ -38,7 +38,7 @@ set_at [] i a b e = absurd (some-ne-none b (sym e))
 set_at (x ∷ xs) zero a b e = refl
 set_at (x ∷ xs) (suc i) a b e = set_at xs i a b e
 
--- a pass has one view
+-- a pass has only one view
 one_view : (l : List View) (i j : ℕ) (a b : View) → get_elem? l i ≡ some a → get_elem? l j ≡ some b → i ≡ j → a ≡ b
 one_view l i j a b p q e = some-injective a b (sym p ∙ (ap (get_elem? l) e ∙ q))
 
@@ -79,7 +79,7 @@ begins =
     }
 
 -- ---- a push
--- two passes of senders with one number are one
+-- senders with different passes have different numbers
 one_pass : (pass_of : ℕ → Option ℕ) (s t i j : ℕ) → pass_of s ≡ Some i → pass_of t ≡ Some j → j ≢ i → t ≢ s
 one_pass pass_of s t i j a b n e = let k : pass_of t ≡ pass_of s = ap pass_of e in let m : Some j ≡ Some i = cc in n cc
 
@@ -191,7 +191,7 @@ takes_as pass v d is = subst (λ (u : View). Pops InboxRule pass u (Took u)) (sy
 pub learns : (pass : ℕ) (v : View) → Learns InboxRule pass v (SeenBy v)
 learns pass v items views h at = (views, pass, h, at)
 
--- what a step tells of a taker's state
+-- what a step shows of a taker's state
 abbrev pub SoundWith : TakerState → List Item → Type 0
 SoundWith d items = (pass_of : ℕ → Option ℕ) × (pushed : ℕ → List Carried) × Sound d pass_of pushed items
 
@@ -201,7 +201,7 @@ seen d items s = let h = s.2 in (h.pass_of, h.pushed, sound_of h.taker_state d h
 pub seen_sound : (v : View) (d : TakerState) (items : List Item) → v ≡ Taking d → SeenBy v items → SoundWith d items
 seen_sound v d items is s = seen d items (subst (λ (u : View). SeenBy u items) is s)
 
--- ---- a sender more
+-- ---- one more sender
 at_other : (pass_of : ℕ → Option ℕ) (n : ℕ) (o : Option ℕ) (s : ℕ) → s ≢ n → cond (eqb s n) o (pass_of s) ≡ pass_of s
 at_other pass_of n o s e = ap (λ b. cond b o (pass_of s)) (ne_eqb s n e)
 
@@ -263,7 +263,7 @@ forks pass d items views h at =
 pub forks_as : (pass : ℕ) (v : View) (d : TakerState) → v ≡ Taking d → Forks InboxRule pass v (with_one_more v) (next_sender v)
 forks_as pass v d is = subst (λ (u : View). Forks InboxRule pass u (with_one_more u) (next_sender u)) (sym is) (forks pass d)
 
--- ---- a sender taken in
+-- ---- a sender gathered
 pub below : (m s : ℕ) → ((m ≤ s) → ⊥) → s < m
 below m s h = omega arith
 

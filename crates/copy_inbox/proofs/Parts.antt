@@ -19,14 +19,14 @@ part-here s x xs e = ap (λ (b : Bool). map what_of (cond b (x ∷ filter (λ (y
 pub part-else : (s : ℕ) (x : Item) (xs : List Item) → x.sender ≢ s → part s (x ∷ xs) ≡ part s xs
 part-else s x xs e = ap (λ (b : Bool). map what_of (cond b (x ∷ filter (λ (y : Item). eqb y.sender s) xs) (filter (λ (y : Item). eqb y.sender s) xs))) (ne_eqb x.sender s e)
 
--- one item more at the end
+-- one more item at the end
 pub part-snoc_here : (s : ℕ) (xs ys : List Item) (x : Item) → x.sender ≡ s → part s (xs ++ (ys ++ x ∷ [])) ≡ part s (xs ++ ys) ++ x.what ∷ []
 part-snoc_here s xs ys x e = ap (part s) (sym (append_assoc xs ys (x ∷ []))) ∙ (part-append s (xs ++ ys) (x ∷ []) ∙ ap (λ l. part s (xs ++ ys) ++ l) (part-here s x [] e))
 
 pub part-snoc_else : (s : ℕ) (xs ys : List Item) (x : Item) → x.sender ≢ s → part s (xs ++ (ys ++ x ∷ [])) ≡ part s (xs ++ ys)
 part-snoc_else s xs ys x e = ap (part s) (sym (append_assoc xs ys (x ∷ []))) ∙ (part-append s (xs ++ ys) (x ∷ []) ∙ (ap (λ l. part s (xs ++ ys) ++ l) (part-else s x [] e) ∙ append-nil (part s (xs ++ ys))))
 
--- the front of the queue goes to the end of what was taken
+-- the head of the queue is appended to what was taken
 pub part-moved : (s : ℕ) (taken items : List Item) (x : Item) → part s ((taken ++ x ∷ []) ++ items) ≡ part s (taken ++ x ∷ items)
 part-moved s taken items x = ap (part s) (append_assoc taken (x ∷ []) items)
 
@@ -52,7 +52,7 @@ pub behind-snoc : (s made : ℕ) (items : List Item) (x : Item) → x.sender ≢
 behind-snoc s made [] x n b = ((λ _. part-else s x [] n), tt)
 behind-snoc s made (y ∷ ys) x n b = ((λ h. part-snoc_else s [] (y ∷ ys) x n ∙ b.0 h), behind-snoc s made ys x n b.1)
 
--- where no item is of a sender numbered `made` or above
+-- trivially, if no item is of a sender numbered `made` or above
 pub behind-fresh : (s made : ℕ) (items : List Item) → ((u : ℕ) → made ≤ u → part u items ≡ []) → Behind s made items
 behind-fresh s made [] none = tt
 behind-fresh s made (x ∷ xs) none = ((λ h. absurd (part-not_nil x xs (none x.sender h))), behind-fresh s made xs (λ u h. part-nil_right u (x ∷ []) xs (none u h)))

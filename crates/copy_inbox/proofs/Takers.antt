@@ -1,4 +1,4 @@
--- What each call leaves of a taker.
+-- What each call makes of a taker.
 use Rattle.std.proofs.Common.{◌≡◌, ◌≢◌, ℕ, ◌+◌, ◌-◌, ◌^◌, ◌≤◌, ◌<◌, Bool, true, false, cond, eqb, Option, List, [], ◌∷◌, ◌++◌, length, set, get_or, refl, sym, ap, ◌∙◌, subst, ⊎_elim, arith, eq-eqb, ne_eqb, length-append, append-nil, inl, inr}
 use Rattle.std.specs.List.{AllByRecursion as Each}
 use Rattle.std.proofs.lemmas.Bool.Decides.{eqb_tells}
@@ -31,7 +31,7 @@ count n b = record { taken = n; gathered = b }
 same_count : (a b : ℕ) (c d : Bool) → a ≡ b → c ≡ d → record { taken = a; gathered = c } ≡ count b d
 same_count a b c d p q = λ i. record { taken = p i; gathered = q i }
 
--- ---- a sender more
+-- ---- one more sender
 not_yet : (gs : List Gathered) (m : ℕ) → Each (λ (g : Gathered). g.number < m) gs → is_gathered gs m ≡ false
 not_yet [] m h = refl
 not_yet (g ∷ gs) m h = let lt = h.0 in let n : g.number ≢ m = λ e. omega arith in rw (ne_eqb g.number m n) (not_yet gs m h.1)
@@ -79,7 +79,7 @@ each_right : (k l : List Carried) → Packets (k ++ l) → Packets l
 each_right [] l h = h
 each_right (v ∷ vs) l h = each_right vs l h.1
 
--- the front of the queue is a packet where what is left of each gathered sender is packets
+-- the head of the queue is a packet, if its sender is gathered and what is left of each gathered sender is packets
 packets_next : (gs : List Gathered) (taken : List Item) (x : Item) (rest : List Item) → Each (Adds taken (x ∷ rest)) gs
     → Each (λ (g : Gathered). Packets (untaken_of taken g)) gs → is_gathered gs x.sender ≡ true → is_packet x.what ≡ true
 packets_next [] taken x rest h p is = absurd cc
@@ -105,7 +105,7 @@ module _ (d : TakerState) (x : Item) (rest : List Item) (pass_of : ℕ → Optio
   adds : Each (Adds d.taken (x ∷ rest)) d.gathered
   adds = adds_of d pass_of pushed (x ∷ rest) s
 
-  -- all that the sender pushed is packets, so the front is one
+  -- all that the sender pushed is packets, so the head of the queue is one
   plain_next : d.marked ≡ false → is_packet x.what ≡ true
   plain_next plain =
       let P : List Carried → Type 0 = Packets in
@@ -180,7 +180,7 @@ took_as v w x rest counts k m n c seen e t one down is =
     = took d x rest s.0 s.1 counts k m s.2 t' (down ∙ ap (λ i. i + m) one) in
     subst (λ (y : View × Count). IsTaker y.0 (set counts x.sender y.1) m) (λ i. (sym w' i, sym is i)) end
 
--- ---- a sender taken in
+-- ---- a sender gathered
 abbrev pub joined_state : TakerState → SenderState → TakerState
 joined_state d p = make_taker_state d.marked d.made d.taken (make_gathered p.number d.made p.pushed ∷ d.gathered)
 
@@ -192,7 +192,7 @@ known_joined d p =
     let g = make_gathered p.number d.made p.pushed in
     omega (arith, sum_by-cons (λ (k : Gathered). length (untaken_of d.taken k)) g d.gathered, length-drop (length (part p.number d.taken)) p.pushed)
 
--- there are at least as many items in the queue
+-- the queue holds at least as many items as are then known
 pub joined_few : (d : TakerState) (p : SenderState) (items : List Item) → SoundWith (joined_state d p) items → known_of d.gathered d.taken + (length p.pushed - length (part p.number d.taken)) ≤ length items
 joined_few d p items s =
     let w = joined_state d p in
@@ -244,7 +244,7 @@ gather_as v u w items counts k n pushed number c seen t r e num is sum =
     let sum' : n ≡ k + (length p.pushed - length (part p.number d.taken)) = sum ∙ (λ i. k + (r.counted i - length (part (num i) d.taken))) in
     subst (λ (y : View × ℕ × Count × ℕ). IsTaker y.0 (set counts y.1 y.2) y.3) (λ i. (sym w' i, sym num i, sym is' i, sym sum' i)) end
 
--- ---- for the answers
+-- ---- what the answers of the functions need
 pub byte_is : (b : Bool) → bool_byte b ≡ cond b 1 0
 byte_is true = refl
 byte_is false = refl
@@ -259,14 +259,14 @@ next_below v counts k x rest t seen =
 pub next_known : (v : View) (x : Item) (rest : List Item) → v ≡ Taking (taker_state_in v) → SeenBy v (x ∷ rest) → IsNextTaken (taker_state_in v) x
 next_known v x rest is seen = let s = seen_sound v (taker_state_in v) (x ∷ rest) is seen in is_next (taker_state_in v) x rest s.0 s.1 s.2
 
--- the queue is empty
+-- nothing is known if the queue is empty
 pub none_known : (v : View) (counts : List Count) (k : ℕ) → IsTaker v counts k → SeenBy v [] → known_of (taker_state_in v).gathered (taker_state_in v).taken ≡ 0
 none_known v counts k t seen =
     let d = taker_state_in v in
     let s = seen_sound v d [] t.is seen in
     known-is d.gathered d.taken [] (adds_of d s.0 s.1 [] s.2) ∙ tally-nil d.gathered
 
--- what is kept of the sender of the item
+-- the count of the item's sender
 pub next_kept : (v : View) (counts : List Count) (k : ℕ) (x : Item) (rest : List Item) (c : Count) → IsTaker v counts k → SeenBy v (x ∷ rest) → c ≡ get_or counts x.sender c
     → c ≡ count (length (part x.sender (taker_state_in v).taken)) (is_gathered (taker_state_in v).gathered x.sender)
 next_kept v counts k x rest c t seen at =
@@ -284,7 +284,7 @@ next_down v counts k x rest c n t seen at is =
 pub next_less : (v : View) (counts : List Count) (k : ℕ) (x : Item) (rest : List Item) (c : Count) (n : ℕ) → IsTaker v counts k → SeenBy v (x ∷ rest) → c ≡ get_or counts x.sender c → n ≡ bool_byte c.gathered → n ≤ k
 next_less v counts k x rest c n t seen at is = let d = next_down v counts k x rest c n t seen at is in omega arith
 
--- what was taken of one sender fits
+-- the count of what was taken of one sender doesn't overflow
 pub next_fits : (v : View) (counts : List Count) (k : ℕ) (x : Item) (rest : List Item) (c : Count) → IsTaker v counts k → SeenBy v (x ∷ rest) → c ≡ get_or counts x.sender c → c.taken + 1 < 2 ^ 64
 next_fits v counts k x rest c t seen at =
     let d = taker_state_in v in
@@ -351,7 +351,7 @@ joined_begins v u w y counts k pushed items t r e seen same =
     let b = joined_begun (taker_state_in v) (sender_state_in u) items (joined_seen v u w counts k pushed items t r e seen) in
     subst (λ (z : View). BeginsWith (sender_state_in u).pushed (part (sender_state_in u).number (taker_state_in z).taken)) (sym (same ∙ joined_is v u w t.is r.is e)) b
 
--- where there are no marks, it pushed none
+-- if there are no marks, the sender pushed none
 pub joined_packets : (v u w : View) (counts : List Count) (k pushed : ℕ) (items : List Item) → IsTaker v counts k → IsSender u pushed → w ≡ with_gathered v u → SeenBy w items
     → (taker_state_in v).marked ≡ false → Packets (sender_state_in u).pushed
 joined_packets v u w counts k pushed items t r e seen none =

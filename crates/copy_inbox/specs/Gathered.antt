@@ -14,11 +14,11 @@ abbrev pub Apart : List Gathered → Type 0
 Apart [] = Unit {0}
 Apart (g ∷ gs) = (is_gathered gs g.number ≡ false) × Apart gs
 
--- what a gathered sender pushed and was not yet taken
+-- what a gathered sender pushed that has not been taken yet
 abbrev pub untaken_of : List Item → Gathered → List Carried
 untaken_of taken g = drop (length (part g.number taken)) g.pushed
 
--- how many items of gathered senders were not yet taken
+-- how many items of gathered senders have not been taken yet
 abbrev pub known_of : List Gathered → List Item → ℕ
 known_of gathered taken = sum_by (λ g. length (untaken_of taken g)) gathered
 
@@ -26,7 +26,7 @@ known_of gathered taken = sum_by (λ g. length (untaken_of taken g)) gathered
 abbrev pub Later : ℕ → List Gathered → Type 0
 Later made gathered = (u : ℕ) → u < made → is_gathered gathered u ≡ false → Each (λ (g : Gathered). g.made ≤ u) gathered
 
--- what was taken of each gathered sender is the beginning of what it pushed
+-- what was taken of each gathered sender is a prefix of what it pushed
 abbrev pub TookFronts : List Gathered → List Item → Type 0
 TookFronts gathered taken = Each (λ (g : Gathered). BeginsWith g.pushed (part g.number taken)) gathered
 
@@ -34,6 +34,6 @@ TookFronts gathered taken = Each (λ (g : Gathered). BeginsWith g.pushed (part g
 abbrev pub Whole : List Gathered → List Item → Type 0
 Whole gathered taken = Each (λ (g : Gathered). part g.number taken ≡ g.pushed) gathered
 
--- of senders that aren't gathered nothing more was taken
+-- nothing more was taken of senders that aren't gathered
 abbrev pub NoOthers : List Gathered → (old new : List Item) → Type 0
 NoOthers gathered old new = (s : ℕ) → is_gathered gathered s ≡ false → part s new ≡ part s old

@@ -21,12 +21,12 @@ use Rattle.copy_inbox.specs.Views.{make_taker_state, make_sender_state, make_gat
 abbrev pub InboxId : Type 0
 InboxId = SegId Global
 
--- the inbox that made it, and how many senders it made, what it took and whom it gathered
+-- its inbox, whether that has marks, how many senders it made, what it took, and which senders it gathered
 pub record TakerView : Type 0 where
   pub inbox : InboxId
   pub state : TakerState
 
--- the inbox that made it, its number and what it pushed
+-- its inbox, whether that has marks, its number, and what it pushed
 pub record SenderView : Type 0 where
   pub inbox : InboxId
   pub state : SenderState
@@ -54,11 +54,11 @@ after_taking t xs = record {
   state = make_taker_state t.state.marked t.state.made (t.state.taken ++ xs) t.state.gathered;
 }
 
--- there are packets, of which these are the copies, that went to the end of what was taken
+-- packets, of which these are the copies, were appended to what was taken
 abbrev pub TakesCopies : TakerView → TakerView → List RadioCopy → Type 0
 TakesCopies old new copies = (items : List Item) × ArePackets items copies × (new ≡ after_taking old items)
 
--- so many items are known, and no item of a sender that isn't gathered can stand before one of them
+-- n items are known, and no item of a sender that isn't gathered can come before one of them
 abbrev pub IsAllKnown : TakerState → ℕ → Type 0
 IsAllKnown state n = (n ≡ known_of state.gathered state.taken) × Later state.made state.gathered
 
@@ -74,13 +74,13 @@ PacketsLeft d = Each (λ (g : Gathered). Packets (untaken_of d.taken g)) d.gathe
 abbrev pub NoMarkLeft : TakerState → Type 0
 NoMarkLeft d = (d.marked ≡ false) ⊎ PacketsLeft d
 
--- there are packets, of which these are the copies, that are the rest of what was pushed: with what was taken they make
--- the whole of each gathered sender, and nothing else
+-- the rest of what was pushed is packets, of which these are the copies: appended to what was taken, they complete
+-- what each gathered sender pushed, and there is nothing else
 abbrev pub Empties : TakerState → List RadioCopy → Type 0
 Empties d copies = (rest : List Item) × ArePackets rest copies × Whole d.gathered (d.taken ++ rest)
     × OfMade d.made (d.taken ++ rest)
 
--- ---- what is true of every taker and sender, by what its pass knows and what it keeps
+-- ---- what holds of every taker and sender: of what its pass knows, and of its counts
 abbrev pub taker_state_in : View → TakerState
 taker_state_in (Taking d) = d
 taker_state_in (Sending p) = make_taker_state false 0 [] []
@@ -91,7 +91,7 @@ sender_state_in (Sending p) = p
 sender_state_in (Taking d) = make_sender_state false 0 []
 sender_state_in Spent = make_sender_state false 0 []
 
--- what a taker keeps of the sender numbered s
+-- what a taker records of the sender numbered s
 abbrev pub count_of : TakerState → ℕ → Count
 count_of d s = record { taken = length (part s d.taken); gathered = is_gathered d.gathered s }
 
@@ -113,8 +113,8 @@ pub record IsSender (v : View) (count : ℕ) : Type 0 where
   pub counted : count ≡ length (sender_state_in v).pushed
   pub few : count ≤ 2 ^ 62
 
--- all that the taker may take is packets: the inbox has no marks, or each sender is gathered and what is left is
--- packets
+-- all that the taker may take is packets: the inbox has no marks, or all senders are gathered and what is left of them
+-- is packets
 abbrev pub TakesPackets : TakerState → Type 0
 TakesPackets d = (d.marked ≡ false) ⊎ (AllGathered d × PacketsLeft d)
 
@@ -123,13 +123,13 @@ state_with d x = make_taker_state d.marked d.made (d.taken ++ x ∷ []) d.gather
 
 -- x is the next item that the taker takes
 pub record IsNextTaken (d : TakerState) (x : Item) : Type 0 where
-  -- it is of a sender that was made, of which no more is taken than a sender may push
+  -- it is of a sender that was made, and no more is taken of that than a sender may push
   pub number : x.sender < d.made
   pub few : length (part x.sender (d.taken ++ x ∷ [])) ≤ 2 ^ 62
-  -- one less is known where its sender was gathered
+  -- one less is known, if its sender was gathered
   pub known : known_of d.gathered d.taken
       ≡ cond (is_gathered d.gathered x.sender) 1 0 + known_of d.gathered (d.taken ++ x ∷ [])
-  -- it is a packet where nothing else can come, and then nothing else comes after it
+  -- it is a packet if only packets can come, and then only packets come after it
   pub packet : TakesPackets d → (is_packet x.what ≡ true) × TakesPackets (state_with d x)
-  -- its sender was gathered where something is known and no item of a sender that isn't gathered can stand before that
+  -- its sender was gathered, if something is known and no item of a sender that isn't gathered can come before that
   pub first : Later d.made d.gathered → 0 < known_of d.gathered d.taken → is_gathered d.gathered x.sender ≡ true

@@ -1,4 +1,4 @@
--- What a taker keeps of its senders: a count of each but the first ones, which were gathered.
+-- What a taker records of its senders: a count of each but the first ones, which were gathered.
 use Rattle.std.specs.Prelude.{◌≡◌, ℕ, ◌+◌, ◌-◌, ◌^◌, ◌<◌, ◌≤◌, ◌⊎◌, Bool, true, List, length, drop, slice_index_or}
 use Rattle.std.specs.Prelude.{slice_set}
 use Rattle.copy_inbox.specs.declared.count.Count.{Count}
@@ -6,7 +6,7 @@ use Rattle.copy_inbox.specs.declared.rule.View.{View}
 use Rattle.copy_inbox.specs.Gathered.{is_gathered}
 use Rattle.copy_inbox.specs.Handles.{taker_state_in, IsTaker}
 
--- of the counts of all senders those from the sender `first` on are kept; the senders before it were gathered
+-- of the counts of all senders, those from the sender `first` on are kept; the senders before it were gathered
 pub record KeepsCounts (v : View) (first : ℕ) (kept : List Count) (known : ℕ) : Type 0 where
   pub counts : List Count
   pub taker : IsTaker v counts known
@@ -15,15 +15,15 @@ pub record KeepsCounts (v : View) (first : ℕ) (kept : List Count) (known : ℕ
   pub few : first ≤ 2 ^ 62
   pub gathered : (s : ℕ) → s < first → is_gathered (taker_state_in v).gathered s ≡ true
 
--- one item more of the sender was taken, which isn't counted where the sender is forgotten; `gathered` says whether it
--- was gathered
+-- one more item of the sender was taken, which isn't counted if the count of the sender was dropped; `gathered` says
+-- whether the sender was gathered
 pub record CountsTaken (first sender : ℕ) (old new : List Count) (gathered : Bool) : Type 0 where
   pub forgotten : sender < first → (new ≡ old) × (gathered ≡ true)
   pub counted : first ≤ sender → (c : Count) × (c ≡ slice_index_or old (sender - first) c)
       × (new ≡ slice_set old (sender - first) (record { taken = c.taken + 1; gathered = c.gathered }))
       × (gathered ≡ c.gathered)
 
--- the first count goes where its sender was gathered, or nothing changes
+-- the first count, whose sender was gathered, is dropped; or nothing changes
 abbrev pub Forgets : (first : ℕ) → List Count → (first_new : ℕ) → List Count → Type 0
 Forgets first old first_new new = ((first_new ≡ first) × (new ≡ old))
     ⊎ ((first_new ≡ first + 1) × (first < 2 ^ 62) × (0 < length old) × (new ≡ drop 1 old)

@@ -13,12 +13,12 @@ use Rattle.copy_inbox.specs.Items.{part, Packets}
 use Rattle.copy_inbox.specs.Gathered.{is_gathered, Apart}
 use Rattle.copy_inbox.specs.Views.{make_sender_state, with_pushed, with_taken}
 
--- an item of a sender numbered `made` or above stands after every item of the sender s
+-- each item of a sender numbered `made` or above comes after all items of the sender s
 abbrev pub Behind : ℕ → ℕ → List Item → Type 0
 Behind s made [] = Unit {0}
 Behind s made (x ∷ xs) = (made ≤ x.sender → part s (x ∷ xs) ≡ []) × Behind s made xs
 
--- a pass with the taker's view is the taker's, and one with a sender's view is that sender's; all of them know alike
+-- a pass with the taker's view is the taker's, and one with a sender's view is that sender's; they agree on
 -- whether there are marks
 abbrev pub PassFits : ℕ → (ℕ → Option ℕ) → TakerState → (ℕ → List Carried) → ℕ → View → Type 0
 PassFits taker pass_of d pushed pass (Taking e) = (pass ≡ taker) × (e ≡ d)
@@ -26,8 +26,8 @@ PassFits taker pass_of d pushed pass (Sending p) =
     (pass_of p.number ≡ Some pass) × (p.pushed ≡ pushed p.number) × (p.marked ≡ d.marked)
 PassFits taker pass_of d pushed pass Spent = Unit {0}
 
--- of a gathered sender: it was made, its pass is spent, the taker knows all that it pushed, and in the queue no item of
--- a sender that was made later stands before one of its own
+-- of a gathered sender: it was made, its pass is spent, the taker knows all that it pushed, and in the queue no item
+-- of a sender that was made later comes before one of its own
 pub record Joined (made : ℕ) (pass_of : ℕ → Option ℕ) (pushed : ℕ → List Carried) (items : List Item)
     (g : Gathered) : Type 0 where
   pub was_made : g.number < made
@@ -36,7 +36,7 @@ pub record Joined (made : ℕ) (pass_of : ℕ → Option ℕ) (pushed : ℕ → 
   pub behind : Behind g.number g.made items
 
 -- The items of each sender in what was taken, followed by the queue, are what it pushed, in order, and there are no
--- other items. Each sender that was made has a pass, or is gathered. Where there are no marks, all that was pushed is
+-- other items. Each sender that was made has a pass, or is gathered. If there are no marks, all that was pushed is
 -- packets.
 pub record Sound (d : TakerState) (pass_of : ℕ → Option ℕ) (pushed : ℕ → List Carried)
     (items : List Item) : Type 0 where
@@ -48,9 +48,9 @@ pub record Sound (d : TakerState) (pass_of : ℕ → Option ℕ) (pushed : ℕ �
   pub apart : Apart d.gathered
   pub plain : d.marked ≡ false → (s : ℕ) → Packets (pushed s)
 
--- The rule: of the items in the queue, the oldest first, and of the view of each pass. One pass is the taker's, and
--- its view is what was taken and gathered; `pass_of` gives the pass of each sender that isn't gathered, whose view is
--- what it pushed.
+-- The rule, on the items in the queue, the oldest first, and the view of each pass. One pass is the taker's, and its
+-- view is what was taken and gathered; `pass_of` gives the pass of each sender that isn't gathered, whose view is what
+-- it pushed.
 pub record InboxRule (items : List Item) (views : List View) : Type 0 where
   pub taker : ℕ
   pub pass_of : ℕ → Option ℕ
@@ -62,7 +62,7 @@ pub record InboxRule (items : List Item) (views : List View) : Type 0 where
       → get_elem? views pass ≡ some (Sending (make_sender_state taker_state.marked s (pushed s)))
   pub fits : (pass : ℕ) (v : View) → get_elem? views pass ≡ some v → PassFits taker pass_of taker_state pushed pass v
 
--- ---- what a step tells the pass that takes it
+-- ---- what a pass learns from a step that it takes
 -- the rule held while the queue had these items and a pass had this view
 abbrev pub SeenBy : View → List Item → Type 0
 SeenBy v items = (views : List View) × (pass : ℕ) × InboxRule items views × (get_elem? views pass ≡ some v)

@@ -1,4 +1,4 @@
--- What each step on an inbox does to the view of the one pass that takes it.
+-- What each step on an inbox does to the view of the pass that takes the step.
 use Rattle.std.specs.Prelude.{ℕ, ◌+◌, Bool, true, false, List, [], ◌∷◌, ◌++◌}
 use Rattle.copy_inbox.specs.declared.items.Carried.{Carried}
 use Rattle.copy_inbox.specs.declared.items.Item.{Item}
@@ -33,7 +33,7 @@ next_sender (Taking d) = Sending (make_sender_state d.marked d.made [])
 next_sender (Sending p) = Spent
 next_sender Spent = Spent
 
--- a split before any sender is made: the inbox has marks from then on, and the new pass is nobody's
+-- a split before any sender is made: the inbox has marks from then on, and the new pass belongs to nobody
 abbrev pub with_marks : View → View
 with_marks (Taking d) = Taking (make_taker_state true d.made d.taken d.gathered)
 with_marks (Sending p) = Sending p

@@ -53,9 +53,9 @@ impl From<AllocError> for InboxError {
     }
 }
 
-/// An inbox. Its senders push copies of packets from any thread, and marks where it has such, and its one taker takes
-/// them. What lies in it no contract can say, since another thread may push at any moment; a contract says what a
-/// sender has pushed, and what the taker has taken and gathered.
+/// An inbox. Its senders push copies of packets from any thread, and marks if it has marks; its one taker takes them.
+/// No contract can say what an inbox holds, since another thread may push at any moment; contracts say what a sender
+/// has pushed, and what the taker has taken and gathered.
 pub struct Inbox {
     queue: RuledSegQueue<Item, View, Ruled>,
     mark_count: MarkCount,
@@ -68,10 +68,10 @@ impl Model for Inbox {
     ghost view = { λ i. i.queue };
 }
 
-/// The one that makes and gathers the senders of an inbox, and takes what they push.
+/// Makes and gathers the senders of an inbox, and takes what they push.
 pub struct Taker {
     pass: SegPass<Item, View>,
-    /// How many of its senders, the first ones, aren't counted any more.
+    /// How many of its senders, the first ones, are no longer counted.
     first: u64,
     /// The counts of its other senders.
     counts: Vec<Count>,
@@ -90,7 +90,7 @@ impl Model for Taker {
         × (t.pass.me.hand ≡ None) × (t.pass.me.spare ≡ None) };
 }
 
-/// One that pushes copies and marks into an inbox.
+/// Pushes copies and marks into an inbox.
 pub struct Sender {
     pass: SegPass<Item, View>,
     number: u64,
@@ -110,7 +110,7 @@ impl Model for Sender {
         × (s.pass.me.hand ≡ None) × (s.pass.me.spare ≡ None) };
 }
 
-/// By hand, so that a taker is dropped by one call: the check of a function that owns one sees no more of it.
+/// By hand, so that dropping a taker is one call, which is all that the check of a function that owns one sees.
 impl Drop for Taker {
     fn drop(self) {
         let Taker {
@@ -122,7 +122,7 @@ impl Drop for Taker {
     }
 }
 
-/// By hand too.
+/// By hand, for the same reason.
 impl Drop for Sender {
     fn drop(self) {
         let Sender {
@@ -134,7 +134,7 @@ impl Drop for Sender {
 }
 
 impl Sender {
-    // Joins the pass to the taker's, which then knows all that was pushed.
+    // Joins the pass to the taker's, which then knows all that the sender pushed.
     fn join<R: Wait>(self, rt: &R, inbox: &Inbox, taker: &mut Taker)
         requires taker { taker.old.inbox ≡ inbox.now }
         requires sender { self.inbox ≡ inbox.now }
@@ -148,7 +148,7 @@ impl Sender {
             pushed,
         } = self;
         inbox.queue.absorb::<Gathers>(&mut taker.pass, pass);
-        // A look at the queue's length tells the proof that the rule holds, and that the counts fit.
+        // Reading the queue's length gives the proof that the rule holds, and that the counts fit.
         let _held = inbox.queue.len_as::<Takes, R>(rt, &mut taker.pass);
         let index = (number - taker.first) as usize;
         let count = taker.counts[index];
@@ -188,7 +188,7 @@ impl Inbox {
         ensures empty { IfOk result (λ made. made.1.state ≡ make_taker_state true 0 [] []) }
     {
         let (inbox, mut taker) = Inbox::make(alloc)?;
-        // The proof's own note that there are marks. The pass that comes of it is nobody's.
+        // Records, for the proof, that there are marks. The pass that this splits off belongs to nobody.
         let _nobody = inbox.queue.another::<Marks>(&mut taker.pass);
         Ok((inbox, taker))
     }
@@ -216,8 +216,7 @@ impl Inbox {
         })
     }
 
-    /// Adds a copy to what the sender has pushed. It comes back where an allocation failed, or after 2^62 pushes, and
-    /// then nothing has changed.
+    /// Pushes a copy. It comes back if an allocation failed, or after 2^62 pushes, and then nothing has changed.
     pub fn push_copy<R: Wait>(
         &self,
         rt: &R,
@@ -234,8 +233,8 @@ impl Inbox {
             .map_err(|_| copy)
     }
 
-    /// Adds the mark of a window to what the sender has pushed. The number comes back where an allocation failed, or
-    /// after 2^62 pushes, and then nothing has changed.
+    /// Pushes the mark of a window. The window's number comes back if an allocation failed, or after 2^62 pushes, and
+    /// then nothing has changed.
     pub fn push_mark<R: Wait>(&self, rt: &R, sender: &mut Sender, window: u64) -> Result<(), u64>
         requires inbox { sender.old.inbox ≡ self.now }
         requires marked { sender.old.state.marked ≡ true }
@@ -250,13 +249,13 @@ impl Inbox {
         Ok(())
     }
 
-    /// Lets the taker sleep until so many marks have been pushed in all, but no longer than `longest`, and perhaps not
-    /// as long.
+    /// Lets the taker sleep until `marks` marks have been pushed in all, but no longer than `longest`; it may wake
+    /// sooner.
     pub fn wait_for_marks<R: Wait>(&self, rt: &R, marks: u64, longest: Duration) {
         self.mark_count.sleep(rt, marks, longest);
     }
 
-    // Adds a copy, or a mark where the inbox has such, to what the sender has pushed.
+    // Pushes a copy or a mark; a mark only if the inbox has marks.
     fn push<R: Wait>(&self, rt: &R, sender: &mut Sender, what: Carried) -> Result<(), Carried>
         requires inbox { sender.old.inbox ≡ self.now }
         requires plain { sender.old.state.marked ≡ false → is_packet what ≡ true }
@@ -278,7 +277,7 @@ impl Inbox {
         Ok(())
     }
 
-    /// Takes a sender in: the taker has seen all that it pushed, and it can push no more.
+    /// Takes a sender in again: the taker then knows all that it pushed, and it can push no more.
     pub fn gather<R: Wait>(&self, rt: &R, taker: &mut Taker, sender: Sender)
         requires taker { taker.old.inbox ≡ self.now }
         requires sender { sender.inbox ≡ self.now }
@@ -289,7 +288,7 @@ impl Inbox {
         sender.join(rt, self, taker);
     }
 
-    /// How many copies and marks of gathered senders aren't taken yet.
+    /// How many copies and marks of gathered senders have not been taken yet.
     pub fn known(&self, taker: &Taker) -> u64
         requires { taker.now.inbox ≡ self.now }
         ensures { result ≡ known_of taker.now.state.gathered taker.now.state.taken }
@@ -298,9 +297,9 @@ impl Inbox {
         *known
     }
 
-    /// Takes the copy or mark at the front, without memory, with the number of its sender. There is none only where
-    /// nothing is known and the queue was empty at some moment of the call. What was taken of a gathered sender stays a
-    /// prefix of what it pushed.
+    /// Takes the oldest copy or mark, with the number of its sender, without allocating. It returns `None` only if
+    /// nothing is known and the queue was empty at some moment of the call. What was taken of a gathered sender stays
+    /// a prefix of what it pushed.
     pub fn take_next<R: Wait>(&self, rt: &R, taker: &mut Taker) -> Option<Item>
         requires { taker.old.inbox ≡ self.now }
         ensures inbox { taker.new.inbox ≡ taker.old.inbox }
@@ -319,8 +318,8 @@ impl Inbox {
         Some(item)
     }
 
-    /// Takes the `n` copies at the front of an inbox without marks. The memory for them is asked for first, so a
-    /// refusal changes nothing.
+    /// Takes the `n` oldest copies of an inbox without marks. It allocates before it takes, so a failed allocation
+    /// changes nothing.
     pub fn drain<R: Wait>(
         &self,
         rt: &R,
@@ -335,11 +334,11 @@ impl Inbox {
         ensures begun { OnOk result (TookFronts taker.new.state.gathered taker.new.state.taken) }
         ensures made { OnOk result (OfMade taker.new.state.made taker.new.state.taken) }
 
-        // All that is known, where no item of a sender that isn't gathered can stand before it.
+        // If `n` is all that is known, and no item of a sender that isn't gathered can come before any of it.
         ensures whole { OnOk result
             (IsAllKnown taker.old.state n → Whole taker.new.state.gathered taker.new.state.taken) }
 
-        // And then it is of gathered senders alone.
+        // And then all that was taken is of gathered senders.
         ensures others { OnOk result
             (IsAllKnown taker.old.state n
             → NoOthers taker.old.state.gathered taker.old.state.taken taker.new.state.taken) }
@@ -349,7 +348,7 @@ impl Inbox {
         self.take_packets(rt, taker, n)
     }
 
-    // Takes the `n` copies at the front, where no mark can come before them.
+    // Takes the `n` oldest copies, provided that no mark can come before them.
     fn take_packets<R: Wait>(
         &self,
         rt: &R,
@@ -384,7 +383,7 @@ impl Inbox {
         Ok(copies)
     }
 
-    /// Ends the inbox, and gives all that is left in it. Where memory is refused, that is given up.
+    /// Ends the inbox, and returns all that is left in it. If an allocation fails, that is lost.
     pub fn close<R: Wait>(self, rt: &R, taker: Taker) -> Result<Vec<RadioCopy>, InboxError>
         requires inbox { taker.inbox ≡ self }
         requires gathered { AllGathered taker.state }

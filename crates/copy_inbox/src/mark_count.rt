@@ -1,11 +1,11 @@
-//! The count of marks that wakes a taker which waits for them.
+//! The count of marks, which wakes a taker that waits for them.
 
 use std::sync::Wait;
 use std::sync::atomic::{AtomicU64, Ordering};
 use std::time::Duration;
 
-/// The marks of an inbox, counted, so that its taker can sleep until enough of them have come. No contract says that
-/// it is woken; it wakes by itself too.
+/// Counts the marks of an inbox, so that its taker can sleep until enough of them have come. No contract says that it
+/// is woken: it also wakes by itself, after a time.
 #[derive(Drop)]
 pub struct MarkCount {
     /// How many marks were pushed.
@@ -22,7 +22,7 @@ impl MarkCount {
         }
     }
 
-    /// A mark was pushed.
+    /// Counts a mark that was pushed, and wakes the taker if that is the last that it waits for.
     pub fn add(&self) {
         let marks = self.marks.fetch_add(1, Ordering::SeqCst).wrapping_add(1);
         if marks == self.wanted.load(Ordering::SeqCst) {
@@ -30,12 +30,12 @@ impl MarkCount {
         }
     }
 
-    /// Sleeps until so many marks were pushed, but no longer than `longest`, and perhaps not as long.
+    /// Sleeps until `wanted` marks have been pushed, but no longer than `longest`; it may wake sooner.
     pub fn sleep<R: Wait>(&self, rt: &R, wanted: u64, longest: Duration) {
         self.wanted.store(wanted, Ordering::SeqCst);
         let marks = self.marks.load(Ordering::SeqCst);
         if marks < wanted {
-            // A mark that comes in between changes the low half of the count, and then it doesn't sleep.
+            // A mark that comes in between changes the low half of the count, and then this doesn't sleep.
             let low = (marks % (1 << 32)) as u32;
             self.marks.park_timeout(rt, low, longest);
         }

@@ -1,5 +1,5 @@
-//! The rule of an inbox's queue, and what each pass of the queue knows. No value of these types is made when a program
-//! runs: they are what the contracts and their proofs speak of.
+//! The rule of an inbox's queue, and what each pass of the queue knows. No values of these types exist at run time:
+//! they are for contracts and proofs.
 
 use crate::items::{Carried, Item};
 use crossbeam_queue::protocol::{Join, Lesson, Outcome, Protocol, Split};
@@ -28,7 +28,7 @@ pub struct SenderState {
     pub pushed: LinkedList<Carried>,
 }
 
-/// What a pass of the queue knows. A spent one was joined to the taker's, or never was a sender's.
+/// What a pass of the queue knows. A spent pass was joined to the taker's, or never was a sender's.
 pub enum View {
     Taking(TakerState),
     Sending(SenderState),
@@ -58,7 +58,7 @@ impl Split<View> for Makes {
     ghost right = { next_sender };
 }
 
-/// The inbox is to have marks. The pass that is split off is nobody's.
+/// The inbox gets marks. The pass that is split off belongs to nobody.
 pub struct Marks;
 
 impl Split<View> for Marks {

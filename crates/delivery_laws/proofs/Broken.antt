@@ -1,4 +1,4 @@
--- Traces that do not hand on.
+-- Traces that don't have the property `HandedOn`.
 use Rattle.std.proofs.Common.{ℕ, zero, suc, ◌≡◌, ◌<◌, ◌≤◌, ◌==◌, ◌&&◌, ◌⊎◌, not, inl, inr, Bool, true, false, List, [], ◌∷◌, ◌++◌, length, take, drop, refl, sym, ap, ◌∙◌, subst, arith, map}
 use Rattle.std.specs.List.{All, AllZip, Contains, list_any}
 use Rattle.std.proofs.lemmas.List.Elements.{All-head, All-tail, Contains-append_cases}
@@ -97,7 +97,7 @@ by_another h =
     let f : record { serial = 0; process = 6; taken = true; before = Start 5 ∷ Start 6 ∷ Post 0 (ToOne 5) ∷ [] } ≡ g.line = cc in
     unequal 6 5 refl (subst (λ (x : Handing). x.process ≡ 5) (sym f) g.process)
 
--- Events posted to all. The place is one of as many as there are lines, and a test tells most of them away.
+-- Events posted to all. Such an event's place may be anywhere in the trace, and a test rules out most places.
 
 abbrev is_place : ℕ → List Line → ℕ → Bool
 is_place s t k = has s (posted_serials (take k t)) && not (has s (map (λ h. h.serial) (handings (take k t))))
@@ -130,7 +130,7 @@ at_place t s lacking g =
       },
     )
 
--- two lines reach no more than the one that is listed
+-- two lines are too many if only one incarnation is listed
 two_for_one : (a : Incarnation) (lacking is : List Incarnation) (h i : Handing) → AllZip IsFor is (h ∷ i ∷ []) → a ∷ [] ≡ is ++ lacking → ⊥
 two_for_one a lacking [] h i z w = z
 two_for_one a lacking (x ∷ []) h i z w = z.1
@@ -146,7 +146,7 @@ second_is a b list lacking [] h i hs z w = absurd z
 second_is a b list lacking (x ∷ []) h i hs z w = absurd z.1
 second_is a b list lacking (x ∷ y ∷ is) h i hs z w = let e : y ≡ b = cc in subst (λ k. IsFor k i) e z.1.0
 
--- one line leaves one of two lacking
+-- one line leaves one of two incarnations lacking
 one_for_two : (a b : Incarnation) (lacking is : List Incarnation) (h : Handing) → AllZip IsFor is (h ∷ []) → a ∷ b ∷ [] ≡ is ++ lacking → lacking ≡ [] → ⊥
 one_for_two a b lacking [] h z w e = z
 one_for_two a b lacking (x ∷ []) h z w e = let f : a ∷ b ∷ [] ≡ x ∷ [] = w ∙ ap (λ l. x ∷ l) e in absurd (cc)

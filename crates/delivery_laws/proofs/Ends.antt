@@ -1,4 +1,4 @@
--- At a moment when no walk is under way, and at a halt, the lines hand the events on.
+-- When no walk is under way, and at a halt, the lines have the property `HandedOn`.
 use Rattle.std.proofs.Common.{ℕ, ◌≡◌, ◌+◌, ◌<◌, ◌==◌, ◌⊎◌, inl, inr, Bool, true, false, List, [], ◌∷◌, ◌++◌, length, refl, sym, ap, ◌∙◌, subst, arith, map}
 use Rattle.std.proofs.lemmas.List.{map-append}
 use Rattle.std.specs.List.{All, AllZip, Contains, range_with_len}
@@ -40,7 +40,7 @@ has_line : (g : Target) (t : List Line) (s : ℕ) → IsGivenTo g t s [] → Has
 has_line (ToOne p) t s h = found s (handings t) h.0.line [] h.0.alone
 has_line ToAll t s h = let g = h.0 in found_in_turn t s [] g g.reached _ (λ e. h.1 (g.whole ∙ rw (e) refl)) g.in_turn refl
 
--- what is known at the end: the lines of the serials below a number are there, and lack nothing, but at a halt
+-- what is known at the end: the serials below a number have their lines, and lack none, except at a halt
 pub record Ended (t : List Line) (handed : ℕ) : Type 0 where
   pub lacks : ℕ → List Incarnation
   pub given : (s : ℕ) → s < handed → IsGiven t s (lacks s)
@@ -113,7 +113,7 @@ none_reached t s lacking g e =
 given_before : (m : DeliveryMachine) (t : List Line) (h : Stands m t) → m.walked + 1 ≡ h.taken → (s : ℕ) → s < m.walked → IsGiven t s []
 given_before m t h w s k = let g = h.are_given s (omega arith) in rw (lacking_other m.walked h.lacking s k) at g
 
--- no line of the walk is there: its event was not handed on
+-- the walk has no line yet: its event was not delivered
 ended_before : (m : DeliveryMachine) (t : List Line) (h : Stands m t) → m.walked + 1 ≡ h.taken → All (λ x. x.serial ≡ m.walked → ⊥) (handings t) → Ended t m.walked
 ended_before m t h w a = record {
   lacks = λ s. [];
@@ -123,7 +123,7 @@ ended_before m t h w a = record {
   lines = λ s k. let g = given_before m t h w s k in has_line g.target t s g.is_given;
 }
 
--- some line of the walk is there
+-- the walk has a line
 ended_within : (m : DeliveryMachine) (t : List Line) (h : Stands m t) → m.walked + 1 ≡ h.taken → HasLine t m.walked → EndsInHalt t → Ended t h.taken
 ended_within m t h w l e = record {
   lacks = lacking_of m.walked h.lacking;

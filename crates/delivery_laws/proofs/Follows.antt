@@ -1,4 +1,4 @@
--- Each step of the machine keeps how it stands against its lines.
+-- Each step of the machine keeps the invariant `Stands` between it and its lines.
 use Rattle.std.proofs.Common.{ℕ, ◌≡◌, ◌+◌, ◌<◌, ◌==◌, ◌⊎◌, inl, inr, true, false, cond, List, [], ◌∷◌, ◌++◌, length, refl, sym, ap, ◌∙◌, subst, append_assoc, append-nil, arith, map}
 use Rattle.std.proofs.lemmas.List.{length_push}
 use Rattle.std.specs.List.{All, AllZip, Contains}

@@ -1,4 +1,4 @@
--- How the machine stands against its lines so far.
+-- The invariant between the machine and its lines so far.
 use Rattle.std.proofs.Common.{ℕ, zero, suc, ◌≡◌, ◌+◌, ◌<◌, ◌≤◌, ◌==◌, not, ◌⊎◌, inl, inr, Bool, true, List, [], ◌∷◌, ◌++◌, length, refl, sym, ap, ◌∙◌, subst, append-nil, arith, if◌then◌else◌, map}
 use Rattle.std.proofs.lemmas.List.Quantifiers.{all_pairs_push}
 use Rattle.std.specs.List.{All, AllPairs, AllZip, Contains, filter, list_any, range_with_len}
@@ -14,14 +14,14 @@ pub record Posts (accepted : ℕ) (t : List Line) : Type 0 where
   pub known : (s : ℕ) (g : Target) → Contains t (Post s g) → s < accepted
   pub single : (s : ℕ) (g g' : Target) → Contains t (Post s g) → Contains t (Post s g') → g ≡ g'
 
--- a `take` or `drop` line stands behind the `post` line of its serial
+-- a `take` or `drop` line comes after the `post` line of its serial
 abbrev pub IsAfterPost : Handing → Type 0
 IsAfterPost h = (g : Target) × Contains h.before (Post h.serial g)
 
 abbrev pub IsBelow : ℕ → Incarnation → Type 0
 IsBelow n i = i.number < n
 
--- two process lists, each with a number that its incarnations have not reached, have the same processes in the same order
+-- two process lists have the same processes in the same order, and each a number that its incarnations haven't reached
 pub record SameList (list : List Incarnation) (numbered : ℕ) (there : List Incarnation) (n : ℕ) : Type 0 where
   pub same : map (λ i. i.process) list ≡ map (λ i. i.process) there
   pub below : All (IsBelow numbered) list
@@ -45,7 +45,7 @@ abbrev pub Waits : ℕ → List Waiting → ℕ → List Line → Type 0
 Waits k [] accepted t = k ≡ accepted
 Waits k (x ∷ xs) accepted t = (x.serial ≡ k) × Contains t (Post k x.target) × Waits (k + 1) xs accepted t
 
--- an event was given to those whom it was posted to, but for those who are lacking
+-- an event was given to the processes that it was posted to, except for the incarnations that are lacking
 abbrev pub IsGivenTo : Target → List Line → ℕ → List Incarnation → Type 0
 IsGivenTo (ToOne p) t s lacking = IsGivenToOne t s p × (lacking ≡ [])
 IsGivenTo ToAll t s lacking = (g : IsGivenToAll t s lacking) × (process_list g.before ≡ [] → ⊥)
@@ -211,7 +211,7 @@ pub waits_post : (k : ℕ) (xs : List Waiting) (n : ℕ) (t : List Line) (g : Ta
 waits_post k [] n t g w = (sym w, subst (λ j. Contains (t ++ Post n g ∷ []) (Post j g)) (sym w) (Contains-push t (Post n g)), ap (λ j. j + 1) w)
 waits_post k (x ∷ xs) n t g w = (w.0, Contains-append_left t (Post n g ∷ []) _ w.1, waits_post (k + 1) xs n t g w.2)
 
--- the handings
+-- the `take` and `drop` lines
 
 pub handings_quiet : (t : List Line) (l : Line) → ((b : List Line) → handing_at b l ≡ []) → handings (t ++ l ∷ []) ≡ handings t
 handings_quiet t l q = handings_more [] t l ∙ rw (q t, append-nil) refl

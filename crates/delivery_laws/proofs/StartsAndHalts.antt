@@ -11,7 +11,7 @@ use Rattle.delivery_laws.proofs.Lines.{alone}
 use Rattle.delivery_laws.proofs.Stands.{Stands, same_listed}
 use Rattle.delivery_laws.proofs.Follows.{stands_runs, stands_at_first}
 
--- a line of a trace with one line more is the last one, or stands in the trace
+-- a line of a trace with one line appended is the appended one, or a line of the trace
 record StandsIn (t before : List Line) (x : Line) (behind : List Line) (l : Line) : Type 0 where
   rest : List Line
   of_rest : behind ≡ rest ++ l ∷ []

@@ -1,4 +1,4 @@
--- Traces that hand on, as runs of the machine.
+-- Traces that have the property `HandedOn`, as runs of the machine.
 use Rattle.std.proofs.Common.{arith, ◌≡◌, List, [], ◌∷◌, refl, inl, inr}
 use Rattle.delivery_laws.specs.HandedOn.{Line, ToOne, ToAll, Start, Leave, Post, Take, Drop, Incarnation, posted_serials, handings, HandedOn}
 use Rattle.delivery_laws.specs.Delivery.{DeliveryMachine, initial, starts, leaves, posts, gives_one, begins_walk, walks_on, writes, DeliveryRuns, stays, goes_on}
@@ -32,7 +32,7 @@ whole = record {
   taken_by_the_next = delivery_hands_on _ (inl (_, goes_on _ _ _ _ (goes_on _ _ _ _ (goes_on _ _ _ _ next_posted.1 (starts _ 5 refl)) (gives_one _ 1 5 [] refl refl)) (posts _ ToAll), refl));
 }
 
--- lines that tell of no event hand everything on
+-- lines that tell of no event have the property
 no_events : (t : List Line) → posted_serials t ≡ [] → handings t ≡ [] → HandedOn t
 no_events t p h = record {
   posts_count_up = rw p refl;

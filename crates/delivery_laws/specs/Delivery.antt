@@ -1,5 +1,5 @@
--- A machine that delivers each accepted event, in order: just as much of a mote's kernel as the order of delivery
--- rests on.
+-- A machine that delivers events in the order in which they were accepted: just as much of a mote's kernel as the
+-- order of delivery rests on.
 use Rattle.std.specs.Prelude.{ℕ, Bool, false, ◌≡◌, ◌<◌, ◌+◌, ◌⊎◌, List, [], ◌∷◌, ◌++◌, map, if◌then◌else◌}
 use Rattle.std.specs.List.{All}
 use Rattle.delivery_laws.specs.HandedOn.{Target, ToOne, ToAll, Line, Start, Leave, Post, Take, Drop, Halt, Other}
@@ -25,13 +25,13 @@ pub record DeliveryMachine : Type 0 where
 abbrev pub initial : DeliveryMachine
 initial = record { list = []; numbered = 0; queue = []; accepted = 0; walked = 0; coming = [] }
 
--- an event reaches a process that is there, or is dropped
+-- an event reaches a process that is listed, or is dropped
 abbrev pub take_or_drop : Bool → ℕ → ℕ → Line
 take_or_drop there s p = if there then Take s p else Drop s p
 
 -- One step: from a machine, with the lines that it writes, to the machine that it leaves. Processes that are not
 -- listed start, and processes leave and post, at any moment, also between the steps of a walk; but the next event is
--- taken only where no walk is under way.
+-- taken only while no walk is under way.
 pub data DeliveryStep : DeliveryMachine → List Line → DeliveryMachine → Type 0 where
   starts : (m : DeliveryMachine) (p : ℕ) → is_listed m.list p ≡ false →
       DeliveryStep m (Start p ∷ []) (record m

@@ -1,4 +1,4 @@
--- Two properties of a trace beside the handing on of its events.
+-- Two properties of a trace besides the delivery of its events.
 use Rattle.std.specs.Prelude.{ℕ, false, ◌≡◌, List, [], ◌∷◌, ◌++◌}
 use Rattle.delivery_laws.specs.HandedOn.{Line, Start, Halt, is_listed, process_list}
 

@@ -1,4 +1,4 @@
--- Small traces that hand on, and small ones that do not: each of the latter breaks what its name says.
+-- Small traces that have the property, and small ones that don't: each of the latter breaks what its name says.
 use Rattle.std.specs.Prelude.{List, [], ◌∷◌}
 use Rattle.delivery_laws.specs.StartsAndHalts.{StartsTheUnlisted, HaltIsLast}
 use Rattle.delivery_laws.specs.HandedOn.{ToOne, ToAll, Line, Start, Leave, Post, Take, Drop, Halt, Other, HandedOn}
@@ -52,38 +52,38 @@ lacks_the_first_line = Start 5 ∷ Start 6 ∷ Post 0 ToAll ∷ Take 0 5 ∷ Hal
 abbrev pub lacks_an_earlier_line : List Line
 lacks_an_earlier_line = Start 5 ∷ Start 6 ∷ Post 0 ToAll ∷ Post 1 (ToOne 6) ∷ Take 0 6 ∷ Take 1 6 ∷ Halt ∷ []
 
--- a broadcast within which a process leaves and another starts, which it does not reach
+-- a broadcast during which a process leaves and another starts, which it doesn't reach
 abbrev pub broadcast_walk : List Line
 broadcast_walk = Start 5 ∷ Start 6 ∷ Post 0 ToAll ∷ Take 0 6 ∷ Leave 5 ∷ Start 7 ∷ Drop 0 5 ∷ []
 
--- the process that left within the walk has started again: what is taken is not for it
+-- the process that left during the walk has started again: the event is not for the new incarnation
 abbrev pub restarted_within : List Line
 restarted_within = Start 5 ∷ Start 6 ∷ Post 0 ToAll ∷ Take 0 6 ∷ Leave 5 ∷ Start 5 ∷ Drop 0 5 ∷ Other ∷ []
 
--- a mote that halts within the walk
+-- a mote that halts during the walk
 abbrev pub halted_within : List Line
 halted_within = Start 5 ∷ Start 6 ∷ Post 0 ToAll ∷ Take 0 6 ∷ Halt ∷ []
 
--- a mote that halts before the first line of the walk: the event is not handed on
+-- a mote that halts before the first line of the walk: the event is not delivered
 abbrev pub halted_before_the_first : List Line
 halted_before_the_first = Start 5 ∷ Start 6 ∷ Post 0 ToAll ∷ Halt ∷ []
 
--- an event to one process goes to whatever incarnation is there when it is taken
+-- an event to one process goes to whatever incarnation is listed when it is taken
 abbrev pub taken_by_the_next : List Line
 taken_by_the_next = Start 5 ∷ Post 0 (ToOne 5) ∷ Leave 5 ∷ Post 1 (ToOne 5) ∷ Drop 0 5 ∷ Start 5 ∷ Take 1 5
     ∷ Post 2 ToAll ∷ []
 
--- What the property does not see: it holds of these too, though a kernel would write other lines.
+-- What the property doesn't detect: it holds of these too, though a kernel would write other lines.
 
--- an event that waits for good
+-- an event that waits forever
 abbrev pub never_taken : List Line
 never_taken = Start 5 ∷ Post 0 (ToOne 5) ∷ Other ∷ []
 
--- process 6 was on the list when the event was taken: the list was fixed at the `post`
+-- the list was fixed at the `post`, though process 6 was on it, too, when the event was taken
 abbrev pub list_of_the_post : List Line
 list_of_the_post = Start 5 ∷ Post 0 ToAll ∷ Start 6 ∷ Other ∷ Take 0 5 ∷ []
 
--- a process on the list starts again, and one that is not there leaves
+-- a process on the list starts again, and one that is not on it leaves
 abbrev pub starts_twice : List Line
 starts_twice = Start 5 ∷ Start 5 ∷ Leave 6 ∷ []
 
@@ -122,7 +122,7 @@ pub record TracesThatDoNot : Type 0 where
   pub lacks_the_first_line : HandedOn lacks_the_first_line → ⊥
   pub lacks_an_earlier_line : HandedOn lacks_an_earlier_line → ⊥
 
--- the two laws beside it see what it does not
+-- two of these are detected by the two other properties
 pub record TracesThatBreakTheOthers : Type 0 where
   pub starts_twice : StartsTheUnlisted starts_twice → ⊥
   pub goes_on_after_a_halt : HaltIsLast goes_on_after_a_halt → ⊥

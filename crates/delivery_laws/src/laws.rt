@@ -4,7 +4,7 @@ ghost use Rattle.delivery_laws.specs.Laws.{DeliveryHandsOn, DeliveryHaltsLast, D
 ghost use Rattle.delivery_laws.specs.Traces.{TracesThatDoNot, TracesThatHandOn, TracesThatPass};
 ghost use Rattle.delivery_laws.specs.Traces.{TracesThatBreakTheOthers};
 
-/// Each trace of the delivery machine has handed its events on.
+/// Each trace of the delivery machine delivers events in the order in which they were accepted.
 pub fn delivery_hands_on()
     ensures { DeliveryHandsOn }
 {}
@@ -19,8 +19,8 @@ pub fn only_the_unlisted_start()
     ensures { DeliveryStartsTheUnlisted }
 {}
 
-/// The property holds of small traces that are as they should be, and fails at small traces that break one thing each.
-/// There are faults that it does not see; the two laws beside it see two of them.
+/// The property holds of small correct traces, and fails for small traces that break one thing each. There are faults
+/// that it doesn't detect; the two laws above detect two of them.
 pub fn traces_are_told_apart()
     ensures whole { TracesThatHandOn }
     ensures broken { TracesThatDoNot }

@@ -1,4 +1,4 @@
--- What is posted, and what is taken, by the events that wait.
+-- The queue as its waiting events show it, when an event is posted or taken.
 use Rattle.std.proofs.Common.{ℕ, suc, ◌≡◌, ◌+◌, List, [], ◌∷◌, ◌++◌, length, refl, ap, ◌∙◌, arith}
 use Rattle.std.proofs.lemmas.List.{length-append}
 use Rattle.circular_buffer.specs.Buffer.{Buffer, buffer}
@@ -7,7 +7,7 @@ use Rattle.event_queue.specs.declared.queue.Posted.{Posted}
 use Rattle.event_queue.specs.declared.queue.Waiting.{Waiting}
 use Rattle.event_queue.specs.Posting.{posted_from, queue_of}
 
--- one more has the serial behind theirs
+-- one more event has the serial after theirs
 pub posted_one_more : (k : ℕ) (ws : List Waiting) (w : Waiting)
     → posted_from k (ws ++ w ∷ []) ≡ posted_from k ws ++ record { serial = k + length ws; target = w.target; event = w.event } ∷ []
 posted_one_more k [] w =
@@ -17,12 +17,12 @@ posted_one_more k (v ∷ ws) w =
     ap (λ (ps : List Posted). record { serial = k; target = v.target; event = v.event } ∷ ps)
     (posted_one_more (k + 1) ws w ∙ ap (λ n. posted_from (k + 1) ws ++ record { serial = n; target = w.target; event = w.event } ∷ []) same)
 
--- they are as many as before
+-- their number stays the same
 pub length_posted : (k : ℕ) (ws : List Waiting) → length (posted_from k ws) ≡ length ws
 length_posted k [] = refl
 length_posted k (w ∷ ws) = ap suc (length_posted (k + 1) ws)
 
--- a ring that has one more is a queue to which one more was posted
+-- appending to the ring buffer is posting to the queue
 pub posts : (old new : Buffer Waiting) (taken : ℕ) (w : Waiting) → new ≡ buffer (old.items ++ w ∷ []) old.capacity
     → queue_of new.items taken new.capacity ≡ with_posted (queue_of old.items taken old.capacity) w.target w.event
 posts old new taken w is =

@@ -10,6 +10,6 @@ posted_from serial [] = []
 posted_from serial (w ∷ ws) =
     record { serial = serial; target = w.target; event = w.event } ∷ posted_from (serial + 1) ws
 
--- the queue in which these wait, after so many that were taken
+-- the queue in which these wait, after this many were taken
 abbrev pub queue_of : List Waiting → (taken capacity : ℕ) → Queue
 queue_of ws taken capacity = record { events = posted_from taken ws; accepted = taken + length ws; capacity = capacity }

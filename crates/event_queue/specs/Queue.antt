@@ -13,7 +13,7 @@ pub record Queue : Type 0 where
 abbrev pub empty_queue : ℕ → Queue
 empty_queue n = record { events = []; accepted = 0; capacity = n }
 
--- the event goes to the back, and the count of those before it is its serial
+-- the event is appended; its serial is how many were accepted before it
 abbrev pub with_posted : Queue → Target → Event → Queue
 with_posted q t e = record {
   events = q.events ++ record { serial = q.accepted; target = t; event = e } ∷ [];
@@ -21,6 +21,6 @@ with_posted q t e = record {
   capacity = q.capacity;
 }
 
--- the front is gone, if there was one
+-- without the oldest event, if there is one
 abbrev pub without_front : Queue → Queue
 without_front q = record { events = drop 1 q.events; accepted = q.accepted; capacity = q.capacity }

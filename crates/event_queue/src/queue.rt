@@ -1,4 +1,4 @@
-//! A queue of posted events, over a ring whose room is made once.
+//! A queue of posted events, over a ring buffer that is allocated once.
 
 ghost use Rattle.std.specs.Prelude.{◌≡◌, ◌+◌, ◌^◌, ◌<◌, ◌≤◌, ◌↔◌, [], ◌∷◌, length, IsNone, IfNone, IfSome, IsErr};
 ghost use Rattle.std.specs.Prelude.{IfOk, OnOk, OnErr, Some, codes};
@@ -19,7 +19,7 @@ pub struct Posted {
     pub event: Event,
 }
 
-/// The answer of a full queue (`PROCESS_ERR_FULL` of `process.h`). The event that was posted is lost.
+/// What a full queue returns (`PROCESS_ERR_FULL` of `process.h`). The event that was posted is lost.
 #[derive(Clone, Copy, Debug, PartialEq, Eq)]
 pub struct Full;
 
@@ -41,11 +41,11 @@ struct Waiting {
 }
 
 /// The events of a mote that were posted and not yet taken, the oldest first, and a count of all that were ever
-/// accepted (the ring `events` of `process.c`). All its memory is taken by `new`.
+/// accepted (the ring `events` of `process.c`). `new` allocates all its memory.
 #[derive(Drop)]
 pub struct EventQueue {
     waiting: HeapCircularBuffer<Waiting>,
-    /// How many were taken, which is the serial of the oldest that waits.
+    /// How many were taken, which is the serial of the oldest that waits, or of the next if none does.
     taken: u64,
 }
 
@@ -62,8 +62,8 @@ impl Model for EventQueue {
         × (q.taken + length q.waiting.items ≤ 2 ^ 62) };
 }
 
-/// Takes the oldest that waits. The only one is taken from the back, so a ring that is emptied each time stays at its
-/// first slots, which are at hand.
+/// Takes the oldest that waits. If it is the only one, it is taken from the back, so a ring buffer that holds one
+/// event at a time stays at its first slot, which is likely to be in the cache.
 #[inline(always)]
 #[tactic(auto, using(crate::proofs::Only::only_first))]
 fn take_oldest(waiting: &mut HeapCircularBuffer<Waiting>) -> Option<Waiting>
@@ -109,8 +109,8 @@ impl EventQueue {
         self.taken + self.waiting.len() as u64
     }
 
-    /// Puts an event at the back and answers its serial: 0 for the first that was ever accepted, and then one more
-    /// for each. A full queue refuses it, and stays as it was.
+    /// Appends an event and returns its serial: 0 for the first that was ever accepted, one more for each after it. A
+    /// full queue refuses it and stays unchanged.
     #[tactic(auto, using(crate::proofs::Posting::length_posted))]
     pub fn post(&mut self, target: Target, event: Event) -> Result<u64, Full>
         requires { self.old.accepted < 2 ^ 62 }
@@ -127,7 +127,7 @@ impl EventQueue {
         Ok(serial)
     }
 
-    /// Takes the event at the front, the oldest, or nothing from an empty queue.
+    /// Takes the oldest event, or nothing from an empty queue.
     pub fn take(&mut self) -> Option<Posted>
         ensures empty { IsNone result ↔ (self.old.events ≡ []) }
         ensures front { IfSome result (λ first. self.old.events ≡ first ∷ self.new.events) }

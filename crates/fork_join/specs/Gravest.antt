@@ -1,9 +1,9 @@
--- Which of several reasons is reported, where several workers gave up.
+-- Which of several reasons is reported, if several workers gave up.
 use Rattle.std.specs.Prelude.{Option, Some, None}
 use Rattle.fork_join.specs.declared.work.Refused.{Refused}
 use Rattle.fork_join.specs.declared.work.Refused.TheVariants.{Memory, Thread, Stopped}
 
--- a worker that stopped did so because another failed, whose reason goes first; else the first is reported
+-- a worker with `Stopped` stopped because another failed, whose reason takes precedence; else the first is reported
 abbrev pub graver : (first other : Refused) → Refused
 graver Memory other = Memory
 graver Thread other = Thread

@@ -14,7 +14,7 @@ abbrev pub AllKept : {W T : Type 0} → (W → T → T → Type 0) → List (Han
 AllKept makes handles done = AllZip
     (λ handle worker. makes handle.promise.work.value handle.promise.worker.value worker) handles done
 
--- each thread was promised for its worker
+-- each thread promised what the work makes of its worker
 abbrev pub AllPromised : {W T : Type 0} → W → List T → List (Handle W T) → Type 0
 AllPromised work workers handles =
     AllZip (λ worker handle. (handle.promise.work.value ≡ work) × (handle.promise.worker.value ≡ worker))

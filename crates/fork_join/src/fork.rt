@@ -27,14 +27,15 @@ impl<T, W: Work<T>> Promise<Result<T, Refused>> for Promised<W, T> {
     ghost kept_by = { λ p r. IfOk r (W.makes p.work.value p.worker.value) };
 }
 
-/// Has each worker work in a thread of its own. The threads are started one after another, and all that started are
-/// joined. After a start that failed no further worker is started, and `work` gives up. The workers come back in
+/// Has each worker work in a thread of its own. The threads are started one after another, and all that were started
+/// are joined. After a failed start no further worker is started, and `give_up` is called. The workers come back in
 /// their order.
 ///
 /// # Errors
-/// That of the first worker that has a `Memory` or `Thread`, if any that was started has one; else `Thread` where a
-/// thread couldn't be started, or `work` didn't let it, and `Memory` where no memory was found for its handle; else
-/// `Stopped` where a worker has it. Where no memory is found for a worker's answer, that worker has `Memory`.
+/// The `Memory` or `Thread` of the first worker that returned one, if any that was started did; else `Thread` if a
+/// thread couldn't be started, or `may_start` refused it, or `Memory` if an allocation for its handle failed; else
+/// `Stopped` if a worker returned it. A worker for whose result an allocation failed counts as one that returned
+/// `Memory`.
 pub fn fork_join<R, T, W>(
     rt: &R,
     alloc: Global,
@@ -105,7 +106,7 @@ where
     }
 }
 
-/// Joins each thread. It answers what the threads gave, or the first of the gravest errors.
+/// Joins each thread. Returns what the threads returned, or the first of the gravest errors.
 fn join_all<R: Threads, T: Send + Drop, W: Work<T>>(
     rt: &R,
     alloc: Global,

@@ -1,4 +1,4 @@
-//! Each of some workers at work in a thread of its own, and all threads joined.
+//! Runs workers, each in a thread of its own, and joins all threads.
 #![tactic(auto)]
 
 mod fork;

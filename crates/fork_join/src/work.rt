@@ -8,11 +8,11 @@ use std::alloc::{AllocError, AllocFailed};
 /// Why a worker gave up, or wasn't started.
 #[derive(Clone, Copy, Debug, PartialEq, Eq)]
 pub enum Refused {
-    /// No memory was found.
+    /// Out of memory: an allocation failed.
     Memory,
     /// A thread couldn't be started, or what ran in it failed.
     Thread,
-    /// It ended without an answer, since another worker gave up or wasn't started.
+    /// It stopped because another worker failed or wasn't started.
     Stopped,
 }
 
@@ -28,7 +28,7 @@ impl Refused {
     }
 }
 
-/// The reason that is reported, once there is one more.
+/// The reason that is reported, with one more reason.
 pub(crate) fn gravest(so_far: Option<Refused>, other: Refused) -> Refused
     ensures { result ≡ gravest so_far other }
 {
@@ -73,10 +73,10 @@ pub trait Work<T> {
         requires { ready self.now worker }
         ensures { IfOk result (makes self.now worker) };
 
-    /// Whether a worker's thread may start. It is asked before each start; `false` counts as a start that failed.
+    /// Whether a worker's thread may start. Called before each start; `false` counts as a start that failed.
     fn may_start(&self, worker: &T) -> bool;
 
-    /// It is called where a start failed, before the workers that were started are joined: where workers wait for one
-    /// another, it has to tell those that wait to end.
+    /// Called if a start failed, before the workers that were started are joined: if workers wait for one another, it
+    /// has to make those that wait stop.
     fn give_up(&self);
 }

@@ -1,4 +1,4 @@
--- The window may be shared by threads, and what each worker's thread needs besides.
+-- The window, and what else each worker's thread needs, may be shared by threads.
 use denote.Param.Send.{IsSync, sendable}
 use denote.Param.SendFields.{declared_sync}
 use denote.Ref.{NamedLft}

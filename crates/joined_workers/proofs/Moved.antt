@@ -148,7 +148,7 @@ module _ (n : NetTold) (fine : RunsForward (system_of n)) (of : List ℕ) (from 
       as_long _ (map make_worker (zip old.shares.items all.endpoints)) all.done all.ran
       ∙ (map_long make_worker (zip old.shares.items all.endpoints) ∙ (zip_long old.shares.items all.endpoints endpoints_long ∙ at.shares))
 
-  -- of what went to a worker, what one mote sent
+  -- of what was delivered to a worker, what one mote sent
   to_one : (v s : ℕ) → filter (is_from_sender s) (delivered_to (map (λ (w : Worker). w.endpoint) all.done) v) ≡ out_to v s
   unfolding outgoing
   to_one v s = by_endpoint ∙ of_worker (slice_get of s) refl

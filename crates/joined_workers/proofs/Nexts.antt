@@ -1,4 +1,4 @@
--- What comes first of all, worker by worker.
+-- The first pending event, worker by worker.
 use Rattle.std.proofs.Common.{◌≡◌, ℕ, suc, ◌+◌, ◌<◌, ◌≤◌, get_or, List, [], ◌∷◌, ◌++◌, length, take, ap, ◌∙◌, subst, sym, arith, Option}
 use Rattle.std.proofs.Math.Seq.{take-length, take-suc}
 use Rattle.std.specs.List.{AllByRecursion as Each}

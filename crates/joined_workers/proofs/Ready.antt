@@ -26,7 +26,7 @@ use Rattle.all_workers.proofs.Sent.{every_of_each}
 use Rattle.all_workers.proofs.Numbered.{numbered}
 use Rattle.joined_workers.proofs.Arrived.{arrived_have, foreign}
 
--- lists that begin alike go on alike
+-- a common prefix can be dropped
 goes_on : (xs ys zs : List RadioCopy) → xs ++ ys ≡ xs ++ zs → ys ≡ zs
 goes_on [] ys zs e = e
 goes_on (x ∷ xs) ys zs e = goes_on xs ys zs (cc)
@@ -35,7 +35,7 @@ not_before : (from : ℕ) (first : Option ℕ) (c : RadioCopy) → NoneBefore fr
 not_before from None c w h = absurd h
 not_before from (Some m) c w h = omega arith
 
--- what a worker takes in at the start of a window is what waited in its inbox
+-- what a worker takes in at the start of a window is what was in its inbox
 module _ (n : NetTold) (of : List ℕ) (from : ℕ) (motes : Motes) (first : Option ℕ) (v : ℕ) (share : Share) (taker : TakerView) (here : IsWorkerAt n of from motes first v share taker) (first_from : NoneBefore from first)
     (endpoint : Endpoint) (starts : StartsAs taker endpoint) (between : Endpoint) (arrived : List RadioCopy) (collects : Collects endpoint between arrived) where
   gathered_same : gathered_by endpoint.taker ≡ gathered_by taker

@@ -22,7 +22,7 @@ use Rattle.joined_workers.specs.Worker.{RunsWorker}
 use Rattle.all_workers.proofs.Lookups.{read, as_long}
 use Rattle.all_workers.proofs.Step.{own_of}
 
--- a mote that is another worker's sent nothing of what went out
+-- no outgoing copy is from a mote of another worker
 none_from : (n : NetTold) (of : List ℕ) (w s : ℕ) → (slice_index of s == w) ≡ false → (outgoing : List RadioCopy) → Each (IsOutgoing n of w) outgoing → filter (is_from_sender s) outgoing ≡ []
 none_from n of w s other outgoing out = filter_none (is_from_sender s) outgoing (every_weaker (IsOutgoing n of w) (λ (c : RadioCopy). is_from_sender s c ≡ false) one outgoing out)
   where

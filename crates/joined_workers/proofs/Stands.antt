@@ -1,4 +1,4 @@
--- Until something is to come, the workers stand.
+-- The workers stand at each moment up to the first pending event.
 use Rattle.std.proofs.Common.{◌≡◌, ◌⊎◌, ℕ, ◌<◌, ◌≤◌, Bool, true, false, not, ◌&&◌, ltb, List, [], ◌∷◌, length, get_or, refl, sym, ◌∙◌, subst, inl, inr, arith, Option, Some, None}
 use Rattle.std.specs.List.{filter, slice_get, AllByRecursion as Each}
 use Rattle.std.proofs.lemmas.Bool.{cases_Bool, le-ltb}
@@ -49,7 +49,7 @@ passed P p (x ∷ xs) h = elim (cases_Bool (p x)) [
   | inr e ↦ (let g = rw e at h in (λ a. absurd (cc), passed P p xs g))
 ]
 
--- what holds by some worker, where each has one
+-- what holds of the copies of each worker holds of all, if each copy has a worker
 by_some : (workers : ℕ) (A : ℕ → RadioCopy → Type 0) (Q : RadioCopy → Type 0) (xs : List RadioCopy) → ((v : ℕ) → v < workers → Each (λ c. A v c → Q c) xs)
     → Each (λ c. (v : ℕ) × (v < workers) × A v c) xs → Each Q xs
 by_some workers A Q [] h k = tt

@@ -36,7 +36,7 @@ WindowMovesOn = (n : NetTold) → RunsForward (system_of n) → (of : List ℕ) 
     → IsAt n of from old → from < until → until ≤ from + (system_of n).lookahead
     → GroupRunsUntil n of until old new → IsAt n of until new
 
--- the next moment at which something comes isn't sooner than where the workers stand, and until then they stand
+-- the first pending event isn't before the moment at which the workers stand, and they stand at each moment up to it
 abbrev pub StandsUntilNext : Type 0
 StandsUntilNext = (n : NetTold) → RunsForward (system_of n) → (of : List ℕ) (from : ℕ) (group : Workers)
     → (next : Option ℕ) → IsAt n of from group → IsNextOfAll group.first_out group.shares.items next

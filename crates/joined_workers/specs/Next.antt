@@ -1,4 +1,4 @@
--- When something comes first.
+-- The first pending event.
 use Rattle.std.specs.Prelude.{ℕ, List, Option}
 use Rattle.std.specs.List.{AllByRecursion as Each}
 use Rattle.radio_packet.specs.declared.copy.RadioCopy.{RadioCopy}
@@ -8,14 +8,14 @@ use Rattle.worker_window.specs.Next.{TellsNext}
 use Rattle.all_workers.specs.Workers.{IsNotBefore}
 use Rattle.all_workers.specs.declared.worker.Worker.{Worker}
 
--- when the first copy arrives of all that these workers delivered, each of which tells its own first
+-- when the first of all copies that these workers delivered arrives; each worker has the moment of its own first
 pub record FirstOfAll (workers : List Worker) (first : Option ℕ) : Type 0 where
   pub none_before : Each (λ (worker : Worker). (copy : RadioCopy)
       → IsNotBefore worker.first_out copy → IsNotBefore first copy) workers
   pub greatest : (moment : ℕ) → Each (λ (worker : Worker). NoneBefore moment worker.first_out) workers
       → NoneBefore moment first
 
--- when something comes first, out of an inbox or to a share; none where nothing comes
+-- the moment of the first pending event, in an inbox or a share; none if nothing is pending
 pub record IsNextOfAll (first_out : Option ℕ) (shares : List Share) (next : Option ℕ) : Type 0 where
   pub out : (moment : ℕ) → NoneBefore moment next → NoneBefore moment first_out
   pub each : Each (λ share. (first : Option ℕ) × TellsNext share first

@@ -35,9 +35,9 @@ pub record IsFirstOf (copies : List RadioCopy) (first : Option ℕ) : Type 0 whe
   pub none_before : Each (IsNotBefore first) copies
   pub greatest : (moment : ℕ) → Each (λ (copy : RadioCopy). moment ≤ copy.at) copies → NoneBefore moment first
 
--- Wherever the share stood at or before the window's end, where the window is no longer than the lookahead and each
--- copy that arrived is expected: the new share is what the window makes of it, on all that the worker has then taken,
--- and these are the outgoing copies.
+-- At whatever moment, not after the window's end, the share was: if the window is no longer than the lookahead and
+-- each copy that arrived is expected, the new share is what the window makes of it, on all that the worker has then
+-- taken, and these are the outgoing copies.
 abbrev pub RunsItsMotes : NetTold → (of : List ℕ) → (until : ℕ) → (arrived outgoing : List RadioCopy)
     → (old new : Worker) → Type 0
 RunsItsMotes n of until arrived outgoing old new = (from : ℕ) (motes : Motes)
@@ -46,7 +46,7 @@ RunsItsMotes n of until arrived outgoing old new = (from : ℕ) (motes : Motes)
     → Each (IsExpected of old.endpoint.worker from) arrived
     → RunsWindow n of old.endpoint.worker from until motes (taken_by new.endpoint.taker) new.share outgoing
 
--- The worker took in all that it had gathered and not taken, ran its motes, and delivered the outgoing copies.
+-- The worker took in all that it had gathered and not yet taken, ran its motes, and delivered the outgoing copies.
 pub record RunsWorker (n : NetTold) (of : List ℕ) (inboxes : List InboxId) (until : ℕ) (old new : Worker) : Type 0 where
   pub arrived : List RadioCopy
   pub outgoing : List RadioCopy

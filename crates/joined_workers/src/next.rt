@@ -16,7 +16,7 @@ fn next_of(share: &Share) -> Option<u64>
     share.next()
 }
 
-/// When the first of the copies arrives that a worker delivered: a wrapper that gives the proof of the loop over all
+/// When the first of the copies that a worker delivered arrives: a wrapper that gives the proof of the loop over all
 /// workers one clause.
 fn first_out_of(worker: &Worker) -> Option<u64>
     ensures { result ≡ worker.now.first_out }
@@ -24,7 +24,7 @@ fn first_out_of(worker: &Worker) -> Option<u64>
     worker.first_out
 }
 
-/// When the first of the copies arrives that these workers delivered.
+/// When the first of the copies that these workers delivered arrives.
 pub fn first_of_all(workers: &[Worker]) -> Option<u64>
     ensures { FirstOfAll workers.now result }
 {
@@ -35,7 +35,7 @@ pub fn first_of_all(workers: &[Worker]) -> Option<u64>
     first
 }
 
-/// When something comes first to one of these shares, or out of an inbox.
+/// The moment of the first pending event, in these shares or the inboxes, if there is one.
 fn next_of_all(first_out: Option<u64>, shares: &[Share]) -> Option<u64>
     ensures { IsNextOfAll first_out shares.now result }
 {

@@ -21,7 +21,7 @@ use std::sync::Wait;
 use std::thread::Threads;
 use window_run::Gate;
 
-/// Where the next window begins: at the least moment at which something comes, or after the end, where nothing comes up
+/// Where the next window begins: at the moment of the first pending event, or after the end, if nothing is pending up
 /// to the end.
 fn window_start(group: &Workers, end: u64) -> u64
     requires { end ≤ latest_end }
@@ -35,13 +35,13 @@ fn window_start(group: &Workers, end: u64) -> u64
     }
 }
 
-/// Runs all workers window by window to the end of the net. A window begins at the least moment at which something
-/// comes and ends before the lesser of that moment plus the lookahead (or plus `longest`, where that is above 0 and
-/// less) and end + 1. `of` tells the worker of each mote. The inboxes have no marks.
+/// Runs all workers window by window to the end of the net. A window begins at the moment of the first pending event
+/// and ends before the lesser of that moment plus the lookahead (or plus `longest`, if that is above 0 and less) and
+/// end + 1. `of` is the worker of each mote. The inboxes have no marks.
 ///
 /// # Errors
-/// `Memory`, or `Thread` where a thread couldn't be started, the gate refused a start, or the executor answered an
-/// error: that of the lowest worker that has one.
+/// `Memory`, or `Thread` if a thread couldn't be started, the gate refused a start, or the executor returned an error:
+/// that of the lowest worker that has one.
 pub fn run_group<R, G>(
     rt: &R,
     alloc: Global,

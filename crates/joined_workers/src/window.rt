@@ -25,7 +25,7 @@ use std::sync::Wait;
 use std::thread::Threads;
 use window_run::Gate;
 
-/// After a window: each worker's taker, which has gathered what was delivered to it. Out of memory is the one error.
+/// After a window: each worker's taker, which has gathered what was delivered to it. The only error is out of memory.
 fn gather_endpoints<R: Wait>(
     rt: &R,
     alloc: Global,
@@ -62,7 +62,8 @@ where
     fork_join(rt, alloc, workers, &Runner { rt, gate, window })
 }
 
-/// Runs all workers through one window: senders are made, each worker runs in its thread, and the senders are gathered.
+/// Runs all workers through one window: senders are made, each worker runs in its thread, and the senders are
+/// gathered.
 fn run_threads<R, G>(
     rt: &R,
     alloc: Global,
@@ -108,12 +109,12 @@ where
     })
 }
 
-/// One window: each worker takes in what was sent to it, runs its motes up to `until`, and delivers what they sent, all
-/// in threads of their own; then all senders are gathered. It is a wrapper of `run_threads` in whose proof what the
-/// workers did becomes a step of the run, by the law of windows.
+/// One window: each worker takes in what was sent to it, runs its motes up to `until`, and delivers what they sent,
+/// all in threads of their own; then all senders are gathered. A wrapper of `run_threads`, whose proof turns what the
+/// workers did into a step of the run, by the law of windows.
 ///
 /// # Errors
-/// That of the first worker that has one; `Thread` where a thread couldn't be started, or the gate refused it; and
+/// That of the first worker that has one; `Thread` if a thread couldn't be started, or the gate refused it; and
 /// `Memory`.
 pub(crate) fn run_group_window<R, G>(
     rt: &R,

@@ -46,7 +46,7 @@ impl<R, G> Drop for Runner<'_, R, G> {
     }
 }
 
-/// The sooner of two moments, or the one that there is.
+/// The sooner of two moments, or the only one.
 pub fn sooner(one: Option<u64>, other: Option<u64>) -> Option<u64>
     ensures one { (copy : RadioCopy) → IsNotBefore one copy → IsNotBefore result copy }
     ensures other { (copy : RadioCopy) → IsNotBefore other copy → IsNotBefore result copy }
@@ -73,8 +73,8 @@ fn first_of(copies: &[RadioCopy]) -> Option<u64>
     first
 }
 
-/// Has a worker take in what other workers sent in earlier windows, while they may already send more; run its motes
-/// through the window; and deliver the outgoing copies.
+/// Runs a worker through the window: it takes in what other workers sent in earlier windows, while they may already
+/// send more; runs its motes; and delivers the outgoing copies.
 fn run_worker<R: Wait + RandomSource + AllocGlobal, G: Gate>(
     rt: &R,
     gate: &G,

@@ -1,4 +1,4 @@
--- A system process stays where it can be polled, by each small step.
+-- Each small step leaves a system process where it can be polled.
 use Rattle.std.proofs.Common.{ℕ, ◌≡◌, ◌<◌, ◌⊎◌, inl, inr, ◌==◌, Bool, true, false, not, nat_lt, List, [], ◌∷◌, length, unwrap_or, slice_get, slice_set, refl, sym, ◌∙◌, subst, arith}
 use Rattle.std.specs.List.{filter}
 use Rattle.std.proofs.lemmas.List.{length-set}
@@ -17,7 +17,7 @@ use Rattle.kernel_laws.specs.Poll.{CanBePolled}
 use Rattle.kernel_laws.proofs.Steps.{any_or, others_stay}
 use Rattle.kernel_laws.proofs.Tables.{set_same, set_other, is_entry, is_equal}
 
--- it can be polled, its tables have room for it, and it stays on the process list
+-- it can still be polled, its tables still have room for it, and it stays on the process list
 pub record Alive (p : Proc) (s t : State) : Type 0 where
   pub can : CanBePolled p s → CanBePolled p t
   pub state : has_process s p ≡ true → has_process t p ≡ true

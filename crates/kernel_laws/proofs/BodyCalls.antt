@@ -1,4 +1,4 @@
--- Each call keeps that what is told of a process are its lives, however deep calls nest.
+-- Each call keeps that the lines about a process are those of its lives, however deep calls nest.
 use Rattle.std.proofs.Common.{ℕ, zero, suc, ◌≡◌, ◌⊎◌, inl, inr, not, ◌&&◌, ◌||◌, ◌==◌, nat_lt, Bool, true, false, if◌then◌else◌, List, [], ◌∷◌, ◌++◌, Option, Some, None, slice_get, unwrap_or, refl, sym, ap, ◌∙◌, subst, append_assoc}
 use Rattle.program_tree.specs.declared.event.Proc.{Proc}
 use Rattle.program_tree.specs.declared.event.Proc.TheVariants.{Own, Etimer, Ctimer, Radio}
@@ -54,13 +54,13 @@ use Rattle.kernel_laws.proofs.Standing.{Always, always_if, halted_quiet, get_set
 use Rattle.kernel_laws.proofs.OwnSteps.{alike, state_stands, exiting_stands, leave_stands, body_stands, put_stands, enlist_stands}
 use Rattle.kernel_laws.proofs.BodyRuns.{IfGives, gives_bind, from_always, IsAway, ComesHere, HasLived, SoFar, RanFrom, BodyRuns, IsNoPrint, runs_on}
 
--- behind what was told of the process earlier
+-- after the earlier lines about the process
 module _ (program : Tree) (mote p : ℕ) (code : Code) (earlier : List Line) where
-  -- on the process list, in a life that came to here
+  -- on the process list, in a life that has come this far
   abbrev pub IsIn : Next → Standing → Remainder → List ℕ → Type 0
   IsIn next v r vars = telling.IsIn p code mote (earlier ++ v.told) next v r vars
 
-  -- The process is at rest, and what was told of it are its lives.
+  -- The process is at rest, and the lines about it are those of its lives.
   abbrev pub Stands : Standing → Type 0
   Stands v = telling.RestsAsTold program mote p code (earlier ++ v.told) v
 
@@ -79,7 +79,7 @@ module _ (program : Tree) (mote p : ℕ) (code : Code) (earlier : List Line) whe
     pub is_in : IsIn coming v still left
     pub so_far : SoFar program mote p code earlier v.told
 
-  -- a process that is away is left as it stands, and of one that is at rest lives are told
+  -- a process that is away is unchanged, and for one that is at rest the lines stay those of its lives
   pub record Keeps (s t : State) : Type 0 where
     pub away : IsAway program mote (standing_of p s) → IsQuiet p s t
     pub stands : Stands (standing_of p s) → Stands (standing_of p t)
@@ -93,7 +93,7 @@ module _ (program : Tree) (mote p : ℕ) (code : Code) (earlier : List Line) whe
     stands = λ x. i.stands (h.stands x);
   }
 
-  -- and where the mote halts, what was told are lives so far
+  -- and if the mote halts, the lines are those of lives so far
   abbrev pub Stopped : State → Type 0
   Stopped t = SoFar program mote p code earlier (standing_of p t).told
 
@@ -149,16 +149,16 @@ module _ (program : Tree) (mote p : ℕ) (code : Code) (earlier : List Line) whe
   quietly {A} s (Ends t) h = ends s t h
   quietly {A} s (Goes a t) h = goes s a t h
 
-  -- the process settles again, where the mote goes on
+  -- the process is at rest again, if the mote goes on
   abbrev pub Settles : {A : Type 0} → Outcome A → Type 0
   Settles {A} o = IfGives Stopped (λ a t. Stands (standing_of p t)) o
 
-  -- both sides of it
+  -- from the two cases: the process is away, or it is at rest
   pub lead_of : {A : Type 0} (s : State) (o : Outcome A) → (IsAway program mote (standing_of p s) → Always (λ t. IsQuiet p s t) o) → (Stands (standing_of p s) → Settles o) → Leads A s o
   lead_of {A} s (Ends t) h i = record { leads = record { away = λ a so. quiet_stopped s t (h a) so; stands = i } }
   lead_of {A} s (Goes a t) h i = record { leads = record { away = h; stands = i } }
 
-  -- where the program is known
+  -- where the program is known to be this one
   pub knowing : {A : Type 0} (s : State) (o : Outcome A) → ((standing_of p s).program ≡ program → Leads A s o) → Leads A s o
   knowing {A} s (Ends t) h = record { leads = record { away = λ x. (h x.of_program).leads.away x; stands = λ x. (h x.of_program).leads.stands x } }
   knowing {A} s (Goes a t) h = record { leads = record { away = λ x. (h x.of_program).leads.away x; stands = λ x. (h x.of_program).leads.stands x } }
@@ -173,7 +173,7 @@ module _ (program : Tree) (mote p : ℕ) (code : Code) (earlier : List Line) whe
   unfolding spend_of
   spend_quiet s = always_if (λ t. IsQuiet p s t) (s.units == 0) _ _ (halted_quiet p s) refl
 
-  -- a unit is spent by a process that stands like this
+  -- spending a unit leaves the process standing like this
   spent : (v : Standing) (s : State) → standing_of p s ≡ v → SoFar program mote p code earlier v.told → IfGives Stopped (λ a t. standing_of p t ≡ v) (spend_of s)
   spent v s e so =
       from_always (Unit {0}) Stopped (λ t. IsQuiet p s t) (λ t. standing_of p t ≡ v) (spend_of s) (spend_quiet s) (λ t same. subst (λ w. SoFar program mote p code earlier w.told) (sym (same ∙ e)) so) (λ t same. same ∙ e)
@@ -255,7 +255,7 @@ module _ (program : Tree) (mote p : ℕ) (code : Code) (earlier : List Line) whe
   radio_led s e =
       either s (is_system_event Poll e) _ _ (empty_led Keeps Stops chain (λ t packets. quiet_keeps t _ refl) (λ t target event fits. quietly t _ (post_quiet p t target event)) (λ t sender number. quiet_keeps t _ (line_quiet p t (what.Deaf sender number) refl)) s.program.receiver s.ring s) (still s tt)
 
-  -- what the calls of a process keep, and the runs of a thread: those of others, of its body, and of its blocks beside
+  -- what the calls of a process and the runs of a thread keep: threads of others, of its body, and of its other blocks
   pub record AreTold (calls : Calls) : Type 0 where
     pub call : (s : State) (q : Proc) (e : Event) → Leads (Unit {0}) s (calls.call s q e)
     pub ready : (s : State) (e : Event) → IsReady (standing_of p s) e → Settles (calls.call s (Own p) e)
@@ -263,7 +263,7 @@ module _ (program : Tree) (mote p : ℕ) (code : Code) (earlier : List Line) whe
     pub body : BodyRuns program mote p code earlier calls
     pub beside : (s : State) (r : Remainder) (e : Event) → IsQuietRest code r → Leads Answer s (calls.run s code r p e)
 
-  -- the body has run, or what runs before it alone
+  -- the body has run, or only what runs before it
   record Reacted (v : Standing) (a : PtState) (w : Standing) : Type 0 where
     left : List ℕ
     next : Remainder
@@ -300,7 +300,7 @@ module _ (program : Tree) (mote p : ℕ) (code : Code) (earlier : List Line) whe
   some_is : {X : Type 0} (x y : X) → Some x ≡ Some y → x ≡ y
   some_is x y e = ap (λ o. unwrap_or o x) e
 
-  -- the same standing, known to be so in every field
+  -- the process stands like this in this state
   abbrev At : Standing → State → Type 0
   At v t = standing_of p t ≡ v
 

@@ -1,4 +1,4 @@
--- Boots and kernel runs keep that what is told of a process are its lives, and so do the calls of a kernel.
+-- Boots and kernel runs keep that the lines about a process are those of its lives, and so do all calls of a kernel.
 use Rattle.std.proofs.Common.{ℕ, ◌≡◌, ◌+◌, Bool, true, false, nat_lt, if◌then◌else◌, List, [], ◌∷◌, ◌++◌, inl, inr, Some, length, slice_get, refl, sym, ap, ◌∙◌, subst, map, append-nil}
 use Rattle.std.specs.Prelude.{option_map}
 use Rattle.std.proofs.lemmas.List.{length-replicate}

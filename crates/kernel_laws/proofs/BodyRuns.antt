@@ -1,4 +1,4 @@
--- A run of the body of a process goes on with the run of its fresh thread, where what it calls leaves the process alone.
+-- A run of the body of a process continues the run of its fresh thread, if what it calls leaves the process alone.
 use Rattle.std.proofs.Common.{ℕ, zero, ◌≡◌, ◌<◌, ◌||◌, Bool, true, false, if◌then◌else◌, List, [], ◌∷◌, ◌++◌, Some, None, slice_get, slice_set, refl, sym, ap, ◌∙◌, subst, arith, append_assoc, append-nil}
 use Rattle.std.proofs.lemmas.Bool.Decides.{nat_tests}
 use Rattle.program_tree.specs.declared.event.Proc.TheVariants.{Own}
@@ -69,29 +69,29 @@ is_answered (AtStart m) = tt
 is_answered (InCall answer e m) = refl
 is_answered AtCall = tt
 
--- an operation but a print
+-- an operation other than a print
 abbrev pub IsNoPrint : Op → Type 0
 IsNoPrint (op.Print v) = ⊥
 IsNoPrint o = Unit {0}
 
--- behind what was told of the process earlier
+-- after the earlier lines about the process
 module _ (program : Tree) (mote p : ℕ) (code : Code) (earlier : List Line) where
-  -- In the life that its last start began it came to here.
+  -- In the life that began with its last start it has come this far.
   abbrev pub ComesHere : List Line → Next → Remainder → List ℕ → Type 0
   ComesHere told next r vars = telling.ComesHere p code mote (earlier ++ told) next r vars
 
-  -- What was told is lives up to these variables.
+  -- The lines are those of lives that end with these variables.
   abbrev pub HasLived : List Line → List ℕ → Type 0
   HasLived told vars = Lives code (Own p) mote code.starts (earlier ++ told) vars
 
-  -- What was told is lives so far.
+  -- The lines are those of lives so far.
   abbrev pub SoFar : List Line → Type 0
   SoFar told = LivesSoFar code (Own p) mote code.starts (earlier ++ told)
 
   abbrev pub Stopped : State → Type 0
   Stopped t = SoFar (standing_of p t).told
 
-  -- A run of the body has answered: of how the process stands, what was told of it and its variables alone have changed.
+  -- A run of the body has answered: of the process, only its variables and the lines about it have changed.
   pub record Ran (v : Standing) (a : PtState) (r : Remainder) (w : Standing) : Type 0 where
     pub left : List ℕ
     pub same : w ≡ record v { vars = Some left; told = w.told }
@@ -107,7 +107,7 @@ module _ (program : Tree) (mote p : ℕ) (code : Code) (earlier : List Line) whe
       (s : State) (r : Remainder) (vars : List ℕ) (e : Event) (next : Next) → IsAway program mote (standing_of p s) → (standing_of p s).vars ≡ Some vars → CanCome next e s.moment → ComesHere (standing_of p s).told next r vars → Stopped s
       → IfGives Stopped (RanFrom (standing_of p s)) (calls.run s code r p e)
 
-  -- where the process is away, what its operations start leaves it as it stands, but for a print
+  -- while the process is away, its operations other than prints leave it unchanged
   abbrev pub ActsAside : Calls → Type 0
   ActsAside calls =
       (s : State) (o : Op) → IsNoPrint o → IsAway program mote (standing_of p s) → Stopped s → IfGives Stopped (λ a t. standing_of p t ≡ standing_of p s) (act_of calls s p o)
@@ -197,14 +197,14 @@ module _ (program : Tree) (mote p : ℕ) (code : Code) (earlier : List Line) whe
           now_told : earlier ++ (standing_of p t).told ≡ here.before ++ (here.lines ++ printed (Own p) now (operates o))
           now_told = ap (λ v. earlier ++ v.told) same ∙ told_next (standing_of p s).told here.before here.lines (printed (Own p) now (operates o)) here.is_told
 
-      -- where the operation tells the thread no answer
+      -- if the thread gets no answer to the operation
       goes_untold : (o : Op) (after : Remainder) (changed : List ℕ) → Takes (step.Op o) after changed → after.mark ≡ UnderWay None
           → (t : State) → IsBehind o changed t → IfGives Stopped (RanFrom (standing_of p s)) (calls.run t code after p e)
       goes_untold o after changed takes mark t same =
           let untold = answer_untold after changed 0 mark in
           subst (λ x. IfGives Stopped (RanFrom (standing_of p s)) (calls.run t code x p e)) untold.0 (goes_on o after changed 0 (omega arith) takes t (subst (λ vs. IsBehind o vs t) (sym untold.1) same))
 
-      -- the state behind a step
+      -- the state after a step
       abbrev stepped : (changed : List ℕ) → (left : ℕ) → State
       stepped changed left = record s { variables = slice_set s.variables p changed; units = left }
 

@@ -1,4 +1,4 @@
--- What each small step is, all calls are, however deep they nest: a run of the delivery machine.
+-- Each call is a run of the delivery machine, as each small step is, however deep calls nest.
 use Rattle.std.proofs.Common.{ℕ, ◌≡◌, ◌==◌, false, List, refl}
 use Rattle.program_tree.specs.declared.event.Proc.{Proc}
 use Rattle.program_tree.specs.declared.event.Target.TheVariants.{One}

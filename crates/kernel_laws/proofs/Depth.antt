@@ -41,17 +41,17 @@ use Rattle.process_kernel.specs.Given.{begun, given, unless_halted, boot_given, 
 use Rattle.kernel_laws.specs.Depth.{CallsAreAnyDepth, ThreadsAreAnyDepth, BootsAreAnyDepth, RunsAreAnyDepth}
 use Rattle.kernel_laws.proofs.Units.{Less, Costs, writes, spends, posts, sends, polled, enlists, leaves, sets, resets, restarts, stops, answers, etimer_costs, radio_costs, step_pays}
 
--- it ends, or goes on with at most so many units
+-- it ends, or goes on with at most this many units
 abbrev Leaves : {A : Type 0} → ℕ → Outcome A → Type 0
 Leaves n (Ends t) = Unit {0}
 Leaves n (Goes a t) = t.units ≤ n
 
--- the same outcome, with at most so many units
+-- the same outcome, with at most this many units
 record Same (A : Type 0) (n : ℕ) (o q : Outcome A) : Type 0 where
   same : o ≡ q
   left : Leaves n o
 
--- Calls from states with at most so many units are the same, and gain none.
+-- Calls from states with at most this many units are the same, and gain none.
 record Agree (n : ℕ) (a b : Calls) : Type 0 where
   call : (s : State) (p : Proc) (e : Event) → s.units ≤ n → Same (Unit {0}) n (a.call s p e) (b.call s p e)
   run : (s : State) (code : Code) (r : Remainder) (p : ℕ) (e : Event) → s.units ≤ n → Same Answer n (a.run s code r p e) (b.run s code r p e)
@@ -229,7 +229,7 @@ module _ (n : ℕ) (a b : Calls) (agree : Agree n a b) where
   unfolding boot_of
   same_boot s l = same_bind _ _ n _ _ _ _ (same_starts (Etimer ∷ Ctimer ∷ Radio ∷ map Own s.program.autostart) s l) (λ u t k. still _ n _ t k)
 
--- What comes behind a unit of work has fewer units.
+-- After spending a unit of work there are fewer units.
 
 one_fewer : (u n : ℕ) → (u == 0) ≡ false → u ≤ n → u - 1 < n
 one_fewer zero n e l = absurd (cc)

@@ -1,4 +1,4 @@
--- A kernel run in which a poll of etimer waits polls it, and each timer that is due then is told of.
+-- A kernel run in which a poll of etimer waits polls it, and writes a line for each timer that is due then.
 use Rattle.std.proofs.Common.{ℕ, ◌<◌, suc, ◌≡◌, ◌+◌, inl, inr, nat_lt, Bool, true, false, if◌then◌else◌, List, [], ◌∷◌, ◌++◌, length, refl, sym, ap, ◌∙◌, subst, append_assoc, arith}
 use Rattle.std.proofs.Math.ListN.{replicate}
 use Rattle.std.proofs.lemmas.List.{append_cancel_left, length-replicate}

@@ -54,11 +54,11 @@ use Rattle.kernel_laws.specs.Own.{IsOwn, FitsTarget}
 use Rattle.kernel_laws.proofs.Packets.{IfGoes}
 use Rattle.kernel_laws.proofs.Fits.{FitsOp, FitsStep, fits_advanced}
 
--- where any process may be exited
+-- any process may be exited
 abbrev pub Whoever : Proc → Type 0
 Whoever p = Unit {0}
 
--- Two relations from a state to a later one: to one from which the kernel goes on, and to one in which the mote has halted.
+-- Two relations from a state to a later one: one from which the kernel goes on, and one in which the mote has halted.
 module _ (Keeps Stops : State → State → Type 0) where
   abbrev pub Leads : {A : Type 0} → State → Outcome A → Type 0
   Leads s (Ends t) = Stops s t
@@ -164,7 +164,7 @@ module _ (Keeps Stops : State → State → Type 0) where
         pub leaves : (s : State) (p : Proc) → Leaves p → Lead (Unit {0}) s (leave_of s p)
         pub empties : (s : State) → Lead (Unit {0}) s (empty_ring s.program.receiver s.ring s)
 
-      -- an event that may come to this process: an exit, only where the process may leave
+      -- an event that may come to this process: an exit, only if the process may leave
       abbrev pub Fits : Proc → (number : ℕ) → Type 0
       Fits p number = number ≡ system_number Exit → Leaves p
 
@@ -387,7 +387,7 @@ module _ (Keeps Stops : State → State → Type 0) where
               Lead (Unit {0}) s ((o >>= λ _ s1. Goes Yielded s1) >>= λ answer s2. answered calls s2 p (has_ended answer || is_system_event Exit e))
           system_led s p e f o h = bind_twice _ _ _ s o _ _ (lead_bind _ _ s o _ h (λ a t. answered_led t p (is_system_event Exit e) (λ q. f (grind (arith, nat_tests)))))
 
-          -- a process that is called reacts and is judged by its answer
+          -- a process that is called reacts, and its answer decides what follows
           reacted_led : (s : State) (p : Proc) (e : Event) → Fits p e.number → Lead (Unit {0}) s (react_of calls s p e >>= λ answer s2. answered calls s2 p (has_ended answer || is_system_event Exit e))
           unfolding react_of
           reacted_led s (Own p) e f = lead_bind _ _ s _ _ (own_led s p e) (λ b t. answered_led t (Own p) _ (λ q. steps.own (Own p) tt))

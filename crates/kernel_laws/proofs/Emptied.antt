@@ -37,7 +37,7 @@ use Rattle.kernel_laws.proofs.Passes.{spent}
 use Rattle.kernel_laws.proofs.WatchedRuns.{Stands, unflagged, runs_now}
 use Rattle.kernel_laws.proofs.Due.{through, begun_stands}
 
--- where no packet arrives, an empty ring stays empty
+-- if no packet arrives, an empty ring stays empty
 
 pub empty_stays : (receiver : Option ℕ) (packets left : List Arrival) (lines : List Line) → packets ≡ [] → RingRuns receiver packets lines left → HearsNone lines → left ≡ []
 empty_stays receiver packets left lines e NoneMore h = e

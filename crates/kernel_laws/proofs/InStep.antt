@@ -56,7 +56,7 @@ abbrev Out : {A : Type 0} → (State → Type 0) → Outcome A → Type 0
 Out P (Ends t) = Unit {0}
 Out P (Goes a t) = P t
 
--- an outcome that goes on leaves such a state
+-- an outcome that goes on leaves a state of which this holds
 pub record Leaves (A : Type 0) (P : State → Type 0) (o : Outcome A) : Type 0 where
   pub out : Out P o
 
@@ -243,7 +243,7 @@ exiting_is Off e l h q = (refl, sym h ∙ q)
 exiting_is Running e l h q = absurd (let f : true ≡ false = sym q ∙ h.0 in cc)
 exiting_is Called e l h q = absurd (let f : true ≡ false = sym q ∙ h.0 in cc)
 
--- a process that is listed and is not being exited has a state
+-- a process that is listed and is not being exited is not off
 listed_is : (x : ProcessState) (e l : Bool) → AreInStep x e l → e ≡ false → l ≡ true → x ≡ Off → ⊥
 listed_is Off e l h q r z = let f : false ≡ true = sym q ∙ h ∙ r in cc
 listed_is Running e l h q r z = cc
@@ -391,7 +391,7 @@ enlist_kept s p h n e i =
 
 -- a call
 
--- a process that was running has settled again, and the others are as busy as they were
+-- a process that was running is neither called nor being exited now, and the others are as busy as they were
 settles : (k : ℕ) (s t : State) → IsInStep s → is_running_state (state_at_place s k) ≡ true → IsInStep t → is_called_state (state_at_place t k) ≡ false → exiting_at t k ≡ false →
     ((j : ℕ) → (j ≡ k → ⊥) → is_called_state (state_at_place t j) ≡ is_called_state (state_at_place s j)) → ((j : ℕ) → (j ≡ k → ⊥) → exiting_at t j ≡ exiting_at s j) → Keeps s t
 settles k s t i r step c e f g =
@@ -503,7 +503,7 @@ module _ (calls : Calls) (are : AreKept calls) where
   unfolding last_run_of
   last_run_kept s p = kept_bind s _ _ (spend_kept s) (λ u t. kept_bind t _ _ (react_kept t p _) (λ a v. kept_goes v tt v (still v)))
 
-  -- a process that isn't being exited is exited
+  -- the exit of a process that isn't being exited yet
   exits : (s : State) (p f : Proc) → IsInStep s → exiting_at s (place_of p) ≡ false → Leaves (Unit {0}) (ExitsTo (place_of p) s) (exit_of calls s p f)
   unfolding exit_of
   exits s p f i e =
@@ -522,7 +522,7 @@ module _ (calls : Calls) (are : AreKept calls) where
         };
       })
 
-  -- where it wasn't busy before, nothing is busier than it was
+  -- if the process wasn't busy before, no process is busier than it was
   exit_kept : (s : State) (p f : Proc) → is_called_state (state_at_place s (place_of p)) ≡ false → exiting_at s (place_of p) ≡ false → Kept s (exit_of calls s p f)
   exit_kept s p f c e i = leaves_weaker (ExitsTo (place_of p) s) (Keeps s) _ (exits s p f i e) (λ t x. record {
     step = x.step;

@@ -40,7 +40,7 @@ module _ (p : ℕ) (code : Code) (mote : ℕ) (start : List ℕ) where
 
   -- in a sight that can come
   module _ (lines : List Line) (next : Next) (r after : Remainder) (vars changed : List ℕ) (now : Sight) (can : CanCome next now.event now.looks.moment) (answered : IsAnswered next now.answer) (of_mote : now.looks.mote ≡ mote) (c : ComesTo lines next r vars) where
-    -- an operation, whose answer it is told next
+    -- an operation, whose answer the process gets next
     pub operates_on : (told : ℕ) (o : Op) → told < 2 → Steps code now r vars (step.Op o) after changed
         → ComesTo (lines ++ printed (Own p) now (operates o)) (InCall told now.event now.looks.moment) (answered_of after changed told).remainder (answered_of after changed told).variables
     operates_on told o small steps = record {
@@ -55,7 +55,7 @@ module _ (p : ℕ) (code : Code) (mote : ℕ) (start : List ℕ) where
     performs_there o steps =
         subst (λ l. HasLife (lines ++ l) (stands changed)) (append-nil (printed (Own p) now (operates o))) (c.on now [] (operates o ∷ []) (stands changed) can answered of_mote (operated_last r after vars changed now o steps))
 
-    -- an answer 0 or 1
+    -- the thread waits or yields: the answer is 0 or 1
     pub gives_up_on : (a : PtState) → Steps code now r vars (step.Done a) after changed → state_number a < 2 → ComesTo lines AtCall after changed
     gives_up_on a steps small = record {
       on = λ resumed later more out coming answer shown runs.
@@ -66,7 +66,7 @@ module _ (p : ℕ) (code : Code) (mote : ℕ) (start : List ℕ) where
     stands_there a steps small =
         subst (λ l. HasLife l (stands changed)) (append-nil lines) (c.on now [] (gives_up a ∷ []) (stands changed) can answered of_mote (gave_up_last r after vars changed now a steps small))
 
-    -- an answer 2 or 3
+    -- the thread exits or ends: the answer is 2 or 3
     pub exits_there : Steps code now r vars (step.Done Exited) after changed → HasLife lines (exits now [] changed)
     exits_there steps =
         subst (λ l. HasLife l (exits now [] changed)) (append-nil lines) (c.on now [] [] (exits now [] changed) can answered of_mote (has_exited r after vars changed now [] steps))

@@ -25,7 +25,7 @@ use Rattle.kernel_laws.proofs.Steps.{IsQuiet, quiet, view_quiet, poll_quiet}
 use Rattle.kernel_laws.proofs.CallSteps.{calls_run}
 use Rattle.kernel_laws.proofs.Delivers.{machine_of, RestsAt, rests_behind, begun_run, begun_lines, begun_sound, boot_run, kernel_run}
 
--- more lines of a mote that stands
+-- more lines of a mote that goes with its lines so far
 told_more : (lines : List Line) (s : State) (before : List Line) (sends : List Sent) (g : view.GoesWithView (seen_lines lines) (view_of s)) (o : Outcome ℕ) →
     RestsAt (machine_of s g.walked []) (record s { lines = before; sends = sends }) o → Adds lines before (given o)
 told_more lines s before sends g (Ends t) r = record {

@@ -1,4 +1,4 @@
--- The radio's poll: each packet of the ring is told of, in order.
+-- The radio's poll: each packet of the ring gets its line, in order.
 use Rattle.std.proofs.Common.{ℕ, ◌≡◌, ◌^◌, nat_le, length, Bool, true, false, if◌then◌else◌, List, [], ◌∷◌, ◌++◌, Option, Some, None, refl, sym, subst, ◌∙◌, append_assoc, append-nil}
 use Rattle.program_tree.specs.declared.event.Proc.TheVariants.{Own}
 use Rattle.program_tree.specs.declared.event.Target.{Target}

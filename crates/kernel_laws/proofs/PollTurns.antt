@@ -51,13 +51,13 @@ walk_joined calls (x ∷ xs) ys s = by (poll_turn_of calls s x) (λ t. walk_join
     by (Ends t) later = refl
     by (Goes a t) later = later t
 
--- the polls, where the flag is set
+-- the polls, if the flag is set
 pub polls_are : (calls : Calls) (s : State) → s.flag ≡ true → polls_due_of calls s ≡ walk_polls calls s.members (record s { flag = false })
 unfolding polls_due_of polls_of
 polls_are calls s e = rw e refl
 
 module _ (p : Proc) where
-  -- the first member of this process on the list, and those behind it
+  -- the first member of this process on the list, and those after it
   pub record Splits (ms : List Member) : Type 0 where
     pub member : Member
     pub after : List Member
@@ -76,12 +76,12 @@ module _ (p : Proc) where
           let k = later (subst (λ b. (b || stands_in ms p) ≡ true) back h) in
           record { member = k.member; after = k.after; split = rw e (ap (λ l. m ∷ l) k.split); is_it = k.is_it; holds = or_true _ (holds_member ms k.member) k.holds }
 
-  -- the polls: those before it, its own, and those behind it
+  -- the polls: those before it, its own, and those after it
   pub walk_splits : (calls : Calls) (ms : List Member) (x : Member) (after : List Member) (s : State) → ms ≡ members_before p ms ++ x ∷ after
       → walk_polls calls ms s ≡ (walk_polls calls (members_before p ms) s >>= λ _ t. (poll_turn_of calls t x >>= λ _ u. walk_polls calls after u))
   walk_splits calls ms x after s e = subst (λ l. walk_polls calls l s ≡ (walk_polls calls (members_before p ms) s >>= λ _ t. walk_polls calls (x ∷ after) t)) (sym e) (walk_joined calls (members_before p ms) (x ∷ after) s)
 
-  -- where its turn comes, it is called, if it is there and marked
+  -- at its turn it is called, if it is on the list and marked
   pub turn_calls : (calls : Calls) (u : State) (x : Member) → x.process ≡ p → is_on_list u x ≡ true → is_marked u p ≡ true → poll_turn_of calls u x ≡ calls.call (with_mark u p false) p (told Poll 0)
   unfolding poll_turn_of
   turn_calls calls u x e there marked = rw (there, e, marked) refl

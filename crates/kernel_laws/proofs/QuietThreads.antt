@@ -77,7 +77,7 @@ before_quiet : (y : Bool) (ss : List (Statement ℕ)) → all_quiet ss ≡ true 
 before_quiet y [] h = tt
 before_quiet y (s ∷ ss) h = both (is_quiet_statement s) (all_quiet ss) h
 
--- what is left of it
+-- what a quiet thread has still to do
 pub record IsQuietRest (code : Code) (r : Remainder) : Type 0 where
   pub whole : all_quiet (whole_of code r.part) ≡ true
   pub mark : IsQuietMark r.mark
@@ -197,7 +197,7 @@ advances_from RunAway code event looks r vars units all m p = record { step = tt
 pub advances_quietly : (code : Code) (event : Event) (looks : Looks) (r : Remainder) (vars : List ℕ) (units : ℕ) → IsQuietRest code r → AdvancesQuietly code vars (advanced_of code event looks r vars units)
 advances_quietly code event looks r vars units h = advances_from r.mark code event looks r vars units h.whole h.mark h.place
 
--- an answer, which no variable is told
+-- an answer that no variable gets
 abbrev AnsweredQuietly : Code → (vars : List ℕ) → (answer : ℕ) → Remainder → Type 0
 AnsweredQuietly code vars answer r = IsQuietRest code (answered_of r vars answer).remainder × ((answered_of r vars answer).variables ≡ vars)
 

@@ -134,7 +134,7 @@ calls_rest : (cs : List KernelCall) (t : Traced) → MoteRests t.mote → MoteRe
 calls_rest [] t r = r
 calls_rest (c ∷ cs) t r = calls_rest cs (after_call t c) (call_rests t c r)
 
--- an entry of a table with one value all over
+-- an entry of a table whose values are all the same
 all_alike : {X : Type 0} (n k : ℕ) (x : X) → unwrap_or (slice_get (replicate n x) k) x ≡ x
 all_alike n k x = elim (dichotomy k n) [ inl l ↦ unwrap_or-slice_get (replicate n x) k x ∙ get_or-replicate n k x x l | inr g ↦ (let e = slice_get_past (replicate n x) k (past g) in rw e refl) ]
   where

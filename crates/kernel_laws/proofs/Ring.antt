@@ -1,4 +1,5 @@
--- Each small step of the kernel leaves the ring as it is, but the radio's poll, which tells of each packet.
+-- Each small step of the kernel leaves the ring unchanged, except for the radio's poll, which writes a line for each
+-- packet.
 use Rattle.std.proofs.Common.{ℕ, ◌≡◌, ◌+◌, ◌^◌, Bool, true, false, nat_le, if◌then◌else◌, List, [], ◌∷◌, ◌++◌, Option, Some, None, length, refl, sym, ap, ◌∙◌, subst, append-nil}
 use Rattle.program_tree.specs.declared.event.Proc.{Proc}
 use Rattle.program_tree.specs.declared.event.Proc.TheVariants.{Own, Etimer, Ctimer, Radio}
@@ -105,7 +106,7 @@ goes_apart s u w q apart n = record {
 line_apart : (s : State) (w : What) → IsApart w → (IsNote w → ⊥) → RingGoes s (with_line s w)
 line_apart s w apart n = goes_apart s s w (record { lines = refl; ring = refl; program = refl }) apart n
 
--- from where packets wait, and nothing is told of them
+-- a halt leaves the waiting packets without a line
 halts_from : (s u : State) → u.lines ≡ s.lines → u.program ≡ s.program → RingHalts s (halted_of u)
 unfolding halted_of
 halts_from s u lines program = record {

@@ -1,4 +1,4 @@
--- What calls, boots and kernel runs write bears the moment.
+-- What calls, boots and kernel runs write is stamped with the moment.
 use Rattle.std.proofs.Common.{ℕ, ◌+◌, Bool, true, false, if◌then◌else◌, List, refl}
 use Rattle.process_kernel.specs.State.{State, Outcome, Ends, Goes}
 use Rattle.process_kernel.specs.Calls.{Calls}

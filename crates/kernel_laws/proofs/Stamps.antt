@@ -1,4 +1,4 @@
--- Each small step of the kernel writes lines and packets that bear its moment.
+-- Each small step of the kernel writes lines and packets that are stamped with its moment.
 use Rattle.std.proofs.Common.{ℕ, zero, suc, ◌≡◌, ◌+◌, ◌^◌, Bool, true, false, nat_le, if◌then◌else◌, List, [], ◌∷◌, length, refl, sym, ap, ◌∙◌, subst, arith, ◌++◌, append_assoc, append-nil}
 use Rattle.std.proofs.lemmas.List.{map-append, length-append}
 use Rattle.program_tree.specs.declared.event.Proc.{Proc}
@@ -24,7 +24,7 @@ use Rattle.kernel_laws.specs.Stamps.{PacketsBear, AreNumberedFrom, Stamped}
 use Rattle.kernel_laws.proofs.Steps.{lines_joined}
 use Rattle.kernel_laws.proofs.EachStep.{Whoever, Lead, AreJoined, AreSteps, AreRunSteps, lead_goes, lead_bind, lead_from, lead_if, empty_led}
 
--- Nothing that is written goes astray, and the moment stays.
+-- All that is written is stamped with the moment, and the moment stays.
 pub record Keeps (s t : State) : Type 0 where
   pub stamped : Stamped s.moment s t
   pub moment : t.moment ≡ s.moment
@@ -99,7 +99,7 @@ still_if : (s : State) (b : Bool) (t u : State) → IsStill s t → IsStill s u 
 still_if s true t u h i = h
 still_if s false t u h i = i
 
--- what is of the same lines, packets, count, mote and program
+-- a state with the same lines, packets, count, mote and program
 pub stamped_still : (moment : ℕ) (s t : State) → t.lines ≡ s.lines → t.sends ≡ s.sends → t.sent ≡ s.sent → t.mote ≡ s.mote → t.program ≡ s.program → Stamped moment s t
 stamped_still moment s t lines sends sent mote program = record {
   lines = [];

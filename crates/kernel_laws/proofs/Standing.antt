@@ -1,4 +1,4 @@
--- How a process of the program stands, and the small steps that leave it so: all those of others.
+-- How a process of the program stands, and the small steps that don't change this: all those of others.
 use Rattle.std.proofs.Common.{ℕ, zero, suc, ◌≡◌, ◌+◌, ◌^◌, ◌⊎◌, inl, inr, ◌==◌, Bool, true, false, not, nat_lt, nat_le, if◌then◌else◌, List, [], ◌∷◌, ◌++◌, Some, None, length, slice_get, slice_set, refl, sym, ap, ◌∙◌, arith, append-nil}
 use Rattle.std.specs.List.{filter}
 use Rattle.std.proofs.lemmas.List.{length-set}
@@ -60,7 +60,7 @@ fresh_there (d ∷ cs) (x ∷ rs) (suc p) c r e f = fresh_there cs rs p c r e f
 pub others_filtered : (ms : List Member) (q p : Proc) → (place_of p == place_of q) ≡ false → stands_in (filter (λ m. not (is_same m.process q)) ms) p ≡ stands_in ms p
 others_filtered ms q p e = others_stay ms q p e
 
--- what is told more
+-- lines that are added
 
 pub told_more : (p : Proc) (lines : List Line) (l : Line) → starts_and_prints p (lines ++ l ∷ []) ≡ starts_and_prints p lines ++ (if is_told_of p l.what then l ∷ [] else [])
 told_more p lines l = filter-append (λ k. is_told_of p k.what) lines (l ∷ [])
@@ -68,7 +68,7 @@ told_more p lines l = filter-append (λ k. is_told_of p k.what) lines (l ∷ [])
 told_nothing : (p : Proc) (l : Line) → is_told_of p l.what ≡ false → (if is_told_of p l.what then l ∷ [] else []) ≡ []
 told_nothing p l e = rw e refl
 
--- the processes but that of this number
+-- all processes other than the program's of this number
 abbrev pub IsOther : ℕ → Proc → Type 0
 IsOther p q = place_of (Own p) ≡ place_of q → ⊥
 
@@ -106,7 +106,7 @@ always_if {A} P true o q h i = h
 always_if {A} P false o q h i = i
 
 module _ (p : ℕ) where
-  -- to this process the later state is the same
+  -- the process stands the same in both states
   abbrev pub IsQuiet : State → State → Type 0
   IsQuiet s t = standing_of p t ≡ standing_of p s
 

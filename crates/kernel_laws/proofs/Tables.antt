@@ -22,7 +22,7 @@ set_other xs i j v d h = unwrap_or-slice_get (slice_set xs i v) j d ∙ get_or-s
 dichotomy : (k n : ℕ) → (k < n) ⊎ (n ≤ k)
 dichotomy k n = grind arith
 
--- what isn't the value that stands for a missing entry, is an entry
+-- a value other than the default is an entry of the table
 pub is_entry : {X : Type 0} (xs : List X) (k : ℕ) (d : X) → (unwrap_or (slice_get xs k) d ≡ d → ⊥) → k < length xs
 is_entry xs k d h = elim (dichotomy k (length xs)) [ inl l ↦ l | inr g ↦ (let e = slice_get_past xs k g in absurd (h (rw e refl))) ]
 

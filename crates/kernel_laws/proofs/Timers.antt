@@ -1,4 +1,4 @@
--- Etimer's poll: each timer that is due is told of.
+-- Etimer's poll: each timer that is due gets its line.
 use Rattle.std.proofs.Common.{ℕ, zero, suc, ◌≡◌, ◌<◌, ◌≤◌, ◌==◌, not, length, Bool, true, false, if◌then◌else◌, List, [], ◌∷◌, ◌++◌, Option, Some, None, refl, sym, ap, subst, ◌∙◌, append_assoc, arith}
 use Rattle.std.proofs.lemmas.Bool.{eqb-true, eqb-false, cond_both}
 use Rattle.std.proofs.lemmas.Bool.Decides.{nat_tests}
@@ -84,7 +84,7 @@ goes_cases P true o p h i = h refl
 goes_cases P false o p h i = i refl
 
 module _ (id : ℕ) (owner : Proc) where
-  -- the timer is on a list of at most so many, is due, and has this owner
+  -- the timer is on a list of at most this many, is due, and has this owner
   record Waits (few : ℕ) (s : State) : Type 0 where
     pub listed : is_member id s.timers.listed ≡ true
     pub due : is_due s.moment (timer_at s.timers.timers id) ≡ true
@@ -94,7 +94,7 @@ module _ (id : ℕ) (owner : Proc) where
   abbrev Tells : State → State → Type 0
   Tells s t = TellsOfPost s t (One owner) (system_number Timer) id
 
-  -- what is told behind some lines is told
+  -- a line that is written after some others is among all of them
   tells_behind : (s u t : State) (added : List Line) → u.lines ≡ s.lines ++ added → u.moment ≡ s.moment → Tells u t → Tells s t
   tells_behind s u t added e m h = record {
     telling = h.telling;
@@ -108,7 +108,7 @@ module _ (id : ℕ) (owner : Proc) where
   goes_behind s u added (Ends t) e m h = tt
   goes_behind s u added (Goes a t) e m h = tells_behind s u t added e m h
 
-  -- it was told, and then lines came behind
+  -- its line was written, and then others after it
   told_first : (s v u : State) (o : Went) → (w : WritesOne s v) → TellsPost (One owner) (system_number Timer) id w.telling → u.lines ≡ v.lines → Reaches u o → IfGoes (Tells s) o
   told_first s v u (Ends t) w h e r = tt
   told_first s v u (Goes a t) w h e r = record {

@@ -1,4 +1,4 @@
--- A thread that is told no answer: what its last operation answered changes it only behind a post.
+-- A thread that gets no answer: what its last operation answered changes it only after a post.
 use Rattle.std.proofs.Common.{ℕ, zero, suc, ◌≡◌, ◌-◌, Bool, true, false, ◌&&◌, if◌then◌else◌, List, None, refl, sym, subst}
 use Rattle.std.specs.Prelude.{nat_lt, not, slice_index, ◌==◌}
 use Rattle.program_tree.specs.declared.event.Event.{Event}
@@ -18,7 +18,7 @@ use Rattle.protothread.specs.Remainder.{Place, ended, at, within, settled, Remai
 use Rattle.protothread.specs.Step.{Reached, goes_on, operates, answers, deed_of, performed, spawner_reached, reached, Advanced, continued, passed, advanced_of, answered_of}
 use Rattle.protothread.proofs.Units.{called, follows, stepped}
 
--- a thread that is marked so behind this operation
+-- how a thread is marked after this operation: unless it is a post, no answer is expected
 abbrev pub IsUntold : Op → Mark → Type 0
 IsUntold (Post t e w) m = Unit {0}
 IsUntold o m = m ≡ UnderWay None
@@ -115,7 +115,7 @@ untold_from (UnderWay into) code event looks r vars units = untold_step code r.p
 untold_from Pausing code event looks r vars units = tt
 untold_from RunAway code event looks r vars units = tt
 
--- an operation but a post tells the thread nothing
+-- an operation other than a post gives the thread no answer
 pub step_untold : (code : Code) (event : Event) (looks : Looks) (r : Remainder) (vars : List ℕ) (units : ℕ)
     → AdvancedUntold (advanced_of code event looks r vars units)
 step_untold code event looks r vars units = untold_from r.mark code event looks r vars units
@@ -123,7 +123,7 @@ step_untold code event looks r vars units = untold_from r.mark code event looks 
 abbrev IsSame : (answer : ℕ) → Remainder → List ℕ → Type 0
 IsSame answer r vars = ((answered_of r vars answer).remainder ≡ r) × ((answered_of r vars answer).variables ≡ vars)
 
--- an answer that nobody hears
+-- an answer that isn't expected changes nothing
 pub answer_untold : (r : Remainder) (vars : List ℕ) (answer : ℕ) → r.mark ≡ UnderWay None → IsSame answer r vars
 answer_untold r vars answer e = by r.mark e
   where

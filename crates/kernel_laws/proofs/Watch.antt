@@ -1,5 +1,5 @@
--- What each small step keeps: etimer and the radio process can be polled, a poll that was asked for stays so, and a timer that is set asks for
--- one.
+-- What each small step keeps: etimer and the radio process can be polled, a poll that was asked for still waits, and a
+-- timer that is set asks for one.
 use Rattle.std.proofs.Common.{ℕ, ◌≡◌, ◌+◌, ◌^◌, ◌<◌, inl, inr, ◌==◌, Bool, true, false, not, nat_lt, nat_le, if◌then◌else◌, List, [], ◌∷◌, length, Some, refl, sym, ◌∙◌, subst, arith}
 use Rattle.std.specs.List.{filter}
 use Rattle.std.proofs.lemmas.Bool.Decides.{nat_tests}
@@ -31,7 +31,7 @@ use Rattle.kernel_laws.proofs.Tables.{set_same, set_other}
 use Rattle.kernel_laws.proofs.Timers.{other_timer}
 use Rattle.kernel_laws.proofs.EachStep.{Lead, AreJoined, AreSteps, lead_if, empty_led}
 
--- the marks of one process are looked at
+-- what a step keeps, with a look at the mark of one process
 pub record Watches (p : Proc) (s t : State) : Type 0 where
   pub moment : t.moment ≡ s.moment
   pub etimer : Alive Etimer s t
@@ -40,7 +40,7 @@ pub record Watches (p : Proc) (s t : State) : Type 0 where
   pub flag : s.flag ≡ true → t.flag ≡ true
   pub due : p ≡ Etimer → CanBePolled Etimer s → NoneIsDue s.moment s.timers → ForgetsNone t.moment t
 
--- of a mote that has halted nothing is said
+-- no claim is made about halted motes
 abbrev pub Whatever : State → State → Type 0
 Whatever s t = Unit {0}
 

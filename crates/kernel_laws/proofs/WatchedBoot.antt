@@ -30,7 +30,7 @@ use Rattle.kernel_laws.proofs.WatchedRuns.{Good, good_leads, AreWatched}
 below : (k n : ℕ) → nat_lt k n ≡ true → k < n
 below k n h = grind (arith, nat_tests)
 
--- the process has gone on the list
+-- the process was put on the list
 enlisted : State → Proc → State
 enlisted s p = with_line (with_fresh_process (with_state (record s { members = record { process = p; incarnation = s.started } ∷ s.members; started = s.started + 1 }) p Running) p) (what.Start p)
 

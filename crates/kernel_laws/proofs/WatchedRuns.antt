@@ -45,7 +45,7 @@ pub record RadioStands (s : State) : Type 0 where
   pub can : CanBePolled Radio s
   pub listed : is_listed s Radio ≡ true
 
--- Etimer can be polled, as no process is in a call; and so can the radio process, where it has started.
+-- Etimer can be polled, as no process is in a call; and so can the radio process, if it has started.
 pub record Stands (started : Bool) (s : State) : Type 0 where
   pub can : CanBePolled Etimer s
   pub step : IsInStep s
@@ -120,7 +120,7 @@ unflagged r s h = record {
   radio = λ e. let q = h.radio e in record { can = record { alive = q.can.alive; has_mark = q.can.has_mark }; listed = q.listed };
 }
 
--- where the turn of etimer comes: it is there, and no timer is due, or it is marked
+-- at etimer's turn: it is on the list, and either no timer is due or it is marked
 pub record Comes (r : Bool) (moment : ℕ) (x : Member) (t : State) : Type 0 where
   pub now_is : t.moment ≡ moment
   pub stands : Stands r t

@@ -61,7 +61,7 @@ pub record HasTelling (moment : ℕ) (lines : List Line) (target : Target) (numb
   pub after : List Line
   pub split : lines ≡ before ++ record { at = moment; what = telling } ∷ after
 
--- Whatever a call does in its turn: where no timer was forgotten before, none is forgotten after it.
+-- Whatever a call does in its turn: if no timer was forgotten before, none is forgotten after it.
 abbrev pub CallsForgetNone : Type 0
 CallsForgetNone =
     (depth : ℕ) (s t : State) (p : Proc) (e : Event) → FitsTarget (One p) e.number → CanBePolled Etimer s
@@ -75,14 +75,14 @@ BootForgetsNone =
     → let m = (boot_given moment (unbooted program mote queue) lines sends).mote in
     m.halted ≡ false → IsAtRest m.state × ForgetsNone moment m.state
 
--- and so is one after a kernel run, where it was before
+-- and so is one after a kernel run, if it was before
 abbrev pub RunForgetsNone : Type 0
 RunForgetsNone =
     (moment : ℕ) (m : Mote) (lines : List Line) (sends : List Sent) → IsAtRest m.state → ForgetsNone moment m.state
     → let after = (run_given moment m lines sends).mote in
     after.halted ≡ false → IsAtRest after.state × ForgetsNone moment after.state
 
--- boots and kernel runs keep that each timer on the list has an owner, also where the mote halts
+-- boots and kernel runs keep that each timer on the list has an owner, even if the mote halts
 abbrev pub BootKeepsOwners : Type 0
 BootKeepsOwners = (moment : ℕ) (m : Mote) (lines : List Line) (sends : List Sent) → HaveOwners m.state.timers
     → HaveOwners (boot_given moment m lines sends).mote.state.timers
@@ -105,7 +105,7 @@ pub record PollsEtimer (moment : ℕ) (s : State) (lines after : List Line) : Ty
   pub comes : polls_before Etimer (calls_of (most_units + 1)) s ≡ Goes tt at_turn
   pub tells : TellsDue moment at_turn lines after
 
--- a kernel run in which a poll of etimer waits polls it, and each timer that is due then is told of
+-- a kernel run in which a poll of etimer waits polls it, and each timer that is due then gets its line
 abbrev pub RunTellsDue : Type 0
 RunTellsDue =
     (moment : ℕ) (m : Mote) (lines : List Line) (sends : List Sent) → m.halted ≡ false → IsAtRest m.state

@@ -49,7 +49,7 @@ GoesWithAs true true lines s = HasHalted (seen_lines lines)
 abbrev pub GoesWith : List Line → Mote → Type 0
 GoesWith lines m = GoesWithAs m.booted m.halted lines m.state
 
--- A boot or a run that had so many lines before it adds some, and with these the mote's lines go with it.
+-- A boot or a run appends some lines, and with these the mote's lines go with it.
 pub record Adds (lines before : List Line) (g : Given) : Type 0 where
   pub added : List Line
   pub wrote : g.lines ≡ before ++ added
@@ -62,7 +62,8 @@ IsNote (what.Lost f n) = Unit {0}
 IsNote (what.Collide f n) = Unit {0}
 IsNote w = ⊥
 
--- the lines hand the events on, nothing follows a halt, and only a process that is not listed starts
+-- events are delivered in the order in which they were accepted, nothing follows a halt, and only an unlisted process
+-- starts
 pub record IsInOrder (lines : List Line) : Type 0 where
   pub handed_on : HandedOn (seen_lines lines)
   pub halt_is_last : HaltIsLast (seen_lines lines)

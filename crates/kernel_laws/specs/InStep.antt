@@ -29,7 +29,7 @@ pub record IsInStep (s : State) : Type 0 where
   pub tables : length s.exiting ≡ length s.states
   pub each : (k : ℕ) → AreInStep (state_at_place s k) (exiting_at s k) (listed_in s.members k)
 
--- a process is called, or being exited, exactly where it was
+-- a process is called, or being exited, exactly if it was
 pub record IsAsBusy (s t : State) : Type 0 where
   pub called : (k : ℕ) → is_called_state (state_at_place t k) ≡ is_called_state (state_at_place s k)
   pub exiting : (k : ℕ) → exiting_at t k ≡ exiting_at s k

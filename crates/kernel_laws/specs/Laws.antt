@@ -68,7 +68,7 @@ ListedAreRunning =
     → let m = (after_calls (booted_at program mote queue moment) calls).mote in
     m.halted ≡ false → (p : Proc) → is_running m.state p ≡ is_listed m.state p
 
--- Whatever is written is stamped with the moment of the boot or the run, also where the mote halts.
+-- Whatever is written is stamped with the moment of the boot or the run, even if the mote halts.
 
 -- whatever a call does in its turn, the moment stays, and each line and packet is stamped with it
 abbrev pub CallsStamp : Type 0

@@ -51,13 +51,13 @@ is_quiet_block None = true
 is_quiet_block (Some b) = is_quiet b
 
 -- Apart from its body a process is quiet, in the blocks that are run at POLL and at EXIT, and in those of its callback
--- timers. Else these would print in its name too, and change its variables between the calls of its body.
+-- timers. Otherwise these would print in its name, too, and change its variables between the calls of its body.
 pub record IsQuietApart (code : Code) : Type 0 where
   pub at_poll : is_quiet_block code.on_poll ≡ true
   pub at_exit : is_quiet_block code.on_exit ≡ true
   pub in_callbacks : are_quiet code.callbacks ≡ true
 
--- it tells that this process starts, or what it prints
+-- it says that this process starts, or what it prints
 abbrev pub is_told_of : Proc → What → Bool
 is_told_of p (what.Start q) = is_same q p
 is_told_of p (what.Print q v) = is_same q p
@@ -67,8 +67,7 @@ is_told_of p w = false
 abbrev pub starts_and_prints : Proc → List Line → List Line
 starts_and_prints p lines = filter (λ l. is_told_of p l.what) lines
 
--- what a process prints where it is shown these sights, and does this: a line for each print, at the moment at which
--- it is seen
+-- what a process prints when it is shown these sights and does this: a line for each print, at the moment of its sight
 abbrev pub printed : Proc → Sight → Happening → List Line
 printed p now (operates (op.Print v)) = record { at = now.looks.moment; what = what.Print p v } ∷ []
 printed p now h = []
@@ -78,8 +77,8 @@ prints p [] did = []
 prints p (now ∷ later) [] = []
 prints p (now ∷ later) (h ∷ did) = printed p now h ++ prints p later did
 
--- Behind an operation a process is shown the same event at the same moment, since it is still in the same call, and it
--- is told 0, or 1 for a full queue.
+-- After an operation a process is shown the same event at the same moment, since it is still in the same call, and its
+-- answer is 0, or 1 for a full queue.
 pub record IsSameCall (now then : Sight) : Type 0 where
   pub event : then.event ≡ now.event
   pub moment : then.looks.moment ≡ now.looks.moment
@@ -89,7 +88,7 @@ abbrev pub IsShownThen : Happening → Sight → Sight → Type 0
 IsShownThen (operates o) now then = IsSameCall now then
 IsShownThen (gives_up a) now then = Unit {0}
 
--- such sights, one after another, of this mote
+-- sights of this mote that follow one another like this
 abbrev pub AreShown : (mote : ℕ) → List Sight → List Happening → Type 0
 AreShown mote [] did = Unit {0}
 AreShown mote (now ∷ []) did = now.looks.mote ≡ mote
@@ -126,8 +125,8 @@ pub data Lives (code : Code) (p : Proc) (mote : ℕ) (variables : List ℕ) : Li
       → Lives code p mote variables lines left → (life : Life code mote left)
       → Lives code p mote variables (lines ++ lines_of p life) (left_by life.became)
 
--- What is told of a process at any time: its lives, of which the last may not be over; or these and one more start,
--- after which it has not done anything yet.
+-- The lines about a process at any time: those of its lives, of which the last may not be over; or these and one more
+-- start, after which it has not done anything yet.
 pub data LivesSoFar (code : Code) (p : Proc) (mote : ℕ) (variables : List ℕ) : List Line → Type 0 where
   Told : {lines : List Line} {left : List ℕ} → Lives code p mote variables lines left
       → LivesSoFar code p mote variables lines
@@ -148,8 +147,8 @@ PrintsAreTheReading =
     let t = after_calls (booted_at program mote queue moment) calls in
     t.mote.halted ≡ false → TellsLives code p mote t.lines (slice_get t.mote.state.variables p)
 
--- and up to the line with which it halts, where it does: what it printed by then in its last life is what a reading
--- does by then
+-- and if the mote halts, up to the line that says so: what the process printed by then in its last life is what a
+-- reading does by then
 abbrev pub PrintsSoFarAreTheReading : Type 0
 PrintsSoFarAreTheReading =
     (program : Tree) (p : ℕ) (code : Code) (mote queue moment : ℕ) (calls : List KernelCall)

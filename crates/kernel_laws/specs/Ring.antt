@@ -25,10 +25,10 @@ IsApart (what.Lost f n) = ⊥
 IsApart (what.Deaf f n) = ⊥
 IsApart w = Unit {0}
 
--- Lines in their order, beside a ring that first holds these packets, the oldest in front, and at last those that are
--- left. A packet that is received goes to the back, where the ring of 8 has room; one is lost only where it has none.
--- A packet leaves from the front, and its line is there: it was posted to the receiver, the receiver's queue was full,
--- or nobody hears it. Each line that tells of a received, a lost or an unheard packet is one of these.
+-- Lines in order, and a ring that first holds these packets, the oldest in front, and at last those that are left. A
+-- packet that is received goes to the back, if the ring of 8 has room; one is lost only if it has none. A packet
+-- leaves from the front with its line: it was posted to the receiver, the receiver's queue was full, or nobody hears
+-- it. Each line that tells of a received, a lost or an unheard packet is one of these.
 pub data RingRuns (receiver : Option ℕ) : List Arrival → List Line → List Arrival → Type 0 where
   NoneMore : {ring : List Arrival} → RingRuns receiver ring [] ring
   Receives : {ring left : List Arrival} {lines : List Line} {moment : ℕ} (a : Arrival)
@@ -44,8 +44,8 @@ pub data RingRuns (receiver : Option ℕ) : List Arrival → List Line → List 
       → IsApart w → RingRuns receiver ring lines left
       → RingRuns receiver ring (record { at = moment; what = w } ∷ lines) left
 
--- from one state to a later one lines were added, beside which the ring goes from what it held to what it holds; none
--- is of a packet that arrives
+-- lines were added from one state to a later one; along these the ring goes from what it held to what it holds, and
+-- none is of a packet that arrives
 pub record RingGoes (s t : State) : Type 0 where
   pub added : List Line
   pub wrote : t.lines ≡ s.lines ++ added
@@ -53,7 +53,7 @@ pub record RingGoes (s t : State) : Type 0 where
   pub hears_none : All (λ l. IsNote l.what → ⊥) added
   pub program : t.program ≡ s.program
 
--- where the mote halts, some packets may be left that no line tells of
+-- if the mote halts, some packets may be left that have no line
 pub record RingHalts (s t : State) : Type 0 where
   pub added : List Line
   pub wrote : t.lines ≡ s.lines ++ added
@@ -70,7 +70,7 @@ RingLeads s (Goes a t) = RingGoes s t
 abbrev pub CallsTellPackets : Type 0
 CallsTellPackets = (depth : ℕ) (s : State) (p : Proc) (e : Event) → RingLeads s ((calls_of depth).call s p e)
 
--- beside the lines that a boot or a run adds, the ring goes from what it held to what it holds, unless the mote has
+-- along the lines that a boot or a run adds, the ring goes from what it held to what it holds, unless the mote has
 -- halted; none is of a packet that arrives
 pub record GivesPackets (m : Mote) (lines : List Line) (g : Given) : Type 0 where
   pub added : List Line
@@ -89,7 +89,7 @@ abbrev pub RunTellsPackets : Type 0
 RunTellsPackets = (moment : ℕ) (m : Mote) (lines : List Line) (sends : List Sent)
     → GivesPackets m lines (run_given moment m lines sends)
 
--- A kernel run leaves no packet in the ring, where none was there before, or a poll of the radio process waited.
+-- A kernel run leaves no packet in the ring, if none was there before or a poll of the radio process waited.
 abbrev pub RunEmptiesRing : Type 0
 RunEmptiesRing =
     (moment : ℕ) (m : Mote) (lines : List Line) (sends : List Sent) → IsAtRest m.state → (m.state.ring ≡ [])

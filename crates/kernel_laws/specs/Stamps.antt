@@ -39,10 +39,10 @@ abbrev pub state_after : {A : Type 0} → Outcome A → State
 state_after (Ends t) = t
 state_after (Goes a t) = t
 
--- a mote with so many lines and packets written
+-- the state of a mote with these lines and packets written
 abbrev pub with_output : Mote → List Line → List Sent → State
 with_output m lines sends = record m.state { lines = lines; sends = sends }
 
--- what a boot or a run at this moment gives, where so much was written before
+-- what a boot or a run at this moment gives, after these lines and packets were written
 abbrev pub GivesStamped : (moment : ℕ) → Mote → List Line → List Sent → Given → Type 0
 GivesStamped moment m lines sends g = Stamped moment (with_output m lines sends) (with_output g.mote g.lines g.sends)

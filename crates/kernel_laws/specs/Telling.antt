@@ -24,7 +24,7 @@ use Rattle.kernel_laws.specs.Going.{IsNote}
 use Rattle.kernel_laws.specs.Printed.{IsQuietApart, starts_and_prints, prints, AreShown, Life, lines_of, Lives}
 use Rattle.kernel_laws.specs.Printed.{LivesSoFar, TellsLives}
 
--- what the process is shown next: INIT at its start, at this moment; the same event at the same moment, told this
+-- what the process is shown next: INIT at its start, at this moment; the same event at the same moment, with this
 -- answer; or anything
 pub data Next : Type 0 where
   AtStart : (moment : ℕ) → Next
@@ -54,7 +54,7 @@ pub record ComesTo (p : ℕ) (code : Code) (mote : ℕ) (start : List ℕ) (line
       → CanCome next now.event now.looks.moment → IsAnswered next now.answer → AreShown mote (now ∷ later) more
       → Runs code r vars now later more out → HasLife p code mote start (lines ++ prints (Own p) (now ∷ later) more) out
 
--- In the life that its last start began the process came to here.
+-- In the life that began with its last start the process has come this far.
 pub record ComesHere (p : ℕ) (code : Code) (mote : ℕ) (told : List Line) (next : Next) (r : Remainder)
     (vars : List ℕ) : Type 0 where
   pub before : List Line
@@ -95,7 +95,7 @@ standing_of p s = record {
   told = starts_and_prints (Own p) s.lines;
 }
 
--- off the process list; or on it, in a life that came to here
+-- off the process list; or on it, in a life that has come this far
 pub record IsOut (v : Standing) : Type 0 where
   pub state : v.state ≡ Off
   pub listed : v.listed ≡ false
@@ -107,7 +107,7 @@ pub record IsIn (p : ℕ) (code : Code) (mote : ℕ) (told : List Line) (next : 
   pub listed : v.listed ≡ true
   pub comes : ComesHere p code mote told next r vars
 
--- The process is at rest, and what was told of it are its lives, up to the variables that it has.
+-- The process is at rest, and the lines about it are those of its lives, up to the variables that it has.
 pub record RestsAsTold (program : Tree) (mote p : ℕ) (code : Code) (told : List Line) (v : Standing) : Type 0 where
   pub of_program : v.program ≡ program
   pub of_mote : v.mote ≡ mote
@@ -132,7 +132,7 @@ pub record IsProcess (program : Tree) (p : ℕ) (code : Code) : Type 0 where
   pub is_code : slice_get program.codes p ≡ Some code
   pub quiet : IsQuietApart code
 
--- lines that tell so far tell of lives
+-- from `TellsSoFar`: the lines are those of lives of the process
 
 abbrev pub TellingIsOfLives : Type 0
 TellingIsOfLives =
@@ -144,8 +144,8 @@ TellingIsOfLivesSoFar =
     (program : Tree) (mote p : ℕ) (code : Code) (lines : List Line) (m : Mote) → TellsSoFar program mote p code lines m
     → LivesSoFar code (Own p) mote code.starts (starts_and_prints (Own p) lines)
 
--- A mote that was not booted has no lines, and each call of its kernel keeps that the lines so far tell, whatever was
--- written before.
+-- A mote that was not booted has no lines, and each call of its kernel keeps `TellsSoFar`, whatever was written
+-- before.
 
 abbrev pub NoLinesTellFirst : Type 0
 NoLinesTellFirst = (program : Tree) (mote p : ℕ) (code : Code) (queue : ℕ) → IsProcess program p code

@@ -38,15 +38,15 @@ pub fn the_listed_are_running()
     ensures between { ListedAreRunning }
 {}
 
-/// What becomes of what waits, when the system processes are polled: each packet that was accepted into the receive
-/// ring is posted to the receiver once, in order, or nobody hears it; and a timer that is due by now gives its owner
-/// TIMER. Where the queue was full, a line says so.
+/// What becomes of packets and timers that wait when the system processes are polled: each packet that was accepted
+/// into the receive ring is posted to the receiver once, in order, or nobody hears it; and a timer that is due by now
+/// gives its owner TIMER. If the queue was full, a line says so.
 pub fn what_waits_is_told()
     ensures packets { PacketsAreHanded }
     ensures timers { TimersAreTold }
 {}
 
-/// Each line that is written in a boot or a kernel run is stamped with its moment, whatever calls nest, and also where
+/// Each line that is written in a boot or a kernel run is stamped with its moment, whatever calls nest, and even if
 /// the mote halts; each packet that is sent is stamped with the moment and the mote, and packets are numbered on from
 /// how many were sent before.
 pub fn what_is_written_bears_its_moment()
@@ -57,7 +57,7 @@ pub fn what_is_written_bears_its_moment()
 
 /// No packet leaves the receive ring without its line, and packets leave in the order in which they came: within
 /// calls, however they nest, and over boots and kernel runs, none of which writes a line of a packet that arrives. A
-/// kernel run in which a poll of the radio process waits leaves the ring empty. Where the mote halts, the packets that
+/// kernel run in which a poll of the radio process waits leaves the ring empty. If the mote halts, the packets that
 /// are left have no line.
 pub fn the_ring_is_told_of()
     ensures within { CallsTellPackets }
@@ -68,7 +68,7 @@ pub fn the_ring_is_told_of()
 
 /// No timer is forgotten: whatever calls a boot or a kernel run makes, in the end no timer is due, or a poll of etimer
 /// waits, as before. And a kernel run in which one waits polls etimer, after the processes before it on the process
-/// list: of each timer that is due then a line tells that TIMER was posted to its owner, or that the queue was full,
+/// list: for each timer that is due then, a line says that TIMER was posted to its owner, or that the queue was full,
 /// unless the mote halts.
 pub fn no_timer_is_forgotten()
     ensures within { CallsForgetNone }
@@ -83,8 +83,8 @@ pub fn no_timer_is_forgotten()
 /// nothing, set no variable and spawn no thread) prints, from each of its starts on, what a reading of its body does:
 /// of its block, read by its structure, over sights of its mote, whatever the others do in between, and whatever calls
 /// of the kernel follow the boot. INIT comes first, each call has one event and one moment, and each line is at the
-/// moment of its sight; what else is seen there (later events, timers, processes, semaphores) isn't told by the lines.
-/// A next life begins with the variables that the one before left. Where the mote halts, the last life is told up to
+/// moment of its sight; what else is seen there (later events, timers, processes, semaphores) isn't in the lines. The
+/// next life begins with the variables that the one before left. If the mote halts, the lines have the last life up to
 /// there.
 pub fn prints_are_the_reading()
     ensures whole { PrintsAreTheReading }

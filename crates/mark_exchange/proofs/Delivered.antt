@@ -21,7 +21,7 @@ pushes_window of workers window a b c copies out marks = record {
       ∙ (ap (λ l. l ++ Mark window ∷ []) (out.pushes v other) ∙ append_assoc (pushed_to a v) (map Packet (filter (is_to of v) copies)) (Mark window ∷ []));
 }
 
--- what it takes changes the identity of no sender
+-- taking items changes the identity of no sender
 pub takes_stays : (of : List ℕ) (from : ℕ) (old new : Endpoint) (copies : List RadioCopy) → TakesExpected (position of old.worker from) old.taker new.taker copies → new.worker ≡ old.worker → new.senders ≡ old.senders → Stays old new
 takes_stays of from old new copies took worker senders = record {
   worker = worker;

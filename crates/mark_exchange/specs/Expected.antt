@@ -11,7 +11,7 @@ use Rattle.mark_exchange.specs.declared.take.MarkError.{MarkError}
 use Rattle.mark_exchange.specs.declared.take.Standing.{Standing}
 use Rattle.mark_exchange.specs.declared.take.MarkError.TheVariants.{Memory, Stopped, Unexpected}
 
--- where a worker stands between two windows: the worker of each mote, its own number, and when its next window begins
+-- a worker's position between two windows: the worker of each mote, its own number, and when its next window begins
 pub record Position : Type 0 where
   pub of : List ℕ
   pub worker : ℕ
@@ -30,19 +30,19 @@ IsExpectedAt p copy = IsExpected p.of p.worker p.from copy
 abbrev pub IsUnexpected : Position → Item → Type 0
 IsUnexpected p x = (copy : RadioCopy) × (x.what ≡ Packet copy) × (IsExpectedAt p copy → ⊥)
 
--- why a worker went no further at an item that it took: an allocation failed for a copy that is expected, or the copy
--- isn't expected
+-- why a worker stopped at an item that it took: an allocation failed for a copy that is expected, or the copy isn't
+-- expected
 abbrev pub Refuses : Position → Item → MarkError → Type 0
 Refuses p x Memory = (copy : RadioCopy) × (x.what ≡ Packet copy) × IsExpectedAt p copy
 Refuses p x Stopped = ⊥
 Refuses p x Unexpected = IsUnexpected p x
 
--- the copy of the item, if there is one, was appended to the others, and is expected
+-- the copy of the item, if it has one, is expected, and was appended to the others
 pub record AddsCopy (p : Position) (x : Item) (old new : List RadioCopy) : Type 0 where
   pub adds : new ≡ old ++ copies_of (x ∷ [])
   pub expected : Each (IsExpectedAt p) (copies_of (x ∷ []))
 
--- items of senders that the taker made were taken, these are their copies, in order, and each copy is expected
+-- items of senders that the taker made were taken; these are their copies, in order, and each copy is expected
 pub record TakesExpected (p : Position) (old new : TakerView) (copies : List RadioCopy) : Type 0 where
   pub items : List Item
   pub made : Each (λ (x : Item). x.sender < old.state.made) items

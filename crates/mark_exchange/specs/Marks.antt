@@ -18,6 +18,6 @@ pub record Counts (marks : List ℕ) (d : TakerState) : Type 0 where
 abbrev pub AreNone : List ℕ → Type 0
 AreNone marks = (s none : ℕ) → s < length marks → slice_index_or marks s none ≡ 0
 
--- each count is past the number of a window
+-- each count is greater than the number of a window
 abbrev pub AllPast : (window : ℕ) → List ℕ → Type 0
 AllPast window marks = (s none : ℕ) → s < length marks → window < slice_index_or marks s none

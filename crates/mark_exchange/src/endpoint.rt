@@ -18,18 +18,18 @@ use std::alloc::Global;
 use std::sync::Wait;
 use std::sync::atomic::AtomicBool;
 
-/// The endpoint of a worker that lives for the whole run, and how many marks it took of each sender on its inbox.
+/// The endpoint of a worker for the whole run, and how many marks it took of each sender on its inbox.
 #[derive(Drop)]
 pub struct MarkEndpoint {
     pub base: Endpoint,
     /// By the senders' numbers.
     pub marks: Vec<u64>,
-    /// How it waits for them.
+    /// How it waits for marks.
     pub waiting: Waiting,
 }
 
 impl MarkEndpoint {
-    /// The endpoint of a worker that has taken nothing yet. So many senders were made on its inbox.
+    /// The endpoint of a worker that has taken nothing yet, and on whose inbox this many senders were made.
     pub fn new(alloc: Global, base: Endpoint, senders: usize) -> Result<MarkEndpoint, InboxError>
         requires made { base.taker.state.made ≡ senders }
         requires taken { base.taker.state.taken ≡ [] }
@@ -45,8 +45,8 @@ impl MarkEndpoint {
     }
 
     /// Pushes the copies of a window, each to the worker of its receiver, and then the window's mark to each other
-    /// worker; `of` is the worker of each mote. What comes back is [`InboxError::Memory`]; what was pushed before it
-    /// stays.
+    /// worker; `of` is the worker of each mote. If a push fails, the error is [`InboxError::Memory`]; what was pushed
+    /// before it stays.
     pub fn deliver_window<R: Wait>(
         &mut self,
         rt: &R,
@@ -67,12 +67,12 @@ impl MarkEndpoint {
         self.base.push_marks(rt, inboxes, window)
     }
 
-    /// Takes items until of each sender the mark of the window has come, those of later windows too where they come
-    /// before, and gives the copies. `stop` is the flag that a worker sets which fails.
+    /// Takes items until the mark of the window has come from each sender, and returns their copies; items of a later
+    /// window that come sooner are taken too. `stop` is the flag that a failing worker sets.
     ///
     /// # Errors
-    /// `Memory`; `Stopped` where the flag was seen set while a mark was missing; `Unexpected` where a copy came that
-    /// isn't for a mote of this worker from a mote of another, or that arrives before this worker's next window.
+    /// `Memory`; `Stopped` if the flag was seen set while a mark was missing; `Unexpected` if a copy came that isn't
+    /// for a mote of this worker from a mote of another, or that arrives before this worker's next window.
     pub fn take_window<R: Wait>(
         &mut self,
         rt: &R,

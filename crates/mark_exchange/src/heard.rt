@@ -1,11 +1,11 @@
-//! How many marks came of each sender.
+//! How many marks have come from each sender.
 
 ghost use Rattle.std.specs.Prelude.{◌≡◌, ℕ, ◌+◌, ◌<◌, ◌≤◌, ◌^◌, ◌↔◌, length, slice_index_or, slice_set, IfOk, IsTrue};
 ghost use Rattle.mark_exchange.specs.Marks.{AllPast, AreNone};
 
 use std::alloc::{AllocError, Global};
 
-/// A count of 0 for each of so many senders.
+/// A count of 0 for each of the senders.
 pub fn no_marks(alloc: Global, senders: usize) -> Result<Vec<u64>, AllocError>
     ensures count { IfOk result (λ marks. length marks.items ≡ senders) }
     ensures none { IfOk result (λ marks. AreNone marks.items) }
@@ -17,7 +17,7 @@ pub fn no_marks(alloc: Global, senders: usize) -> Result<Vec<u64>, AllocError>
     Ok(marks)
 }
 
-/// Whether of each sender more marks came than this.
+/// Whether more marks than `window` have come from each sender: the marks of the windows up to this one.
 pub fn all_past(marks: &[u64], window: u64) -> bool
     ensures { IsTrue result ↔ AllPast window marks.now }
 {

@@ -1,6 +1,6 @@
-//! What workers that live for a whole run exchange: the copies of each window, and after them a mark. No copy is lost,
-//! doubled or made up, and a worker takes until the marks of a window have come. That it begins no window before those
-//! of the one before it have come is decided in `marked_workers`.
+//! What workers exchange in a run with marks: the copies of each window, and after them a mark. No copy is lost,
+//! doubled or made up, and a worker takes items until the marks of a window have come. That it begins no window before
+//! the marks of the previous one have come is up to `marked_workers`.
 #![tactic(auto)]
 
 mod endpoint;

@@ -17,14 +17,14 @@ use std::sync::Wait;
 use std::sync::atomic::AtomicBool;
 use worker_cut::is_own;
 
-/// Why a worker took no further.
+/// Why a worker stopped taking items.
 #[derive(Clone, Copy, Debug, PartialEq, Eq)]
 pub enum MarkError {
     /// Out of memory: an allocation failed.
     Memory = 1,
     /// The flag was set: another worker failed, or wasn't started.
     Stopped = 2,
-    /// A copy came that isn't expected. In a run in which all workers keep to the protocol none comes.
+    /// A copy came that isn't expected. None comes in a run in which all workers keep to the protocol.
     Unexpected = 3,
 }
 
@@ -48,7 +48,7 @@ impl<T: Drop> From<AllocFailed<T>> for MarkError {
     }
 }
 
-/// Where a worker stands between two windows.
+/// The position of a worker between two windows.
 #[derive(Clone, Copy)]
 pub struct Standing<'a> {
     pub worker: u16,
@@ -58,8 +58,8 @@ pub struct Standing<'a> {
     pub from: u64,
 }
 
-/// Whether the copy is for a mote of the worker, isn't from one of them, and comes no sooner than the worker's next
-/// window begins.
+/// Whether the copy is for a mote of the worker, isn't from one of its motes, and arrives no sooner than the worker's
+/// next window begins.
 fn is_expected(standing: &Standing<'_>, copy: RadioCopy) -> bool
     ensures { IsTrue result ↔ IsExpectedAt (position_of standing.now) copy }
 {
@@ -72,7 +72,7 @@ fn is_expected(standing: &Standing<'_>, copy: RadioCopy) -> bool
     standing.from <= copy.at
 }
 
-/// Counts an item that was taken, where it is a mark; adds its copy to those that arrived, where that is expected.
+/// Counts a mark that was taken; appends a copy that was taken to those that arrived, if it is expected.
 fn hear(
     standing: &Standing<'_>,
     marks: &mut Vec<u64>,
@@ -99,7 +99,7 @@ fn hear(
     Ok(())
 }
 
-/// As [`take_marks`]; it notes whether it saw the flag set.
+/// As [`take_marks`]; `waiting` records whether the flag was seen set.
 fn take_waiting<R: Wait>(
     rt: &R,
     alloc: Global,
@@ -134,11 +134,11 @@ fn take_waiting<R: Wait>(
     unreachable!()
 }
 
-/// Takes items until of each sender more marks have come than `window`, and gives their copies.
+/// Takes items until more marks than `window` have come from each sender, and returns their copies.
 ///
 /// # Errors
-/// `Memory`; `Stopped` where the flag was seen set while a mark was missing; `Unexpected` where a copy came that
-/// isn't expected.
+/// `Memory`; `Stopped` if the flag was seen set while a mark was missing; `Unexpected` if a copy came that isn't
+/// expected.
 pub fn take_marks<R: Wait>(
     rt: &R,
     alloc: Global,

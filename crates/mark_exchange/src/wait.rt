@@ -10,12 +10,12 @@ use std::sync::Wait;
 use std::sync::atomic::{AtomicBool, Ordering};
 use std::time::Duration;
 
-// How often a worker looks for an item in one window, before it sleeps: at least, and at most.
+// How often a worker may find no item in one window before it sleeps: at least, and at most.
 const LEAST_LOOKS: u32 = 32;
 
 const MOST_LOOKS: u32 = 1024;
 
-// How long it sleeps at most before it looks at the flag again.
+// The longest that it sleeps before it reads the flag again.
 const NAP_MILLIS: u64 = 10;
 
 /// How a worker waits for its next item.
@@ -23,7 +23,7 @@ const NAP_MILLIS: u64 = 10;
 pub struct Waiting {
     /// Whether it saw the flag set.
     pub stopped: bool,
-    /// How often it looks in this window before it sleeps.
+    /// How often it may look in vain in this window before it sleeps.
     looks: u32,
     /// How many of these looks are left.
     left: u32,
@@ -38,8 +38,8 @@ impl Waiting {
         }
     }
 
-    /// Begins the wait of a window. The worker looks twice as often as in the window before, if it didn't have to sleep
-    /// in that one, and else half as often.
+    /// Begins the wait of a window. The worker may look twice as often as in the previous window if some looks were
+    /// left there, and else half as often.
     pub fn begin(&mut self) {
         self.stopped = false;
         self.looks = if self.left > 0 {
@@ -51,7 +51,7 @@ impl Waiting {
     }
 }
 
-/// After a look that found nothing: gives up where the flag is set, and else lets some time pass.
+/// After a look that found nothing: gives up if the flag is set, and else lets some time pass.
 pub fn wait<R: Wait>(
     rt: &R,
     inbox: &Inbox,

@@ -17,7 +17,7 @@ use Rattle.mark_laws.proofs.Goes.{end_if_stuck, end_or_goes_on}
 abbrev pub lengths : (ℕ → ℕ → List Carried) → ℕ → ℕ → ℕ
 lengths f v u = length (f v u)
 
--- an item at the end of one list
+-- one more item at the end of one list
 longer : (n : ℕ) (f : ℕ → ℕ → List Carried) (v u : ℕ) (x : Carried) → v < n → u < n → sum_pairs n (lengths (set_pair f v u (f v u ++ x ∷ []))) ≡ suc (sum_pairs n (lengths f))
 longer n f v u x lv lu =
     let y : List Carried = f v u ++ x ∷ [] in
@@ -29,7 +29,7 @@ longer n f v u x lv lu =
     (λ a b ne. ap (λ r. length (r b)) (set_other f v row a ne))
 
 module _ (p : Plan) where
-  -- the steps that were made so far: each window that lies behind a worker, each item pushed, and each taken
+  -- the steps that were made so far: one for each window that a worker has finished, each item pushed, and each taken
   abbrev pub made : State → ℕ
   made w = sum_below p.workers w.finished + (sum_pairs p.workers (lengths w.pushed) + sum_pairs p.workers (lengths w.taken))
 
@@ -111,7 +111,7 @@ module _ (p : Plan) where
         let c = pairs_same p.workers (items_for p) (lengths w.taken) (just w.taken (λ v. (s.own v).1) end.taken) in
         omega arith
 
-  -- with so many steps left
+  -- with at most this many steps left
   can_end : (left : ℕ) (w : State) → Stand p w → steps_of p ≤ made w + left → (more : List Event) × (end : State) × Run p w more end × IsAtEnd p end
   can_end zero w s le = elim (end_or_goes_on p w s) [
     | inl end ↦ ([], w, refl, end)

@@ -1,4 +1,4 @@
--- Of which window an item is that may be taken.
+-- Which window an item is of that may be taken.
 use Rattle.std.proofs.Common.{◌≡◌, ℕ, zero, suc, ◌+◌, ◌<◌, ◌≤◌, min, List, [], ◌∷◌, ◌++◌, map, get_or, Contains, refl, ap, ◌∙◌, subst, inl, inr, arith, append_assoc, Bool, true}
 use Rattle.std.specs.List.{AllByRecursion as Each}
 use Rattle.std.proofs.lemmas.Bool.{cases_eq}
@@ -12,7 +12,7 @@ use Rattle.mark_laws.specs.Laws.{EachTakenPasses, IsOfWindow, TakenIsOfWindow, N
 use Rattle.mark_laws.proofs.Begins.{begins_trans}
 use Rattle.mark_laws.proofs.Stands.{all_stand, one_window_ahead}
 
--- with so many marks before it, each item is as it is to be behind so many marks
+-- each item meets `D` of the number of marks before it; `marks` come before the list
 module _ (D : ℕ → Carried → Type 0) where
   abbrev IsPlaced : (marks : ℕ) → List Carried → Type 0
   IsPlaced k [] = Unit {0}

@@ -28,7 +28,8 @@ module _ (p : Plan) (senders : Senders p) where
     pub pair : IsPair p from u
     pub at : x.sender ≡ senders.number from u
 
-  -- behind what was taken of each other lies, in order, the rest of what it pushed, and there is nothing else
+  -- what was taken of each other worker, with its items in the queue after that, is what it pushed, in order; and the
+  -- queue holds nothing else
   pub record InOrder (q : Queued) : Type 0 where
     pub stand : Stand p q.state
     pub parts : (v u : ℕ) → IsPair p v u → q.state.pushed v u ≡ q.state.taken v u ++ part (senders.number v u) (q.queue u)
@@ -129,14 +130,14 @@ module _ (p : Plan) (senders : Senders p) where
     order_step (Take v u x) may = order_take v u x may
     order_step (GoOn v) may = record { stand = stand_step p q.state (GoOn v) h.stand may; parts = h.parts; others = h.others }
 
-    -- a worker that waits takes the oldest, where there is one
+    -- a worker that waits takes the oldest item, if there is one
     pub takes_first : (v : ℕ) (y : Item) (ys : List Item) → Waits p q.state v → q.queue v ≡ y ∷ ys → (u : ℕ) × MayTakeFirst p senders q v u y.what
     takes_first v y ys waits is =
         let other : IsOfOther v y = (subst (Each (IsOfOther v)) is (h.others v)).0 in
         let same : y ≡ item_of senders other.from v y.what = ap (λ n. record { sender = n; what = y.what }) other.at in
         (other.from, record { pair = other.pair; waits = waits; first = (ys, is ∙ ap (λ i. i ∷ ys) same) })
 
-    -- where something of one other may be taken, the oldest of the queue may
+    -- if something of one other may be taken, the oldest item of the queue may be taken
     oldest : (v u : ℕ) (x : Carried) → MayTake p q.state v u x → (l : List Item) → q.queue v ≡ l → (e : Event) × MayHappenQueued p senders q e
     oldest v u x may [] is = absurd (
         let e : q.state.pushed u v ≡ q.state.taken u v ++ [] = h.parts u v may.pair ∙ ap (λ l. q.state.taken u v ++ part (senders.number u v) l) is in

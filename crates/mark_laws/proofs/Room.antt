@@ -1,4 +1,4 @@
--- How much lies between two workers.
+-- How much one worker has pushed that another hasn't taken.
 use Rattle.std.proofs.Common.{◌≡◌, ℕ, suc, ◌+◌, ◌≤◌, min, List, [], ◌∷◌, ◌++◌, length, map, refl, sym, ap, ◌∙◌, inl, inr, arith, length-append}
 use Rattle.std.proofs.lemmas.Bool.{cases_lt}
 use Rattle.radio_packet.specs.declared.copy.RadioCopy.{RadioCopy}
@@ -19,7 +19,7 @@ abbrev tail_of : List Carried → List Carried
 tail_of [] = []
 tail_of (y ∷ ys) = ys
 
--- of two beginnings of one list the longer begins with the other
+-- of two prefixes of one list, the longer begins with the other
 shorter_in : (a b r s : List Carried) → a ++ r ≡ b ++ s → length a ≤ length b → BeginsWith b a
 shorter_in [] b r s e le = (b, refl)
 shorter_in (x ∷ a) [] r s e le = absurd (omega arith)
@@ -31,7 +31,7 @@ shorter_in (x ∷ a) (y ∷ b) r s e le =
 shorter : (xs a b : List Carried) → BeginsWith xs a → BeginsWith xs b → length a ≤ length b → BeginsWith b a
 shorter xs a b h g le = shorter_in a b h.0 g.0 (sym h.1 ∙ g.1) le
 
--- what has so many marks is as long as so many windows
+-- a prefix with k marks is at least as long as what k windows push
 long_by_marks : (m k : ℕ) (sent : ℕ → List RadioCopy) (taken : List Carried) → BeginsWith (pushes m sent) taken → k ≤ m → k ≤ marks_in taken → length (pushes k sent) ≤ length taken
 long_by_marks m k sent taken h le marks = elim (cases_lt (length taken) (length (pushes k sent))) [
   | inl lt ↦ (

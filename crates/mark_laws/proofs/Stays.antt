@@ -1,4 +1,4 @@
--- A step of one worker takes no step from another.
+-- A step of one worker takes no step away from another.
 use Rattle.std.proofs.Common.{◌≡◌, ◌≢◌, ℕ, suc, ◌<◌, ◌≤◌, List, [], ◌∷◌, ◌++◌, refl, sym, ap, ◌∙◌, subst, subst₂}
 use Rattle.copy_inbox.specs.declared.items.Carried.{Carried}
 use Rattle.copy_inbox.specs.declared.items.Item.{Item}
@@ -12,7 +12,7 @@ use Rattle.mark_laws.specs.Laws.{NobodyIsHeldUp, NobodyQueuedIsHeldUp}
 use Rattle.mark_laws.proofs.Begins.{begins_same, begins_trans}
 use Rattle.mark_laws.proofs.Changes.{set_other, pair_apart, pair_beside, at_one, at_pair}
 
--- for one worker the states are the same, and to it more may have been pushed
+-- for one worker the states are the same, except that more may have been pushed to it
 record IsSameFor (v : ℕ) (old new : State) : Type 0 where
   finished : old.finished v ≡ new.finished v
   pushed : (u : ℕ) → old.pushed v u ≡ new.pushed v u

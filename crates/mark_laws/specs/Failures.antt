@@ -1,5 +1,5 @@
--- The same where a worker may fail, or never start: it sets a flag, and a worker that waits may leave from then on. It
--- looks at its queue before it looks at the flag, so an item may have come meanwhile.
+-- The same if a worker may fail, or never start: it sets a flag, and from then on a worker that waits may leave. A
+-- worker looks at its queue before it looks at the flag, so an item may have come in between.
 use Rattle.std.specs.Prelude.{◌≡◌, ℕ, ◌<◌, Bool, true, false, List, [], ◌∷◌}
 use Rattle.mark_laws.specs.Queues.{Senders, Queued, start_queued, MayHappenQueued, after_queued}
 use Rattle.mark_laws.specs.Steps.{Event, worker_of, Waits}
@@ -50,14 +50,14 @@ RunTurns p senders old [] new = new ≡ old
 RunTurns p senders old (t ∷ turns) new = MayTurn p senders old t
     × RunTurns p senders (after_turn senders old t) turns new
 
--- the steps among them
+-- the steps among the turns
 abbrev pub steps_in : List Turn → List Event
 steps_in [] = []
 steps_in (Does e ∷ turns) = e ∷ steps_in turns
 steps_in (Fails v ∷ turns) = steps_in turns
 steps_in (Leaves v ∷ turns) = steps_in turns
 
--- nobody has a step, and nobody may leave; that a worker may fail goes on nothing
+-- nobody has a step, and nobody may leave; a failure that may still happen doesn't count
 pub record IsStuckFlagged (p : Plan) (senders : Senders p) (c : Flagged) : Type 0 where
   pub steps : (e : Event) → MayDo p senders c e → ⊥
   pub leaves : (v : ℕ) → MayLeave p c v → ⊥

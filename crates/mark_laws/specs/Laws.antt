@@ -1,4 +1,4 @@
--- The laws of the exchange by marks. Each is of all workers, at each moment that some order of their steps leads to.
+-- The laws of the exchange by marks. Each holds of all workers, in each state that some order of their steps leads to.
 use Rattle.std.specs.Prelude.{◌≡◌, ◌≢◌, ◌⊎◌, ℕ, suc, ◌+◌, ◌<◌, ◌≤◌, Bool, true, false, List, length, [], Contains}
 use Rattle.std.specs.List.{AllByRecursion as Each}
 use Rattle.radio_packet.specs.declared.copy.RadioCopy.{RadioCopy}
@@ -24,12 +24,12 @@ abbrev pub OneWindowAhead : Type 0
 OneWindowAhead = (p : Plan) (w : State) → IsReached p w → (v u : ℕ) → v < p.workers → u < p.workers
     → w.finished v ≤ suc (w.finished u)
 
--- while a window is left to any worker, some step may happen
+-- while any worker has a window left, some step may happen
 abbrev pub SomeoneGoesOn : Type 0
 SomeoneGoesOn = (p : Plan) (w : State) → IsReached p w → (v : ℕ) → v < p.workers → w.finished v < p.windows
     → (e : Event) × MayHappen p w e
 
--- what can't go on is at the end, and the end can't go on
+-- a run that can't go on is at the end, and at the end no step is left
 abbrev pub StuckIsAtEnd : Type 0
 StuckIsAtEnd = (p : Plan) (w : State) → IsReached p w → IsStuck p w → IsAtEnd p w
 
@@ -40,7 +40,7 @@ EndIsStuck = (p : Plan) (w : State) → IsAtEnd p w → IsStuck p w
 abbrev pub RunsAreBounded : Type 0
 RunsAreBounded = (p : Plan) (events : List Event) (w : State) → Run p start events w → length events ≤ steps_of p
 
--- every run that can't go on has just so many steps
+-- every run that can't go on has exactly this many steps
 abbrev pub FullRunsAreOfOneLength : Type 0
 FullRunsAreOfOneLength = (p : Plan) (events : List Event) (w : State) → Run p start events w → IsStuck p w
     → length events ≡ steps_of p
@@ -50,7 +50,7 @@ abbrev pub EveryRunCanEnd : Type 0
 EveryRunCanEnd = (p : Plan) (w : State) → IsReached p w
     → (more : List Event) × (end : State) × Run p w more end × IsAtEnd p end
 
--- what one worker may do next it may still do after a step of another
+-- what one worker may do next, it may still do after a step of another
 abbrev pub NobodyIsHeldUp : Type 0
 NobodyIsHeldUp = (p : Plan) (w : State) (e f : Event) → MayHappen p w e → MayHappen p w f
     → worker_of e ≢ worker_of f → MayHappen p (after w f) e
@@ -61,7 +61,7 @@ IsOfWindow sent k (Packet copy) = Contains (sent k) copy
 IsOfWindow sent k (Mark n) = n ≡ k
 
 -- What a worker may take is of the window that the worker is in, or of the next one, which the other has then begun:
--- of that whose number is how many marks it took of the other before.
+-- of the window whose number is how many marks of the other it took before.
 pub record ComesFrom (p : Plan) (w : State) (worker of window : ℕ) (x : Carried) : Type 0 where
   pub not_before : w.finished worker ≤ window
   pub not_behind : window ≤ suc (w.finished worker)
@@ -73,19 +73,19 @@ abbrev pub TakenIsOfWindow : Type 0
 TakenIsOfWindow = (p : Plan) (w : State) → IsReached p w → (v u : ℕ) (x : Carried) → MayTake p w v u x
     → ComesFrom p w v u (marks_in (w.taken u v)) x
 
--- of each copy that one has for another in a window that it has begun this holds, by the window and the copy
+-- `Holds` is true of each copy that one worker has for another in a window that it has begun, and of that window
 abbrev pub InBegunWindows : Plan → State → (from to : ℕ) → (ℕ → RadioCopy → Type 0) → Type 0
 InBegunWindows p w u v Holds = (k : ℕ) → k ≤ w.finished u → k < p.windows → Each (Holds k) (p.sent u v k)
 
--- Windows end one after another, and in the windows that the other has begun each of its copies comes when the window
--- has ended, or later: then what a worker takes comes when the window that it is in has ended, or later.
+-- If windows end one after another, and in the windows that the other has begun each of its copies arrives no sooner
+-- than the window's end, then what a worker takes arrives no sooner than the end of the window that it is in.
 abbrev pub NoCopyIsTooSoon : Type 0
 NoCopyIsTooSoon = (ends : ℕ → ℕ) → ((k : ℕ) → ends k ≤ ends (suc k)) → (p : Plan) (w : State) → IsReached p w
     → (v u : ℕ)
     → InBegunWindows p w u v (λ k c. ends k ≤ c.at)
     → (copy : RadioCopy) → MayTake p w v u (Packet copy) → ends (w.finished v) ≤ copy.at
 
--- The same for any test of copies that passes none for a window which it doesn't pass for the window before.
+-- The same for any test of copies by which a copy that passes for a window also passes for the window before it.
 abbrev pub EachTakenPasses : Type 0
 EachTakenPasses = (passes : ℕ → RadioCopy → Bool)
     → ((k : ℕ) (c : RadioCopy) → passes (suc k) c ≡ true → passes k c ≡ true) → (p : Plan) (w : State)
@@ -93,13 +93,13 @@ EachTakenPasses = (passes : ℕ → RadioCopy → Bool)
     → InBegunWindows p w u v (λ k c. passes k c ≡ true)
     → (copy : RadioCopy) → MayTake p w v u (Packet copy) → passes (w.finished v) copy ≡ true
 
--- what one has pushed to another and the other hasn't taken is no more than two windows have
+-- what one worker has pushed to another that the other hasn't taken is no more than what two windows have
 abbrev pub TwoWindowsLieThere : Type 0
 TwoWindowsLieThere = (p : Plan) (w : State) → IsReached p w → (v u : ℕ) → IsPair p v u
     → length (w.pushed v u) ≤ length (w.taken v u)
     + ((length (p.sent v u (w.finished u)) + 1) + (length (p.sent v u (suc (w.finished u))) + 1))
 
--- ---- with the inboxes as they are
+-- ---- with one queue for each worker
 -- senders can be numbered
 abbrev pub SendersAreThere : Type 0
 SendersAreThere = (p : Plan) → Senders p
@@ -120,7 +120,7 @@ NobodyQueuedIsHeldUp = (p : Plan) (senders : Senders p) (q : Queued) (e f : Even
     → MayHappenQueued p senders q f → worker_of e ≢ worker_of f
     → MayHappenQueued p senders (after_queued senders q f) e
 
--- what can't go on has made all its steps and is at the end, with every queue empty
+-- a run that can't go on has made all its steps and is at the end, with every queue empty
 abbrev pub QueuedStuckIsAtEnd : Type 0
 QueuedStuckIsAtEnd = (p : Plan) (senders : Senders p) (events : List Event) (q : Queued)
     → RunQueued p senders start_queued events q → IsStuckQueued p senders q
@@ -131,12 +131,12 @@ EveryQueuedRunCanEnd = (p : Plan) (senders : Senders p) (events : List Event) (q
     → RunQueued p senders start_queued events q
     → (more : List Event) × (end : Queued) × RunQueued p senders q more end × IsAtEnd p end.state
 
--- whoever may take some step is let take one
+-- each worker that may take some step is allowed one
 abbrev pub LetsEach : (p : Plan) → Senders p → Queued → (Event → Bool) → Type 0
 LetsEach p senders q lets = (e : Event) → MayHappenQueued p senders q e
     → (f : Event) × MayHappenQueued p senders q f × (worker_of f ≡ worker_of e) × (lets f ≡ true)
 
--- It is so too where workers keep to an order of their own among the steps that they may take, as all copies of a
+-- The same holds if workers keep to an order of their own among the steps that they may take, such as all copies of a
 -- window before its marks.
 abbrev pub OwnOrderDoesNotStick : Type 0
 OwnOrderDoesNotStick = (p : Plan) (senders : Senders p) (events : List Event) (q : Queued)
@@ -144,25 +144,25 @@ OwnOrderDoesNotStick = (p : Plan) (senders : Senders p) (events : List Event) (q
     → (lets : Event → Bool) → LetsEach p senders q lets
     → ((e : Event) → MayHappenQueued p senders q e → lets e ≡ true → ⊥) → IsAtEnd p q.state
 
--- ---- where workers may fail
+-- ---- if workers may fail
 -- the steps among the turns are a run as above, so that all those laws hold
 abbrev pub TurnsAreRuns : Type 0
 TurnsAreRuns = (p : Plan) (senders : Senders p) (turns : List Turn) (c : Flagged)
     → RunTurns p senders start_flagged turns c → RunQueued p senders start_queued (steps_in turns) c.queued
 
--- where no turn is left but a failure, each worker is gone or has finished all its windows
+-- if no turn but a failure is left, each worker is gone or has finished all its windows
 abbrev pub FlaggedStuckIsOver : Type 0
 FlaggedStuckIsOver = (p : Plan) (senders : Senders p) (turns : List Turn) (c : Flagged)
     → RunTurns p senders start_flagged turns c → IsStuckFlagged p senders c
     → (v : ℕ) → v < p.workers → (c.gone v ≡ true) ⊎ (c.queued.state.finished v ≡ p.windows)
 
--- where nobody has failed, nobody is gone, and where no turn is left but a failure, all is done
+-- if nobody has failed, nobody is gone, and once no turn but a failure is left, all is done
 abbrev pub UnlessOneFails : Type 0
 UnlessOneFails = (p : Plan) (senders : Senders p) (turns : List Turn) (c : Flagged)
     → RunTurns p senders start_flagged turns c → c.stop ≡ false
     → ((v : ℕ) → c.gone v ≡ false) × (IsStuckFlagged p senders c → IsAtEnd p c.queued.state)
 
--- at most one turn more for each worker
+-- there are at most one more turn for each worker than steps
 abbrev pub TurnsAreBounded : Type 0
 TurnsAreBounded = (p : Plan) (senders : Senders p) (turns : List Turn) (c : Flagged)
     → RunTurns p senders start_flagged turns c → length turns ≤ steps_of p + p.workers

@@ -1,5 +1,5 @@
--- The same steps with the inboxes as they are: in the one queue of a worker the items of all others lie in the order
--- in which they were pushed, and it takes the oldest.
+-- The same steps with one queue for each worker, as inboxes have it: the queue holds the items of all others in the
+-- order in which they were pushed, and the worker takes the oldest.
 use Rattle.std.specs.Prelude.{◌≡◌, ℕ, List, [], ◌∷◌, ◌++◌}
 use Rattle.copy_inbox.specs.declared.items.Carried.{Carried}
 use Rattle.copy_inbox.specs.declared.items.Item.{Item}
@@ -7,12 +7,12 @@ use Rattle.mark_laws.specs.State.{Plan, State, IsPair, start, set_at}
 use Rattle.mark_laws.specs.Steps.{Event, Waits, MayPush, MayGoOn, after}
 use Rattle.mark_laws.specs.Steps.Event.{Push, Take, GoOn}
 
--- the number of each worker's sender on the inbox of each other: no two have one number there
+-- the number of each worker's sender on the inbox of each other; no two on one inbox have the same number
 pub record Senders (p : Plan) : Type 0 where
   pub number : (from to : ℕ) → ℕ
   pub apart : (v w u : ℕ) → IsPair p v u → IsPair p w u → number v u ≡ number w u → v ≡ w
 
--- what each has done, and what lies in each queue, the oldest first
+-- what each worker has done, and the items in each queue, the oldest first
 pub record Queued : Type 0 where
   pub state : State
   pub queue : ℕ → List Item

@@ -1,4 +1,4 @@
--- Where all workers stand, whatever turns they took.
+-- Where all workers stand, in whatever order they took their steps.
 use Rattle.std.specs.Prelude.{◌≡◌, ℕ, suc, ◌<◌, ◌≤◌, min, List, []}
 use Rattle.radio_packet.specs.declared.copy.RadioCopy.{RadioCopy}
 use Rattle.copy_inbox.specs.declared.items.Carried.{Carried}
@@ -6,9 +6,9 @@ use Rattle.copy_inbox.specs.Items.{BeginsWith}
 use Rattle.mark_exchange.specs.Pushes.{marks_in, pushes}
 use Rattle.mark_laws.specs.State.{Plan, State, IsPair}
 
--- From one worker to another: the first has finished so many windows, the other `begun`. The first has pushed all of
--- the windows that it has finished, and nothing of a window that it hasn't begun. The other has taken a prefix of that,
--- with the marks of the windows that it itself has finished.
+-- From one worker to another: the first has finished `finished` windows, the other `begun`. The first has pushed all
+-- of the windows that it has finished, and nothing of a window that it hasn't begun. The other has taken a prefix of
+-- that, with the marks of the windows that it itself has finished.
 pub record IsLine (windows finished begun : ℕ) (sent : ℕ → List RadioCopy) (pushed taken : List Carried) : Type 0 where
   pub whole : BeginsWith pushed (pushes finished sent)
   pub front : BeginsWith (pushes (min (suc finished) windows) sent) pushed

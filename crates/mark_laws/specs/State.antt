@@ -1,9 +1,9 @@
--- All workers of a run with marks, at one moment between two steps.
+-- All workers of a run with marks, between two steps.
 use Rattle.std.specs.Prelude.{ℕ, ◌≢◌, zero, suc, ◌+◌, ◌<◌, ◌==◌, List, [], if◌then◌else◌}
 use Rattle.radio_packet.specs.declared.copy.RadioCopy.{RadioCopy}
 use Rattle.copy_inbox.specs.declared.items.Carried.{Carried}
 
--- so many workers run so many windows, and this is what the motes of one send to those of another in a window
+-- how many workers and windows there are, and what the motes of one worker send to those of another in a window
 pub record Plan : Type 0 where
   pub workers : ℕ
   pub windows : ℕ
@@ -19,20 +19,20 @@ pub record State : Type 0 where
 abbrev pub start : State
 start = record { finished = λ v. 0; pushed = λ v u. []; taken = λ v u. [] }
 
--- two workers
+-- two different workers
 pub record IsPair (p : Plan) (from to : ℕ) : Type 0 where
   pub from_there : from < p.workers
   pub to_there : to < p.workers
   pub apart : from ≢ to
 
--- one of a family changed, and one of a family of families
+-- a family with one member replaced, and a family of families likewise
 abbrev pub set_at : {X : Type 0} → (ℕ → X) → ℕ → X → ℕ → X
 set_at f k x j = if j == k then x else f j
 
 abbrev pub set_pair : {X : Type 0} → (ℕ → ℕ → X) → ℕ → ℕ → X → ℕ → ℕ → X
 set_pair f v u x = set_at f v (set_at (f v) u x)
 
--- the sum of the first so many
+-- the sum of the first n
 abbrev pub sum_below : ℕ → (ℕ → ℕ) → ℕ
 sum_below zero f = 0
 sum_below (suc n) f = sum_below n f + f n

@@ -21,19 +21,19 @@ worker_of (GoOn v) = v
 abbrev pub HasPushed : Plan → State → ℕ → Type 0
 HasPushed p w v = (u : ℕ) → IsPair p v u → w.pushed v u ≡ pushes (suc (w.finished v)) (p.sent v u)
 
--- a worker that is in a window pushes the next of what the windows up to this one have for the other
+-- a worker that is in a window pushes the next item of what the windows up to this one have for the other
 pub record MayPush (p : Plan) (w : State) (worker to : ℕ) (x : Carried) : Type 0 where
   pub pair : IsPair p worker to
   pub runs : w.finished worker < p.windows
   pub next : BeginsWith (pushes (suc (w.finished worker)) (p.sent worker to)) (w.pushed worker to ++ x ∷ [])
 
--- a worker has pushed all, and has no mark of its window from some other
+-- a worker has pushed all, and lacks the mark of its window from some other
 pub record Waits (p : Plan) (w : State) (worker : ℕ) : Type 0 where
   pub runs : w.finished worker < p.windows
   pub has_pushed : HasPushed p w worker
   pub missing : (other : ℕ) × IsPair p other worker × (marks_in (w.taken other worker) ≤ w.finished worker)
 
--- a worker that waits takes the next of what one of the others has pushed to it
+-- a worker that waits takes the next item that one of the others has pushed to it
 pub record MayTake (p : Plan) (w : State) (worker of : ℕ) (x : Carried) : Type 0 where
   pub pair : IsPair p of worker
   pub waits : Waits p w worker

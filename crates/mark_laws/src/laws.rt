@@ -7,9 +7,9 @@ ghost use Rattle.mark_laws.specs.Laws.{EachTakenPasses, TwoWindowsLieThere, Queu
 ghost use Rattle.mark_laws.specs.Laws.{QueuedStuckIsAtEnd, EveryQueuedRunCanEnd, OwnOrderDoesNotStick};
 ghost use Rattle.mark_laws.specs.Laws.{TurnsAreRuns, FlaggedStuckIsOver, UnlessOneFails, TurnsAreBounded};
 
-/// Whatever turns the workers take, each has pushed all of the windows that it has finished and nothing of a window
-/// that it hasn't begun, and each other has taken a prefix of that, with the marks of the windows that it itself has
-/// finished.
+/// In whatever order the workers take their steps, each has pushed all of the windows that it has finished and nothing
+/// of a window that it hasn't begun, and each other has taken a prefix of that, with the marks of the windows that it
+/// itself has finished.
 pub fn all_stand()
     ensures { AllStand }
 {}
@@ -19,30 +19,30 @@ pub fn one_window_ahead()
     ensures { OneWindowAhead }
 {}
 
-/// While a window is left to any worker, some worker can push, take or go on.
+/// While any worker has a window left, some worker can push, take or go on.
 pub fn someone_goes_on()
     ensures { SomeoneGoesOn }
 {}
 
-/// A run that can't go on is at the end, all pushed and all taken; and the end can't go on.
+/// A run that can't go on is at the end, with all pushed and all taken; and at the end no step is left.
 pub fn stuck_is_at_end()
     ensures stuck { StuckIsAtEnd }
     ensures end { EndIsStuck }
 {}
 
-/// No run has more steps than a step for each window of each worker and two for each item, and each run that can't go
-/// on has just so many.
+/// No run has more steps than one for each window of each worker and two for each item, and each run that can't go on
+/// has exactly this many.
 pub fn runs_are_bounded()
     ensures bounded { RunsAreBounded }
     ensures full { FullRunsAreOfOneLength }
 {}
 
-/// Wherever a run has led, it can go on to the end.
+/// Each run can go on to the end.
 pub fn every_run_can_end()
     ensures { EveryRunCanEnd }
 {}
 
-/// What one worker can do next it can still do after a step of another.
+/// What one worker can do next, it can still do after a step of another.
 pub fn nobody_is_held_up()
     ensures pairs { NobodyIsHeldUp }
     ensures queued { NobodyQueuedIsHeldUp }
@@ -54,25 +54,25 @@ pub fn taken_is_of_window()
     ensures { TakenIsOfWindow }
 {}
 
-/// Where each copy comes when the window in which it was sent has ended, or later, a worker takes none that comes
+/// If each copy arrives no sooner than the end of the window in which it was sent, a worker takes none that arrives
 /// before the end of the window that the worker is in.
 pub fn no_copy_is_too_soon()
     ensures { NoCopyIsTooSoon }
 {}
 
-/// The same for any test of copies that passes none for a window which it doesn't pass for the window before.
+/// The same for any test of copies by which a copy that passes for a window also passes for the window before it.
 pub fn each_taken_passes()
     ensures { EachTakenPasses }
 {}
 
-/// What one worker has pushed to another and the other hasn't taken is no more than two windows have.
+/// What one worker has pushed to another that the other hasn't taken is no more than what two windows have.
 pub fn two_windows_lie_there()
     ensures { TwoWindowsLieThere }
 {}
 
-/// The same where the items of all others lie in one queue, of which a worker takes the oldest: each run is one of the
-/// runs of the laws above; somebody can go on while a window is left; a run that can't go on has made all its steps,
-/// and every queue is empty; and every run can go on to the end.
+/// The same if each worker has one queue for the items of all others, of which it takes the oldest: each run is one of
+/// the runs of the laws above; somebody can go on while a window is left; a run that can't go on has made all its
+/// steps, and every queue is empty; and every run can go on to the end.
 pub fn queues_do_not_stick()
     ensures senders { SendersAreThere }
     ensures runs { QueuedRunsAreRuns }
@@ -82,9 +82,9 @@ pub fn queues_do_not_stick()
     ensures own_order { OwnOrderDoesNotStick }
 {}
 
-/// The same where a worker may fail or never start, which the others see by a flag once they wait in vain: when no
-/// turn is left but a failure, each worker is gone or has finished all its windows; nobody goes unless one has failed;
-/// and there are only so many turns.
+/// The same if a worker may fail or never start, which the others see by a flag once they wait in vain: when no turn
+/// but a failure is left, each worker has failed, has left, or has finished all its windows; nobody leaves unless one
+/// has failed; and the number of turns is bounded.
 pub fn failures_do_not_stick()
     ensures runs { TurnsAreRuns }
     ensures over { FlaggedStuckIsOver }

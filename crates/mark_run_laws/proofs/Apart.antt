@@ -1,4 +1,4 @@
--- No two senders on an inbox have one number: there are as many as there are other workers, and each number is somebody's.
+-- No two senders on an inbox have the same number: there are as many as other workers, and each number is that of one.
 use Rattle.std.proofs.Common.{◌≡◌, ◌≢◌, ◌⊎◌, ℕ, zero, suc, ◌<◌, ◌≤◌, true, false, eqb, List, [], ◌∷◌, length, refl, sym, ap, ◌∙◌, inl, inr, arith, ne_eqb}
 use Rattle.std.specs.List.{AllByRecursion as Each, IsDistinct, list_any}
 use Rattle.std.proofs.lemmas.Bool.{cases_eq, cases_lt}
@@ -12,7 +12,7 @@ use Rattle.marked_workers.proofs.Pairs.{numbered_at}
 use Rattle.mark_run_laws.specs.Plan.{number_of}
 use Rattle.mark_run_laws.specs.Laws.{SendersAreApart}
 
--- ---- so many numbers, no two of them equal and each below n, are at most n
+-- ---- numbers below n, no two of them equal, are at most n
 values : (ℕ → ℕ) → ℕ → List ℕ
 values g zero = []
 values g (suc k) = g k ∷ values g k
@@ -50,7 +50,7 @@ module _ (g : ℕ → ℕ) where
       let long = values_long g k in
       omega arith
 
--- two more in front
+-- two more values in front
 with_two : (x y : ℕ) → (ℕ → ℕ) → ℕ → ℕ
 with_two x y g zero = x
 with_two x y g (suc zero) = y
@@ -83,7 +83,7 @@ module _ (n : NetTold) (of : List ℕ) (width windows workers : ℕ) (all : AllR
   abbrev k : ℕ
   k = length (all.senders u)
 
-  -- whose sender has this number
+  -- the worker whose sender has this number
   record Has (j owner : ℕ) : Type 0 where
     low : owner < workers
     other : owner ≢ u

@@ -17,7 +17,7 @@ use Rattle.marked_workers.specs.Run.{GroupRunsMarked}
 use Rattle.marked_workers.specs.WorkerHistory.{WorkerHistory}
 use Rattle.mark_run_laws.specs.Plan.{plan_of, number_of, state_of, RanWindow}
 
--- what the contract of `run_marked` says of a run is enough: its takers are those of what all threads did
+-- by the contract of `run_marked`, the takers of a run are those of what all threads did
 abbrev pub EachRunHasAll : Type 0
 EachRunHasAll = (n : NetTold) (of : List ℕ) (width : ℕ) (old new : Workers)
     → IsCut (length n.motes) (length old.inboxes.items) of → GroupRunsMarked n of width old new
@@ -35,14 +35,14 @@ MarksLeadOn = (n : NetTold) (of : List ℕ) (width windows workers : ℕ) (all :
     → (window other worker : ℕ) → window < windows → IsPair (plan_of of windows workers all.histories) other worker
     → window < marks_in (part (number_of (all.sender worker other)) ((all.histories worker).taken (suc window)))
 
--- no two senders on an inbox have one number
+-- no two senders on an inbox have the same number
 abbrev pub SendersAreApart : Type 0
 SendersAreApart = (n : NetTold) (of : List ℕ) (width windows workers : ℕ) (all : AllRan n of width windows workers)
     → (v w u : ℕ)
     → IsPair (plan_of of windows workers all.histories) v u → IsPair (plan_of of windows workers all.histories) w u
     → number_of (all.sender u v) ≡ number_of (all.sender u w) → v ≡ w
 
--- where each other worker ran its motes in each window that it has begun, each copy that a worker may take is expected
+-- each copy that a worker may take of another is expected, if that ran its motes in each window that it has begun
 abbrev pub NoCopyIsUnexpected : Type 0
 NoCopyIsUnexpected = (n : NetTold) (of : List ℕ) (width windows workers : ℕ) (histories : ℕ → WorkerHistory) (w : State)
     → IsReached (plan_of of windows workers histories) w → (worker other : ℕ)

@@ -3,7 +3,7 @@
 ghost use Rattle.mark_run_laws.specs.Laws.{EachRunHasAll, RunsEndAtEnd, MarksLeadOn, SendersAreApart};
 ghost use Rattle.mark_run_laws.specs.Laws.{NoCopyIsUnexpected};
 
-/// Where `run_marked` answers Ok, all threads together did what [`ends_at_the_end`] compares with the protocol.
+/// If `run_marked` returns Ok, all threads together did what [`ends_at_the_end`] compares with the protocol.
 pub fn each_run_has_all()
     ensures { EachRunHasAll }
 {}
@@ -16,14 +16,14 @@ pub fn ends_at_the_end()
     ensures marks { MarksLeadOn }
 {}
 
-/// No two senders on an inbox have one number.
+/// No two senders on an inbox have the same number.
 pub fn senders_are_apart()
     ensures { SendersAreApart }
 {}
 
-/// Wherever the protocol has led, each copy that a worker may take is expected: it is for a mote of this worker, from a
-/// mote of another, and arrives no sooner than the worker's next window. So no thread finds a copy that isn't expected,
-/// as long as each other one ran its motes in each window that it has begun.
+/// Wherever the protocol has led, each copy that a worker may take is expected: it is for a mote of this worker, from
+/// a mote of another, and arrives no sooner than the worker's next window. So no thread finds a copy that isn't
+/// expected, as long as each other one ran its motes in each window that it has begun.
 pub fn no_copy_is_unexpected()
     ensures { NoCopyIsUnexpected }
 {}

@@ -1,4 +1,4 @@
--- One window more of a worker's thread.
+-- One more window of a worker's thread.
 use Rattle.std.proofs.Common.{◌≡◌, ◌≢◌, ℕ, zero, suc, ◌<◌, ◌≤◌, cond, eqb, List, [], ◌∷◌, ◌++◌, map, refl, sym, ap, ◌∙◌, subst, inl, inr, arith, eq-eqb}
 use Rattle.std.specs.List.{filter}
 use Rattle.std.proofs.lemmas.Bool.{cases_eq, ne_eqb}
@@ -16,7 +16,7 @@ use Rattle.worker_window.specs.Share.{Motes}
 use Rattle.marked_workers.specs.Bounds.{bound}
 use Rattle.marked_workers.specs.WorkerHistory.{WorkerHistory, RunsMotes, WorkerRunsWindows}
 
--- one of a family changed
+-- a family with one member replaced
 abbrev pub edit : {X : Type 0} → (ℕ → X) → ℕ → X → ℕ → X
 edit f k x j = cond (eqb j k) x (f j)
 

@@ -28,11 +28,11 @@ numbered_at senders numbered j s e =
     sym (read (map (λ (x : SenderView). x.state.number) senders) j s.state.number 0 (mapped (λ (x : SenderView). x.state.number) senders j s e))
     ∙ (ap (λ l. get_or l j 0) numbered ∙ (get_or-range_with_len 0 (length senders) j 0 (inside senders j s e) ∙ omega arith))
 
--- a mote has one worker
+-- a mote has only one worker
 pub not_other : (of : List ℕ) (v w s : ℕ) → slice_get of s ≡ Some v → v ≢ w → is_own of w s ≡ false
 not_other of v w s e ne = ap (λ o. option_map_or (λ x. eqb x w) o false) e ∙ ne_eqb v w ne
 
--- what goes out of a worker is of its own motes
+-- outgoing copies are from the worker's own motes
 foreign_none : (n : NetTold) (of : List ℕ) (v s : ℕ) → is_own of v s ≡ false → (outgoing : List RadioCopy) → Each (IsOutgoing n of v) outgoing → filter (is_from_sender s) outgoing ≡ []
 foreign_none n of v s other outgoing goes =
     filter_none (is_from_sender s) outgoing
@@ -71,7 +71,7 @@ module _ (n : NetTold) (of : List ℕ) (width windows workers : ℕ) (all : AllR
       }
 
   module _ (u : ℕ) (lu : u < workers) (k : ℕ) (le : k ≤ windows) where
-    -- what had come of it before the window is a beginning of what was pushed
+    -- what had been taken of it before the window is a prefix of what was pushed
     pub front : (v : ℕ) (lv : v < workers) (ne : v ≢ u) → BeginsWith (pushes windows (sent_to v u)) (part (pair u v lu lv ne).number ((all.histories u).taken k))
     front v lv ne =
         let p = pair u v lu lv ne in

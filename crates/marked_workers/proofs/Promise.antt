@@ -1,4 +1,4 @@
--- A thread's promise: before its first window, and after one window more.
+-- A thread's promise: before its first window, and after one more window.
 use Rattle.std.proofs.Common.{◌≡◌, ◌≢◌, ℕ, suc, ◌<◌, ◌≤◌, List, [], ◌∷◌, ◌++◌, map, sym, subst}
 use Rattle.std.specs.List.{filter, AllByRecursion as Each}
 use Rattle.radio_packet.specs.declared.copy.RadioCopy.{RadioCopy}
@@ -45,7 +45,7 @@ module _ (n : NetTold) (of : List ℕ) (width workers worker k : ℕ) (share ran
   motes_ran : RunsMotes n of worker (bound width n.end k) (bound width n.end (suc k)) (promise.history.motes k) window.next (copies_of state.taken) outgoing
   motes_ran = record { runs = window.runs; out = window.out; goes = goes; late = window.late }
 
-  -- the window was run, its copies and the mark were pushed, and more was taken until all marks of the window were there
+  -- the window was run, its copies and the mark were pushed, and more was taken until all marks of the window had come
   pub promise_next : WorkerRunsMarked n of width (suc k) workers worker last_share (make_taker_state state.marked state.made (state.taken ++ more) state.gathered) pushes_now
   promise_next = record {
     history = longer n of width workers worker state.made k state.taken more pushed pushes_now promise.history window.next outgoing;

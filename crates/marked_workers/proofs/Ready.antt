@@ -35,7 +35,7 @@ module _ (inboxes : List InboxId) (takers : List TakerView) (fresh : AllZip IsFr
   endpoints_long : length endpoints ≡ length inboxes
   endpoints_long = as_long StartsAs takers endpoints starts ∙ as_long IsFresh inboxes takers fresh
 
-  -- the taker of which an endpoint was made
+  -- the taker that an endpoint was made of
   record Taker (v : ℕ) (c : Endpoint) : Type 0 where
     taker : TakerView
     is_fresh : taker.state ≡ make_taker_state taker.state.marked 0 [] []

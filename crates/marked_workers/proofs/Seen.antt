@@ -1,4 +1,4 @@
--- What a window sees of what had come: the copies that were sent before it, and none that came early.
+-- What a window sees of what had been taken: the copies that were sent before it, and none that came early.
 use Rattle.std.proofs.Common.{◌≡◌, ◌≢◌, ℕ, suc, ◌+◌, ◌-◌, ◌<◌, ◌≤◌, Bool, true, false, ◌&&◌, ltb, eqb, List, [], length, refl, sym, ap, ◌∙◌, subst, arith, Option, Some, None}
 use Rattle.std.specs.List.{filter, slice_get, AllByRecursion as Each}
 use Rattle.std.specs.Option.{option_map_or}
@@ -22,7 +22,7 @@ use Rattle.marked_workers.proofs.Bounds.{no_sooner}
 use Rattle.marked_workers.proofs.Lists.{none_before, only_before}
 use Rattle.marked_workers.proofs.Pairs.{sent_to, none_sent, not_other, pair, front, copies_from, copies_none}
 
--- a mote that isn't there is nobody's
+-- a mote that doesn't exist belongs to no worker
 pub nobodys : (of : List ℕ) (w s : ℕ) → slice_get of s ≡ None → is_own of w s ≡ false
 nobodys of w s e = ap (λ o. option_map_or (λ x. eqb x w) o false) e
 

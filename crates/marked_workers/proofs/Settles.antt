@@ -30,7 +30,7 @@ use Rattle.marked_workers.proofs.Seen.{nobodys}
 
 -- ---- the senders on one inbox
 module _ (n : NetTold) (of : List ℕ) (width windows workers : ℕ) (all : AllRan n of width windows workers) (u : ℕ) (lu : u < workers) where
-  -- whose sender it is
+  -- the worker whose sender it is
   record Owner (a : SenderView) : Type 0 where
     worker : ℕ
     there : worker < workers

@@ -59,7 +59,7 @@ module _ (n : NetTold) (fine : RunsForward (system_of n)) (of : List ℕ) (width
     abbrev until : ℕ
     until = bound width n.end (suc k)
 
-    -- of its own motes and of what it could see, the worker knew what all of them were and what was sent
+    -- of the copies that the window can see for a mote, the worker had just those that were sent before the window
     same_known : (v : ℕ) → v < workers → (m s : ℕ)
         → filter (sees n of width windows workers all cut are k m) (copies_seen (system_of n) (is_own of v) ((all.histories v).motes k) (copies_of ((all.histories v).taken k)) s)
         ≡ filter (sees n of width windows workers all cut are k m) (copies_seen (system_of n) (is_own of v) (stage k) (so_far v k) s)
@@ -86,7 +86,7 @@ module _ (n : NetTold) (fine : RunsForward (system_of n)) (of : List ℕ) (width
     own_out : (v : ℕ) → v < workers → (s : ℕ) → outgoing_by n (is_own of v) ((all.histories v).motes (suc k)) s ≡ outgoing_by n (is_own of v) (stage k) s ++ from s ((all.histories v).outgoing k)
     own_out v lv s = ((all.ran v lv).runs k low).out s ∙ ap (λ l. l ++ from s ((all.histories v).outgoing k)) (same_out v lv s)
 
-    -- one window more was sent
+    -- what was sent, with one more window
     sent_more : (v s : ℕ) (o : Option ℕ) → slice_get of s ≡ o
         → from s (so_far v (suc k)) ≡ from s (so_far v k) ++ option_map_or (λ u. from s (filter (is_to of v) ((all.histories u).outgoing k))) o []
     sent_more v s None e =

@@ -34,7 +34,7 @@ use Rattle.marked_workers.specs.Thread.{IsFirst, IsStarted, IsSame, SendsWindow,
 use Rattle.marked_workers.proofs.Bounds.{are_windows, begins_before, no_wider}
 use Rattle.marked_workers.proofs.Promise.{promise_first, promise_next}
 
--- what goes out of a worker is for a mote of one of the workers
+-- outgoing copies are for motes of the workers
 pub reaches_sent : (n : NetTold) (of : List ℕ) (workers worker : ℕ) (outgoing : List RadioCopy) → IsCut (length n.motes) workers of → Each (IsOutgoing n of worker) outgoing → Each (Reaches of workers) outgoing
 reaches_sent n of workers worker outgoing cut out = every_weaker _ _ (λ c h. h.reaches) outgoing (leaves_sent n of workers worker outgoing cut out)
 
@@ -63,7 +63,7 @@ started n of inboxes w m first same counts =
       none_pushed = first.none_pushed;
     })
 
--- and behind all its windows, without them
+-- and after all its windows, without the counts
 pub told_of : (n : NetTold) (of : List ℕ) (width windows : ℕ) (inboxes : List InboxId) (w d : Worker) (m e : MarkWorker) → IsSame w m → IsSame d e
     → HasRun n of width windows inboxes m e → WorkerRunsAllWindows n of width windows inboxes w d
 told_of n of width windows inboxes w d m e before after ran = record {
@@ -86,7 +86,7 @@ no_window n of width inboxes w m = record {
   counts = m.counts;
 }
 
--- a worker behind some windows
+-- a worker after some windows
 module _ (n : NetTold) (of : List ℕ) (width k until : ℕ) (inboxes : List InboxId) (wide : 0 < width) (low : k < windows_of width n.end) (at : until ≡ bound width n.end (suc k)) (first old : MarkWorker)
     (stands : HasRun n of width k inboxes first old) where
   are : AreWindows width n.end (windows_of width n.end)
@@ -95,7 +95,7 @@ module _ (n : NetTold) (of : List ℕ) (width k until : ℕ) (inboxes : List Inb
   up : bound width n.end k ≤ until
   up = let b = begins_before width n.end (windows_of width n.end) are k low in let e = at in omega arith
 
-  -- can run through the next
+  -- it can run through the next
   pub can_run : CanRun n of until old.share []
   can_run = record {
     worker = first.endpoint.base.worker;
@@ -107,7 +107,7 @@ module _ (n : NetTold) (of : List ℕ) (width k until : ℕ) (inboxes : List Inb
     expected = tt;
   }
 
-  -- and once it did, it is behind one more
+  -- and then it has run one more
   module _ (short : width ≤ (system_of n).lookahead) (between new : MarkWorker) (sends : SendsWindow n of (length inboxes) k until old between) (on_inboxes : IsOnInboxes inboxes between.endpoint.base) (takes : TakesWindow of k until between new) where
     abbrev worker : ℕ
     worker = first.endpoint.base.worker

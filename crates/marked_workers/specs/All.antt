@@ -10,8 +10,7 @@ use Rattle.copy_exchange.specs.Steps.{gather_senders}
 use Rattle.marked_workers.specs.Senders.{AreSenders}
 use Rattle.marked_workers.specs.WorkerHistory.{WorkerHistory, WorkerRunsWindows}
 
--- Each worker ran its windows as its history says, and has taken of each sender on its inbox a beginning of what was
--- pushed.
+-- Each worker ran its windows as its history says, and has taken a prefix of what each sender on its inbox pushed.
 -- `sender inbox worker` is the sender of a worker on an inbox.
 pub record AllRan (n : NetTold) (of : List ℕ) (width windows workers : ℕ) : Type 0 where
   pub made : ℕ → ℕ
@@ -25,7 +24,7 @@ pub record AllRan (n : NetTold) (of : List ℕ) (width windows workers : ℕ) : 
   pub begun : (u : ℕ) → u < workers
       → Each (λ (s : SenderView). BeginsWith s.state.pushed (part s.state.number (taken u))) (senders u)
 
--- a taker that had taken these items, of so many senders, and then gathered these senders
+-- a taker that had made this many senders and taken these items, and then gathered these senders
 pub record GatheredSenders (made : ℕ) (taken : List Item) (senders : List SenderView) (taker : TakerView) : Type 0 where
   pub before : TakerView
   pub is_made : before.state.made ≡ made

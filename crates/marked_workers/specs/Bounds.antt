@@ -9,7 +9,7 @@ bound width end window = min (window * width) (end + 1)
 abbrev pub windows_of : (width end : ℕ) → ℕ
 windows_of width end = (end + width) / width
 
--- so many windows lead past the end, and each begins before that
+-- this many windows lead past the end, and each begins at or before the end
 pub record AreWindows (width end windows : ℕ) : Type 0 where
   pub wide : 0 < width
   pub begin : (k : ℕ) → k < windows → k * width ≤ end

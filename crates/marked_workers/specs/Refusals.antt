@@ -4,7 +4,7 @@ use Rattle.fork_join.specs.declared.work.Refused.TheVariants as why
 use Rattle.mark_exchange.specs.declared.take.MarkError.{MarkError}
 use Rattle.mark_exchange.specs.declared.take.MarkError.TheVariants.{Memory, Stopped, Unexpected}
 
--- where it took no further
+-- if it stopped taking items
 abbrev pub refused_of_marks : MarkError → Refused
 refused_of_marks Memory = why.Memory
 refused_of_marks Stopped = why.Stopped

@@ -55,7 +55,7 @@ pub record SendsWindow (n : NetTold) (of : List ℕ) (workers window until : ℕ
   pub pushes : PushesWindow of workers window old.endpoint.base new.endpoint.base outgoing
   pub marks : new.endpoint.marks ≡ old.endpoint.marks
 
--- it took items until the window's mark of each other worker had come, and what they carry is in its share
+-- it took items until the window's mark of each other worker had come, and the copies among them are in its share
 pub record TakesWindow (of : List ℕ) (window until : ℕ) (old new : MarkWorker) : Type 0 where
   pub arrived : List RadioCopy
   pub took : TakesExpected (position of old.endpoint.base.worker until) old.endpoint.base.taker new.endpoint.base.taker
@@ -66,7 +66,7 @@ pub record TakesWindow (of : List ℕ) (window until : ℕ) (old new : MarkWorke
   pub senders : new.endpoint.base.senders ≡ old.endpoint.base.senders
   pub keeps : TakesIn arrived old.share new.share
 
--- a worker that has run so many windows since it was the first one
+-- a worker that has run this many windows, from the state `first` on
 pub record HasRun (n : NetTold) (of : List ℕ) (width windows : ℕ) (inboxes : List InboxId)
     (first now : MarkWorker) : Type 0 where
   pub stays : Stays first.endpoint.base now.endpoint.base
@@ -76,14 +76,14 @@ pub record HasRun (n : NetTold) (of : List ℕ) (width windows : ℕ) (inboxes :
   pub marked : HasMarks now.endpoint.base
   pub counts : Counts now.endpoint.marks.items now.endpoint.base.taker.state
 
--- Where windows are no longer than the lookahead: from whichever first worker so many windows had led to the old one,
--- one window more has led to the new one.
+-- If windows are no longer than the lookahead: from whichever first state this many windows have led to the old one,
+-- one more window has led from it to the new one.
 abbrev pub LeadsOn : NetTold → (of : List ℕ) → (width window : ℕ) → (inboxes : List InboxId)
     → (old new : MarkWorker) → Type 0
 LeadsOn n of width window inboxes old new = width ≤ (system_of n).lookahead → (first : MarkWorker)
     → HasRun n of width window inboxes first old → HasRun n of width (suc window) inboxes first new
 
--- all that a worker's thread does: it ran so many windows
+-- all that a worker's thread does: it ran this many windows
 pub record WorkerRunsAllWindows (n : NetTold) (of : List ℕ) (width windows : ℕ) (inboxes : List InboxId)
     (first now : Worker) : Type 0 where
   pub stays : Stays first.endpoint now.endpoint

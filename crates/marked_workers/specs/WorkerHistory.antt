@@ -16,8 +16,8 @@ use Rattle.worker_window.specs.Share.{Motes, Keeps}
 use Rattle.worker_window.specs.Window.{RunsOwnMote, IsOutgoing, outgoing_by}
 use Rattle.marked_workers.specs.Bounds.{bound}
 
--- What a worker had before each window, its motes and all items that it had taken by then, and the outgoing copies of
--- the window.
+-- What a worker had before each window, that is, its motes and all items that it had taken by then; and the outgoing
+-- copies of the window.
 pub record WorkerHistory : Type 0 where
   pub motes : ℕ → Motes
   pub taken : ℕ → List Item
@@ -32,7 +32,7 @@ pub record RunsMotes (n : NetTold) (of : List ℕ) (worker from until : ℕ) (mo
   pub goes : Each (IsOutgoing n of worker) outgoing
   pub late : Each (λ (copy : RadioCopy). until ≤ copy.at) outgoing
 
--- So many windows of one worker, from the first moment on. Before each window it had taken, of each sender that was
+-- The first windows of one worker, this many. Before each window it had taken, of each sender that was
 -- made on its inbox, the marks of all windows before. What it pushed to another worker is, window by window, the
 -- copies for that worker's motes and then the mark.
 pub record WorkerRunsWindows (n : NetTold) (of : List ℕ) (width windows workers worker made : ℕ) (taken : List Item)
@@ -48,8 +48,8 @@ pub record WorkerRunsWindows (n : NetTold) (of : List ℕ) (width windows worker
   pub pushes_then : (v : ℕ) → v < workers → v ≢ worker
       → pushed v ≡ pushes windows (λ k. filter (is_to of v) (history.outgoing k))
 
--- The promise: there were such windows, and the share keeps the motes at their end. The taker has taken all this, and
--- gathered nobody.
+-- The promise: the worker ran this many windows, with some history, and the share keeps the motes at their end. The
+-- taker has taken the items of the history, and has gathered nobody.
 pub record WorkerRunsMarked (n : NetTold) (of : List ℕ) (width windows workers worker : ℕ) (share : Share)
     (state : TakerState) (pushed : ℕ → List Carried) : Type 0 where
   pub history : WorkerHistory

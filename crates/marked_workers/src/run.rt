@@ -33,7 +33,7 @@ use std::sync::atomic::AtomicBool;
 use std::thread::Threads;
 use window_run::Gate;
 
-/// At the end: each worker's taker, which has gathered the senders on its inbox. Out of memory is the one error.
+/// At the end: each worker's taker, which has gathered the senders on its inbox. The only error is out of memory.
 fn gather_endpoints<R: Wait>(
     rt: &R,
     alloc: Global,
@@ -71,7 +71,7 @@ where
     fork_join(rt, alloc, workers, &MarkRunner { rt, gate, run })
 }
 
-/// Senders are made, each worker runs all its windows in its thread, and the senders are gathered.
+/// Runs all workers: senders are made, each worker runs all its windows in its thread, and the senders are gathered.
 fn run_threads<R, G>(
     rt: &R,
     alloc: Global,
@@ -121,12 +121,12 @@ where
 }
 
 /// Runs all workers to the end of the net, each in one thread for the whole run. All windows but the last are of
-/// one length: the lookahead, or `longest`, where that is above 0 and less. `of` tells the worker of each mote. The
-/// inboxes have marks, and nothing is left in them.
+/// one length: the lookahead, or `longest`, if that is above 0 and less. `of` is the worker of each mote. The inboxes
+/// have marks, and nothing is left in them at the end.
 ///
 /// # Errors
-/// `Memory`, or `Thread` where a thread couldn't be started, the gate refused a start, or the executor answered an
-/// error: that of the lowest worker that has one; else `Stopped`, where a worker stopped because another one failed.
+/// `Memory`, or `Thread` if a thread couldn't be started, the gate refused a start, or the executor returned an error:
+/// that of the lowest worker that has one; else `Stopped`, if a worker stopped because another worker failed.
 pub fn run_marked<R, G>(
     rt: &R,
     alloc: Global,

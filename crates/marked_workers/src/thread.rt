@@ -41,7 +41,7 @@ impl<R, G> Drop for MarkRunner<'_, R, G> {
     }
 }
 
-/// The worker's motes run through a window, and the outgoing copies are pushed, with the window's mark after them.
+/// Runs the worker's motes through a window, and pushes the outgoing copies, with the window's mark after them.
 fn send_window<R: Wait + RandomSource + AllocGlobal, G: Gate>(
     rt: &R,
     gate: &G,
@@ -77,8 +77,8 @@ fn send_window<R: Wait + RandomSource + AllocGlobal, G: Gate>(
     Ok(())
 }
 
-/// Why a worker gave up that took no further. A copy that isn't expected comes only where another worker has broken the
-/// protocol, which none does.
+/// Why a worker gave up, if it stopped taking items. A copy that isn't expected comes only if another worker has
+/// broken the protocol, which none does.
 fn gave_up(error: MarkError) -> Refused
     ensures { result ≡ refused_of_marks error }
 {
@@ -88,7 +88,7 @@ fn gave_up(error: MarkError) -> Refused
     }
 }
 
-/// The worker takes items until each other worker's mark of the window has come, and takes in the copies among them.
+/// Takes items until each other worker's mark of the window has come, and puts the copies among them into the share.
 fn take_window<R: Wait + AllocGlobal>(
     rt: &R,
     run: &WorkersRun<'_>,
@@ -119,7 +119,7 @@ fn take_window<R: Wait + AllocGlobal>(
     Ok(())
 }
 
-/// One window of a worker that has run so many.
+/// Runs a worker that has run the windows before this one through this one.
 fn run_one<R: Wait + RandomSource + AllocGlobal, G: Gate>(
     rt: &R,
     gate: &G,
@@ -142,10 +142,10 @@ fn run_one<R: Wait + RandomSource + AllocGlobal, G: Gate>(
     take_window(rt, run, worker, window, until)
 }
 
-/// All windows of a worker, to the end of the net.
+/// Runs a worker through all windows, to the end of the net.
 ///
 /// # Errors
-/// `Memory`; `Thread` where the executor answered an error; `Stopped` where it stopped because another worker failed.
+/// `Memory`; `Thread` if the executor returned an error; `Stopped` if it stopped because another worker failed.
 fn run_worker<R: Wait + RandomSource + AllocGlobal, G: Gate>(
     rt: &R,
     gate: &G,
@@ -171,7 +171,7 @@ fn run_worker<R: Wait + RandomSource + AllocGlobal, G: Gate>(
     Ok(worker)
 }
 
-/// The worker with a count of marks for each sender on its inbox.
+/// Gives the worker a count of marks for each sender on its inbox.
 fn with_marks(alloc: Global, run: &WorkersRun<'_>, worker: Worker) -> Result<MarkWorker, Refused>
     requires { IsFirst (net_of run.now.net.now) run.now.of.now run.now.inboxes.now worker }
     ensures same { IfOk result (IsSame worker) }
@@ -193,7 +193,7 @@ fn with_marks(alloc: Global, run: &WorkersRun<'_>, worker: Worker) -> Result<Mar
     }
 }
 
-/// The worker without its counts of marks. It took all copies that were delivered.
+/// The worker without its counts of marks. Each worker takes all copies that are delivered to it.
 fn without_marks(worker: MarkWorker) -> Worker
     ensures { IsSame result worker }
 {

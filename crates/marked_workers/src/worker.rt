@@ -6,7 +6,7 @@ use mote_net::Net;
 use std::sync::atomic::AtomicBool;
 use worker_window::Share;
 
-/// A worker in its thread: its share of the net, and its endpoint, with the marks that it took of each worker.
+/// A worker in its thread: its share of the net, and its endpoint, which counts the marks that it took of each worker.
 #[derive(Drop)]
 pub struct MarkWorker {
     pub share: Share,
@@ -23,6 +23,6 @@ pub struct WorkersRun<'a> {
     pub inboxes: &'a [Inbox],
     /// How long a window is.
     pub width: u64,
-    /// A worker that fails sets it, so that those that wait for its marks end too.
+    /// A worker that fails sets it, so that those that wait for its marks stop too.
     pub stop: &'a AtomicBool,
 }

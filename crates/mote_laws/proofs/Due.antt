@@ -132,7 +132,7 @@ hear_all_timers moment packets u =
     by true v h = (poll_timers v.mote.state Radio ∙ h.0, h.1)
     by false v h = h
 
--- where no expiration has come, no timer is due; where one has, etimer is to be polled
+-- if no expiration has come, no timer is due; if one has, etimer is to be polled
 
 above_least : (moment : ℕ) (f : ℕ → ℕ) (ks : List ℕ) (k : ℕ) → is_some_due moment (least (map f ks)) ≡ false → is_member k ks ≡ true → nat_le (f k) moment ≡ false
 above_least moment f [] k e h = absurd (cc)
@@ -262,7 +262,7 @@ first_stands program number queue collides = inl (refl, refl)
 all_stand : (program : Tree) (number queue : ℕ) (collides : Bool) (given : List turns.TurnInput) (lines : List Line) (last : Node) → Turns (first_node program number queue collides) given lines last → Stands program number queue last
 all_stand program number queue collides given lines last t = turns_stand program number queue _ last given lines t (first_stands program number queue collides)
 
--- where a poll of etimer waits, the mote wakes at the next moment
+-- if a poll of etimer waits, the mote wakes at the next moment
 wakes_next : (moment : ℕ) (n : Node) → n.last ≡ Some moment → n.mote.halted ≡ false → PollWaits Etimer n.mote.state → wake_of n ≡ Some (moment + 1)
 unfolding wake_after
 wakes_next moment n e running w = rw (running, e, w.flag) (either (nat_lt 0 (length n.mote.state.queue.events)))

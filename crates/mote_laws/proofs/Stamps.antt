@@ -1,4 +1,4 @@
--- Each step of a turn writes lines and packets that bear its moment.
+-- Each step of a turn writes lines and packets that are stamped with its moment.
 use Rattle.std.proofs.Common.{ℕ, zero, suc, ◌≡◌, ◌+◌, ◌≤◌, ◌&&◌, Bool, true, false, if◌then◌else◌, List, [], ◌∷◌, length, map, Option, Some, None, refl, sym, ap, ◌∙◌, subst, append-nil, arith}
 use Rattle.std.proofs.lemmas.Bool.Decides.{nat_tests}
 use Rattle.std.specs.List.{All}
@@ -30,7 +30,7 @@ use Rattle.mote_laws.proofs.Rising.{rises_empty, rises_level, rises_joined}
 abbrev pub so_far : Underway → State
 so_far u = with_output u.mote u.lines u.sends
 
--- what is written from one point of a turn to a later one bears its moment
+-- what is written from one point of a turn to a later one is stamped with its moment
 abbrev pub Goes : (moment : ℕ) → Underway → Underway → Type 0
 Goes moment u v = Stamped moment (so_far u) (so_far v)
 

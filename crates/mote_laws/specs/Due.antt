@@ -44,7 +44,7 @@ TurnsKeepOwners =
     → HaveOwners last.mote.state.timers
 
 -- a turn as its kernel runs begin: the mote was booted, the packets that arrive were heard, and etimer is to be polled
--- where a timer is due
+-- if a timer is due
 abbrev pub runs_begin : (moment : ℕ) → List Arrival → Underway → Underway
 runs_begin moment arrivals u = let heard = hear_all moment arrivals (boot_due moment u) in
     with_mote heard (poll_due moment heard.mote)
@@ -61,7 +61,7 @@ abbrev pub first_run : (moment : ℕ) → List Arrival → Node → State
 first_run moment arrivals n = let u = node_begins moment arrivals n in begun u.mote moment u.lines u.sends
 
 -- The first kernel run of the turn comes to poll etimer: the processes before it on the process list have been polled,
--- where they had asked for it. Of each timer that is due then a line of the turn tells, at its moment.
+-- if they had asked for it. Each timer that is due then has a line in the turn, at its moment.
 pub record ServesTimers (moment : ℕ) (arrivals : List Arrival) (n : Node) : Type 0 where
   pub at_turn : State
   pub comes : polls_before Etimer (calls_of (most_units + 1)) (first_run moment arrivals n) ≡ Goes tt at_turn

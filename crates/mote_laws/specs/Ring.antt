@@ -52,7 +52,7 @@ TurnsCollide =
     (moment : ℕ) (arrivals : List Arrival) (n : Node) → (n.collides && is_collision n.mote arrivals) ≡ true
     → BeginWithCollisions moment arrivals (turn_of moment arrivals n).lines
 
--- Beside these lines the ring goes from empty to the packets that are left: those that the mote holds, unless it has
+-- Along these lines the ring goes from empty to the packets that are left: those that the mote holds, unless it has
 -- halted.
 pub record GoesWithRing (receiver : Option ℕ) (lines : List Line) (m : Mote) : Type 0 where
   pub left : List Arrival
@@ -89,7 +89,7 @@ TurnsEmptyRing =
     → last.mote.halted ≡ false → last.mote.state.ring ≡ []
 
 -- The packets that were received are, in order, those that lines tell of, each with a line of its own in the same
--- order. Only where the mote halts some are left after those.
+-- order. Only if the mote halts are some left after those.
 pub record AccountsForPackets (receiver : Option ℕ) (lines : List Line) (m : Mote) : Type 0 where
   pub handed : List Arrival
   pub left : List Arrival

@@ -7,8 +7,8 @@ ghost use Rattle.mote_laws.specs.Ring.{TurnsHear, TurnsCollide, RingGoesWithLine
 ghost use Rattle.mote_laws.specs.Ring.{PacketsAreAccountedFor};
 ghost use Rattle.mote_laws.specs.Stamps.{TurnsStamp, PacketsCountUp, TurnsNeverGoBack};
 
-/// Whatever its program is, and whatever turns it takes: each trace of a mote delivers each accepted event, in order;
-/// nothing follows a halt, and only a process that is not listed starts.
+/// Whatever its program is, and whatever turns it takes: each trace of a mote delivers events in the order in which
+/// they were accepted; nothing follows a halt, and only a process that is not listed starts.
 pub fn motes_hand_on()
     ensures { MotesHandOn }
 {}
@@ -31,16 +31,16 @@ pub fn each_turn_bears_its_moment()
     ensures lines { TurnsNeverGoBack }
 {}
 
-/// Each packet that arrives gets its lines, whatever turns a mote takes. Where the mote halts, some packets may be
-/// left after those that were delivered. A program that posts `packet` to the receiver itself writes the same `post`
-/// or `full` line.
+/// Each packet that arrives gets its lines, whatever turns a mote takes. If the mote halts, some packets may be left
+/// after those that were delivered. A program that posts `packet` to the receiver itself writes the same `post` or
+/// `full` line.
 pub fn each_packet_is_handed_on()
     // Each packet that arrives is received (`recv`) or lost (`lost`), unless the packets of the turn collide.
     ensures heard { TurnsHear }
-    // Where they collide, the lines of the turn begin with `collide` for each of them, in order; none is received.
+    // If they collide, the lines of the turn begin with `collide` for each of them, in order; none is received.
     ensures collide { TurnsCollide }
-    // The ring takes a packet at its back where it holds fewer than 8, loses one only where it holds 8, and gives each
-    // up from the front; no `deaf` line stands there for another reason.
+    // The ring takes a packet at its back if it holds fewer than 8, loses one only if it holds 8, and gives each up
+    // from the front; no `deaf` line is written for another reason.
     ensures ring { RingGoesWithLines }
     // After a turn the ring is empty, unless the mote halted in it.
     ensures emptied { TurnsEmptyRing }
@@ -55,11 +55,11 @@ pub fn no_timer_is_forgotten()
     // Each timer on the list has an owner.
     ensures owners { TurnsKeepOwners }
     // A turn at or after the expiration of a listed timer polls etimer in its first kernel run, after the processes
-    // that stand before it on the process list and had asked for a poll. Of each timer that is due then a line of that
-    // turn tells: its owner is posted TIMER (`post`), or the queue was full (`full`).
+    // that stand before it on the process list and had asked for a poll. For each timer that is due then, a line of
+    // that turn says that TIMER was posted to its owner (`post`), or that the queue was full (`full`).
     ensures serves { TurnsServeTimers }
-    // After a turn each listed timer expires later than the turn's moment, or a poll of etimer waits and the mote wakes
-    // at the next moment.
+    // After a turn each listed timer expires later than the turn's moment, or a poll of etimer waits and the mote
+    // wakes at the next moment.
     ensures forgets_none { TurnsForgetNone }
     // The next wake is never later than the next expiration, but for the turn's own moment.
     ensures wakes_in_time { WakesInTime }

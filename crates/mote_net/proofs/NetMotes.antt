@@ -17,7 +17,7 @@ slice_get-map f [] i d h = absurd (omega arith)
 slice_get-map f (x ∷ xs) zero d h = refl
 slice_get-map f (x ∷ xs) (suc i) d h = slice_get-map f xs i d (omega arith)
 
--- the program at an index that is there
+-- the program at an index within the list
 pub program_at-index : (ps : List NamedProgram) (i : ℕ) (d : NamedProgram) → i < length ps → program_at ps i ≡ named_tree (get_or ps i d)
 program_at-index [] i d h = absurd (omega arith)
 program_at-index (p ∷ ps) zero d h = refl

@@ -20,7 +20,7 @@ pub record NetTold : Type 0 where
   pub radio : Radio
   pub motes : List MoteSetup
 
--- stands for a program that isn't there, which no net has
+-- the default for a program that doesn't exist, which no net has
 abbrev pub no_program : NamedTree
 no_program = record {
   name = [];

@@ -1,6 +1,6 @@
 //! A net as it is simulated: the last moment, the medium with the places of the motes, and for each mote its program
 //! and the length of its queue. It knows no text: `net_scenario` reads one into a net, and the crates that run a net
-//! stand on this one, so that they wait for no reader.
+//! depend on this one, so that they wait for no reader.
 #![tactic(auto)]
 
 mod net;

@@ -31,7 +31,7 @@ pub struct Net {
     ghost fit: { IsTrue (list_all (is_mote_of (length programs.items)) motes.items) },
 }
 
-/// By hand, so that a net is dropped by one call: the check of a function that owns one sees no more of it.
+/// By hand, so that a net is dropped by one call: the check of a function that owns one sees that call alone.
 impl Drop for Net {
     fn drop(self) {
         let Net {
@@ -110,7 +110,7 @@ impl Net {
         self.motes.len() as u16
     }
 
-    /// The program of a mote that is there.
+    /// The program of a mote of the net.
     pub fn program(&self, mote: u16) -> &Program
         requires { mote < length (net_of self.now).motes }
         ensures { option_map (λ m. m.tree) (slice_get (net_of self.now).motes mote) ≡ Some (tree_of result.now) }
@@ -119,7 +119,7 @@ impl Net {
         &self.programs[place].program
     }
 
-    /// The name of the program of a mote that is there.
+    /// The name of the program of a mote of the net.
     pub fn program_name(&self, mote: u16) -> &str
         requires { mote < length (net_of self.now).motes }
         ensures { option_map (λ m. m.program) (slice_get (net_of self.now).motes mote) ≡ Some result.now }
@@ -128,7 +128,7 @@ impl Net {
         self.programs[place].name.as_str()
     }
 
-    /// How many events the queue of a mote that is there holds.
+    /// How many events the queue of a mote of the net holds.
     pub fn queue(&self, mote: u16) -> u16
         requires { mote < length (net_of self.now).motes }
         ensures value { option_map (λ m. m.queue) (slice_get (net_of self.now).motes mote) ≡ Some result }

@@ -95,6 +95,6 @@ heard_lost moment packets later any first (Some m) out e b h =
     let some : false ≡ nat_lt (ring_of first) (length m.state.ring) = let P : Underway → Type 0 = λ v. false ≡ nat_lt (ring_of first) (ring_of v) in subst P (sym same) (sym b ∙ h.told) in
     rw (all, ← some) refl
 
--- behind the last packet there is none
+-- after the last packet there is none
 pub at_end : {A : Type 0} (k : ℕ) (xs : List A) → length xs ≤ k → drop k xs ≡ []
 at_end k xs h = grind (arith, common_steps)

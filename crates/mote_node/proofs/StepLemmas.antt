@@ -6,7 +6,7 @@ use Rattle.mote_node.specs.Underway.{with_mote}
 use Rattle.mote_node.specs.Steps.{GoesOn}
 pub use Rattle.process_kernel.proofs.Steps.{underway, from_none, from_some, kernel_step}
 
--- a choice that is made
+-- a condition that is known
 pub if_true : {A : Type 0} (b : Bool) (x y : A) → true ≡ b → (if b then x else y) ≡ x
 if_true true x y h = refl
 if_true false x y h = cc

@@ -12,7 +12,7 @@ use Rattle.mote_node.specs.Steps.{underway_in, GoesOn}
 use Rattle.mote_node.specs.Turn.{boot_due, poll_due, most_runs, runs_of, work_of, mote_turn}
 use Rattle.mote_node.proofs.StepLemmas.{underway, if_true, if_false, mote_step}
 
--- what a reader of the mote tells, told of the turn under way
+-- whether the mote has halted, read from its kernel, holds for the turn under way
 pub halted_at : (old : Option Mote) (out : Out) (u : Underway) (b : Bool) → IfSome old (λ m. b ≡ m.halted) → underway_in old out ≡ Some u → b ≡ u.mote.halted
 halted_at None out u b h is = cc
 halted_at (Some m) out u b h is =

@@ -16,7 +16,7 @@ lost_line moment a = record { at = moment; what = what.Lost a.sender a.number }
 abbrev pub collision_line : (moment : ℕ) → Arrival → Line
 collision_line moment a = record { at = moment; what = what.Collide a.sender a.number }
 
--- a packet goes into the receive ring, or is lost where the ring is full
+-- a packet goes into the receive ring, or is lost if the ring is full
 unfoldable pub hear : (moment : ℕ) → Arrival → Underway → Underway
 hear moment a u =
     if has_room u.mote then with_lines (with_mote u (with_packet u.mote a)) (received_line moment a ∷ [])
@@ -31,7 +31,7 @@ hear_each moment (a ∷ later) u = hear_each moment later (hear moment a u)
 abbrev pub took_some : Mote → Mote → Bool
 took_some old new = nat_lt (length old.state.ring) (length new.state.ring)
 
--- the radio process is polled where the ring took any packet
+-- the radio process is polled if the ring took any packet
 unfoldable pub hear_all : (moment : ℕ) → List Arrival → Underway → Underway
 hear_all moment arrivals u =
     let heard = hear_each moment arrivals u in

@@ -1,4 +1,4 @@
--- What the calls of a `Mote` tell.
+-- What the calls of a `Mote` promise.
 use Rattle.std.specs.Prelude.{ℕ, Bool, false, if◌then◌else◌, Option, Some, None, option_map}
 use Rattle.program_tree.specs.Code.{Tree}
 use Rattle.trace_lines.specs.declared.out.Out.{Out}
@@ -13,15 +13,15 @@ use Rattle.mote_node.specs.Turn.{TurnGiven}
 abbrev pub node_over : (last : Option ℕ) → (collides : Bool) → Mote → Node
 node_over last collides m = record { mote = m; last = last; collides = collides }
 
--- The node that a `Mote` holds, where its program is this, also once it has failed.
+-- The node that a `Mote` with this program holds, even after it has failed.
 unfoldable pub node_held : Tree → MoteOfCode → Node
 node_held t m = node_over m.last m.collide (held_in t m.kernel.value)
 
--- The node that a `Mote` is, where its program is this; one that was out of memory is none.
+-- The node that a `Mote` with this program is; one that ran out of memory is none.
 unfoldable pub node_in : Tree → MoteOfCode → Option Node
 node_in t m = if m.failed then None else option_map (node_over m.last m.collide) (mote_in t m.kernel.value)
 
--- what failed wakes no more
+-- a mote that has failed wakes no more
 abbrev pub wake_in : Option Node → Option ℕ
 wake_in None = None
 wake_in (Some n) = wake_of n
@@ -31,10 +31,10 @@ abbrev pub is_past_in : (moment : ℕ) → Option Node → Bool
 is_past_in moment None = false
 is_past_in moment (Some n) = is_past moment n.last
 
--- what a turn told, with the next wake
+-- what a turn wrote, with the next wake
 abbrev pub told_with : Out → (wake : Option ℕ) → TurnOut
 told_with out wake = record { lines = out.lines; sends = out.sends; wake = wake }
 
--- what a turn told, and the node that it left
+-- what a turn gave, and the node that it left
 abbrev pub turn_told : TurnOut → Node → TurnGiven
 turn_told out n = record { node = n; lines = out.lines.items; sends = out.sends.items; wake = out.wake }

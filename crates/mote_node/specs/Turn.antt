@@ -22,7 +22,7 @@ abbrev pub is_some_due : (moment : ℕ) → (expiration : Option ℕ) → Bool
 is_some_due moment None = false
 is_some_due moment (Some expiration) = nat_le expiration moment
 
--- the etimer process is polled where a timer is due by now
+-- the etimer process is polled if a timer is due by now
 unfoldable pub poll_due : (moment : ℕ) → Mote → Mote
 poll_due moment m = if is_some_due moment (next_expiration_of m.state.timers) then with_poll m Etimer else m
 
@@ -38,7 +38,7 @@ work_of moment arrivals u =
 unfoldable pub mote_turn : (moment : ℕ) → List Arrival → Underway → Underway
 mote_turn moment arrivals u = let booted = boot_due moment u in turn_goes_on booted (work_of moment arrivals booted)
 
--- the turn of a mote in a net: where packets collide, and that is asked for, it has none of them
+-- the turn of a mote in a net: if packets that collide are to be lost, and these collide, it gets none of them
 unfoldable pub net_turn : (collides : Bool) → (moment : ℕ) → List Arrival → Underway → Underway
 net_turn collides moment arrivals u =
     if collides && is_collision u.mote arrivals then mote_turn moment [] (with_collisions moment arrivals u)

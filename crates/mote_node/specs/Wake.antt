@@ -4,8 +4,8 @@ use Rattle.mote_timers.specs.TimerLists.{next_expiration_of}
 use Rattle.process_kernel.specs.Mote.{Mote, is_pending}
 use Rattle.mote_node.specs.Node.{Node}
 
--- After a turn at this moment: the next moment, where events or polls are left; else when the first timer is due, but
--- not before the next moment; else none.
+-- After a turn at this moment: the next moment, if events or polls are left; else when the first timer is due, but not
+-- before the next moment; else none.
 unfoldable pub wake_after : (moment : ℕ) → Mote → Option ℕ
 wake_after moment m =
     if is_pending m then Some (moment + 1) else option_map (λ due. max (moment + 1) due)

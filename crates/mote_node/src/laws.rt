@@ -7,8 +7,8 @@ pub fn wakes_later()
     ensures { WakesLater }
 {}
 
-/// A node that has not halted wakes when its first timer is due, or before: at the moment after its turn, where the
-/// timer is due by then.
+/// A node that has not halted wakes when its first timer is due, or before: at the moment after its turn, if the timer
+/// is due by then.
 pub fn wakes_in_time()
     ensures { WakesInTime }
 {}

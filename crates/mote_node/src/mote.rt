@@ -22,7 +22,7 @@ use std::{fmt, mem};
 pub enum MoteError {
     /// Out of memory: an allocation failed.
     Memory = 1,
-    /// An earlier turn was out of memory.
+    /// An earlier turn ran out of memory.
     Failed = 2,
     /// The moment isn't above that of the last turn.
     Past = 3,
@@ -74,7 +74,7 @@ pub struct Mote {
     ghost running: { (t : Tree) → failed ≡ false → IsSome (mote_in t kernel.value) } by { Prim.hlevel props },
 }
 
-/// By hand, so that a mote is dropped by one call: the check of a function that owns one sees no more of it.
+/// By hand, so that a mote is dropped by one call: the check of a function that owns one sees that call alone.
 impl Drop for Mote {
     fn drop(self) {
         let Mote {
@@ -87,7 +87,7 @@ impl Drop for Mote {
     }
 }
 
-/// When a mote wakes after its turn at this moment, where it has not halted.
+/// When a mote that has not halted wakes after its turn at this moment.
 #[tactic(auto, unfolding(crate::specs::Wake::wake_after))]
 fn wake_after(kernel: &Kernel, moment: u64) -> Option<u64>
     requires { moment ≤ 2 ^ 40 }
@@ -156,7 +156,7 @@ impl Mote {
         self.kernel.number()
     }
 
-    /// Whether packets that arrive together are lost. They aren't, before this is called.
+    /// Sets whether packets that arrive together are lost. They aren't, before this is called.
     #[tactic(auto, unfolding(crate::specs::Public::node_in, crate::specs::Public::node_held))]
     pub fn set_collide(&mut self, collide: bool)
         ensures node { (t : Tree) → node_in t self.new ≡ option_map (with_collide collide) (node_in t self.old) }
@@ -183,8 +183,8 @@ impl Mote {
     /// mote.
     ///
     /// # Errors
-    /// In this order: `Failed` after a turn that was out of memory, for good; `Past` where the moment isn't above that
-    /// of the last turn, and nothing changes. `Memory` only where an allocation failed.
+    /// In this order: `Failed` after a turn that ran out of memory, for good; `Past` if the moment isn't above that of
+    /// the last turn, and nothing changes. `Memory` only if an allocation failed.
     #[tactic(auto, unfolding(crate::specs::Public::node_in, crate::specs::Turn::turn_of))]
     pub fn turn(
         &mut self,
@@ -212,8 +212,8 @@ impl Mote {
         Ok(TurnOut { lines, sends, wake })
     }
 
-    /// The turn that `turn` answers: its lines and packets take the place of what `out` had, in the room that this
-    /// has, and the answer is when the mote wakes next. After an error `out` may have anything.
+    /// The same turn as `turn`: its lines and packets replace what `out` had, in the memory of `out`, and the next
+    /// wake is returned. After an error the content of `out` is unspecified.
     ///
     /// # Errors
     /// Those of `turn`.

@@ -59,7 +59,7 @@ fn hear_or_lose(
     Ok(heard)
 }
 
-/// The packets go into the ring in their order. Where any does, the radio process is to be polled.
+/// The packets go into the ring in their order. If any does, the radio process is to be polled.
 fn hear_all(
     kernel: &mut Kernel,
     moment: u64,
@@ -80,7 +80,7 @@ fn hear_all(
     Ok(())
 }
 
-/// Where a timer is due, the etimer process is to be polled.
+/// If a timer is due, the etimer process is to be polled.
 #[tactic(auto, unfolding(crate::specs::Turn::poll_due))]
 fn poll_due(kernel: &mut Kernel, moment: u64)
     ensures { (t : Tree) → mote_in t kernel.new ≡ option_map (poll_due moment) (mote_in t kernel.old) }
@@ -146,7 +146,7 @@ fn write_collisions(moment: u64, packets: &[Arrival], out: &mut Out) -> Result<(
     Ok(())
 }
 
-/// The turn of a mote in a net: where packets collide, and that is asked for, it has none of them.
+/// The turn of a mote in a net: if packets that collide are to be lost, and these collide, it gets none of them.
 #[tactic(auto, unfolding(crate::specs::Turn::net_turn))]
 pub fn turn_in_net(
     kernel: &mut Kernel,

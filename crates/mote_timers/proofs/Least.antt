@@ -1,4 +1,4 @@
--- The least number of a list, met one by one.
+-- The least number of a list, found one element at a time.
 use Rattle.std.proofs.Common.{◌≡◌, ℕ, ◌+◌, ◌<◌, min, List, [], ◌∷◌, ◌++◌, length, get_or, take, map, Option, Some, None, refl, ap, arith}
 use Rattle.std.specs.Option.{option_map_or}
 use Rattle.std.proofs.lemmas.List.{take_more, map-append}
@@ -17,7 +17,7 @@ pub least_more : (f : ℕ → ℕ) (xs : List ℕ) (i : ℕ) → i < length xs
     → least (map f (take (i + 1) xs)) ≡ Some (option_map_or (λ best. min best (f (get_or xs i 0))) (least (map f (take i xs))) (f (get_or xs i 0)))
 least_more f xs i within = rw (take_more xs i 0 within, map-append) (least_push (map f (take i xs)) (f (get_or xs i 0)))
 
--- a loop's pass: r is the sooner of the best so far and of the next
+-- one iteration of a loop: r is the sooner of the best so far and the next
 pub least_step : (f : ℕ → ℕ) (xs : List ℕ) (i : ℕ) (best : Option ℕ) (e r : ℕ) → i < length xs → best ≡ least (map f (take i xs)) → e ≡ f (get_or xs i 0)
     → r ≡ option_map_or (λ earlier. min earlier e) best e → Some r ≡ least (map f (take (i + 1) xs))
 least_step f xs i best e r within so_far next sooner = rw (least_more f xs i within, ← next, ← so_far) (ap Some sooner)

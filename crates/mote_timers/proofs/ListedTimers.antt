@@ -1,4 +1,4 @@
--- What holds of every timer list, and stays so.
+-- What holds of every timer list, and that calls keep it.
 use Rattle.std.proofs.Common.{◌≡◌, ◌≢◌, ℕ, ◌≤◌, ◌^◌, ◌==◌, Bool, true, not, List, [], ◌∷◌, set, ◌∙◌}
 use Rattle.std.specs.List.{AllByRecursion, filter}
 use Rattle.std.specs.Option.{IsSome}

@@ -61,7 +61,7 @@ module _ (n : ℕ) where
 pub same_numbers : (a b : Numbers) → a.members ≡ b.members → a.limit ≡ b.limit → a ≡ b
 same_numbers a b same_members same_limit = ap (λ ks. numbers ks a.limit) same_members ∙ ap (λ n. numbers b.members n) same_limit
 
--- what the code asked of a list holds of the same list by its fields
+-- what the code found about a list holds of an equal list
 pub lacks : (s t : Numbers) (k : ℕ) (answer : Bool) → s ≡ t → answer ≡ is_member k t.members → answer ≡ false → is_member k s.members ≡ false
 lacks s t k answer same told missing = ap (λ (l : Numbers). is_member k l.members) same ∙ sym told ∙ missing
 

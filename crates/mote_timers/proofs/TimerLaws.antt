@@ -116,7 +116,7 @@ due_from_set s id owner interval now calls within stays rests moment =
 
 -- ---- the next expiration
 
--- a least number is at most the limit where its first or its rest is
+-- the least number of a list is at most a limit if its first is, or the least of the rest
 least_below : (x m : ℕ) (rest : Option ℕ) → IsSomeAnd rest (λ e. e ≤ m) → option_map_or (min x) rest x ≤ m
 least_below x m None h = absurd h
 least_below x m (Some y) h = omega arith

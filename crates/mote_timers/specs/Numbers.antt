@@ -19,7 +19,7 @@ numbers ks n = record { members = ks; limit = n }
 abbrev pub is_member : ℕ → List ℕ → Bool
 is_member k ks = list_any (nat_eq k) ks
 
--- a newcomer goes to the front, and one that is there keeps its place
+-- a new number goes to the front; one that is there keeps its place
 abbrev pub with_member : ℕ → List ℕ → List ℕ
 with_member k ks = if is_member k ks then ks else k ∷ ks
 

@@ -57,7 +57,7 @@ NoneStarts id (call ∷ calls) = (Starts id call → ⊥) × NoneStarts id calls
 abbrev pub IsDue : TimerLists → ℕ → ℕ → Type 0
 IsDue s id moment = IsTrue (is_member id s.listed) × (expiration (timer_at s.timers id) ≤ moment)
 
--- whatever calls came, each timer stands on the list at most once
+-- after any calls, each timer stands on the list at most once
 abbrev pub ListedOnce : Type 0
 ListedOnce = (n : ℕ) (calls : List TimerCall) → IsDistinct nat_eq (after_calls (new_timers n) calls).listed
 
@@ -73,7 +73,7 @@ DueFromExpiration =
     → let t : TimerLists = after_calls (set_timer s id owner interval now) calls in
     (moment : ℕ) → IsDue t id moment ↔ (expiration (timer_at t.timers id) ≤ moment)
 
--- and where none set it again either, from the start and the interval that it was given
+-- and if no call set it again either, from the start and the interval that it was given
 abbrev pub DueFromSet : Type 0
 DueFromSet =
     (s : TimerLists) (id : ℕ) (owner : Proc) (interval now : ℕ) (calls : List TimerCall)

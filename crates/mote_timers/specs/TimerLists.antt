@@ -13,7 +13,7 @@ pub record TimerLists : Type 0 where
   pub timers : List Timer
   pub listed : List ℕ
 
--- the timer of this number; a number of no timer stands for one that was never set
+-- the timer with this number; any other number stands for a timer that was never set
 abbrev pub timer_at : List Timer → ℕ → Timer
 timer_at ts id = slice_index_or ts id unset
 
@@ -34,7 +34,7 @@ with_timer s id t = record { timers = slice_set s.timers id t; listed = with_mem
 unfoldable pub set_timer : TimerLists → ℕ → Proc → ℕ → ℕ → TimerLists
 set_timer s id owner interval now = with_timer s id (record { start = now; interval = interval; owner = Some owner })
 
--- from the moment at which it was due, up to the latest start
+-- the timer starts at the moment at which it was due, or at the latest start if that is sooner
 unfoldable pub reset_timer : TimerLists → ℕ → Proc → TimerLists
 reset_timer s id owner = with_timer s id
     (record { start = min (expiration t) (2 ^ 62); interval = t.interval; owner = Some owner })
@@ -60,12 +60,12 @@ purge_timers s p = record {
   listed = filter (λ id. not (is_owned_by p (timer_at s.timers id))) s.listed;
 }
 
--- what stands behind a member, or the whole list
+-- what stands after a member, or the whole list
 abbrev pub behind : Option ℕ → List ℕ → List ℕ
 behind None ids = ids
 behind (Some id) ids = after_first (λ other. other == id) ids
 
--- the first timer on the list, behind the given one, that is due
+-- the first timer on the list, after the given one, that is due
 unfoldable pub first_due : TimerLists → ℕ → Option ℕ → Option ℕ
 first_due s now after = find (λ id. is_due now (timer_at s.timers id)) (behind after s.listed)
 

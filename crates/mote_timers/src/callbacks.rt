@@ -8,7 +8,7 @@ use std::alloc::{AllocError, Global};
 use std::marker::Model;
 
 /// The callback list of a mote: the callback timers that are set and whose callback hasn't run (`ctimer_list` of
-/// `ctimer.c`). All its memory is taken by `new`.
+/// `ctimer.c`). `new` allocates all its memory.
 #[derive(Drop)]
 pub struct Callbacks {
     waiting: NumberList,
@@ -32,7 +32,7 @@ impl Callbacks {
         })
     }
 
-    /// Puts a timer's callback on the list, where it goes to the front. One that is there keeps its place.
+    /// Puts a timer's callback at the front of the list. One that is there keeps its place.
     pub fn put(&mut self, id: u16)
         requires { id < self.old.limit }
         ensures { self.new ≡ numbers (with_member id self.old.members) self.old.limit }
@@ -40,7 +40,7 @@ impl Callbacks {
         self.waiting.add(id);
     }
 
-    /// Takes a timer's callback off the list, and answers whether it was there.
+    /// Takes a timer's callback off the list, and returns whether it was there.
     pub fn remove(&mut self, id: u16) -> bool
         requires { id < self.old.limit }
         ensures was_there { result ≡ is_member id self.old.members }

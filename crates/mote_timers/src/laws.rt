@@ -1,9 +1,9 @@
-//! Laws of the timers. Each is the contract of a function that does nothing.
+//! Laws of the timers: theorems, each stated as the contract of an empty function.
 
 ghost use Rattle.mote_timers.specs.TimerCalls.{ListedOnce, KeepsTimers, DueFromExpiration, DueFromSet};
 ghost use Rattle.mote_timers.specs.TimerCalls.{DueFromNextExpiration};
 
-/// Whatever calls came, a timer stands on the timer list at most once, and so a walk along it comes to an end.
+/// After any calls, a timer stands on the timer list at most once, and so a walk along it comes to an end.
 pub fn listed_once()
     ensures { ListedOnce }
 {}
@@ -14,7 +14,7 @@ pub fn timers_stay()
 {}
 
 /// A timer that was set, and neither fired nor stopped nor purged since, is due exactly from its start plus its
-/// interval on. Where it wasn't set again either, these are the start and the interval that it was given.
+/// interval on. If it wasn't set again either, these are the start and the interval that it was given.
 pub fn due_from_expiration()
     ensures last_set { DueFromExpiration }
     ensures set_once { DueFromSet }

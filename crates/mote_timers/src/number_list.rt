@@ -8,7 +8,7 @@ ghost use Rattle.mote_timers.specs.Numbers.{AreNumbers, numbers, is_member, with
 use std::alloc::{AllocError, Global};
 use std::marker::Model;
 
-/// A list of numbers, each at most once and below the limit. `new` takes all its memory.
+/// A list of numbers, each at most once and below the limit. `new` allocates all its memory.
 #[derive(Drop)]
 pub struct NumberList {
     members: Vec<u16>,
@@ -59,7 +59,7 @@ impl NumberList {
         }
     }
 
-    /// Keeps the numbers at which the closure gives true.
+    /// Keeps the numbers for which the closure returns true.
     pub fn retain<F: FnMut(&u16) -> bool>(&mut self, keep: F)
         requires { F.IsAlwaysCallable keep }
         ensures kept { IsFiltered (CalledAt F.FnMut) keep self.old.members self.new.members }

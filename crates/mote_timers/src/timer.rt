@@ -14,7 +14,7 @@ pub struct Timer {
     pub owner: Option<Proc>,
 }
 
-/// The latest start that `reset` gives a timer, 2 to the 62.
+/// The latest start that `reset` gives a timer.
 pub const LATEST_START: u64 = 1 << 62;
 
 impl Timer {

@@ -16,8 +16,8 @@ use program_tree::Proc;
 use std::alloc::{AllocError, Global};
 use std::marker::Model;
 
-/// The timers of a mote, by number, and its timer list (`timerlist` of `etimer.c`), on which those stand that are set
-/// and whose event isn't posted yet; stopped and purged ones are off it. All memory is taken by `new`.
+/// The timers of a mote, by number, and its timer list (`timerlist` of `etimer.c`): those that are set and whose event
+/// isn't posted yet, but not stopped and purged ones. `new` allocates all its memory.
 #[derive(Drop)]
 pub struct Timers {
     timers: Vec<Timer>,
@@ -35,7 +35,7 @@ impl Model for Timers {
 }
 
 impl Timers {
-    /// The timers 0 to n - 1, none of which was set yet.
+    /// The timers 0 to n - 1, none of which is set yet.
     #[tactic(auto, unfolding(crate::specs::TimerLists::new_timers))]
     pub fn new(alloc: Global, n: u16) -> Result<Timers, AllocError>
         ensures new { IfOk result (λ timers. timers ≡ new_timers n) }
@@ -113,7 +113,7 @@ impl Timers {
         self.timers[usize::from(id)].owner.is_none()
     }
 
-    /// The first timer on the list that is due now, with its owner; where `after` is given, the first behind it.
+    /// The first timer on the list that is due now, with its owner; if `after` is given, the first after that one.
     #[tactic(auto, unfolding(crate::specs::TimerLists::first_due))]
     pub fn next_due(&self, now: u64, after: Option<u16>) -> Option<(u16, Proc)>
         requires moment { now ≤ 2 ^ 40 }
@@ -148,7 +148,7 @@ impl Timers {
         self.listed.retain(|id| !is_owned(timers, *id, owner));
     }
 
-    /// The earliest moment at which a timer on the list is due, if one is there.
+    /// The earliest moment at which a timer on the list is due, if there is one on it.
     #[tactic(auto, unfolding(crate::specs::TimerLists::next_expiration_of))]
     pub fn next_expiration(&self) -> Option<u64>
         ensures { result ≡ next_expiration_of self.now }
@@ -167,7 +167,7 @@ impl Timers {
     }
 }
 
-/// The first timer on the list, behind the given one, that is due.
+/// The first timer on the list, after the given one, that is due.
 fn first_due_behind(timers: &[Timer], listed: &[u16], after: Option<u16>, now: u64) -> Option<u16>
     requires are_timers { All (λ id. id < length timers.now) listed.now }
     requires once { IsDistinct nat_eq listed.now }
@@ -179,7 +179,7 @@ fn first_due_behind(timers: &[Timer], listed: &[u16], after: Option<u16>, now: u
     first_due_of(timers, listed_behind(listed, after), now)
 }
 
-/// The part of the list behind a member of it, or the whole list.
+/// The part of the list after a member of it, or the whole list.
 fn listed_behind(listed: &[u16], after: Option<u16>) -> &[u16]
     ensures { result.now ≡ behind after listed.now }
 {
@@ -230,7 +230,7 @@ fn sooner(best: Option<u64>, moment: u64) -> u64
     best.map_or(moment, |earlier| earlier.min(moment))
 }
 
-/// Whether this timer is the process's; a number of no timer is nobody's.
+/// Whether the process owns this timer. Nobody owns a number without a timer.
 fn is_owned(timers: &[Timer], id: u16, owner: Proc) -> bool
     ensures { result ≡ is_owned_by owner (timer_at timers.now id) }
 {

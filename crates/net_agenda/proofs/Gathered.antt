@@ -222,7 +222,7 @@ filled_some (x ∷ xs) d e = refl
 pub any_from_some : (t m : ℕ) (items : List Item) (d : Due) → due_of t m items ≡ Some d → list_any (comes_at t m) items ≡ true
 any_from_some t m items d e = sym (filled_any (comes_at t m) items) ∙ filled_some (filter (comes_at t m) items) d e
 
--- where two lists have the same due, something comes in one where it does in the other
+-- if two lists have the same due, something comes in one exactly if it does in the other
 pub any_same : (t m : ℕ) (xs ys : List Item) → due_of t m xs ≡ due_of t m ys → list_any (comes_at t m) xs ≡ list_any (comes_at t m) ys
 any_same t m xs ys e = sym (filled_any (comes_at t m) xs) ∙ (both _ _ e ∙ filled_any (comes_at t m) ys)
   where

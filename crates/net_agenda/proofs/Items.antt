@@ -90,7 +90,7 @@ not_wakes [] = refl
 not_wakes (Wake u k ∷ xs) = not_wakes xs
 not_wakes (Packet c ∷ xs) = ap (λ l. Packet c ∷ l) (not_wakes xs)
 
--- what is due, told as items again
+-- what is due, as items again
 abbrev told : (t m : ℕ) → Due → List Item
 told t m due = replicate due.wakes (Wake t m) ++ map Packet (map (copy_at t m) due.copies)
 

@@ -100,7 +100,7 @@ put_more old new t c b cs items holds at more falls updates =
     ready : (d : Bucket) → Some b ≡ Some d → IsReady d
     ready d e = let f : b ≡ d = cc in subst IsReady f (record { filled = ap is_nothing more ∙ not_none cs c; falls = falls })
 
--- a bucket of which something was taken out, and which goes where nothing is left in it
+-- a bucket from which something was taken out, and which is removed if nothing is left in it
 
 abbrev pub left_of : Bucket → Option Bucket
 left_of b = if is_nothing b.coming.items then None else Some b
@@ -225,7 +225,7 @@ none_unwoken old t k items holds none one = record {
     place : (t k u m : ℕ) → (eqb t u && eqb k m) ≡ true → t ≡ u
     place t k u m e = grind (arith, nat_tests)
 
--- what is to come first
+-- the first pending event
 
 pub there_of : (buckets : Buckets) (t m : ℕ) (b : Bucket) (items : List Item) → Holds buckets items → get nat_cmp buckets t ≡ Some b → first_mote b ≡ Some m → list_any (comes_at t m) items ≡ true
 there_of buckets t m b items holds found first =

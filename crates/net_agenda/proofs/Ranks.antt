@@ -1,4 +1,4 @@
--- What is to come first comes later and later: its place rises, up to the last place before an end.
+-- The first pending event comes later and later: its place rises, up to the last place before an end.
 use Rattle.std.proofs.Common.{◌≡◌, ℕ, suc, ◌+◌, ◌-◌, ◌*◌, ◌<◌, ◌≤◌, true, not, ◌&&◌, ◌||◌, ltb, eqb, List, [], ◌∷◌, sym, ap, ◌∙◌, refl, subst, arith, Option, Some, None, option_map, slice_get, inl, inr, suc-mul, ◌⊎◌}
 use Rattle.std.specs.List.{list_any, AllByRecursion}
 use Rattle.std.specs.Map.{lookup}
@@ -14,7 +14,7 @@ use Rattle.window_laws.proofs.Lists.{any_every}
 use Rattle.net_agenda.proofs.Keys.{same_number}
 use Rattle.net_agenda.proofs.Moments.{there_of}
 
--- how many turns there may still be, where this is to come first
+-- how many turns may still follow, if this is the place of the first pending event
 abbrev pub turns_left : (motes end : ℕ) → Option (ℕ × ℕ) → ℕ
 turns_left motes end None = 0
 turns_left motes end (Some key) = suc end * motes - (key.0 * motes + key.1)
@@ -47,7 +47,7 @@ first_due buckets items u k holds e = of buckets.entries refl (e)
             let same : ◌≡◌ {A = ℕ × ℕ} (t, m) (u, k) = cc in
             subst (λ p. list_any (comes_at p.0 p.1) items ≡ true) same (there_of buckets t m b items holds found h)
 
--- what is to come first is later, where nothing is left up to a place
+-- the first pending event is later, if nothing is left up to a place
 pub left_falls : (motes end t m : ℕ) (items : List Item) (old new : Option (ℕ × ℕ)) (buckets : Buckets) → old ≡ Some (t, m) → m < motes → t ≤ end
     → AllByRecursion (λ item. is_from t (suc m) item ≡ true) items → Holds buckets items → new ≡ first_key buckets
     → turns_left motes end new < turns_left motes end old

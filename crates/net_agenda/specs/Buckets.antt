@@ -90,7 +90,7 @@ least_from least (first ∷ rest) = least_from (lower_mote least (goes_to first)
 abbrev pub least_mote : List Coming → Option ℕ
 least_mote all = least_from None all
 
--- the least mote, which is that of the last where the motes fall
+-- the least mote, which is that of the last if the motes fall
 abbrev pub first_mote : Bucket → Option ℕ
 first_mote bucket =
     let all = bucket.coming.items in
@@ -134,8 +134,8 @@ due_in buckets moment mote = due_of moment mote (items_at buckets moment)
 abbrev pub is_here : (moment mote t k : ℕ) → Bool
 is_here moment mote t k = (moment == t) && (mote == k)
 
--- the buckets hold the items of this agenda: each has all that is due there, no bucket is empty, and the motes of one
--- that says so fall
+-- the buckets hold the items of this agenda: each has all that is due there, no bucket is empty, and a bucket that
+-- says so falls by mote
 pub record Holds (buckets : Buckets) (items : List Item) : Type 0 where
   pub due : (moment mote : ℕ) → due_in buckets moment mote ≡ due_of moment mote items
   pub ready : (moment : ℕ) (bucket : Bucket) → get nat_cmp buckets moment ≡ Some bucket → IsReady bucket
@@ -151,7 +151,7 @@ abbrev pub is_none_left : List Arrival → Bool
 is_none_left [] = true
 is_none_left (a ∷ rest) = false
 
--- without the wake, where packets are left
+-- without the wake, if packets are left
 abbrev pub without_wake : Option Due → Option Due
 without_wake None = None
 without_wake (Some due) = if is_none_left due.copies then None else Some (record due { wakes = 0 })

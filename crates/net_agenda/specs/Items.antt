@@ -8,11 +8,11 @@ use Rattle.net_agenda.specs.declared.bucket.Bucket.{Bucket}
 use Rattle.window_laws.specs.Agenda.{Item, comes_at, packets}
 use Rattle.net_agenda.specs.Buckets.{Buckets, is_wake, item_at}
 
--- the copy of which a mote is given this at a moment
+-- the copy from which a mote is given this at a moment
 abbrev pub copy_at : (moment mote : ℕ) → Arrival → RadioCopy
 copy_at moment mote a = record { at = moment; to = mote; sender = a.sender; number = a.number; value = a.value }
 
--- the items of one bucket: wakes and packets, as they stand there
+-- the items of one bucket: wakes and packets, in the order of the bucket
 abbrev pub bucket_items : (moment : ℕ) → Bucket → List Item
 bucket_items moment bucket = map (item_at moment) bucket.coming.items
 
@@ -28,8 +28,8 @@ is_wake_at moment mote item = comes_at moment mote item && is_wake item
 abbrev pub WakesDiffer : List Item → Type 0
 WakesDiffer items = (moment mote : ℕ) → length (filter (is_wake_at moment mote) items) ≤ 1
 
--- The same items: each packet as often, and a wake of a mote at a moment in the one list where there is one in the
--- other. Where no mote has two wakes at one moment, ys is a permutation of xs.
+-- The same items: each packet as often, and a wake of a mote at a moment in the one list if there is one in the other.
+-- If no mote has two wakes at one moment, ys is a permutation of xs.
 pub record AreSameItems (xs ys : List Item) : Type 0 where
   pub same_packets : IsPermutation (packets xs) (packets ys)
   pub same_wakes : (moment mote : ℕ) → list_any (is_wake_at moment mote) xs ≡ list_any (is_wake_at moment mote) ys

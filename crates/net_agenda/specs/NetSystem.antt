@@ -12,7 +12,7 @@ use Rattle.mote_net.specs.Net.{MoteSetup, NetTold, no_program}
 use Rattle.window_laws.specs.System.{System, Turned}
 use Rattle.net_agenda.specs.Arrivals.{arrival_of}
 
--- stands for a mote past the last one, which never turns
+-- the default for a mote past the last one, which never takes a turn
 abbrev pub no_mote : MoteSetup
 no_mote = record { program = no_program.name; tree = no_program.tree; queue = 1 }
 

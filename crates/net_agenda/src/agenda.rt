@@ -64,7 +64,7 @@ impl Agenda {
     }
 
     /// Adds a packet on its way, and those after it that come at the same moment, up to the first one that doesn't.
-    /// Returns how many of these there were.
+    /// Returns how many of `later` were added.
     fn put_same_copies(
         &mut self,
         copy: &RadioCopy,
@@ -94,8 +94,9 @@ impl Agenda {
         Ok(())
     }
 
-    /// Adds the copy of a packet that has this fate, where it isn't lost, and then those with the fates after it, up to
-    /// the first one that comes at another moment. Returns how many fates after it it went through.
+    /// Adds the copy of a packet with this fate, and then those with the fates after it, up to the first one that
+    /// comes at another moment. Lost copies among these are passed over; if the first one is lost, nothing is added.
+    /// Returns how many of `later` it went through.
     fn put_same_fates(
         &mut self,
         sent: &Sent,
@@ -163,7 +164,7 @@ impl Agenda {
         Ok(())
     }
 
-    /// Takes out all pending events of a mote at a moment. Its packets take the place of what the list has, in order.
+    /// Takes out all pending events of a mote at a moment. Its packets replace what the list has, in order.
     pub fn take_due_into(
         &mut self,
         moment: u64,

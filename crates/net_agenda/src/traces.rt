@@ -6,14 +6,14 @@ ghost use Rattle.net_agenda.specs.Traces.{AddsLines};
 use process_kernel::Line;
 use std::alloc::AllocError;
 
-/// How many lines a short trace has at most.
+/// A trace with fewer lines than this is short.
 const SHORT: usize = 64;
 
-/// How many lines a long trace has room for. So much memory (128 KiB) comes from the system as whole pages: those that
-/// no line is written to cost nothing, and a trace that grows keeps its pages, so that its lines aren't copied.
+/// How many lines a long trace has room for. This much memory (128 KiB) comes from the system as whole pages: those
+/// that no line is written to cost nothing, and a trace that grows keeps its pages, so that its lines aren't copied.
 const LONG: usize = 4_096;
 
-/// Makes room for more lines, where there is none. A short trace gets room for four times its lines, since they are
+/// Makes room for more lines, if there is none. A short trace gets room for four times its lines, since they are
 /// copied then; one that isn't short gets all the room of a long one at once, and a long one grows as a list does.
 fn make_room(trace: &mut Vec<Line>, more: usize) -> Result<(), AllocError>
     ensures { trace.new.items ≡ trace.old.items }

@@ -1,4 +1,4 @@
-//! What a run of a net has to tell.
+//! The report of a run of a net.
 #![tactic(auto)]
 
 use radio_packet::{Fate, Sent};

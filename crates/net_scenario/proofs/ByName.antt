@@ -58,7 +58,7 @@ name_at [] i d = refl
 name_at (p ∷ ps) zero d = refl
 name_at (p ∷ ps) (suc i) d = name_at ps i d
 
--- an earlier program has a lesser name
+-- an earlier program has a smaller name
 rises : (ps : List NamedProgram) (i j : ℕ) (d : NamedProgram) → AreInOrder ps → i < j → j < length ps
     → slice_cmp nat_cmp (get_or ps i d).name (get_or ps j d).name ≡ Less
 rises ps i j d s lt there =
@@ -68,7 +68,7 @@ rises ps i j d s lt there =
     (omega (arith, many)) in
     rw (name_at ps i d, name_at ps j d) at less
 
--- what is less than a name at which another stands is less than that
+-- what is less than a name is less than an equal one
 less_than_tied : (a b c : List ℕ) → slice_cmp nat_cmp a b ≡ Less → slice_cmp nat_cmp b c ≡ Equal
     → slice_cmp nat_cmp a c ≡ Less
 less_than_tied a b c less e = ap (λ (x : List ℕ). slice_cmp nat_cmp a x) (sym (same b c e)) ∙ less
@@ -109,7 +109,7 @@ found_place (q ∷ qs) name i s lt h =
     sym (first_at (λ (p : NamedProgram). bytes_eq p.name name) ps 0 i q lt (tied (get_or ps i q).name name (h q)) less
     ∙ ap Some sum)
 
--- where a binary search finds none, none has the name
+-- if a binary search finds none, none has the name
 pub no_place : (ps : List NamedProgram) (name : List ℕ) (i : ℕ) → AreInOrder ps
     → (IsNonDecreasingBy (λ p. ordering_index (slice_cmp nat_cmp p.name name)) ps
     → IsPartitionPoint (λ p. slice_cmp nat_cmp p.name name ≡ Less) (λ p. slice_cmp nat_cmp p.name name ≡ Greater)

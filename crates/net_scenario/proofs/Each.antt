@@ -16,7 +16,7 @@ first_of_item : {Y : Type 0} (f : Members → Option Y) (o : Option Members) (ts
 first_of_item f None ts = refl
 first_of_item f (Some ms) ts = refl
 
--- the first fault of the items from i on is that of the item at i, if it is a table with one, or else of those after it
+-- the first fault of the items from i on is that of the item at i, if it is a table with one, else of those after it
 pub after_item : {Y : Type 0} (f : Members → Option Y) (vs : List Value) (i : ℕ) (d : Value) → i < length vs
     → first_some f (tables_in (items_view (drop i vs)))
     ≡ option_or (option_map_or f (as_table (view (get_or vs i d))) None)

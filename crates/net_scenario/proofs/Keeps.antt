@@ -44,7 +44,7 @@ first_known : {X : Type 0} (b : Bool) (p : X → Bool) (x : X) (xs : List X) →
 first_known true p x xs e h = (neither (p x) (list_any p xs) h).0
 first_known false p x xs e h = cc
 
--- stands for what is past the end of some rules
+-- the default past the end of some rules
 abbrev pub no_rule : Rule
 no_rule = needed First [] Table
 

@@ -26,7 +26,7 @@ use Rattle.net_scenario.proofs.Each.{or_none}
 use Rattle.net_scenario.proofs.Keeps.{Keeps, passed, neither, both, le_of}
 use borrow.Author.Tests.{leb-true}
 
--- of two equal texts the first is not refused by the test for the second
+-- the test for equal bytes holds of equal texts
 eq_is : (xs ys : List ℕ) → xs ≡ ys → bytes_eq xs ys ≡ true
 eq_is xs ys h = (bytes_eq-Decides xs ys).1 h
 
@@ -67,7 +67,7 @@ none_or : {Y : Type 0} (o p : Option Y) → o ≡ None → p ≡ None → option
 none_or None p a b = b
 none_or (Some x) p a b = cc
 
--- where each mote's program is in the table, it is among those read
+-- if each mote's program is in the table, it is among those read
 pub all_read : (ms : Members) (ts : List NamedTree) (motes : List Members) → AllRead (texts_of ms) ts
     → first_some (program_fault ms) motes ≡ None → first_some (unread_fault ts) motes ≡ None
 all_read ms ts [] r h = refl
@@ -148,7 +148,7 @@ held_step Less test x d rest h more e = more e
 held_step Greater test x d rest h more e = more e
 held_step Equal test x d rest h more e = let same : x ≡ d = cc in rw (sym same) h
 
--- what no value of a table passes, the value at a key doesn't
+-- if no value of a table passes a test, the value at a key doesn't
 pub none_held : (test : Data → Bool) (ms : Members) (name : List ℕ) (d : Data) → values_any test ms ≡ false
     → get_member name ms ≡ Some d → test d ≡ false
 none_held test no_members name d h e = cc
@@ -174,7 +174,7 @@ unfolding lengths_fault
 kind_of_length ms name d h e = not_false _ (none_held (λ x. not (has_kind queue_length x)) ms name d (passed _ _ _ h).0
     e)
 
--- a length that is there is a number within the limits
+-- a length in the table is a number within the limits
 pub length_kept : (ms : Members) (name : List ℕ) (d : Data) → lengths_fault ms ≡ None → get_member name ms ≡ Some d
     → HoldsNumber (pos shortest_queue) (pos longest_queue) name ms
 length_kept ms name (integer z) h e = let within = length_within ms name z h e in

@@ -93,7 +93,7 @@ pub place_within : (ps : List NamedProgram) (name : List ℕ) (i : ℕ) → posi
     ≡ Some i → i < length ps
 place_within ps name i h = let f = found ps name 0 i h in omega (arith, f.is, f.within)
 
--- a program that isn't a fault is found
+-- a mote's program is found, unless that is a fault
 pub read_is_found : (ps : List NamedProgram) (ms : Members) (name : List ℕ) → unread_fault (map named_tree ps) ms
     ≡ None → name ≡ text_at (codes "program") ms
     → IsSome (position_from (λ q. bytes_eq q.name name) 0 ps)
@@ -103,7 +103,7 @@ read_is_found ps ms name h name-is =
 both_true : (a b : Bool) → a ≡ true → b ≡ true → (a && b) ≡ true
 both_true a b x y = rw (x, y) refl
 
--- a program that is there and a length within the limits
+-- a program within the list and a length within the limits
 pub is_mote : (n i q : ℕ) → i < n → shortest_queue ≤ q → q ≤ longest_queue
     → IsTrue (is_mote_of n (record { program = i; queue = q }))
 is_mote n i q a b c = both_true _ _ (lt-ltb i n a)

@@ -51,7 +51,7 @@ read_or_refused laws ps ts name e a m =
     let t = tree_of_read m.before (record { name = name; text = m.text }) m.after ts (subst P m.split a) in
     laws.never_both m.text t.0 e.kind e.line t.1 m.told
 
--- the first program with a fault, where those before it have trees, is one program
+-- the first program with a fault is one program, if those before it have trees
 one_split : ProgramLaws → (b c : List ProgramText) (p q : ProgramText) (r s : List ProgramText)
     (ts us : List NamedTree) (k l : ReadErrorKind) (m n : ℕ)
     → b ++ p ∷ r ≡ c ++ q ∷ s → AllRead b ts → AllRead c us → IsToldOf p.text k m → IsToldOf q.text l n → p ≡ q

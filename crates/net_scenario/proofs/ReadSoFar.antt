@@ -10,7 +10,7 @@ use Rattle.net_scenario.specs.declared.error.ScenarioError.TheVariants.{Memory}
 use Rattle.mote_net.specs.Programs.{NamedTree, named_tree}
 use Rattle.net_scenario.specs.Programs.{ProgramText, AllRead, ReadsProgram, ReadsPrograms}
 
--- the programs read so far are the front of all, and the rest is to come
+-- the programs read so far are a prefix of all, and the rest is still to be read
 pub record ReadSoFar (texts : List ProgramText) (trees : List NamedTree) (rest : List ProgramText) : Type 0 where
   pub before : List ProgramText
   pub split : texts ≡ before ++ rest

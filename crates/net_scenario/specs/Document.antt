@@ -21,23 +21,23 @@ use Rattle.net_scenario.specs.Names.{names_fault, lengths_fault}
 abbrev pub integer_at : List ℕ → Members → Option ℤ
 integer_at name ms = option_and_then as_integer (get_member name ms)
 
--- the flag at a key, false where there is none
+-- the flag at a key, false if there is none
 abbrev pub boolean_at : List ℕ → Members → Bool
 boolean_at name ms = unwrap_or (option_and_then as_bool (get_member name ms)) false
 
--- the text at a key, empty where there is none
+-- the text at a key, empty if there is none
 abbrev pub text_at : List ℕ → Members → List ℕ
 text_at name ms = unwrap_or (option_and_then as_str (get_member name ms)) []
 
--- the table at a key, empty where there is none
+-- the table at a key, empty if there is none
 abbrev pub table_at : List ℕ → Members → Members
 table_at name ms = unwrap_or (option_and_then as_table (get_member name ms)) no_members
 
--- the members of a table that need not be there
+-- the members of an optional table, none if it is missing
 abbrev pub members_of : Option (Bor (BTreeMap (String Global) Value)) → Members
 members_of held = unwrap_or (option_map (λ t. table_view t.now) held) no_members
 
--- the items of the array at a key, none where there is no array
+-- the items of the array at a key, none if there is no array
 abbrev pub items_at : List ℕ → Members → Items
 items_at name ms = unwrap_or (option_and_then as_array (get_member name ms)) no_items
 
@@ -54,11 +54,11 @@ abbrev pub first_some : {X Y : Type 0} → (X → Option Y) → List X → Optio
 first_some f [] = None
 first_some f (x ∷ xs) = option_or (f x) (first_some f xs)
 
--- the version of a document: the second where its number is 2
+-- the version of a document: the second if its number is 2
 abbrev pub version_of : Members → Version
 version_of top = if option_map_or (int_eq (pos 2)) (integer_at (codes "version") top) false then Second else First
 
--- what the keys of a table are: those of some rules, any names of programs, or names of programs with lengths of queues
+-- the keys of a table: those of some rules, any names of programs, or names of programs with lengths of queues
 pub data Keys : Type 0 where
   ruled : List Rule → Keys
   program_names : Keys
@@ -114,7 +114,7 @@ abbrev pub natural : ℤ → ℕ
 natural (pos n) = n
 natural (negsuc n) = 0
 
--- the number at a key, 0 where there is none
+-- the number at a key, 0 if there is none
 abbrev pub number_at : List ℕ → Members → ℤ
 number_at name ms = unwrap_or (integer_at name ms) (pos 0)
 

@@ -28,7 +28,7 @@ of_table table.WrongKind = WrongKind
 of_table table.OutOfRange = OutOfRange
 of_table table.UnknownProgram = UnknownProgram
 
--- a fault of the medium is carried; where it is out of memory, so is the scenario
+-- a fault of the medium is part of the scenario's; out of memory is reported as such
 abbrev pub of_medium : MediumError → ScenarioError
 of_medium medium.Memory = Memory
 of_medium e = Medium e

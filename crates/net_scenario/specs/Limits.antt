@@ -30,6 +30,6 @@ largest_base_or_per = 1000000
 abbrev pub largest_in_loss : ℕ
 largest_in_loss = 1000000
 
--- where the scenario doesn't say
+-- if the scenario doesn't say
 abbrev pub usual_queue : ℕ
 usual_queue = 32

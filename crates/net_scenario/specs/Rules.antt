@@ -33,7 +33,7 @@ needed since name kind = record { since = since; name = name; kind = kind; is_ne
 abbrev pub optional : Version → List ℕ → Kind → Rule
 optional since name kind = record { since = since; name = name; kind = kind; is_needed = false }
 
--- what came in a version is there in it and later
+-- what came in a version is in it and in later ones
 abbrev pub has_come : (since now : Version) → Bool
 has_come First now = true
 has_come Second First = false
@@ -131,7 +131,7 @@ keys_fault rules ms =
     else if list_any (holds_out_of_range ms) rules then Some OutOfRange
     else None
 
--- Ok where there is no fault, and else the fault
+-- Ok if there is no fault, and else the fault
 abbrev pub Checks : Result (Unit {0}) TableFault → Option TableFault → Type 0
 Checks (Ok u) fault = fault ≡ None
 Checks (Err e) fault = fault ≡ Some e

@@ -12,7 +12,7 @@ use crate::values::{items_at, table_at, table_if_any, text_at};
 use crate::version::Version;
 use toml::{Table, Value};
 
-/// The version of a document: the second where its number is 2.
+/// The version of a document: the second if its number is 2.
 pub fn version_of(top: &Table) -> Version
     ensures { result ≡ version_of (table_view top.now) }
 {

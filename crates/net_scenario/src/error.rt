@@ -19,7 +19,7 @@ pub enum TableFault {
 /// Why there is no net of a text: its first fault, or an allocation failed in any part of the reading.
 #[derive(Debug, PartialEq, Eq, Drop)]
 pub enum ScenarioError {
-    /// The text is no TOML.
+    /// The text isn't TOML.
     Toml,
     /// A table lacks a key that it needs.
     MissingKey,

@@ -2,17 +2,17 @@
 //! own.
 //!
 //! The top has the keys `version` (the number 1 or 2), `end` (the last moment at which turns are taken), the tables
-//! `medium` and `programs`, the array of tables `mote` and, where there are any, the array of tables `loss`. `medium`
-//! has the numbers `range`, `base` and `per`; a `loss` has the numbers `from`, `to` and `every`; a `mote` has its place
+//! `medium` and `programs`, the array of tables `mote` and, if there are any, the array of tables `loss`. `medium` has
+//! the numbers `range`, `base` and `per`; a `loss` has the numbers `from`, `to` and `every`; a `mote` has its place
 //! `x`, `y` and the name of its `program`; `programs` has the texts of programs under names of their own. Motes are
 //! numbered from 0 in the order of the text. In version 2 `medium` also has the flag `collide`, and the top may have a
 //! table `queue`: how many events the queue holds in motes of a program, by the program's name.
 //!
-//! The first fault is reported: a text that is too long; one that is no TOML; then the tables one after another (the
+//! The first fault is reported: a text that is too long; one that isn't TOML; then the tables one after another (the
 //! top, `medium`, each `loss`, `programs`, `queue`, each `mote`), and of one table a key that is missing, one that
 //! isn't known, a value of another kind, and a number or a count outside its limits, in this order over all its keys;
-//! then a queue's or a mote's program that isn't there; then the first program, in byte order of the names, whose text
-//! is no program; then the medium's numbers and losses.
+//! then a queue's or a mote's program that doesn't exist; then the first program, in byte order of the names, whose
+//! text is no program; then the medium's numbers and losses.
 #![tactic(auto)]
 
 mod document;

@@ -35,5 +35,5 @@ pub const SHORTEST_QUEUE: i64 = 1;
 
 pub const LONGEST_QUEUE: i64 = 128;
 
-/// How many events the queue of a mote holds where the scenario doesn't say.
+/// How many events the queue of a mote holds if the scenario doesn't say.
 pub const USUAL_QUEUE: u16 = 32;

@@ -39,7 +39,7 @@ fn any_out_of_range(table: &Table) -> bool
         .any(|value| !fits_range(value, queue_length()))
 }
 
-/// The first fault of the table of lengths, which need not be there.
+/// The first fault of the table of lengths, which is optional.
 #[tactic(auto, using(crate::proofs::Tables::lengths_fault_of, crate::proofs::Tables::lengths_fault_of_none))]
 pub fn check_lengths(queue: Option<&Table>) -> Result<(), TableFault>
     ensures { Checks result (lengths_fault (members_of queue.entry)) }

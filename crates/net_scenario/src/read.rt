@@ -43,7 +43,7 @@ fn medium_of(alloc: Global, top: &Table) -> Result<Medium, ScenarioError>
     Ok(medium)
 }
 
-/// The net of a document without fault, where its programs are read and its medium is one.
+/// The net of a document without fault, if its programs can be read and there is a medium of its numbers and losses.
 fn net_from(alloc: Global, top: &Table) -> Result<Net, ScenarioError>
     requires { document_fault (table_view top.now) ≡ None }
     ensures { MakesNet (table_view top.now) result }
@@ -59,7 +59,7 @@ fn net_from(alloc: Global, top: &Table) -> Result<Net, ScenarioError>
 
 /// The net that a scenario's text describes, or the first fault of the text: its length, its TOML, its tables in
 /// order, the motes' programs, the programs' texts in byte order of their names, and the numbers of the medium.
-/// `Memory` may be answered in place of any of these, only where an allocation failed.
+/// `Memory` may be returned in place of any of these, only if an allocation failed.
 pub fn read_scenario(alloc: Global, text: &str) -> Result<Net, ScenarioError>
     ensures { Answers text.now result }
 {

@@ -25,7 +25,7 @@ pub enum Kind {
     Boolean,
     Text,
     Table,
-    /// An array of tables, as many as from the first to the second.
+    /// An array of tables, whose number is from the first to the second.
     Tables(usize, usize),
 }
 

@@ -1,6 +1,6 @@
-//! Parts of motes and of nets, from the bottom up. Most tests have a text written of all that a part answered, and
-//! compare it once, in a function that they share: so a test owns nothing where it can end early, which is what its
-//! proof costs most.
+//! Parts of motes and of nets, from the bottom up. Most tests write all that a part answered into one text, and
+//! compare that once, in a function that they share: so a test owns nothing where it can end early, which would cost
+//! its proof most.
 
 mod canonical;
 mod inbox;

@@ -8,7 +8,7 @@ use Rattle.protothread.specs.declared.thread.Thread.{Thread}
 use Rattle.protothread.specs.Places.{remainder_of}
 use Rattle.process_kernel.specs.Views.{remainders_of}
 
--- bodies that are still to be done whole, whatever the code
+-- fresh threads: nothing of their bodies has run, whatever the code
 abbrev pub AreFresh : List Thread → Type 0
 AreFresh [] = Unit {0}
 AreFresh (t ∷ ts) = ((code : Code) → remainder_of code t ≡ fresh_of code Body) × AreFresh ts
@@ -35,7 +35,7 @@ drop_past [] (suc i) past = refl
 drop_past (x ∷ xs) zero past = absurd (omega arith)
 drop_past (x ∷ xs) (suc i) past = drop_past xs i (omega arith)
 
--- one more process's variables are there
+-- the variables of one more process are added
 pub one_more : (cs : List Code) (i : ℕ) (c : Code) (vs ws : List (List ℕ)) → slice_get cs i ≡ Some c → ws ≡ vs ++ c.starts ∷ [] → vs ++ map (λ x. x.starts) (drop i cs) ≡ map (λ x. x.starts) cs
     → ws ++ map (λ x. x.starts) (drop (i + 1) cs) ≡ map (λ x. x.starts) cs
 one_more cs i c vs ws is push before =

@@ -20,7 +20,7 @@ use Rattle.process_kernel.specs.Views.{state_of, mote_of, Begins}
 use Rattle.process_kernel.specs.Public.{mote_in, BeginsWith, Tells, FailsAs, Closes}
 use Rattle.process_kernel.specs.Given.{Given, given}
 
--- a kernel that an earlier call left without memory
+-- a kernel that ran out of memory in an earlier call
 pub failed : (t : Tree) (gives : Mote → List Line → List Sent → Given) (k : Kernel) (out : Out) → k.failed ≡ true
     → Tells gives (mote_in t k) out (Err error.Failed) (mote_in t k) out
 unfolding mote_in
@@ -89,7 +89,7 @@ machine_kept k1 k2 (Ok left) result closes = ap (λ (k : Kernel). k.machine) clo
 machine_kept k1 k2 (Err Halted) result closes = ap (λ (k : Kernel). k.machine) closes.1
 machine_kept k1 k2 (Err Memory) result closes = ap (λ (k : Kernel). k.machine) closes.1
 
--- what grew from what was written begins with it
+-- what is written by now begins with what was written before
 pub begins_with : (old new : Out)
     → ((lines : List Line) (sends : List Sent) → Begins lines sends old → Begins lines sends new) → BeginsWith old new
 unfolding Begins
@@ -127,7 +127,7 @@ pub so_far_none : (m : Option Mote) (out : Out) → GoesOnSoFar m out m out
 so_far_none None out = (refl, refl)
 so_far_none (Some m) out = ((m, refl), begins_same out)
 
--- one more call that told no error
+-- one more call that returned no error
 pub so_far_next : (gives : Mote → List Line → List Sent → Given) (old : Option Mote) (out : Out) (now : Option Mote)
     (out1 : Out) (r : Ran) (new : Option Mote) (out2 : Out)
     → GoesOnSoFar old out now out1 → Tells gives now out1 (Ok r) new out2 → BeginsWith out1 out2
@@ -138,7 +138,7 @@ so_far_next gives (Some m) out None out1 r new out2 so_far told more = let some 
 so_far_next gives (Some m) out (Some m1) out1 r new out2 so_far told more =
     ((told.0, told.1), begins_further out out1 out2 so_far.1 more)
 
--- and one that told an error
+-- and one that returned an error
 pub so_far_fails : (gives : Mote → List Line → List Sent → Given) (old : Option Mote) (out : Out)
     (now : Option Mote) (out1 : Out) (e : KernelError) (new : Option Mote) (out2 : Out)
     → GoesOnSoFar old out now out1 → Tells gives now out1 (Err e) new out2 → FailsAs old out e new out2

@@ -49,7 +49,7 @@ length-le ms n are =
     (λ q there. All-contains (λ j. j < n) (places ms) q ks (Contains-from_any eqb-true q (places ms) there)) in
     omega (arith, most, length-places ms)
 
--- a process of the mote that is not on the list goes there
+-- a process of the mote that is not on the list is put there
 pub AreMembers-cons : (m : Member) (ms : List Member) (n : ℕ) → AreMembers ms n → place_of m.process < n
     → stands_in ms m.process ≡ false → AreMembers (m ∷ ms) n
 AreMembers-cons m ms n are within away = record {
@@ -119,7 +119,7 @@ take_all : (ws rest : List Member) → take (length ws) (ws ++ rest) ≡ ws
 take_all [] rest = refl
 take_all (w ∷ ws) rest = ap (λ l. w ∷ l) (take_all ws rest)
 
--- a list that is written over whole is what was written
+-- a list that is overwritten completely is what was written
 pub refill_same : (xs ws : List Member) → length ws ≡ length xs → refill (length xs) xs ws ≡ ws
 refill_same xs ws same = ap (λ n. take n (ws ++ drop (length ws) xs)) (sym same) ∙ take_all ws (drop (length ws) xs)
 
@@ -141,7 +141,7 @@ pub length-numbered : (k : ℕ) (ms : List Member) → length (numbered_from k m
 length-numbered k [] = refl
 length-numbered k (m ∷ ms) = ap suc (length-numbered (k + 1) ms)
 
--- to number a list anew that is numbered changes nothing
+-- numbering a numbered list anew changes nothing
 pub numbered_again : (k : ℕ) (ms : List Member) → numbered_from k (numbered_from k ms) ≡ numbered_from k ms
 numbered_again k [] = refl
 numbered_again k (m ∷ ms) = ap (λ xs. record { process = m.process; incarnation = k } ∷ xs) (numbered_again (k + 1) ms)

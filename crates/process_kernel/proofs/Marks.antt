@@ -1,4 +1,4 @@
--- The walk of the polls passes those that have no mark.
+-- The walk of the polls skips those that have no mark.
 use Rattle.std.proofs.Common.{ℕ, zero, suc, ◌≡◌, ◌+◌, ◌≤◌, ◌&&◌, arith, Bool, true, false, not, cond, List, [], ◌∷◌}
 use Rattle.std.proofs.Common.{drop, length, Option, Some, None, refl, sym, ap, ◌∙◌}
 use Rattle.std.specs.Prelude.{if◌then◌else◌, nat_lt}
@@ -54,7 +54,7 @@ module _ (calls : Calls) (s : State) where
       (λ (o : Option ℕ). o ≡ Some i → walk_polls calls ms s ≡ walk_polls calls (drop i ms) s)
       (λ _ here. let same : position_or_len marked ms ≡ i = cc in rw (← same) (skips ms)) (λ _ there. cc) is
 
-  -- where none has a mark, nothing is done
+  -- if none has a mark, nothing is done
   pub walk_none : (ms : List Member) → position marked ms ≡ None → walk_polls calls ms s ≡ Goes tt s
   walk_none ms is =
       cond_both (nat_lt (position_or_len marked ms) (length ms)) (Some (position_or_len marked ms)) None

@@ -10,7 +10,7 @@ use Rattle.process_kernel.specs.Underway.{Underway, after, underway_in}
 use Rattle.process_kernel.specs.Runs.{follow, runs_of}
 use Rattle.process_kernel.proofs.Steps.{kernel_step, kernel_ran}
 
--- a run of the kernel that is to be followed by as many as are left
+-- a state between kernel runs, from which the runs that are left lead to where all `most` runs lead from the first
 pub record RunSoFar (most left moment : ℕ) (first : Underway) (by_now : Option Underway) : Type 0 where
   pub u : Underway
   pub is : by_now ≡ Some u
@@ -65,7 +65,7 @@ run_last most before left moment first old new out out' r e h told last =
     ∙ (rw ran_is (last (runs_of left moment) (after (run_once moment h.u)))) in
     goes.leads h.u h.is ∙ ap Some (sym one ∙ h.rest)
 
--- as many as there may be were taken
+-- no more runs are left
 pub run_all : (most left moment : ℕ) (first : Underway) (by_now : Option Underway) → left ≡ 0
     → RunSoFar most left moment first by_now
     → by_now ≡ Some (runs_of most moment first)

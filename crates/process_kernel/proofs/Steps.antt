@@ -12,7 +12,7 @@ use Rattle.process_kernel.specs.Underway.{Underway, after, underway_in, GoesOn}
 abbrev pub underway : Mote → Out → Underway
 underway m out = record { mote = m; lines = out.lines.items; sends = out.sends.items }
 
--- a failed mote goes on anyhow
+-- trivially true of a mote whose kernel has failed
 pub from_none : (step : Underway → Underway) (out : Out) (new : Option Mote) (out' : Out)
     → GoesOn step None out new out'
 from_none step out new out' = record { leads = λ u is. cc }

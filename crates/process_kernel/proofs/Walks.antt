@@ -40,7 +40,7 @@ after_first-later a k ks away = after_first-cons a k ks ∙ ap (λ b. cond b ks 
 no_longer : (a : ℕ) (ks : List ℕ) → length (after_first (λ o. o == a) ks) ≤ length ks
 no_longer a ks = simp length-drop (omega arith)
 
--- one member behind another stands behind it on the part of the list that is left
+-- a member after another comes after it, too, in the part of the list that is left
 module _ (x a : ℕ) where
   abbrev after : ℕ → List ℕ → List ℕ
   after y ks = after_first (λ o. o == y) ks
@@ -130,13 +130,13 @@ pub begin : (n : ℕ) (s : State) → length s.timers.listed ≤ n → Begun n s
 begin zero s h = record { left = zero; enough = omega arith; walks = rw (empty s.timers.listed h) refl }
 begin (suc n) s h = record { left = n; enough = omega arith; walks = refl }
 
--- what halts goes no further
+-- after a halt no further step is taken
 pub halts_through : (A B : Type 0) (stop : Stop) (new : State) (o : Outcome A) (f : A → State → Outcome B)
     → Tells {A = A} (Err stop) new o → Tells {A = B} (Err stop) new (o >>= f)
 halts_through A B Halted new o f is = ap (λ x. x >>= f) is
 halts_through A B Memory new o f is = tt
 
--- a timer that was found on the list and is due
+-- the timer that is the first one found due, and its owner
 pub record Found (s : State) (after : Option ℕ) (x : ℕ) (o : Proc) : Type 0 where
   pub first : Some x ≡ first_due s.timers s.moment after
   pub owner : (timer_at s.timers.timers x).owner ≡ Some o

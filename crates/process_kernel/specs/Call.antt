@@ -31,8 +31,8 @@ call_of calls s p e =
     answered calls s2 p (has_ended answer || is_system_event Exit e))
     else Goes tt s
 
--- The calls that nest at most so many deep. Each call, and each run of a thread from one operation to the next, spends
--- a unit of work, so that more depth than units changes nothing; without depth a mote halts as it does without work.
+-- The calls nested at most this deep. Each call, and each run of a thread from one operation to the next, spends a
+-- unit of work, so that more depth than units changes nothing; at depth 0 a mote halts as it does without work.
 unfoldable pub calls_of : ℕ → Calls
 calls_of zero = record { call = λ s p e. Ends (halted_of s); run = λ s code r p e. Ends (halted_of s) }
 calls_of (suc k) = record { call = call_of (calls_of k); run = run_of (calls_of k) }

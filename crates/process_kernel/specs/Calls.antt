@@ -28,7 +28,7 @@ pub record Calls : Type 0 where
   pub call : State → Proc → Event → Went
   pub run : State → Code → Remainder → (process : ℕ) → Event → Outcome Answer
 
--- each of these incarnations that is on the process list at its turn is called, but for one process
+-- each of these incarnations that is on the process list at its turn is called, except those of one process
 abbrev pub walk_of : Calls → Event → (skipped : Proc) → List Member → State → Went
 walk_of calls e skipped [] s = Goes tt s
 walk_of calls e skipped (m ∷ ms) s =

@@ -9,7 +9,7 @@ use Rattle.process_kernel.specs.State.{State, Went, Goes, ◌>>=◌}
 use Rattle.process_kernel.specs.TimerOperations.{has_timer}
 use Rattle.process_kernel.specs.Calls.{Calls, is_system_event}
 
--- the callback of this timer runs as the process that the timer is of
+-- the callback of this timer runs as the timer's process
 unfoldable pub callback_of : Calls → State → Event → Went
 callback_of calls s e =
     elim (slice_get s.program.timers e.word) [

@@ -23,7 +23,7 @@ post_due again on s timer (Some owner) =
     post_of s (One owner) (told Timer timer)
     >>= λ full s1. if full then on (poll_of s1 Etimer) else again (fired_of s1 timer)
 
--- along these timers of the list, from the front on
+-- the walk along these timers of the list, from the front on
 abbrev pub walk_timers : (again : State → Went) → List ℕ → State → Went
 walk_timers again [] s = Goes tt s
 walk_timers again (t ∷ ts) s =
@@ -31,12 +31,12 @@ walk_timers again (t ∷ ts) s =
     then post_due again (walk_timers again ts) s t (timer_at s.timers.timers t).owner
     else walk_timers again ts s
 
--- walks along the timer list, each from its front, as long as timers leave the list: at most so many may leave it
+-- walks along the timer list, each from its front, as long as timers leave the list: at most this many may leave it
 abbrev pub walks_of : ℕ → State → Went
 walks_of zero s = Goes tt s
 walks_of (suc k) s = walk_timers (walks_of k) s.timers.listed s
 
--- what etimer does when it is polled: each walk that begins again has a timer less on the list
+-- what etimer does when it is polled: each walk that begins again has one timer fewer on the list
 unfoldable pub pass_of : State → Went
 pass_of s = walks_of (length s.timers.listed) s
 

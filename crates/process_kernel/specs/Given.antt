@@ -31,7 +31,7 @@ given (Goes left s) = record {
   sends = s.sends;
 }
 
--- the state in which a boot or a run of a mote begins, where so much was written before
+-- the state in which a boot or a run of a mote begins, after these lines and packets were written
 abbrev pub begun : Mote → (moment : ℕ) → List Line → List Sent → State
 begun m moment lines sends = begun_of (record m.state { lines = lines; sends = sends }) moment
 

@@ -6,7 +6,7 @@ use Rattle.process_kernel.specs.State.{State, Went, Goes, ◌>>=◌}
 use Rattle.process_kernel.specs.Processes.{is_on_list, is_marked, with_mark}
 use Rattle.process_kernel.specs.Calls.{Calls, told}
 
--- the turn of an incarnation: if it is on the list, and its mark is set, the mark is cleared and it is called with POLL
+-- the turn of an incarnation: if it is on the list and its mark is set, the mark is cleared and it is called with POLL
 unfoldable pub poll_turn_of : Calls → State → Member → Went
 poll_turn_of calls s m =
     if is_on_list s m && is_marked s m.process

@@ -16,16 +16,16 @@ use Rattle.process_kernel.specs.Mote.{Mote}
 use Rattle.process_kernel.specs.Given.{Given}
 use Rattle.process_kernel.specs.Views.{mote_of}
 
--- The mote that a kernel holds, where its program is this, also once the kernel has failed. What its threads have still
--- to do follows from the program.
+-- The mote that a kernel with this program holds, even after the kernel has failed. What its threads have still to do
+-- follows from the program.
 unfoldable pub held_in : Tree → Kernel → Mote
 held_in program k = mote_of program k.machine k.booted k.halted
 
--- The mote that a kernel is, where its program is this; a kernel that was out of memory is no mote.
+-- The mote that a kernel with this program is; a kernel that ran out of memory is none.
 unfoldable pub mote_in : Tree → Kernel → Option Mote
 mote_in program k = if k.failed then None else Some (mote_of program k.machine k.booted k.halted)
 
--- A boot or a run gives what the definition gives, or it was out of memory, and from then on there is no mote.
+-- A boot or a run gives what the definition gives, or it ran out of memory, and from then on there is no mote.
 abbrev pub Tells : (Mote → List Line → List Sent → Given) → Option Mote → Out → Result Ran KernelError
     → Option Mote → Out → Type 0
 Tells gives None out result new out' = (result ≡ Err error.Failed) × (new ≡ None) × (out' ≡ out)
@@ -34,8 +34,8 @@ Tells gives (Some m) out (Ok r) new out' =
     ≡ record { ran = r; mote = m'; lines = out'.lines.items; sends = out'.sends.items })
 Tells gives (Some m) out (Err e) new out' = (e ≡ error.Memory) × (new ≡ None) × BeginsWith out out'
 
--- After an error: a kernel that had failed answers so, and changes nothing; else it was out of memory, from then on
--- there is no mote, and what was written before is still there.
+-- After an error: a kernel that had failed before says so, and changes nothing; otherwise it ran out of memory, from
+-- then on there is no mote, and what was written before is still there.
 abbrev pub FailsAs : Option Mote → Out → KernelError → Option Mote → Out → Type 0
 FailsAs None out e new out' = (e ≡ error.Failed) × (new ≡ None) × (out' ≡ out)
 FailsAs (Some m) out e new out' = (e ≡ error.Memory) × (new ≡ None) × BeginsWith out out'

@@ -16,7 +16,7 @@ use Rattle.process_kernel.specs.Etimer.{etimer_of}
 use Rattle.process_kernel.specs.Ctimer.{ctimer_of}
 use Rattle.process_kernel.specs.Radio.{radio_of}
 
--- the handler of the event, where it has one, runs from its beginning
+-- the handler of the event, if there is one, runs from its beginning
 unfoldable pub handler_of : Calls → State → Code → (process : ℕ) → Event → Went
 handler_of calls s code p e =
     if is_system_event Poll e then (calls.run s code (fresh_of code OnPoll) p e >>= λ _ s1. Goes tt s1)

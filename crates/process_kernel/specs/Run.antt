@@ -21,7 +21,7 @@ begun_of s moment = record s {
   started = length s.members;
 }
 
--- the queued events, and one more where the poll flag is set
+-- how much is left: the queued events, and one more if the poll flag is set
 abbrev pub left_of : State → ℕ
 left_of s = length s.queue.events + (if s.flag then 1 else 0)
 

@@ -11,7 +11,7 @@ follow ran.Halted others u = u
 follow (ran.Left zero) others u = u
 follow (ran.Left (suc n)) others u = others u
 
--- kernel runs, at most so many, until one leaves nothing to do or the mote halts
+-- at most this many kernel runs, until one leaves nothing to do or the mote halts
 unfoldable pub runs_of : (most : ℕ) → (moment : ℕ) → Underway → Underway
 runs_of zero moment u = u
 runs_of (suc most) moment u =

@@ -1,4 +1,4 @@
--- What the types of `src/machine.rt` and `src/look.rt` stand for, where the program of the mote is this.
+-- What the types of `src/machine.rt` and `src/look.rt` stand for, in a mote with this program.
 use Rattle.std.specs.Prelude.{ℕ, ◌≡◌, ◌+◌, ◌<◌, ◌≤◌, ◌++◌, ◌^◌, Bool, IsTrue, List, [], ◌∷◌, Result, Ok, Err}
 use Rattle.program_tree.specs.Code.{Code, Tree}
 use Rattle.protothread.specs.declared.answer.PtState.{PtState}
@@ -79,7 +79,7 @@ Begins lines sends out =
 abbrev pub Grows : Out → Out → Type 0
 Grows old new = (lines : List Line) (sends : List Sent) → Begins lines sends old → Begins lines sends new
 
--- each start, except for so many, is paid for by a unit of work
+-- each start, except for this many, is paid for by a unit of work
 abbrev pub Spends : ℕ → Machine → Machine → Type 0
 Spends n old new = (new.fuel ≤ old.fuel) × (new.started + new.fuel ≤ old.started + old.fuel + n)
 
@@ -88,7 +88,7 @@ abbrev pub Pays : Proc → Machine → Machine → Type 0
 Pays p old new =
     IsTrue (is_running_state (state_at old.shown.states.items p)) → new.started + new.fuel + 1 ≤ old.started + old.fuel
 
--- a number is left for each process that can still be started, and for so many more
+-- a number is left for each process that can still be started, and for this many more
 abbrev pub HasRoom : ℕ → Machine → Type 0
 HasRoom n m = m.started + m.fuel + n < 2 ^ 32
 

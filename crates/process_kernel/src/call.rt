@@ -102,7 +102,7 @@ impl Machine {
         self.resume(program, text, number, event)
     }
 
-    /// Runs the event's handler, where it has one.
+    /// Runs the event's handler, if there is one.
     #[cycle(kernel)]
     #[tactic(auto, unfolding(crate::specs::Reaction::handler_of))]
     fn handle(
@@ -163,7 +163,7 @@ impl Machine {
         self.call_back(program, event)
     }
 
-    /// Runs the callback of a timer, as the process that the timer is of.
+    /// Runs the callback of a timer, as the timer's process.
     #[cycle(kernel)]
     #[tactic(auto, unfolding(crate::specs::Ctimer::callback_of))]
     fn call_back(&mut self, program: &Program, event: &Event) -> Result<(), Stop>

@@ -13,7 +13,7 @@ use event_queue::Posted;
 use program_tree::{Proc, Program, Target};
 use trace_lines::What;
 
-/// At most so many processes are copied into a short array, since a call initializes all of its array.
+/// Up to this many processes are copied into a short array, since a call initializes its whole array.
 const SOME: usize = 16;
 
 impl Machine {
@@ -28,7 +28,7 @@ impl Machine {
         }
     }
 
-    /// Delivers an event to whom it was posted.
+    /// Delivers an event to the processes that it was posted to.
     #[tactic(auto, unfolding(crate::specs::Delivery::deliver_of))]
     fn deliver(&mut self, program: &Program, posted: &Posted) -> Result<(), Stop>
         requires { HasRoom 0 self.old }

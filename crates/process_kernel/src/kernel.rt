@@ -17,7 +17,7 @@ use trace_lines::Out;
 /// How a boot or a kernel run ends.
 #[derive(Clone, Copy, Debug, PartialEq, Eq)]
 pub enum Ran {
-    /// The queued events, and one more where the poll flag is set.
+    /// How much is left to do: the queued events, and one more if the poll flag is set.
     Left(u16),
     Halted,
 }
@@ -26,7 +26,7 @@ pub enum Ran {
 pub enum KernelError {
     /// Out of memory: an allocation failed.
     Memory = 1,
-    /// An earlier call was out of memory.
+    /// An earlier call ran out of memory.
     Failed = 2,
 }
 
@@ -46,8 +46,8 @@ impl fmt::Display for KernelError {
 impl Error for KernelError {}
 
 /// The process kernel of a mote (`process.c`, `etimer.c` and `ctimer.c` of Contiki). It is booted once and then run,
-/// always with the same program. All its memory is taken by `new`, but for the lines and packets of its runs. Where
-/// such an allocation fails, what `out` had stays, perhaps with more appended to it, and the kernel fails from then
+/// always with the same program. All its memory is allocated by `new`, except for the lines and packets of its runs.
+/// If such an allocation fails, `out` keeps what it had, perhaps with more appended, and the kernel fails from then
 /// on.
 pub struct Kernel {
     booted: bool,
@@ -56,7 +56,7 @@ pub struct Kernel {
     machine: Machine,
 }
 
-/// By hand, so that a kernel is dropped by one call: the check of a function that owns one sees no more of it.
+/// By hand, so that a kernel is dropped by one call: the check of a function that owns one sees that call alone.
 impl Drop for Kernel {
     fn drop(self) {
         let Kernel {
@@ -101,7 +101,7 @@ impl Kernel {
     }
 
     /// Boots the mote at this moment: the system processes are started, and then those that the program names. Lines
-    /// and packets are appended to `out`. A kernel that was out of memory fails from then on.
+    /// and packets are appended to `out`. A kernel that ran out of memory fails from then on.
     pub fn boot(&mut self, program: &Program, now: u64, out: &mut Out) -> Result<Ran, KernelError>
         requires { now ≤ 2 ^ 40 }
         ensures { let t = tree_of program.now in
@@ -140,7 +140,7 @@ impl Kernel {
     }
 
     /// One kernel run at this moment: the polls, if the flag is set, and the oldest event of the queue. Lines and
-    /// packets are appended to `out`. A kernel that was out of memory fails from then on.
+    /// packets are appended to `out`. A kernel that ran out of memory fails from then on.
     pub fn run(&mut self, program: &Program, now: u64, out: &mut Out) -> Result<Ran, KernelError>
         requires { now ≤ 2 ^ 40 }
         ensures { let t = tree_of program.now in
@@ -152,7 +152,7 @@ impl Kernel {
         ran
     }
 
-    /// Kernel runs at this moment, at most so many, until one leaves nothing to do or the mote halts, whose lines and
+    /// At most `most` kernel runs at this moment, until one leaves nothing to do or the mote halts. Their lines and
     /// packets are appended to those of the machine.
     fn run_all_on(&mut self, program: &Program, now: u64, most: u8) -> Result<(), KernelError>
         requires { now ≤ 2 ^ 40 }
@@ -176,9 +176,9 @@ impl Kernel {
         Ok(())
     }
 
-    /// Kernel runs at this moment, at most so many, until one leaves nothing to do or the mote halts: as so many calls
-    /// of `run`. Lines and packets are appended to `out`, also if one of them is out of memory; the kernel fails from
-    /// then on.
+    /// At most `most` kernel runs at this moment, until one leaves nothing to do or the mote halts: the same as that
+    /// many calls of `run`. Lines and packets are appended to `out`, even if one of the runs is out of memory; the
+    /// kernel fails from then on.
     pub fn run_all(
         &mut self,
         program: &Program,
@@ -198,7 +198,7 @@ impl Kernel {
         ran
     }
 
-    /// Asks for a poll of a process, where it is running or called.
+    /// Asks for a poll of a process, if it is running or called.
     #[tactic(auto, unfolding(crate::specs::Public::mote_in, crate::specs::Public::held_in, crate::specs::Mote::with_poll, crate::specs::Posts::poll_of, crate::specs::Processes::with_mark))]
     pub fn poll(&mut self, process: Proc)
         ensures mote { (t : Tree) → mote_in t self.new ≡ option_map (λ m. with_poll m process) (mote_in t self.old) }
@@ -262,7 +262,7 @@ impl Kernel {
         self.halted
     }
 
-    /// Notes how a boot or a run ended, and gives its answer.
+    /// Records how a boot or a run ended, and returns its result.
     fn close(&mut self, ran: Result<u16, Stop>) -> Result<Ran, KernelError>
         ensures { Closes self.old ran result self.new }
     {

@@ -58,7 +58,7 @@ impl Machine {
         }
     }
 
-    /// Takes the body of a process, in whose place a fresh one stands from then on.
+    /// Takes the body of a process, and leaves a fresh one in its place.
     #[inline(always)]
     #[tactic(auto, using(crate::proofs::Remainders::remainders_get, crate::proofs::Remainders::remainders_past, crate::proofs::Remainders::remainders_fresh, crate::proofs::Remainders::fresh_past))]
     pub fn take_thread(&mut self, process: u8) -> Thread

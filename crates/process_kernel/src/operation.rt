@@ -148,7 +148,7 @@ impl Machine {
         self.leave(process)
     }
 
-    /// Runs a process with EXIT that another one exits.
+    /// The last run of a process that another one exits: it is run with EXIT.
     #[cycle(kernel)]
     #[tactic(auto, unfolding(crate::specs::Exit::last_run_of))]
     fn run_last(&mut self, program: &Program, process: Proc) -> Result<(), Stop>
@@ -160,7 +160,7 @@ impl Machine {
         Ok(())
     }
 
-    /// Calls each of these incarnations that is on the process list at its turn, but for one process.
+    /// Calls each of these incarnations that is on the process list at its turn, except those of one process.
     #[cycle(kernel)]
     fn walk(
         &mut self,

@@ -12,7 +12,7 @@ use crate::process::Member;
 use arrayvec::ArrayVec;
 use program_tree::{Program, SystemEvent};
 
-/// At most so many processes are copied into a short array, since a call initializes all of its array.
+/// Up to this many processes are copied into a short array, since a call initializes its whole array.
 const FEW: usize = 4;
 
 impl Machine {

@@ -79,7 +79,7 @@ impl Machine {
         }
     }
 
-    /// Asks for a poll of a process, where it is running or called.
+    /// Asks for a poll of a process, if it is running or called.
     #[tactic(auto, unfolding(crate::specs::Processes::with_mark, crate::specs::Posts::poll_of))]
     pub fn poll(&mut self, process: Proc)
         ensures exact { (t : Tree) → state_of t self.new ≡ poll_of (state_of t self.old) process }
@@ -93,7 +93,7 @@ impl Machine {
         }
     }
 
-    /// Notes a packet that is sent.
+    /// Records a sent packet.
     #[tactic(auto, unfolding(crate::specs::Views::Begins))]
     fn put_sent(&mut self, packet: Sent) -> Result<(), Stop>
         ensures exact { (t : Tree) → Tells result (state_of t self.new)

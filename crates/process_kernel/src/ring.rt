@@ -19,8 +19,8 @@ struct Heard {
     value: u16,
 }
 
-/// The packets that a mote has received and its radio process hasn't handed on yet, the oldest first. All its memory is
-/// taken by `new`.
+/// The packets that a mote has received and its radio process hasn't handed on yet, the oldest first. All its memory
+/// is allocated by `new`.
 #[derive(Drop)]
 pub struct Ring {
     packets: HeapCircularBuffer<Heard>,
@@ -37,8 +37,8 @@ impl Model for Ring {
     ghost view = { λ r. buffer (map arrival_of r.packets.items) r.packets.capacity };
 }
 
-/// Takes the oldest packet. The only one is taken from the back, so a ring that is emptied each time stays at its first
-/// slots.
+/// Takes the oldest packet. If it is the only one, it is taken from the back, so a ring that is emptied each time
+/// stays at its first slots.
 #[inline(always)]
 fn take_oldest(packets: &mut HeapCircularBuffer<Heard>) -> Option<Heard>
     ensures value { result ≡ slice_get packets.old.items 0 }
@@ -61,7 +61,7 @@ impl Ring {
         })
     }
 
-    /// Puts a packet at the back; a full ring gives it back, and stays as it was.
+    /// Puts a packet at the back. A full ring is unchanged, and gives the packet back.
     #[tactic(auto, using(crate::proofs::Heard::puts, crate::proofs::Heard::length_arrivals))]
     pub fn try_put(&mut self, packet: Arrival) -> Result<(), Arrival>
         ensures variant { IsOk result ↔ (length self.old.items < self.old.capacity) }

@@ -111,7 +111,7 @@ impl Machine {
     }
 
     /// Makes the tables of the processes, none of which is listed, and room for a list of all of them. What a run
-    /// touches is made one after another, right after the timers and the states, so that it lies close together.
+    /// touches is allocated in a row, right after the timers and the states, so that it lies close together.
     fn make_tables(&mut self, alloc: Global, program: &Program) -> Result<(), AllocError>
         ensures { let t = tree_of program.now in let n = length t.processes + 3 in
             OnOk result (state_of t self.new

@@ -54,7 +54,7 @@ impl Machine {
         }
     }
 
-    /// How much is left to do: the queued events, and one more where the poll flag is set.
+    /// How much is left to do: the queued events, and one more if the poll flag is set.
     pub fn left(&self) -> u16
         ensures { result ≡ length self.now.queue.events + (if self.now.flag then 1 else 0) }
     {

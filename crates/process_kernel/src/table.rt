@@ -100,7 +100,7 @@ impl Machine {
         place_of(process) < self.shown.states.len()
     }
 
-    /// Whether this incarnation is on the process list. Where they are numbered, it stands at its number or nowhere.
+    /// Whether this incarnation is on the process list. If they are numbered, it stands at its number or nowhere.
     #[inline(always)]
     #[tactic(auto, using(crate::proofs::Numbered::held_there, crate::proofs::Numbered::held_past))]
     pub fn is_on_list(&self, member: Member) -> bool
@@ -113,7 +113,7 @@ impl Machine {
         place < self.members.len() && is_same(member.process, self.members[place].process)
     }
 
-    /// Whether this incarnation is on the process list, by a look at each.
+    /// Whether this incarnation is on the process list, by looking at each member.
     #[inline(never)]
     fn is_among_all(&self, member: Member) -> bool
         ensures { result ≡ holds_member self.now.members.items member }

@@ -17,7 +17,7 @@ use Rattle.program_name_laws.proofs.Walk.{BlockStands, CallbacksStand, ThreadsSt
 use Rattle.program_name_laws.proofs.Walk.{ctimers_stand, threads_stand, behind_threads, on_poll_stands, on_exit_stands}
 use Rattle.program_name_laws.proofs.Walk.{body_stands}
 
--- with the first of the timers and of the threads alone
+-- the same names, but with the first of the timers and of the threads only
 fronts : (n : Names) (ts hs more others : List Name) → n.timers ≡ ts ++ more → n.threads ≡ hs ++ others
     → Extends (record n { timers = ts; threads = hs }) n
 fronts n ts hs more others e h = record { front = front; first_timer = refl }
@@ -41,7 +41,7 @@ is_first : (f : Body Name → Body ℕ) (d : Declarations) (a : Body Name) (b : 
     → NamesDeclared d (f a) → NamesDeclared d b
 is_first f d a b e h = let same : f a ≡ b = cc in subst (NamesDeclared d) same h
 
--- before the k-th of some callback timers after others
+-- what is declared before the block of the k-th of some callback timers that come after others
 abbrev callback_counts : Names → (done : List Name) → (k : ℕ) → Declarations
 callback_counts n done k = record (counts_of n) { timers = length done + (k + 1); threads = 0 }
 
@@ -66,7 +66,7 @@ callbacks_declared n done (t ∷ ts) all h (suc k) b e =
     subst (λ l. NamesDeclared (record (counts_of n) { timers = l; threads = 0 }) b) longer
     (callbacks_declared n own ts (all ∙ sym (append_assoc done (t.0 ∷ []) (named_of ts))) h.1 k b e)
 
--- the same of threads
+-- the same for threads
 threads_declared : (n : Names) (done : List Name) (ts : List Named) → n.threads ≡ done ++ named_of ts
     → ThreadsStand (record n { threads = done }) ts →
     (k : ℕ) (b : Body ℕ) → slice_get (map (block_in n) (values_of ts)) k ≡ Some b
@@ -88,7 +88,7 @@ threads_declared n done (t ∷ ts) all h (suc k) b e =
     subst (λ l. NamesDeclared (record (counts_of n) { threads = l }) b) longer
     (threads_declared n own ts (all ∙ sym (append_assoc done (t.0 ∷ []) (named_of ts))) h.1 k b e)
 
--- the names of a program, before whose next code it has so many timers
+-- the names of a program that has this many timers before its next code
 abbrev pub names_at : Tree → (first_timer : ℕ) → Names
 names_at t f = record no_names {
   events = t.events;

@@ -82,7 +82,7 @@ code_complete t f k c before after long all =
       timers = λ i low high. timer_at t f k c before after long all i low high;
     }
 
--- the codes from the k-th on, before which the program's list has these timers
+-- the codes from the k-th on, if the program's list has these timers before theirs
 each_complete : (t : Tree) (f k : ℕ) (cs : List CodeShape) (before : List Timer) → length before ≡ f
     → t.timers ≡ before ++ timers_from k cs →
     (j : ℕ) (c : Code) → slice_get (codes_in k (names_at t f) cs) j ≡ Some c → (c.number ≡ k + j) × IsCompleteIn t c

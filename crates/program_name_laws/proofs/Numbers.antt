@@ -1,4 +1,4 @@
--- Where the names of a block stand for something, its numbers are those of what is declared.
+-- If the names of a block stand for something, its numbers are those of what is declared.
 use Rattle.std.proofs.Common.{◌≡◌, ℕ, ◌+◌, ◌<◌, ◌≤◌, nat_lt, List, [], ◌∷◌, ◌++◌, length, slice_index_or, refl, sym}
 use Rattle.std.proofs.Common.{ap, subst, ◌∙◌, arith, Bool, true, false, Option, Some, None, option_map}
 use Rattle.std.specs.List.{All}
@@ -31,7 +31,7 @@ counts_of n = record {
   threads = length n.threads;
 }
 
--- what is found is one of these
+-- each number that is found is one of these
 abbrev pub Counts : Names → Option Name → Declarations → Type 0
 Counts n own d = (k : Class) (x : Name) (i : ℕ) → Finds n own k x i → IsOneOf d k i
 

@@ -1,4 +1,4 @@
--- Each name in a block stands for one of its class, where the marks of the block keep the rules.
+-- Each name in a block stands for one of its class, if the marks of the block keep the rules.
 use Rattle.std.proofs.Common.{◌≡◌, ℕ, ◌+◌, List, [], ◌∷◌, ◌++◌, refl, ap, true, false, Option, Some, None, is_some}
 use Rattle.std.proofs.Common.{option_map}
 use Rattle.std.specs.List.{All}
@@ -29,7 +29,7 @@ use Rattle.program_name_laws.proofs.Marks.{AreSound}
 abbrev pub Stands : Names → Option Name → Class × Name → Type 0
 Stands n own m = (i : ℕ) × Finds n own m.0 m.1 i
 
--- each of these names does, and what comes after them keeps the rules
+-- each of these names does, and the marks after them keep the rules
 abbrev pub Stand : Names → Option Name → List (Class × Name) → List Mark → Type 0
 Stand n own ns after = All (Stands n own) ns × AreSound n after
 

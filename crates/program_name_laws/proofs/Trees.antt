@@ -13,7 +13,7 @@ use Rattle.program_name_laws.specs.Named.{named_by_block}
 use Rattle.program_name_laws.specs.Trees.{only, first_code, second_code, second_there, tree_with, names_what_is_there}
 use Rattle.program_name_laws.specs.Trees.{TreesThatDeclare, TreesThatDoNot, TreesThatLack}
 
--- of the second process
+-- for the second process
 second : (callback thread body : Body ℕ) → IsDeclared (tree_with callback thread body)
     → IsDeclaredIn (tree_with callback thread body) (second_code callback thread body)
 second callback thread body h = h.each 1 (second_code callback thread body) refl

@@ -13,11 +13,11 @@ use Rattle.program_name_laws.specs.Named.{named_by_block}
 use Rattle.program_name_laws.proofs.Marks.{AreSound}
 use Rattle.program_name_laws.proofs.Stands.{Stands, block_stands}
 
--- the names in a block that no thread has
+-- the names in a block that isn't a thread's
 abbrev pub BlockStands : Names → Body Name → Type 0
 BlockStands n b = All (Stands n None) (named_by_block b)
 
--- those in each of these blocks, before which its own name is declared
+-- those in each of these blocks; its own name is declared before it
 abbrev pub CallbacksStand : Names → List Named → Type 0
 CallbacksStand n [] = Unit {0}
 CallbacksStand n (t ∷ ts) = BlockStands (with_new n a_timer t.0) t.1 × CallbacksStand (with_new n a_timer t.0) ts

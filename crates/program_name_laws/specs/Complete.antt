@@ -16,7 +16,7 @@ pub record IsCompleteIn (t : Tree) (c : Code) : Type 0 where
         is_callback = nat_le (c.first_timer + length c.etimers) i;
       })
 
--- Each semaphore has its first count, and each process its code, which bears the number of the process.
+-- Each semaphore has its first count, and each process its code, with the number of the process.
 pub record IsComplete (t : Tree) : Type 0 where
   pub counts : length t.counts ≡ length t.semaphores
   pub codes : length t.codes ≡ length t.processes

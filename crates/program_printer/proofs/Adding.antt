@@ -126,7 +126,7 @@ block_added f ss i old mid new h so_far last =
     ∙ append_assoc old (token.OpenBrace ∷ all) (token.CloseBrace ∷ []) ∙ ap (λ ts. old ++ (token.OpenBrace ∷ ts))
     (sym (block_flat f ss))
 
--- names by their numbers
+-- one name, by its number
 pub one_number : (f : ℕ → Name) (F : Name → List Token) (ns : List ℕ) (i d : ℕ) (mid new all : List Token)
     → i < length ns → mid ++ flat_map F (drop i (map f ns)) ≡ all → new ≡ mid ++ F (f (get_or ns i d))
     → new ++ flat_map F (drop (i + 1) (map f ns)) ≡ all

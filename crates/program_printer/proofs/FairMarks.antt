@@ -24,7 +24,7 @@ use Rattle.program_tree.specs.declared.keyword.Keyword.TheVariants as word
 use Rattle.program_printer.proofs.LexedAgain.{NoEquals}
 use Rattle.program_printer.proofs.OwnTokens.{PlaysItsPart, AreFair}
 
--- a mark that may stand before any
+-- a mark that is fair whatever comes after it
 abbrev IsFree : Mark → Type 0
 IsFree m = PlaysItsPart m.token m.role × ((ts : List Token) → NoEquals m.token ts)
 

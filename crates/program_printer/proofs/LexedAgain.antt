@@ -23,14 +23,14 @@ use Rattle.program_tree.specs.declared.tree.Operator.{Operator}
 use Rattle.program_tree.specs.declared.tree.Operator.TheVariants as operator
 use Rattle.program_text_laws.proofs.WordLaws.{number_token}
 
--- a token that a text may have in a program
+-- a token that can be in a program, as a lexed text has it
 abbrev pub IsOwn : Token → Type 0
 IsOwn (token.Name x) = (x ≢ []) × (list_all is_word_byte x ≡ true) × (word_token x ≡ token.Name x)
 IsOwn (token.Number n) = n ≤ 65535
 IsOwn token.Bad = ⊥
 IsOwn t = Unit {0}
 
--- `!` isn't followed by what makes it another sign
+-- `!` isn't followed by a token that would make it another sign
 abbrev pub NoEquals : Token → List Token → Type 0
 NoEquals token.Bang (token.Equals ∷ ts) = ⊥
 NoEquals token.Bang (token.Op operator.Equal ∷ ts) = ⊥
@@ -134,7 +134,7 @@ decimal_fits n h =
     let capped : n ≡ min (digits_value 10 (decimal n)) 65536 = omega (arith, value) in
     (number.0, digits-word (decimal n) number.1, sym (number_token (decimal n) n number.2 capped))
 
--- no word goes on into what stands after it
+-- no word runs on into what stands after it
 keyword_stops : (b : ℕ) (k : Keyword) (rest : List Token)
     → begins is_word_byte (gap b (token.Keyword k) rest ++ text_from b rest) ≡ false
 keyword_stops b k [] = refl
@@ -159,7 +159,7 @@ number_stops b n (u ∷ rest) = refl
 
 -- ---- signs
 
--- a byte that makes no longer sign, nor a comment
+-- the text begins with a byte that makes neither a longer sign nor a comment of the sign before it
 record NextByte (text : List ℕ) : Type 0 where
   byte : ℕ
   more : List ℕ
@@ -270,7 +270,7 @@ token_fits b token.Close rest own h others = (other_signs (gap b token.Close res
 token_fits b token.OpenBrace rest own h others = (other_signs (gap b token.OpenBrace rest ++ text_from b rest)).4
 token_fits b token.CloseBrace rest own h others = (other_signs (gap b token.CloseBrace rest ++ text_from b rest)).5
 
--- ---- all of it
+-- ---- the whole text
 
 indentation-blank : (n : ℕ) → list_all is_blank (indentation n) ≡ true
 indentation-blank zero = refl

@@ -1,4 +1,4 @@
--- The tokens of a text are a program's own, where no rule is broken at any of them.
+-- The tokens of a text are such as a program can have, if no rule is broken at any of them.
 use Rattle.std.proofs.Common.{◌≡◌, ◌≢◌, ◌≤◌, nat_lt, ℕ, min, List, [], ◌∷◌, ◌++◌, Bool, true, false, ◌||◌, Option}
 use Rattle.std.proofs.Common.{Some, None, refl, ap, sym, ◌∙◌, subst, arith, append_assoc, eqb, IsTrue, if◌then◌else◌}
 use Rattle.std.proofs.lemmas.Bool.{and_parts, ltb-false}
@@ -97,7 +97,8 @@ names_lexed text ts ls lexed = subst AreLexedNames (sym lexed.told) (pieces_lexe
 
 -- ---- marks
 
--- a number plays the part of a number, and `!` isn't followed by what makes it another sign
+-- A number plays the part of a number. Marks are fair if theirs do, and no `!` is followed by a token that would make
+-- it another sign.
 abbrev pub PlaysItsPart : Token → Role → Type 0
 PlaysItsPart (token.Number n) r = r ≡ value n
 PlaysItsPart t r = Unit {0}

@@ -54,7 +54,7 @@ body_set = hlevel (props, Body-set, expression_set, action_set)
 tree_set : IsSet Tree
 tree_set = hlevel (props, body_set)
 
--- what merely is the tree of a text is its tree
+-- without the truncation: a text has a tree or a reported error, and at most one tree
 pub is_tree : (text : List ℕ) (t : Tree) → ∥ IsTreeOf text t ∥₁ → IsTreeOf text t
 is_tree text t m = go (tree_or_told text).one
   where

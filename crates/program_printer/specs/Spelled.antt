@@ -33,7 +33,7 @@ sent_token e = (sent_mark e).token
 abbrev pub any_token : AnyEvent Name → Token
 any_token e = (any_mark e).token
 
--- a word that asks about something in parentheses
+-- a keyword with what it asks about in parentheses
 abbrev pub telling : KeywordRead → Token → List Token
 telling k t = Keyword k ∷ Open ∷ t ∷ Close ∷ []
 

@@ -14,7 +14,7 @@ use program_tree::program::Program;
 use program_tree::token::Token;
 use std::alloc::{AllocError, Global};
 
-/// How many braces are open after a token, of those before it.
+/// How many braces are open after a token, from how many are open before it.
 fn braces_behind(braces: usize, token: &Token) -> usize
     requires { braces + 1 < 2 ^ 64 }
     ensures { result ≡ braces_behind braces (token_of token.now) }
@@ -26,7 +26,7 @@ fn braces_behind(braces: usize, token: &Token) -> usize
     }
 }
 
-/// Whether a `(` stands close after the word.
+/// Whether a `(` follows the word without a space.
 fn tells(keyword: Keyword) -> bool
     ensures { result ≡ tells keyword }
 {
@@ -41,7 +41,7 @@ fn tells(keyword: Keyword) -> bool
     )
 }
 
-/// Whether a token ends its line, where these come after it.
+/// Whether a token ends its line, if these come after it.
 fn ends_line(token: &Token, rest: &[Token]) -> bool
     ensures { result ≡ ends_line (token_of token.now) (map token_of rest.now) }
 {
@@ -64,7 +64,7 @@ fn stands_close(token: &Token, rest: &[Token]) -> bool
     }
 }
 
-/// How many braces are open where a line begins with these tokens: one that closes counts as closed.
+/// The depth of a line that begins with these tokens: a closing brace is indented as the line that opened it.
 fn line_depth(braces: usize, rest: &[Token]) -> usize
     ensures { result ≡ line_depth braces (map token_of rest.now) }
 {
@@ -85,7 +85,7 @@ fn indent(text: &mut String, mut depth: usize) -> Result<(), AllocError>
     Ok(())
 }
 
-/// Adds what stands after a token, where so many braces are open.
+/// Adds what stands after a token, with this many braces open.
 fn part(text: &mut String, braces: usize, token: &Token, rest: &[Token]) -> Result<(), AllocError>
     ensures { OnOk result (string_bytes text.new ≡ string_bytes text.old ++ gap braces (token_of token.now)
         (map token_of rest.now)) }
@@ -124,7 +124,7 @@ pub(crate) fn print(alloc: Global, mut tokens: &[Token]) -> Result<String, Alloc
 ///
 /// # Errors
 ///
-/// Out of memory; an allocation failed.
+/// Out of memory: an allocation failed.
 pub fn print_program(alloc: Global, program: &Program) -> Result<String, AllocError>
     ensures text { IfOk result (λ t. string_bytes t ≡ text_of_tree (tree_of program.now)) }
     ensures reads { IfOk result (λ t. IsTreeOf (string_bytes t) (tree_of program.now)) }

@@ -22,7 +22,7 @@ use program_tree::token::Token;
 use program_tree::tree::{Action, Block, Expr, Stmt};
 use std::alloc::AllocError;
 
-/// The name with a number, which is empty where there is none. No program has such a number.
+/// The name with a number; empty if there is none, which no program has.
 pub(crate) fn name_at<'a>(names: &'a Names, place: usize) -> &'a str
     ensures { result.now ≡ slice_index_or names.now place [] }
 {
@@ -118,7 +118,7 @@ pub(crate) fn add_all<'a>(out: &mut Vec<Token<'a>>, more: &[Token<'a>]) -> Resul
     out.extend_from_slice(more)
 }
 
-/// Adds a word that asks about something in parentheses.
+/// Adds a keyword and what it asks about, in parentheses.
 fn telling<'a>(
     out: &mut Vec<Token<'a>>,
     keyword: Keyword,
@@ -207,7 +207,7 @@ impl<'a> Scoped<'a> {
         add(out, Token::Semicolon)
     }
 
-    /// Adds a semicolon, and before it the variable that gets the answer, where there is one.
+    /// Adds a semicolon, and before it `into` and the variable that gets the answer, if there is one.
     fn into_end(&self, told: Option<u8>, out: &mut Vec<Token<'a>>) -> Result<(), AllocError>
         ensures { OnOk result (map token_of out.new.items ≡ map token_of out.old.items
             ++ into_tokens (option_map (name_in (names_in self.now) a_variable) told)) }

@@ -92,7 +92,7 @@ impl<'a> Scoped<'a> {
         Ok(())
     }
 
-    /// Adds the block of `onpoll` or `onexit`, where it is there.
+    /// Adds the block of `onpoll` or `onexit`, if present.
     fn handler(
         &self,
         keyword: Keyword,
@@ -182,7 +182,7 @@ fn processes<'a>(names: &'a Names, out: &mut Vec<Token<'a>>) -> Result<(), Alloc
     add(out, Token::Semicolon)
 }
 
-/// Adds the processes that start at boot, where there are any.
+/// Adds the processes that start at boot, if there are any.
 fn autostart<'a>(
     names: &'a Names,
     numbers: &[u8],
@@ -203,7 +203,7 @@ fn autostart<'a>(
     add(out, Token::Semicolon)
 }
 
-/// Adds the process that packets go to, where there is one.
+/// Adds the process that packets go to, if there is one.
 fn receiver<'a>(
     names: &'a Names,
     receiver: Option<u8>,

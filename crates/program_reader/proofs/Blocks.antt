@@ -108,7 +108,7 @@ front_all : (f : Class → ℕ → Name) (ss : List (Statement ℕ)) → with_fr
 front_all f [] = refl
 front_all f (s ∷ ss) = ap (next (statement_map f s)) (front_all f ss)
 
--- the statements of a block so far: the tokens old are those of the block up to them, and then rest
+-- the statements of a block so far: `old` is the tokens of the block up to them, and then `rest`
 pub record HasFront (s s' : Scope) (own : Option Name) (c : Context) (ss : List (Statement ℕ))
     (old rest : List Token) : Type 0 where
   pub spelled : (n : Names) → Extends s.names n → (tail : Body Name) (ms : List Mark)
@@ -240,7 +240,7 @@ pub front_fails : (s s' : Scope) (own : Option Name) (c : Context) (ss : List (S
     → (more : Pending) → tell s (block c ∷ more) old ≡ v
 front_fails s s' own c ss old mid v r p more = r.goes_on more ∙ p more
 
--- the same of a statement as it was read
+-- the same for a statement as the code has it
 pub one_read : (s s1 s2 : Scope) (c d : Context) (ss ss' : List Stmt) (x : Stmt) (old mid rest : List Token)
     → d ≡ inner c → ss' ≡ ss ++ (x ∷ []) → HasFront s s1 c.thread c (map statement_of ss) old mid → s1.names ≡ s.names
     →

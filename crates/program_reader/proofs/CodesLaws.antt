@@ -38,7 +38,7 @@ codes_marks-append : (ps : List (Name × CodeShape)) (p : Name × CodeShape) (ms
 codes_marks-append [] p ms = refl
 codes_marks-append (q ∷ ps) p ms = ap (code_marks q) (codes_marks-append ps p ms)
 
--- what a code needs of the names around it is what the whole program has
+-- the shape of a code is the same with the names in scope after other codes
 behind_shape : (n : Names) (cs : List CodeShape) (code : Code) → code_shape (behind n cs) code ≡ code_shape n code
 behind_shape n [] code = refl
 behind_shape n (c ∷ cs) code = behind_shape (outside (inside n c)) cs code
@@ -89,7 +89,7 @@ pub codes_fail : (s m : Scope) (x : Name) (xs : List Name) (trees : List Code) (
     → tell s (codes_form s.names.processes more) old ≡ v
 codes_fail s m x xs trees old mid v more h e = h.goes_on more ∙ e
 
--- What a code leaves as it is.
+-- What a code leaves unchanged.
 
 pub behind_processes : (n : Names) (cs : List CodeShape) → (behind n cs).processes ≡ n.processes
 behind_processes n [] = refl

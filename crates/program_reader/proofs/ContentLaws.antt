@@ -51,7 +51,7 @@ bare n e f g = ap (λ z. with_own n z n.timers n.threads) e ∙ ap (λ z. with_o
 maybe_numbered_on : (n m : Names) (b : Option (Body ℕ)) → n ≡ m → MaybeNumbered n b → MaybeNumbered m b
 maybe_numbered_on n m b e h = subst (λ z. MaybeNumbered z b) e h
 
--- the stages after one another
+-- the stages that are read so far
 pub record Front (s s' : Scope) (y : Pending) (old rest : List Token) : Type 0 where
   pub goes : (f : Pending) → tell s (from_variables ∷ f) old ≡ tell s' (y ++ f) rest
 
@@ -175,7 +175,7 @@ content_read es cs starts callbacks thread_bodies on_poll on_exit body es2 s0 s1
           ∙ b.goes_on f;
     }
 
--- no thread is there before the threads
+-- no thread is in scope before the threads are read
 pub threads_bare : (starts : List ℕ) (callbacks : List (Body ℕ)) (s0 s1 s2 s3 : Scope) (t0 t1 t2 t3 : List Token)
     → s0.names.variables ≡ [] → s0.names.timers ≡ [] → s0.names.threads ≡ []
     → ReadsValues a_variable from_variables from_etimers variable_marks starts s0 s1 t0 t1

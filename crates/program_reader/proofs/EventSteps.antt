@@ -28,7 +28,7 @@ pub cast_name : (s : Scope) (c : Context) (f : Pending) (old : List Token) (x : 
 cast_name s c f [] x e = absurd cc
 cast_name s c f (t ∷ ts) x e = let is : t ≡ token.Name x = cc in rw is refl
 
--- the words that stand in a place for themselves alone
+-- not a keyword that this operand has beyond the narrower one: `exit` beyond `cast`, the others beyond `sent`
 abbrev pub IsOther : Operand → Option Token → Type 0
 IsOther form.sent (Some (token.Keyword word.Exit)) = ⊥
 IsOther form.any (Some (token.Keyword word.Init)) = ⊥

@@ -1,4 +1,4 @@
--- What `find` and `position` give, in the words of the lexer's definitions.
+-- What `find` and `position` return, in terms of the lexer's definitions.
 use Rattle.std.proofs.Common.{◌≡◌, nat_lt, ◌≤◌, not, ℕ, List, [], ◌∷◌, length, map, Bool, true, false, cond, Option}
 use Rattle.std.proofs.Common.{Some, None, refl, ap, ◌∙◌, arith, bytes_eq}
 use Rattle.std.specs.Prelude.{find, option_map, unwrap_or, nat_eq}
@@ -22,7 +22,7 @@ front_len test xs found e =
     ap (λ o. unwrap_or o (length xs)) e ∙ place_or_end _ (position_or_len test xs) (length xs) refl
     (prefix_len-le-length (λ x. not (test x)) xs)
 
--- what doesn't fail passes
+-- a double negation
 twice : (b : Bool) → not (not b) ≡ b
 twice true = refl
 twice false = refl

@@ -49,7 +49,7 @@ or_parts : (a b : Bool) → (a || b) ≡ false → (a ≡ false) × (b ≡ false
 or_parts true b h = absurd cc
 or_parts false b h = (refl, h)
 
--- a name in no scope is of no class
+-- a name that isn't in scope is of no class
 pub of_no_class : (names : Names) (c : Class) (x : Name) → is_in_scope names x ≡ false → is_a names c x ≡ false
 of_no_class names c x h =
     let p = or_parts _ (is_a names a_thread x) h in

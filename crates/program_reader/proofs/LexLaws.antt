@@ -52,9 +52,9 @@ feeds rest (Sign bytes token) fits = let sign = found_sign (bytes ++ rest) bytes
     none_first bytes rest sign.some sign.no_feed
 feeds rest (Other b) fits = omega arith
 
--- ---- one piece more
+-- ---- one more piece
 
--- whatever fitting pieces come after, the text is pieces with these tokens and lines, and theirs
+-- whatever fitting pieces the rest consists of, the tokens and lines of the text are these and then theirs
 pub record HasRead (text : List ℕ) (tokens : List Token) (lines : List ℕ) (line : ℕ) (rest : List ℕ) : Type 0 where
   pub goes_on : (more : List Piece) → rest ≡ text_of more → AllFit more
       → (all : List Piece) × (text ≡ text_of all) × AllFit all × (tokens_of all ≡ tokens ++ tokens_of more)
@@ -111,7 +111,7 @@ same_line : (line : ℕ) (o : Option TokenRead) → option_to_list (option_map (
 same_line line None = refl
 same_line line (Some t) = refl
 
--- a turn of the loop
+-- one iteration of the loop
 pub turn : (text : List ℕ) (old new : List TokenRead) (old_lines new_lines : List ℕ) (line next : ℕ)
     (rest after : List ℕ) (token : Option TokenRead) (n : ℕ)
     → HasRead text (map token_of old) old_lines line rest → BeginsWith rest (option_map token_of token) n

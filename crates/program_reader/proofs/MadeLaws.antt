@@ -83,7 +83,7 @@ same_made k f f' v v' starts e e' c c' callbacks t t' thread_bodies on_poll on_e
     ∙ ap (λ z. made k f' v' starts e' z callbacks t thread_bodies on_poll on_exit body) hc
     ∙ ap (λ z. made k f' v' starts e' c' callbacks z thread_bodies on_poll on_exit body) ht
 
--- names beside what they have, put together again
+-- a list of pairs, split into names and values, and zipped again
 pub zipped : {T : Type 0} (ps : List (Name × T)) → zip (named_of ps) (values_of ps) ≡ ps
 zipped [] = refl
 zipped (p ∷ ps) = ap (λ z. p ∷ z) (zipped ps)

@@ -31,7 +31,7 @@ pub broken : (s : Scope) (f f' : Pending) (old : List Token) (t : Token) (m : Ma
 broken s f f' [] t m k is fits h = absurd cc
 broken s f f' (x ∷ xs) t m k is fits h = let e : x ≡ t = cc in rw (e, fits, h) refl
 
--- where a symbol fits no such token
+-- the symbol doesn't fit this token, or the end is unexpected there
 abbrev pub UnfitAt : Symbol → Pending → Option Token → Type 0
 UnfitAt y f None = end_kind y ≡ Unexpected
 UnfitAt y f (Some t) = step (y ∷ f) t ≡ unfit

@@ -1,4 +1,4 @@
--- Places in lists that go on.
+-- Places of names in lists that are extended.
 use Rattle.std.proofs.Common.{◌≡◌, ℕ, suc, ◌+◌, ◌<◌, List, [], ◌∷◌, ◌++◌, length, cond, not, nat_lt, refl, sym, ap}
 use Rattle.std.proofs.Common.{◌∙◌, arith, Bool, true, false, Option, Some, None, option_map, slice_index_or, ◌⊎◌, inl}
 use Rattle.std.proofs.Common.{inr}

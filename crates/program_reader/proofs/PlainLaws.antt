@@ -24,7 +24,7 @@ use Rattle.program_reader.specs.declared.plain.Valued.TheVariants as valued
 use Rattle.program_reader.specs.declared.plain.About.{About}
 use Rattle.program_reader.specs.declared.plain.About.TheVariants as about
 
--- the action in the words of its marks
+-- this action is read, by its marks
 abbrev ReadsAction : Scope → Scope → Context → Action ℕ → List Token → List Token → Type 0
 ReadsAction s s' c a old new = ReadsStatement s s' c (λ n ms. action_marks c (action_map (name_in n) a) ms) old new
 

@@ -161,7 +161,7 @@ shape_put_back es ss p ps st r e s qs c a rc k t h1 h2 h3 h4 h5 h6 h7 =
     ∙ ap (λ z. shape_of (tree_with es (named_of ss) z qs a rc k t)) h3
     ∙ ap (λ z. shape_of (tree_with es (named_of ss) (values_of ss) z a rc k t)) h4)
 
--- what was read of a text's tokens
+-- a tree that was read from the tokens of a text
 was_read : (tokens : List Token) (tree : Tree) → AreLexed tokens → (q : IsTreeOfTokens tokens tree)
     → q.shape ≡ shape_of tree → WasRead tree
 was_read tokens tree lexed q e = ∣ record {

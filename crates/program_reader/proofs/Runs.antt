@@ -34,7 +34,7 @@ sign_part s y t old new r = record {
   goes_on = r.goes_on s;
 }
 
--- one after the other, where the first leaves the names as they are
+-- one after the other, if the first leaves the names unchanged
 pub then : (s s1 s' : Scope) (a b : Pending → Pending) (p q : Names → List Mark → List Mark) (old mid new : List Token)
     → s1.names ≡ s.names → Runs s s1 a p old mid → Runs s1 s' b q mid new
     → Runs s s' (λ f. a (b f)) (λ n ms. p n (q n ms)) old new

@@ -1,4 +1,4 @@
--- What is found stands in scope, and it stands there for the same whatever more is declared.
+-- A name that is found is in scope, and stands for the same thing whatever else is declared.
 use Rattle.std.proofs.Common.{◌≡◌, ℕ, ◌+◌, ◌-◌, List, [], ◌++◌, refl, sym, ap, ◌∙◌, arith, Option, Some, None}
 use Rattle.std.proofs.Common.{option_map, Bool, true, false, not, ◌&&◌, ◌||◌, is_some, slice_index_or}
 use Rattle.program_tree.specs.InScope.{Names, names_of, is_a, is_in_scope, number_in, name_in, or_zero}

@@ -1,4 +1,4 @@
--- A stage that isn't there is passed over.
+-- A stage that is absent is passed over.
 use Rattle.std.proofs.Common.{◌≡◌, List, [], ◌∷◌, Some, refl}
 use Rattle.program_tree.specs.Faults.{Scope}
 use Rattle.program_text_laws.specs.Machine.{Pending, tell, first, from_events, from_semaphores, from_variables}

@@ -211,7 +211,7 @@ no_receiver_read s old new other same = record {
 extends_itself : (n : Names) → Extends n n
 extends_itself n = record { front = λ c. ([], sym (append-nil (names_of n c))); first_timer = refl }
 
--- a number of a process is one of those
+-- the numbers of processes stand for something; of other classes, any number does
 within_processes : Names → Within
 within_processes n a_process i = nat_lt i (length n.processes)
 within_processes n c i = true

@@ -25,7 +25,7 @@ use Rattle.program_reader.specs.declared.value_word.Telling.TheVariants as telli
 use Rattle.program_reader.proofs.ExpressionSteps.{alone_start, bang_start, open_start}
 use Rattle.program_reader.proofs.NameSteps.{front_of}
 
--- the expression in the words of its marks
+-- this expression is read, by its marks
 abbrev ReadsValue : Scope → Context → Expression ℕ → List Token → List Token → Type 0
 ReadsValue s c e old new = Reads s s (expression c) (λ n ms. expression_marks c (expression_map (name_in n) e) ms) old
     new

@@ -1,4 +1,4 @@
--- What a call of the reader answers: the part of a program that it read, or the first fault.
+-- What a call of the reader returns: the part of a program that it read, or the first fault.
 use Rattle.std.specs.Prelude.{◌≡◌, ◌+◌, ◌<◌, ◌≤◌, length, Result, IfOk, OnOk}
 use Rattle.program_tree.specs.Grammar.{expression_marks, action_marks, statement_marks}
 use Rattle.program_tree.specs.InScope.{name_in, number_in}
@@ -40,7 +40,7 @@ pub record AnswersAction (old new : Reader) (place : Context) (result : Result A
       (λ w. action_fits w (action_of a)))
   pub err : Fails (scope_of old.scope) (items (context_of place)) old.cursor result
 
--- a statement, which counts beside those in its blocks
+-- a statement, which is counted along with those in its blocks
 pub record AnswersStatement (old new : Reader) (place : Context) (result : Result Stmt Refusal) : Type 0 where
   pub names : fixed new.scope ≡ fixed old.scope
   pub shorter : OnOk result (length new.cursor < length old.cursor)

@@ -18,7 +18,7 @@ use Rattle.program_tree.specs.Tree.{Class, Body, body_map}
 use Rattle.program_tree.specs.declared.keyword.Keyword.{Keyword}
 use Rattle.program_tree.specs.declared.keyword.Keyword.TheVariants as word
 
--- a block with its names, or its numbers, put back
+-- A block with its names put back. Its numbers are right if numbering these names gives the block again.
 abbrev pub written : Names → Body ℕ → Body Name
 written n b = body_map (name_in n) b
 
@@ -71,7 +71,7 @@ pub record ReadsBlocks (c : Class) (y z : Symbol) (marks : List Named → List M
       → old ≡ tokens (marks (all_written n items) ms)
   pub goes_on : (f : Pending) → tell s (y ∷ f) old ≡ tell s' (z ∷ f) new
 
--- `onpoll` or `onexit`, where it is there
+-- `onpoll` or `onexit`, if present
 pub record ReadsHandler (k : Keyword) (y z : Symbol) (tree : Option (Body ℕ)) (s s' : Scope)
     (old new : List Token) : Type 0 where
   pub names : s'.names ≡ s.names
@@ -81,7 +81,7 @@ pub record ReadsHandler (k : Keyword) (y z : Symbol) (tree : Option (Body ℕ)) 
       → old ≡ tokens (handler_marks k (option_map (written n) tree) ms)
   pub goes_on : (f : Pending) → tell s (y ∷ f) old ≡ tell s' (z ∷ f) new
 
--- the body, and the last brace is still to come
+-- the body; the last brace is not yet read
 pub record ReadsBody (tree : Body ℕ) (s s' : Scope) (old new : List Token) : Type 0 where
   pub names : s'.names ≡ s.names
   pub starting : s'.starting ≡ s.starting

@@ -21,7 +21,7 @@ abbrev pub behind : Names → List CodeShape → Names
 behind n [] = n
 behind n (c ∷ cs) = behind (outside (inside n c)) cs
 
--- the codes of the first processes are read, and those of these are left
+-- the codes of the first processes are read, and those of the processes `left` are not
 pub record HasCodes (trees : List Code) (left : List Name) (s s' : Scope) (old rest : List Token) : Type 0 where
   pub shapes : List (Name × CodeShape)
   pub named : s.names.processes ≡ named_of shapes ++ left
@@ -56,7 +56,7 @@ abbrev pub all_timers : List Code → List Timer
 all_timers [] = []
 all_timers (c ∷ cs) = timers_of_code c ++ all_timers cs
 
--- what the names in scope after a text and its parts stand for
+-- the tree that the names in scope after a text and its parts stand for
 abbrev pub tree_with : ScopeRead → Parts → Tree
 tree_with s p = record {
   events = s.events;

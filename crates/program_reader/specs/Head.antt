@@ -38,7 +38,7 @@ with_names s n = record s { names = n }
 abbrev pub with_starting : Scope → List Name → Scope
 with_starting s xs = record s { starting = xs }
 
--- where the result is a fault, it is the first one, whatever comes after these symbols
+-- if the result is a fault, it is the first one, whatever comes after these symbols
 abbrev pub FailsIn : {T : Type 0} → Scope → Pending → List Token → Result T Refusal → Type 0
 FailsIn s y old result = (f : Fault) → result ≡ Err (refusal.Fault f) → (more : Pending)
     → tell s (y ++ more) old ≡ fault f.kind f.left

@@ -1,4 +1,4 @@
--- What stands in scope between codes, and what of the scope is kept.
+-- What is in scope between codes, and what of the scope is kept.
 use Rattle.std.specs.Prelude.{◌≡◌, []}
 use Rattle.program_reader.specs.declared.scope.Scope.{Scope}
 

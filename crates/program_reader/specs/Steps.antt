@@ -46,7 +46,7 @@ scope_of s = record {
 abbrev pub context_of : ContextRead → Context
 context_of c = record { level = c.level; simple = c.simple; thread = option_map (λ x. x.now) c.thread }
 
--- numbers of events are below this, and those of all others below that
+-- the numbers of events are below 117, those of all other classes below 64
 abbrev pub most_of : Class → ℕ
 most_of an_event = 117
 most_of c = 64
@@ -81,13 +81,13 @@ pub record Finds (n : Names) (own : Option Name) (c : Class) (x : Name) (i : ℕ
   pub found : look n c x ≡ Some i
   pub other : is_own_thread own c x ≡ false
 
--- a name stands first that stands for this one
+-- the first token is a name that stands for this one
 pub record IsNamed (n : Names) (own : Option Name) (c : Class) (i : ℕ) (old : List Token) : Type 0 where
   pub name : Name
   pub here : first old ≡ Some (token.Name name)
   pub finds : Finds n own c name i
 
--- what a name stands for, where one of this class is asked for
+-- what a name stands for, if one of this class is expected
 abbrev pub IsFound : Names → Option Name → Class → Name → Found → Type 0
 IsFound n own c x found.Unknown = is_in_scope n x ≡ false
 IsFound n own c x found.Other = (is_in_scope n x ≡ true) × ((is_other n c x || is_own_thread own c x) ≡ true)
@@ -101,11 +101,11 @@ pub record Extends (n n' : Names) : Type 0 where
   pub front : (c : Class) → IsFront (names_of n c) (names_of n' c)
   pub first_timer : n'.first_timer ≡ n.first_timer
 
--- all that is found is within
+-- each number that a name is found to have is within
 abbrev pub Covers : Names → Option Name → Within → Type 0
 Covers n own w = (c : Class) (x : Name) (i : ℕ) → Finds n own c x i → w c i ≡ true
 
--- with its names put back and numbered again the tree is the same, whatever more is declared
+-- with its names put back and numbered again the tree is the same, whatever else is declared
 abbrev pub Numbered : {T : Type 0} → Names → (again : Names → T) → T → Type 0
 Numbered n again t = (n' : Names) → Extends n n' → again n' ≡ t
 
@@ -124,18 +124,18 @@ abbrev pub FailsSign : {T : Type 0} → Symbol → List Token → Result T Refus
 FailsSign y old result = (f : Fault) → result ≡ Err (refusal.Fault f) → (s : Scope) (more : Pending)
     → tell s (y ∷ more) old ≡ fault f.kind f.left
 
--- a part in which the marks stand so with the names put back
+-- a part whose marks, with the names put back, are these
 pub record Reads (s s' : Scope) (y : Symbol) (marks : Names → List Mark → List Mark) (old new : List Token) : Type 0
   where
     pub spelled : (n : Names) → Extends s.names n → (ms : List Mark) → tokens ms ≡ new → old ≡ tokens (marks n ms)
     pub goes_on : (f : Pending) → tell s (y ∷ f) old ≡ tell s' f new
 
--- where the result is a fault, it is the first one, whatever comes after the symbol
+-- if the result is a fault, it is the first one, whatever comes after the symbol
 abbrev pub Fails : {T : Type 0} → Scope → Symbol → List Token → Result T Refusal → Type 0
 Fails s y old result = (f : Fault) → result ≡ Err (refusal.Fault f) → (more : Pending)
     → tell s (y ∷ more) old ≡ fault f.kind f.left
 
--- a statement of a block, of which more comes
+-- a statement of a block, with the rest of the block still to be read
 pub record ReadsStatement (s s' : Scope) (c : Context) (marks : Names → List Mark → List Mark)
     (old new : List Token) : Type 0 where
   pub spelled : (n : Names) → Extends s.names n → (ms : List Mark) → tokens ms ≡ new → old ≡ tokens (marks n ms)
@@ -170,17 +170,17 @@ abbrev pub IsInside : Option Token → Type 0
 IsInside (Some token.CloseBrace) = ⊥
 IsInside t = Unit {0}
 
--- the keyword of a statement is read, and the statement counts
+-- the keyword of a statement is read, and the statement is counted
 pub record Begins (s s' : Scope) (c : Context) (k : Keyword) (old new : List Token) : Type 0 where
   pub spelled : old ≡ token.Keyword k ∷ new
   pub goes_on : (f : Pending) → tell s (items c ∷ f) old ≡ tell s' (pending_of c (beginning k) f) new
 
--- the variable that a statement assigns to is read, and the statement counts
+-- the variable that a statement assigns to is read, and the statement is counted
 pub record IsTarget (s s' : Scope) (c : Context) (i : ℕ) (old new : List Token) : Type 0 where
   pub spelled : (n : Names) → Extends s.names n → old ≡ token.Name (name_in n a_variable i) ∷ new
   pub goes_on : (f : Pending) → tell s (items c ∷ f) old ≡ tell s' (equals ∷ expression c ∷ semicolon ∷ items c ∷ f) new
 
--- all that statements don't change
+-- what statements don't change of the scope
 pub record Fixed : Type 0 where
   pub events : List Name
   pub semaphores : List Name

@@ -50,7 +50,7 @@ impl Cursor<'_> {
         self.sign(Sign::OpenBrace)
     }
 
-    /// The same of a process, by its number.
+    /// The same for a process, by its number.
     fn opening_of(&mut self, scope: &Scope, process: usize) -> Result<(), Refusal>
         requires { process < length scope.now.processes }
         ensures ok { OnOk result ((s : faults.Scope) → ReadsOpening (slice_index_or scope.now.processes process []) s

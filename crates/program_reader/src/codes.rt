@@ -22,7 +22,7 @@ use program_tree::timer::Timer;
 use program_tree::token::Token;
 use std::alloc::{AllocError, Global};
 
-/// Adds so many timers of one kind.
+/// Adds this many timers of one kind.
 fn add_timers(timers: &mut Vec<Timer>, count: usize, timer: Timer) -> Result<(), AllocError>
     ensures { OnOk result (timers.new.items ≡ timers.old.items ++ replicate count timer) }
 {

@@ -12,7 +12,7 @@ use program_tree::keyword::Keyword;
 use program_tree::token::Token;
 use std::marker::Model;
 
-/// A sign that must stand at its place.
+/// A sign that the grammar requires at its place.
 #[derive(Clone, Copy)]
 pub(crate) enum Sign {
     Semicolon,
@@ -22,7 +22,7 @@ pub(crate) enum Sign {
     OpenBrace,
 }
 
-/// A place among the tokens of a text. A contract sees the tokens from there on.
+/// A place among the tokens of a text. Contracts see it as the tokens from there on.
 #[derive(Drop)]
 pub(crate) struct Cursor<'a> {
     rest: &'a [Token<'a>],
@@ -51,7 +51,7 @@ impl<'a> Cursor<'a> {
         self.rest.len()
     }
 
-    /// The next token, where there is one.
+    /// The next token, if there is one.
     pub(crate) fn peek(&self) -> Option<Token<'a>>
         ensures { option_map token_of result ≡ first self.now }
     {
@@ -106,7 +106,7 @@ impl<'a> Cursor<'a> {
         }
     }
 
-    /// Whether the next token is this keyword, which is read then.
+    /// Whether the next token is this keyword. If so, it is read.
     pub(crate) fn accept(&mut self, keyword: Keyword) -> bool
         ensures no_longer { length self.new ≤ length self.old }
         ensures there { OnTrue result (first self.old ≡ Some (token.Keyword keyword)) }
@@ -123,7 +123,7 @@ impl<'a> Cursor<'a> {
         }
     }
 
-    /// Whether the next token is a comma, which is read then.
+    /// Whether the next token is a comma. If so, it is read.
     pub(crate) fn comma(&mut self) -> bool
         ensures no_longer { length self.new ≤ length self.old }
         ensures there { OnTrue result (first self.old ≡ Some token.Comma) }

@@ -186,7 +186,7 @@ impl Reader<'_> {
         Ok(sides.joined(self.alloc)?)
     }
 
-    /// An expression that stands there.
+    /// An expression, at this place.
     #[cycle(expression)]
     #[tactic(auto, using(crate::proofs::ExpressionSteps::variable_start))]
     pub(crate) fn expression(&mut self, place: &Context) -> Result<Expr, Refusal>

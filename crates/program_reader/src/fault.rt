@@ -1,4 +1,4 @@
-//! Why the tokens are no program, as the parts of the reader answer it.
+//! Why the tokens aren't a program, as the parts of the reader return it.
 ghost use Rattle.std.specs.Prelude.{◌≡◌};
 ghost use Rattle.program_reader.specs.declared.fault.Refusal.TheVariants.{Memory};
 

@@ -127,7 +127,7 @@ impl Reader<'_> {
         Ok(numbers)
     }
 
-    /// Their names, where `autostart` is there.
+    /// Reads the names after `autostart`, if it is present, and adds their numbers.
     #[tactic(auto, using(crate::proofs::StartLaws::autostart_steps))]
     fn starting_names(&mut self, numbers: &mut Vec<u8>) -> Result<(), Refusal>
         requires { numbers.old.items ≡ [] }

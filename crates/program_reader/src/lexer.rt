@@ -12,14 +12,14 @@ use program_tree::token::Token;
 use program_tree::tree::Operator;
 use std::alloc::{AllocError, Global};
 
-/// The tokens of a text but for its end, with their lines from 1 on; the last line is that of the end.
+/// The tokens of a text, and their lines from 1 on. There is one more line than tokens: that of the end.
 #[derive(Drop)]
 pub(crate) struct Lexed<'a> {
     pub(crate) tokens: Vec<Token<'a>>,
     pub(crate) lines: Vec<usize>,
 }
 
-/// What a text begins with: the bytes of a piece, and its token where it is one.
+/// What a text begins with: the length of a piece, and its token if it is one.
 #[derive(Clone, Copy)]
 struct Front<'a> {
     token: Option<Token<'a>>,

@@ -133,7 +133,7 @@ impl Reader<'_> {
         Ok(blocks)
     }
 
-    /// What runs at POLL, where it is there.
+    /// What runs at POLL, if present.
     #[tactic(auto, using(crate::proofs::BlockLaws::on_poll_steps))]
     pub(crate) fn on_poll(&mut self) -> Result<Option<FlatBlock>, Refusal>
         ensures fixed { fixed self.new.scope ≡ fixed self.old.scope }
@@ -150,7 +150,7 @@ impl Reader<'_> {
         Ok(Some(block))
     }
 
-    /// What runs at EXIT, where it is there.
+    /// What runs at EXIT, if present.
     #[tactic(auto, using(crate::proofs::BlockLaws::on_exit_steps))]
     pub(crate) fn on_exit(&mut self) -> Result<Option<FlatBlock>, Refusal>
         ensures fixed { fixed self.new.scope ≡ fixed self.old.scope }

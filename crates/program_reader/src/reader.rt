@@ -29,7 +29,7 @@ pub(crate) struct Reader<'a> {
 }
 
 impl Reader<'_> {
-    /// The number of the name that stands here, where it stands for something of this class.
+    /// The number of the name that stands here, if it stands for something of this class.
     #[tactic(auto, using(crate::proofs::NameSteps::number_steps))]
     fn number(&self, place: &Context, class: Class) -> Result<u8, Refusal>
         ensures ok { IfOk result (λ i. IsNamed (scope_of self.now.scope).names (context_of place.now).thread
@@ -133,7 +133,7 @@ impl Reader<'_> {
         }
     }
 
-    /// An event that may come.
+    /// An event that a process may get.
     pub(crate) fn any(&mut self, place: &Context) -> Result<AnyEvent, Refusal>
         ensures no_longer { length self.new.cursor ≤ length self.old.cursor }
         ensures same { self.new.scope ≡ self.old.scope }

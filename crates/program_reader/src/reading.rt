@@ -11,16 +11,16 @@ use program_tree::error::{ReadError, ReadErrorKind};
 use program_tree::program::Program;
 use std::alloc::Global;
 
-/// The program of a text, or its reported error: the one at the earliest token, and of several there the one of the
-/// least number. The time is linear in the length of the text, but for the names in scope.
+/// The program of a text, or its reported error: the one at the earliest token; of several there, the one with the
+/// least number. The time is linear in the length of the text, apart from looking names up.
 ///
 /// A program has at most 64 processes, 117 events, 64 semaphores and 64 timers, each process at most 64 variables and
 /// 7 threads. It has at most 4,096 statements, counted by their first tokens over all blocks, and at most 32 levels of
-/// blocks and expressions in one another, of which the body is the first.
+/// nested blocks and expressions, of which the body is the first.
 ///
 /// # Errors
 ///
-/// The reported error, with the line of its token; `Memory` with line 0, where an allocation failed.
+/// The reported error, with the line of its token; `Memory` with line 0 if an allocation failed.
 pub fn read(alloc: Global, text: &str) -> Result<Program, ReadError>
     ensures ok { IfOk result (λ p. IsTreeOf text.now (tree_of p)) }
     ensures told { (e : ReadError) → result ≡ Err e → (e.kind ≡ ReadErrorKind.Memory → ⊥)

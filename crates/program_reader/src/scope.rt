@@ -5,10 +5,10 @@ use program_tree::class::Class;
 use program_tree::names::Names;
 use std::alloc::Global;
 
-/// How many blocks and expressions may stand in one another.
+/// How deep blocks and expressions may be nested.
 pub(crate) const LEVELS: usize = 32;
 
-/// What a name stands for, where one of a class is asked for: nothing, something of the class, by its number, or
+/// What a name stands for, if one of some class is expected: nothing; something of the class, by its number; or
 /// something else.
 #[derive(Clone, Copy)]
 pub(crate) enum Found {
@@ -17,7 +17,7 @@ pub(crate) enum Found {
     Here(u8),
 }
 
-/// Where a block or an expression stands: below so many levels, in a simple block or not, and in the block of which
+/// Where a block or an expression stands: how many levels deep, in a simple block or not, and in the block of which
 /// thread.
 #[derive(Clone, Copy)]
 pub(crate) struct Context<'a> {
@@ -55,7 +55,7 @@ impl<'a> Context<'a> {
 }
 
 /// The names that are declared so far, those that `autostart` lists, and how many statements have begun. Variables,
-/// timers and threads are those of one code, before which the program has so many timers.
+/// timers and threads are those of one code; `first_timer` is how many timers the program has before them.
 #[derive(Drop)]
 pub(crate) struct Scope {
     pub events: Names,
@@ -136,7 +136,7 @@ impl Scope {
         Some(self.first_timer + place)
     }
 
-    /// The place of a name among all that its number counts.
+    /// The number of a name of a class, before it is made a byte.
     fn place_of(&self, class: Class, name: &str) -> Option<usize>
         ensures few { IfSome result (λ i. i < most_of (class_of class)) }
         ensures value { result ≡ look (scope_of self.now).names (class_of class) name.now }
@@ -160,7 +160,7 @@ impl Scope {
         Some(place as u8)
     }
 
-    /// What a name stands for, where one of this class is asked for.
+    /// What a name stands for, if one of this class is expected.
     #[tactic(auto, using(crate::proofs::ScopeLaws::find_steps))]
     pub(crate) fn find(&self, place: &Context, class: Class, name: &str) -> Found
         ensures few { (i : ℕ) → result ≡ Found.Here i → i < most_of (class_of class) }

@@ -65,7 +65,7 @@ impl Reader<'_> {
         Ok(())
     }
 
-    /// Reads the keyword that a statement begins with. The statement counts.
+    /// Reads the keyword that a statement begins with, and counts the statement.
     #[tactic(auto, using(crate::proofs::StatementSteps::begin_ok))]
     fn begin(&mut self, place: &Context, keyword: Keyword) -> Result<(), Refusal>
         requires here { first self.old.cursor ≡ Some (token.Keyword keyword) }
@@ -102,7 +102,7 @@ impl Reader<'_> {
         }
     }
 
-    /// Reads the variable that an assignment begins with. The statement counts.
+    /// Reads the variable that an assignment begins with, and counts the statement.
     #[tactic(auto, using(crate::proofs::StatementSteps::target_steps))]
     fn target(&mut self, place: &Context, name: &str) -> Result<u8, Refusal>
         requires here { first self.old.cursor ≡ Some (token.Name name.now) }
@@ -373,7 +373,7 @@ impl Reader<'_> {
         Ok(())
     }
 
-    /// A block that stands there.
+    /// A block, at this place.
     #[cycle(statement)]
     pub(crate) fn block(&mut self, place: &Context) -> Result<Block, Refusal>
         requires low { place.now.level ≤ LEVELS }

@@ -16,7 +16,7 @@ pub(crate) type Entry<'a> = (&'a [u8], Token<'a>);
 /// What numbers above 65,535 count as.
 const TOO_LARGE: u32 = 65_536;
 
-/// The longest name has so many characters.
+/// How many characters a name may have.
 const LONGEST_NAME: usize = 16;
 
 /// The words that no program can have as names.
@@ -94,7 +94,7 @@ fn are_digits(word: &[u8]) -> bool
     word.iter().all(|byte| byte.is_ascii_digit())
 }
 
-/// Digits alone and no leading zero, but `0` itself.
+/// Digits alone, without a leading zero unless it is `0` itself.
 fn is_number(word: &[u8]) -> bool
     ensures number { result ≡ spec.is_number word.now }
     ensures digits { result ≡ true → list_all is_ascii_digit word.now ≡ true }
@@ -102,7 +102,7 @@ fn is_number(word: &[u8]) -> bool
     are_digits(word) && (word.first() != Some(&b'0') || word.len() == 1)
 }
 
-/// The value of digits, where it is no larger than that of all numbers too large.
+/// The value of digits, or `TOO_LARGE` if that is less.
 fn number_value(digits: &[u8]) -> u32
     requires { list_all is_ascii_digit digits.now ≡ true }
     ensures { result ≡ min (digits_value 10 digits.now) 65536 }
@@ -133,7 +133,7 @@ fn lookup(table: &'static [Entry<'static>], word: &[u8]) -> Option<Token<'static
         .map(|entry| entry.1)
 }
 
-/// The token of a name, which is bad where it is too long or doesn't begin with a letter.
+/// The token of a name, which is bad if it is too long or doesn't begin with a letter.
 fn name<'a>(word: &'a [u8]) -> Token<'a>
     requires { list_all spec.is_word_byte word.now ≡ true }
     ensures { token_of result ≡ (if spec.is_name word.now then Name word.now else Bad) }

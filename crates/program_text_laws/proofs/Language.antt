@@ -280,7 +280,7 @@ spell (from_receiver x xs) p rest = receiver_spelled x xs p rest
 spell starting x rest = named x (starts x) ∷ rest
 spell more_starting xs rest = starting_marks xs rest
 
--- parts for what may come, and their marks
+-- parts for the pending symbols, and their marks
 abbrev pub Parts : Pending → Type 0
 Parts [] = Unit {0}
 Parts (s ∷ f) = PartOf s × (Parts f)
@@ -397,13 +397,13 @@ pub with_last : (xs : List Name) (x : Name) (cs : CodesOf xs) (c : CodeShape) �
 with_last [] x cs c = ((c, tt), refl, refl)
 with_last (y ∷ xs) x cs c = let q = with_last xs x cs.1 c in ((cs.0, q.0), ap (λ z. (cs.0, z)) q.1, q.2)
 
--- A step back: what completes the pending symbols after the token, completes with its mark those before.
+-- A step back: parts for the symbols that are pending after a token become, with its mark, parts for those before it.
 
 abbrev pub Back : Pending → Token → Step → Type 0
 Back f t unfit = Unit {0}
 Back f t (take m f') = (m.token ≡ t) × ((ps : Parts f') → (qs : Parts f) × (spell_all f qs ≡ m ∷ spell_all f' ps))
 
--- where a symbol is passed over
+-- a symbol is passed over
 abbrev pub passed : (y z : Symbol) (f : Pending) (up : PartOf z → PartOf y)
     → ((p : PartOf z) (rest : List Mark) → spell y (up p) rest ≡ spell z p rest) → (t : Token) (s : Step)
     → Back (z ∷ f) t s → Back (y ∷ f) t s

@@ -14,7 +14,7 @@ use Rattle.program_tree.specs.Words.{begins, is_word_byte, word_token}
 use Rattle.program_tree.specs.Text.{is_feed, is_blank, signs, sign_at, begins_comment, ends_line, Blank, Comment, Word}
 use Rattle.program_tree.specs.Text.{Sign, Other}
 
--- ---- the longest front whose bytes pass
+-- ---- the longest prefix whose bytes pass
 
 passes_cons : (p : ℕ → Bool) (x : ℕ) (xs : List ℕ) (b : Bool) → p x ≡ b → list_all p xs ≡ true
     → list_all p (cond b (x ∷ xs) []) ≡ true

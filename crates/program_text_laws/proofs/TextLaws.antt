@@ -16,7 +16,7 @@ use Rattle.program_tree.specs.Text.{tokens_of, lines_from, IsLexed}
 use Rattle.program_text_laws.proofs.PieceLaws.{blank_front, word_front, comment_front, sign_front, other_front}
 use Rattle.program_text_laws.proofs.PieceLaws.{found_sign, comment_split}
 
--- ---- one line more than tokens
+-- ---- one more line than tokens
 
 lines_more : (line : ℕ) (o : Option Token) (ls : List ℕ) (ts : List Token) → length ls ≡ length ts + 1
     → length (cons_option (option_map (λ t. line) o) ls) ≡ length (cons_option o ts) + 1

@@ -25,7 +25,7 @@ use Rattle.program_tree.specs.declared.error.ReadErrorKind.TheVariants.{TooMany,
 
 -- The first broken rule is the least.
 
--- of no rule of the list is it broken
+-- no rule of the list is broken
 abbrev NoneBroken : (ReadErrorKind → Bool) → List ReadErrorKind → Type 0
 NoneBroken broken [] = Unit {0}
 NoneBroken broken (k ∷ ks) = (broken k ≡ false) × NoneBroken broken ks
@@ -147,7 +147,7 @@ on_marks s m Unexpected e = absurd cc
 on_marks s m NoProcess e = absurd cc
 on_marks s m k e = tt
 
--- after these tokens, which are those of these marks, this may come, and nothing else
+-- the tokens are those of these marks, and what may come after them is what these symbols stand for, and nothing else
 pub record Reached (before : List Token) (ms : List Mark) (f : Pending) (s : Scope) : Type 0 where
   pub marks : tokens ms ≡ before
   pub here : (ps : Parts f) → (p : ProgramShape) × (program_marks p [] ≡ ms ++ spell_all f ps)
@@ -378,7 +378,7 @@ module _ (before ts : List Token) (ms : List Mark) (f : Pending) (s : Scope) (t 
         },
       )
 
--- nothing that fits
+-- no fault has a number below 1
 none_below_one : (j : ReadErrorKind) → kind_number j < 1 → ⊥
 none_below_one BadToken h = omega arith
 none_below_one Unexpected h = omega arith
@@ -392,7 +392,7 @@ none_below_one NoProcess h = omega arith
 none_below_one BadTarget h = omega arith
 none_below_one Memory h = omega arith
 
--- where this can't follow, no mark does
+-- if this can't follow, no mark here can break a rule
 no_breach : (k : ReadErrorKind) (before rest : List Token) → (CanFollow before rest → ⊥) → Breach k before rest → ⊥
 no_breach k before [] bad b = absurd (cc (b.at))
 no_breach k before (t ∷ ts) bad b = bad (
@@ -500,7 +500,7 @@ cannot_end before ms y f s r h =
     let o = r.only h.0 (program_marks h.0 []) [] (sym (append-nil (program_marks h.0 []))) h.1 in
     subst (λ zs. Forth (y ∷ f) zs) o.2 (forth (y ∷ f) o.1)
 
--- where `process` fits, nothing but a whole program is still to come
+-- if the end is unexpected at a symbol, `process` can't follow there
 lacks_none : (before : List Token) (ms : List Mark) (y : Symbol) (f : Pending) (s : Scope)
     → Reached before ms (y ∷ f) s → end_kind y ≡ Unexpected → LacksProcess before [] → ⊥
 lacks_none before ms y f s r e h = cannot before ms (y ∷ f) s (token.Keyword word.Process) [] r (process_unfit y f e) h

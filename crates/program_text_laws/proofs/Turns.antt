@@ -29,7 +29,7 @@ use Rattle.program_text_laws.proofs.Language.{codes_spelled, all_but_last, last,
 use Rattle.program_text_laws.proofs.Language.{parts_of_code, more_spelled}
 use Rattle.program_tree.proofs.NameLaws.{bytes_same}
 
--- a step on: the marks of a whole begin with the mark that the step gives, and go on with those of what may come
+-- a step on: the marks begin with the mark that the step gives, and go on with those of parts for its symbols
 abbrev pub On : Mark → List Mark → Step → Type 0
 On m ms unfit = ⊥
 On m ms (take m' f') = (m' ≡ m) × (ps : Parts f') × (spell_all f' ps ≡ ms)

@@ -34,7 +34,7 @@ all_at p [] i h l = absurd (omega arith)
 all_at p (x ∷ xs) zero h l = (and_parts (p x) (list_all p xs) h).0
 all_at p (x ∷ xs) (suc i) h l = all_at p xs i (and_parts (p x) (list_all p xs) h).1 (omega arith)
 
--- the largest value stays
+-- capping a value before the next digit changes nothing after it
 capped_more : (v d : ℕ) → min (10 * min v 65536 + d) 65536 ≡ min (v * 10 + d) 65536
 capped_more v d = omega arith
 

@@ -56,7 +56,7 @@ pub data Symbol : Type 0 where
   from_events : Symbol
   from_semaphores : Symbol
   first_process : Symbol
-  -- from after the name of a process on, or from a name on, where these processes are named
+  -- what is left of the process line, from after a name or from a name on, with the processes named so far
   from_comma : Name → List Name → Symbol
   more_process : Name → List Name → Symbol
   -- from `autostart` or `receiver` on
@@ -69,7 +69,7 @@ pub data Symbol : Type 0 where
 abbrev pub Pending : Type 0
 Pending = List Symbol
 
--- a token doesn't fit, or it has this part, and then this may come
+-- a token doesn't fit, or it has this mark, and then these symbols are pending
 pub data Step : Type 0 where
   unfit : Step
   take : Mark → Pending → Step
@@ -145,7 +145,7 @@ abbrev pub items_else_step : Context → Pending → Token → Step
 items_else_step c f (token.Keyword k) = else_step c k (beginning k) f
 items_else_step c f t = items_step c f t
 
--- The stages of a code, each of which may be passed over but for the body.
+-- The stages of a code. Each but the body may be passed over.
 
 abbrev pub body_step : Pending → Token → Step
 body_step f (token.Keyword word.Body) = take (key word.Body) (block at_body ∷ last_brace ∷ f)
@@ -289,12 +289,12 @@ abbrev pub unfit_kind : Token → ReadErrorKind
 unfit_kind token.Bad = BadToken
 unfit_kind t = Unexpected
 
--- the same of the next token, or of the end
+-- the same for the next token, or for the end
 abbrev pub unfit_at : Option Token → ReadErrorKind
 unfit_at None = Unexpected
 unfit_at (Some t) = unfit_kind t
 
--- what comes of a token, where on says what comes of those after it
+-- the verdict at a token, given by `on` the verdict on those after it
 abbrev pub after : Scope → (left : ℕ) → Token → Step → (Scope → Pending → Verdict) → Verdict
 after s left t unfit on = fault (unfit_kind t) left
 after s left t (take m f) on = fault_or (first_broken s m) left (on (scope_after s m) f)
@@ -303,7 +303,7 @@ abbrev pub tell : Scope → Pending → List Token → Verdict
 tell s f [] = at_end f
 tell s f (t ∷ ts) = after s (suc (length ts)) t (step f t) (λ s' f'. tell s' f' ts)
 
--- the next token, where there is one
+-- the next token, if there is one
 abbrev pub first : List Token → Option Token
 first [] = None
 first (t ∷ ts) = Some t

@@ -1,4 +1,4 @@
-//! Laws of the notation, each as the contract of a function that does nothing.
+//! Laws of the notation: theorems, each stated as the contract of an empty function.
 ghost use Rattle.std.specs.Prelude.{◌≡◌, ℕ, List};
 ghost use Rattle.program_tree.specs.Code.{Tree};
 ghost use Rattle.program_tree.specs.Reading.{IsTreeOf, IsToldOf, HasTreeOrFault};

@@ -1,4 +1,4 @@
--- How many codes there are.
+-- The number of codes.
 use Rattle.std.proofs.Common.{◌≡◌, ℕ, suc, ◌+◌, List, [], ◌∷◌, length, refl, ap}
 use Rattle.program_tree.specs.InScope.{Names, outside}
 use Rattle.program_tree.specs.Numbers.{inside, codes_in}

@@ -1,4 +1,4 @@
--- What the flattener adds, one statement or block right the other.
+-- What the flattener adds, one statement or block after another.
 use Rattle.std.proofs.Common.{◌≡◌, ℕ, zero, suc, ◌+◌, ◌<◌, ◌≤◌, Some, zero-add, get_or, drop, map, List, [], ◌∷◌, ◌++◌, length, refl, ap, sym, ◌∙◌, subst, arith, append_assoc, length-append}
 use Rattle.std.specs.Prelude.{slice_get, Result, Ok, Err, OnOk}
 use Rattle.std.proofs.lemmas.List.{append-nil, get_or_past, get_or_at, drop_all, length-map}
@@ -157,7 +157,7 @@ emits_while c e a after place body old mid new same here body_is pushed q =
 pub emits_nothing : (after : ℕ) (old : List Instruction) → EmitsOther nothing after old old
 emits_nothing after old = record { more = []; extends = sym (append-nil old); counts = refl; leads = λ all left right rest is there follows. tt }
 
--- the statements of a block, one right the other
+-- the statements of a block, one after another
 pub first_none : (b : Body ℕ) (after : ℕ) (old : List Instruction) → EmitsFirst b b after old old
 first_none b after old =
     record {
@@ -239,7 +239,7 @@ emits_whole b code after small e =
       outside = λ k past. outside k (omega (arith, long));
     }
 
--- the statements of a block from one on
+-- the statements of a block from the k-th on
 pub drop_here : (ss : List Stmt) (k : ℕ) (s : Stmt) → k < length ss → s ≡ get_or ss k s → drop k (map statement_of ss) ≡ statement_of s ∷ drop (k + 1) (map statement_of ss)
 drop_here [] k s within is = absurd (omega arith)
 drop_here (x ∷ ss) zero s within is = ap (λ t. statement_of t ∷ map statement_of ss) (sym is)
@@ -259,7 +259,7 @@ pub size_here : (ss : List Stmt) (k : ℕ) (s : Stmt) → k < length ss → s �
     → size (body_of (drop k (map statement_of ss))) ≡ statement_size (statement_of s) + size (body_of (drop (k + 1) (map statement_of ss)))
 size_here ss k s within is = ap (λ l. size (body_of l)) (drop_here ss k s within is)
 
--- where the statement after it is entered
+-- where the statements from the k-th on are entered
 pub entry_some : (ss : List Stmt) (k : ℕ) (place after : ℕ) → k < length ss → entry_of (body_of (drop k (map statement_of ss))) place after ≡ place
 entry_some [] k place after within = absurd (omega arith)
 entry_some (x ∷ ss) zero place after within = refl

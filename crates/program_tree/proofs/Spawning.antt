@@ -57,14 +57,14 @@ rest_in_fits w [] place h = tt
 rest_in_fits w (r ∷ all) zero h = h.0
 rest_in_fits w (r ∷ all) (suc place) h = rest_in_fits w all place h.1
 
--- a statement that a block's flat code comes to fits where the block does
+-- if a block fits, so does each statement at a place of its flat code
 pub action_fits_there : (w : Within) (b : Body ℕ) (place : ℕ) (a : Action ℕ) (rest : List (Statement ℕ)) → block_fits w b ≡ true → rest_at b place ≡ does a ∷ rest → action_fits w a ≡ true
 unfolding rest_at
 action_fits_there w b place a rest h is =
     let P : List (Statement ℕ) → Type 0 = λ l. AllFit w l in
     (subst P is (rest_in_fits w (rests b []) place (rests_fit w b [] h tt))).0
 
--- no code
+-- the empty code of the empty block
 pub none_flat : IsFlat end []
 unfolding rest_at
 none_flat = record { each = λ k i found. absurd (none k i found); outside = λ k past. refl }
@@ -95,7 +95,7 @@ spawns_earlier bs i b f h =
     let P : ℕ → Type 0 = λ n. block_fits (earlier_threads n) b ≡ true in
     subst P (zero-add i) (thread_fits earlier_threads 0 bs i b f h)
 
--- the same of the block that is found at a place
+-- the same for a block that is found by its number
 pub found_earlier : {R X : Type 0} (now : R → X) (tree : X → Body ℕ) (xs : List X) (i : ℕ) (o : Option R) → IsTrue (threads_fit earlier_threads 0 (map tree xs)) → ItemBy now xs i i o
     → IfSome o (λ b. IsTrue (block_fits (earlier_threads i) (tree (now b))))
 found_earlier now tree xs i None f is = tt

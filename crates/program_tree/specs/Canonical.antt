@@ -83,7 +83,7 @@ operator_sign operator.AtLeast = codes ">="
 operator_sign operator.And = codes "&&"
 operator_sign operator.Or = codes "||"
 
--- a bad token, which no program has, is spelled by nothing
+-- a bad token, which no program has, has an empty spelling
 abbrev pub spelling : Token → List ℕ
 spelling (token.Keyword k) = keyword_word k
 spelling token.Semicolon = codes ";"
@@ -99,7 +99,7 @@ spelling (token.Name x) = x
 spelling (token.Number n) = decimal n
 spelling token.Bad = []
 
--- how many braces are open after a token, of those before it
+-- how many braces are open after a token, from how many are open before it
 abbrev pub braces_behind : (braces : ℕ) → Token → ℕ
 braces_behind braces token.OpenBrace = braces + 1
 braces_behind braces token.CloseBrace = braces - 1
@@ -115,9 +115,9 @@ tells word.Running = true
 tells word.Count = true
 tells k = false
 
--- Each of these speaks of a token and of those that come after it.
+-- Each of these takes a token and the tokens after it.
 
--- it ends its line
+-- the token ends its line
 abbrev pub ends_line : Token → List Token → Bool
 ends_line token.Semicolon rest = true
 ends_line token.OpenBrace rest = true
@@ -125,7 +125,7 @@ ends_line token.CloseBrace (token.Keyword word.Else ∷ rest) = false
 ends_line token.CloseBrace rest = true
 ends_line t rest = false
 
--- no space stands between it and the next
+-- no space stands between the token and the next one
 abbrev pub stands_close : Token → List Token → Bool
 stands_close token.Open rest = true
 stands_close token.Bang rest = true
@@ -135,7 +135,7 @@ stands_close t (token.Close ∷ rest) = true
 stands_close (token.Keyword k) (token.Open ∷ rest) = tells k
 stands_close t rest = false
 
--- how many braces are open where a line begins with these tokens: a brace that closes stands below what opened it
+-- the depth of a line that begins with these tokens: a closing brace is indented as the line that opened it
 abbrev pub line_depth : (braces : ℕ) → List Token → ℕ
 line_depth braces (token.CloseBrace ∷ rest) = braces - 1
 line_depth braces rest = braces
@@ -145,14 +145,14 @@ abbrev pub indentation : ℕ → List ℕ
 indentation zero = []
 indentation (suc n) = codes "  " ++ indentation n
 
--- what stands after a token, where so many braces are open
+-- what stands after a token, with this many braces open
 abbrev pub gap : (braces : ℕ) → Token → (rest : List Token) → List ℕ
 gap braces t rest =
     if ends_line t rest then 10 ∷ indentation (line_depth braces rest)
     else if stands_close t rest then []
     else codes " "
 
--- the text of tokens before which so many braces are open
+-- the text of tokens, with this many braces open before them
 abbrev pub text_from : (braces : ℕ) → List Token → List ℕ
 text_from braces [] = []
 text_from braces (t ∷ rest) =

@@ -1,5 +1,5 @@
--- Events as programs name them: by a keyword, or by the name of a declaration. Which of them may stand where is what
--- their types say.
+-- Events as programs name them: by a keyword, or by the name of a declaration. The types say which of them may stand
+-- where.
 use Rattle.std.specs.Prelude.{ℕ, ◌+◌}
 use Rattle.program_tree.specs.Events.{system_number}
 use Rattle.program_tree.specs.declared.event.SystemEvent.TheVariants as event
@@ -18,12 +18,12 @@ pub data CastEvent (Name : Type 0) : Type 0 where
   packet : CastEvent Name
   declared : Name → CastEvent Name
 
--- an event that may be posted to one process, or given to it at once
+-- an event that may be posted to one process, or delivered to it at once
 pub data SentEvent (Name : Type 0) : Type 0 where
   cast : CastEvent Name → SentEvent Name
   exit : SentEvent Name
 
--- an event that a program may ask for
+-- an event that a program may test for
 pub data AnyEvent (Name : Type 0) : Type 0 where
   sent : SentEvent Name → AnyEvent Name
   init : AnyEvent Name

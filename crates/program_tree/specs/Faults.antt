@@ -35,7 +35,7 @@ abbrev pub with_begun : Scope → Begun → Scope
 with_begun s none_begins = s
 with_begun s b = record s { statements = s.statements + 1 }
 
--- with one mark more
+-- with one more mark
 abbrev pub scope_after : Scope → Mark → Scope
 scope_after s m = with_begun (with_role s m.role) m.begins
 
@@ -55,7 +55,7 @@ is_full n a_variable = nat_le 64 (length n.variables)
 is_full n a_timer = nat_le 64 (n.first_timer + length n.timers)
 is_full n a_thread = nat_le 7 (length n.threads)
 
--- a name in scope of another class than the place takes
+-- a name in scope, but of another class than is expected
 abbrev pub is_other : Names → Class → Name → Bool
 is_other n c x = is_in_scope n x && not (is_a n c x)
 
@@ -63,7 +63,7 @@ abbrev pub is_own : Option Name → Name → Bool
 is_own None x = false
 is_own (Some own) x = bytes_eq own x
 
--- the token's part breaks this rule, where the marks before it have made this scope
+-- the token's part breaks this rule in this scope, that of the marks before it
 abbrev pub role_breaks : ReadErrorKind → Scope → Role → Bool
 role_breaks UnknownName s (uses c x) = not (is_in_scope s.names x)
 role_breaks UnknownName s (spawns own x) = not (is_in_scope s.names x)
@@ -78,7 +78,7 @@ role_breaks BadTarget s (spawns own x) = is_other s.names a_thread x || is_own o
 role_breaks BadTarget s (starts x) = is_other s.names a_process x
 role_breaks k s r = false
 
--- the statement that begins breaks it
+-- the statement that begins breaks this rule
 abbrev pub begun_breaks : ReadErrorKind → Scope → Begun → Bool
 begun_breaks WaitInSimpleBlock s wait = true
 begun_breaks TooMany s statement = nat_le 4096 s.statements
@@ -88,7 +88,7 @@ begun_breaks k s b = false
 abbrev pub breaks : ReadErrorKind → Scope → Mark → Bool
 breaks k s m = role_breaks k s m.role || begun_breaks k s m.begins
 
--- some program has the next token of rest after the tokens before, or ends where rest does
+-- some program begins with the tokens before and the next of rest; at the end of the text, some program ends there
 abbrev pub CanFollow : (before rest : List Token) → Type 0
 CanFollow before [] = (p : ProgramShape) × (tokens (program_marks p []) ≡ before)
 CanFollow before (t ∷ rest) =
@@ -99,7 +99,7 @@ abbrev pub LacksProcess : (before rest : List Token) → Type 0
 LacksProcess before [] = CanFollow before (token.Keyword Process ∷ [])
 LacksProcess before (t ∷ rest) = ⊥
 
--- in some program that begins with the tokens before and the next of rest, that one breaks the rule
+-- in some program that begins with the tokens before and the next of rest, the latter breaks the rule
 pub record Breach (k : ReadErrorKind) (before rest : List Token) : Type 0 where
   pub shape : ProgramShape
   pub marks : List Mark
@@ -111,14 +111,14 @@ pub record Breach (k : ReadErrorKind) (before rest : List Token) : Type 0 where
   pub at : rest ≡ mark.token ∷ after
   pub broken : IsTrue (breaks k (scope_of marks) mark)
 
--- a fault at the first token of rest, or at the end where there is none
+-- a fault at the first token of rest, or at the end of the text if rest is empty
 abbrev pub IsFault : ReadErrorKind → (before rest : List Token) → Type 0
 IsFault BadToken before rest = (after : List Token) × (rest ≡ token.Bad ∷ after)
 IsFault Unexpected before rest = (CanFollow before rest ⊎ LacksProcess before rest) → ⊥
 IsFault NoProcess before rest = LacksProcess before rest
 IsFault k before rest = Breach k before rest
 
--- the fault at the earliest token, and the least of those there
+-- the fault at the earliest token; of several there, the one with the least number
 pub record IsTold (k : ReadErrorKind) (before rest : List Token) : Type 0 where
   pub here : IsFault k before rest
   pub least : (j : ReadErrorKind) → kind_number j < kind_number k → IsFault j before rest → ⊥

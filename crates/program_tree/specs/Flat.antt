@@ -22,7 +22,7 @@ abbrev mutual
   other_rests nothing after = []
   other_rests (otherwise b) after = rests b after
 
--- the rest at a place, of all rests; nothing is left at any other place
+-- the rest at a place, given all rests; nothing is left at any other place
 abbrev pub rest_in : List (List (Statement ℕ)) → (place : ℕ) → List (Statement ℕ)
 rest_in all place = slice_index_or all place []
 
@@ -37,7 +37,7 @@ Branches at c then other (branch d inner else ∷ after) =
     (d ≡ c) × (at then ≡ listed inner ++ after) × (at other ≡ other_block else ++ after)
 Branches at c then other here = ⊥
 
--- and a `while`
+-- the same for a `while`
 abbrev pub Loops : (at : ℕ → List (Statement ℕ)) → Expression ℕ → (body after : ℕ) → (here : List (Statement ℕ))
     → Type 0
 Loops at c body after (while d inner ∷ rest) =

@@ -9,8 +9,8 @@ use Rattle.program_tree.specs.declared.keyword.Keyword.TheVariants.{Start, Kill,
 use Rattle.program_tree.specs.declared.keyword.Keyword.TheVariants.{From, Now, Own, Is, Fired, Expired, Gone, Running}
 use Rattle.program_tree.specs.declared.keyword.Keyword.TheVariants.{Count}
 
--- one token: a name of a class, or an event. `cast` is one that may go to all, `sent` one that may go to a process, and
--- `any` one that may come.
+-- one token: a name of a class, or an event. `cast` is one that may be broadcast, `sent` one that may be sent to a
+-- process, and `any` one that a process may get.
 pub data Operand : Type 0 where
   name : Class → Operand
   cast : Operand
@@ -64,7 +64,7 @@ beginning RestartTimer = action (takes (name a_timer) ends)
 beginning Stop = action (takes (name a_timer) ends)
 beginning k = no_statement
 
--- the statements that no simple block has
+-- the statements that a simple block may not have
 abbrev pub waits : Keyword → Bool
 waits WaitUntil = true
 waits WaitWhile = true

@@ -19,7 +19,7 @@ use Rattle.program_tree.specs.Tree.{Body, end, next, Otherwise, nothing, otherwi
 use Rattle.program_tree.specs.declared.keyword.Keyword.{Keyword}
 use Rattle.program_tree.specs.declared.keyword.Keyword.TheVariants as word
 
--- where a block or an expression stands: below so many levels, in a simple block or not, and in the block of which
+-- where a block or an expression stands: how many levels deep, in a simple block or not, and in the block of which
 -- thread
 pub record Context : Type 0 where
   pub level : ℕ
@@ -98,7 +98,7 @@ begins_with c k = record {
   begins = if c.simple && waits k then wait else statement;
 }
 
--- Each is spelled so, where it stands there, and then come the marks `after` it.
+-- The marks of each part in its context, followed by the marks `after` it.
 
 abbrev pub used : Context → Class → Name → Role
 used c a_thread x = spawns c.thread x
@@ -128,7 +128,7 @@ operand_mark c form.cast e = cast_mark e
 operand_mark c form.sent e = sent_mark e
 operand_mark c form.any e = any_mark e
 
--- what stands after a keyword of an expression; its parentheses are no level
+-- what stands after a keyword of an expression; its parentheses don't count as a level
 abbrev pub word_marks : Context → (w : Word) → WordShape w → (after : List Mark) → List Mark
 word_marks c no_value v after = absurd v
 word_marks c alone v after = after
@@ -260,7 +260,7 @@ content_marks c after =
     variable_marks c.variables (etimer_marks c.etimers (ctimer_marks c.ctimers (thread_marks c.threads
     (handler_marks word.OnPoll c.on_poll (handler_marks word.OnExit c.on_exit (body_marks c.body after))))))
 
--- a code's own braces are no level
+-- a code's own braces don't count as a level
 abbrev pub code_marks : Name × CodeShape → (after : List Mark) → List Mark
 code_marks p after = key word.Code ∷ (sign (token.Name p.0) ∷ (sign token.OpenBrace ∷ content_marks p.1 after))
 
@@ -285,7 +285,7 @@ abbrev pub process_marks : List (Name × CodeShape) → (after : List Mark) → 
 process_marks [] after = sign token.Semicolon ∷ after
 process_marks (p ∷ ps) after = sign token.Comma ∷ (named p.0 (new a_process p.0) ∷ process_marks ps after)
 
--- the same of `autostart`
+-- the same for `autostart`
 abbrev pub starting_marks : List Name → (after : List Mark) → List Mark
 starting_marks [] after = sign token.Semicolon ∷ after
 starting_marks (x ∷ xs) after = sign token.Comma ∷ (named x (starts x) ∷ starting_marks xs after)

@@ -5,8 +5,8 @@ use Rattle.program_tree.specs.Names.{place_of}
 use Rattle.program_tree.specs.Shapes.{Name}
 use Rattle.program_tree.specs.Tree.{Class, an_event, a_semaphore, a_process, a_variable, a_timer, a_thread}
 
--- Each in the order of declaration; those of variables, timers and threads are the names of one code, before whose
--- timers the program has so many others.
+-- Each list is in the order of declaration. Variables, timers and threads are those of one code; `first_timer` is how
+-- many timers the program has before them.
 pub record Names : Type 0 where
   pub events : List Name
   pub semaphores : List Name
@@ -35,7 +35,7 @@ names_of n a_variable = n.variables
 names_of n a_timer = n.timers
 names_of n a_thread = n.threads
 
--- with one name more
+-- with one more name
 abbrev pub with_new : Names → Class → Name → Names
 with_new n an_event x = record n { events = n.events ++ x ∷ [] }
 with_new n a_semaphore x = record n { semaphores = n.semaphores ++ x ∷ [] }
@@ -58,8 +58,8 @@ abbrev pub is_in_scope : Names → Name → Bool
 is_in_scope n x = is_a n an_event x || is_a n a_semaphore x || is_a n a_process x || is_a n a_variable x
     || is_a n a_timer x || is_a n a_thread x
 
--- The number of a name: its place among those of its class, but timers are numbered through the program. That of a
--- name which isn't there is never asked for.
+-- The number of a name: its place among those of its class, but timers are numbered through the program. Only names
+-- that are there are looked up.
 abbrev pub or_zero : Option ℕ → ℕ
 or_zero None = 0
 or_zero (Some i) = i

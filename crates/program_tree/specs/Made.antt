@@ -1,4 +1,4 @@
--- What holds of every program that was made.
+-- What holds of every `Program`.
 use Rattle.std.specs.List.{All}
 use Rattle.std.specs.Option.{ForSome}
 use Rattle.std.specs.Prelude.{◌≡◌, ◌<◌, ◌≤◌, List, ℕ, length}

@@ -18,7 +18,7 @@ values_of ps = map (λ p. p.1) ps
 abbrev pub timers_of : CodeShape → List Name
 timers_of c = c.etimers ++ named_of c.ctimers
 
--- all names of a code, beside those of the program
+-- the names of the program, with all names of a code
 abbrev pub inside : Names → CodeShape → Names
 inside n c = record n { variables = named_of c.variables; timers = timers_of c; threads = named_of c.threads }
 

@@ -1,4 +1,4 @@
--- Facts that the ghost fields state, each with one proof at most.
+-- What the ghost fields state has at most one proof.
 use Rattle.std.specs.Prelude.{ℕ, List, [], ◌∷◌}
 use Rattle.std.proofs.Props.{props}
 use Rattle.program_tree.specs.EventNames.{CastEvent, SentEvent, AnyEvent}

@@ -14,7 +14,7 @@ pub record IsTreeOfTokens (tokens : List Token) (tree : Tree) : Type 0 where
   pub program : IsProgram shape tokens
   pub numbered : tree ≡ tree_of_shape shape
 
--- the same of a text
+-- the same for a text
 pub record IsTreeOf (text : List ℕ) (tree : Tree) : Type 0 where
   pub tokens : List Token
   pub lines : List ℕ

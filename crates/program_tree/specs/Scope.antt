@@ -1,4 +1,4 @@
--- Trees whose numbers all stand for something, by what each class has.
+-- Trees whose numbers all stand for something, given which numbers of each class do.
 use Rattle.std.specs.Prelude.{ℕ, ◌+◌, nat_lt, Bool, true, ◌&&◌, List, [], ◌∷◌, Option, None, Some}
 use Rattle.program_tree.specs.EventNames as event
 use Rattle.program_tree.specs.EventNames.{CastEvent, SentEvent, AnyEvent}
@@ -80,12 +80,12 @@ abbrev mutual
   other_fits w nothing = true
   other_fits w (otherwise b) = block_fits w b
 
--- the threads before this one, and whatever else
+-- of threads those before this one, and any number of the other classes
 abbrev pub earlier_threads : (thread : ℕ) → Within
 earlier_threads k a_thread i = nat_lt i k
 earlier_threads k c i = true
 
--- each of them fits, thread k naming the threads before k alone
+-- each of them fits, thread k within `w k`
 abbrev pub threads_fit : (ℕ → Within) → (k : ℕ) → List (Body ℕ) → Bool
 threads_fit w k [] = true
 threads_fit w k (b ∷ bs) = block_fits (w k) b && threads_fit w (k + 1) bs

@@ -9,7 +9,7 @@ use Rattle.program_tree.specs.Shapes.{Name, CodeShape, ProgramShape}
 use Rattle.program_tree.specs.Tokens.{Token}
 use Rattle.program_tree.specs.Tree.{a_process, Body, end, body_map}
 
--- the names of the whole program, and those that its code has in scope too
+-- the names of the whole program, and all names that are in scope in one of its codes
 abbrev pub names_of_tree : Tree → Names
 names_of_tree t = record no_names { events = t.events; semaphores = t.semaphores; processes = t.processes }
 
@@ -42,7 +42,7 @@ code_shape n c = code_with (names_of_code n c) c
 abbrev pub codes_of_tree : Tree → List (Name × CodeShape)
 codes_of_tree t = zip t.processes (map (code_shape (names_of_tree t)) t.codes)
 
--- stands for the first process where there is none, as in no program
+-- the default for a tree without processes, which no program has
 abbrev pub no_code : Name × CodeShape
 no_code = (
   [],

@@ -70,7 +70,7 @@ bytes_of (Word bytes) = bytes
 bytes_of (Sign bytes token) = bytes
 bytes_of (Other byte) = byte ∷ []
 
--- what token a piece is, where it is one
+-- the token of a piece, if it is one
 abbrev pub token_at : Piece → Option Token
 token_at (Blank byte) = None
 token_at (Comment bytes) = None
@@ -78,7 +78,7 @@ token_at (Word bytes) = Some (word_token bytes)
 token_at (Sign bytes token) = Some token
 token_at (Other byte) = Some Bad
 
--- a piece is what it says it is, and it goes as far as it can, where this text comes after it
+-- a piece is of its kind and as long as possible, given that this text comes after it
 abbrev pub FitsBefore : List ℕ → Piece → Type 0
 FitsBefore rest (Blank byte) = is_blank byte ≡ true
 FitsBefore rest (Comment bytes) = (list_any is_feed bytes ≡ false) × (ends_line rest ≡ true)
@@ -87,7 +87,7 @@ FitsBefore rest (Sign bytes token) =
     (sign_at (bytes ++ rest) ≡ Some (bytes, token)) × (begins_comment (bytes ++ rest) ≡ false)
 FitsBefore rest (Other byte) = (is_blank byte ≡ false) × (is_word_byte byte ≡ false) × (sign_at (byte ∷ rest) ≡ None)
 
--- the text that the pieces are
+-- the text of the pieces
 abbrev pub text_of : List Piece → List ℕ
 text_of [] = []
 text_of (piece ∷ pieces) = bytes_of piece ++ text_of pieces
@@ -99,7 +99,7 @@ AllFit (piece ∷ pieces) = FitsBefore (text_of pieces) piece × AllFit pieces
 abbrev pub tokens_of : List Piece → List Token
 tokens_of pieces = filter_map token_at pieces
 
--- the line of each token and of the end, where the pieces begin on this line: each LF begins another
+-- the line of each token and of the end, if the pieces begin on this line: each LF begins another one
 abbrev pub lines_from : ℕ → List Piece → List ℕ
 lines_from line [] = line ∷ []
 lines_from line (piece ∷ pieces) =

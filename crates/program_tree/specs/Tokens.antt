@@ -17,7 +17,7 @@ pub data Token : Type 0 where
   CloseBrace : Token
   Op : Operator → Token
   Name : (name : List ℕ) → Token
-  -- a number, of which all above 65,535 are 65,536
+  -- a number; all above 65,535 count as 65,536
   Number : (value : ℕ) → Token
   Bad : Token
 

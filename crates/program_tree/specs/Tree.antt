@@ -102,7 +102,7 @@ abbrev pub other_block : Otherwise ℕ → List (Statement ℕ)
 other_block nothing = []
 other_block (otherwise b) = listed b
 
--- how many blocks stand in one another, this one counted
+-- how deep blocks are nested, this one included
 abbrev mutual
   pub height : {N : Type 0} → Body N → ℕ
   height end = 1
@@ -117,7 +117,7 @@ abbrev mutual
   other_height nothing = 0
   other_height (otherwise b) = height b
 
--- how many statements stand in a block, those of inner blocks counted too
+-- how many statements stand in a block, those of inner blocks included
 abbrev mutual
   pub size : {N : Type 0} → Body N → ℕ
   size end = 0
@@ -132,11 +132,11 @@ abbrev mutual
   other_size nothing = 0
   other_size (otherwise b) = size b
 
--- a statement with those of its blocks
+-- how many statements a statement counts as: itself and those of its blocks
 abbrev pub statement_size : {N : Type 0} → Statement N → ℕ
 statement_size s = suc (inner_size s)
 
--- a block within the limits: at most 32 blocks stand in one another, with at most 4,096 statements
+-- a block within the limits: blocks are nested at most 32 deep, with at most 4,096 statements in all
 pub record IsWithinLimits {N : Type 0} (b : Body N) : Type 0 where
   pub shallow : height b ≤ 32
   pub small : size b ≤ 4096
@@ -187,7 +187,7 @@ abbrev pub otherwise_of : {N : Type 0} → Option (Body N) → Otherwise N
 otherwise_of None = nothing
 otherwise_of (Some b) = otherwise b
 
--- one statement and one block, with what each inner one stands for in its place
+-- one layer of a statement or a block, each inner one replaced by what it stands for
 abbrev pub statement_layer : Stmt-F (Statement ℕ) (Body ℕ) → Statement ℕ
 statement_layer (open_stmt.Do a) = does (action_of a)
 statement_layer (open_stmt.If e a b) = branch (expression_of e) a (otherwise_of b)

@@ -1,4 +1,4 @@
--- Words: what token a run of letters, digits and `_` is.
+-- Words: the token of a run of letters, digits and `_`.
 use Rattle.std.specs.Prelude.{ℕ, Bool, false, not, ◌&&◌, ◌||◌, ◌==◌, nat_le, min, if◌then◌else◌, List, [], ◌∷◌, length}
 use Rattle.std.specs.Prelude.{codes, bytes_eq, Option, Some, None, unwrap_or}
 use Rattle.std.specs.Char.{is_ascii_digit, is_ascii_lowercase}
@@ -16,15 +16,15 @@ begins test (b ∷ bs) = test b
 abbrev pub is_word_byte : ℕ → Bool
 is_word_byte b = is_ascii_lowercase b || is_ascii_digit b || b == 95
 
--- digits alone and no leading zero, but `0` itself
+-- digits alone, without a leading zero unless it is `0` itself
 abbrev pub is_number : List ℕ → Bool
 is_number word = list_all is_ascii_digit word && (not (begins (λ b. b == 48) word) || length word == 1)
 
--- a letter, and at most 15 characters more
+-- a letter, and at most 15 more characters
 abbrev pub is_name : List ℕ → Bool
 is_name word = begins is_ascii_lowercase word && nat_le (length word) 16
 
--- what stands beside a text in a table
+-- the token that a table has for a text
 abbrev pub lookup : List (List ℕ × Token) → List ℕ → Option Token
 lookup [] word = None
 lookup (entry ∷ table) word = if bytes_eq entry.0 word then Some entry.1 else lookup table word
@@ -92,7 +92,7 @@ keywords =
     ∷ (codes "all", Keyword keyword.All)
     ∷ []
 
--- the token of a word; numbers above 65,535 are all alike
+-- the token of a word; all numbers above 65,535 have the same
 unfoldable pub word_token : List ℕ → Token
 word_token word =
     if is_number word then Number (min (digits_value 10 word) 65536)

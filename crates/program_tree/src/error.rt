@@ -1,4 +1,4 @@
-//! Why a text is no program.
+//! Why a text isn't a program.
 ghost use Rattle.std.specs.Prelude.{◌≡◌};
 ghost use Rattle.program_tree.specs.declared.error.ReadErrorKind.TheVariants.{Memory};
 
@@ -7,11 +7,12 @@ use std::alloc::{AllocError, AllocFailed};
 /// The kinds of faults of a text, with the numbers that are printed.
 #[derive(Clone, Copy, Debug, PartialEq, Eq)]
 pub enum ReadErrorKind {
-    /// What stands there is no token.
+    /// Not a token.
     BadToken = 1,
-    /// With this token no program goes on from those before it, whatever its names and numbers.
+    /// No program goes on with this token after those before it, whatever its names and numbers. At the end of a text:
+    /// no program ends there, or goes on with `process`.
     Unexpected = 2,
-    /// A name that nothing declared so far has.
+    /// A name that hasn't been declared yet.
     UnknownName = 3,
     /// A name that is declared already, or that `autostart` lists already.
     NameTwice = 4,
@@ -26,10 +27,10 @@ pub enum ReadErrorKind {
     TooMany = 8,
     /// The text ends where `process` should stand.
     NoProcess = 9,
-    /// A name of another class than the place takes, as a process's in the place of a variable, or the spawning of the
-    /// very thread that stands there.
+    /// A name of another class than is expected, such as a process's for a variable, or the name of a thread in a
+    /// `spawn` of its own block.
     BadTarget = 10,
-    /// A growth was refused; the line is 0.
+    /// Out of memory: an allocation failed. The line is 0.
     Memory = 11,
 }
 
@@ -44,8 +45,8 @@ impl ReadErrorKind {
     }
 }
 
-/// Why a text is no program, and the line of the token at which it isn't one. The first line is 1; where an
-/// allocation failed, the line is 0.
+/// Why a text isn't a program, and the line of the token at which it goes wrong. The first line is 1; if an allocation
+/// failed, the line is 0.
 #[derive(Clone, Copy, Debug, PartialEq, Eq)]
 pub struct ReadError {
     pub kind: ReadErrorKind,

@@ -19,7 +19,7 @@ pub enum Target {
 }
 
 /// An event as a process is called with it: its number (`process_event_t`), its word of 16 bits, and the mote that
-/// sent it, which is 0 but for a packet from the radio.
+/// sent it, which is 0 except for a packet from the radio.
 #[derive(Clone, Copy, Debug, PartialEq, Eq)]
 pub struct Event {
     pub number: u8,

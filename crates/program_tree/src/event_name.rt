@@ -1,4 +1,4 @@
-//! Events as programs name them. Which of them may stand where is what their types say.
+//! Events as programs name them. The types say which of them may stand where.
 ghost use Rattle.std.specs.Prelude.{◌≡◌, ◌<◌};
 
 use crate::event::SystemEvent;
@@ -40,7 +40,7 @@ impl CastEvent {
     }
 }
 
-/// An event that may be posted to one process, or given to it at once.
+/// An event that may be posted to one process, or delivered to it at once.
 #[derive(Clone, Copy, Debug, PartialEq, Eq)]
 pub enum SentEvent {
     Cast(CastEvent),
@@ -61,7 +61,7 @@ impl SentEvent {
     }
 }
 
-/// An event that a program may ask for.
+/// An event that a program may test for.
 #[derive(Clone, Copy, Debug, PartialEq, Eq)]
 pub enum AnyEvent {
     Sent(SentEvent),

@@ -1,4 +1,4 @@
-//! A block of a process: as a tree, and beside it as flat code.
+//! A block of a process, both as a tree and as flat code.
 ghost use Rattle.std.specs.Prelude.{◌≡◌, ◌<◌, ◌^◌, IfOk};
 ghost use Rattle.program_tree.specs.Tree.{block_of, size};
 ghost use Rattle.program_tree.specs.Flat.{IsFlat};
@@ -9,8 +9,7 @@ use crate::instruction::Instruction;
 use crate::tree::Block;
 use std::alloc::{AllocError, Global};
 
-/// A block with its flat code. The crates that read and print programs speak of the tree, and a thread follows the
-/// code.
+/// A block with its flat code. Programs are read and printed by the tree; a thread follows the code.
 #[derive(Drop)]
 pub struct FlatBlock {
     block: Block,
@@ -21,7 +20,7 @@ pub struct FlatBlock {
 impl FlatBlock {
     ghost use Rattle.program_tree.specs.FlatBlock.{tree_in};
 
-    /// A block and its code, which is made here. It fails only where an allocation does.
+    /// A block, with the flat code that is made from it here. It fails only if an allocation does.
     pub fn new(alloc: Global, block: Block) -> Result<FlatBlock, AllocError>
         requires { size (block_of block) < 2 ^ 16 }
         ensures { IfOk result (λ b. tree_in b ≡ block_of block) }

@@ -8,7 +8,7 @@ use crate::instruction::{END, Instruction};
 use crate::tree::{Block, Stmt};
 use std::alloc::{AllocError, Global};
 
-/// How many statements stand in a block, those of inner blocks counted too.
+/// How many statements stand in a block, those of inner blocks included.
 #[cycle(count)]
 fn count(block: &Block) -> u16
     requires { size (block_of block.now) < 2 ^ 16 }
@@ -21,7 +21,7 @@ fn count(block: &Block) -> u16
     total
 }
 
-/// How many stand in the other block of an `if`.
+/// How many stand in the `else` block of an `if`, if it has one.
 #[cycle(count)]
 fn count_other(other: &Option<Block>) -> u16
     requires { other_size (otherwise_of (option_map block_of other.now)) < 2 ^ 16 }
@@ -33,7 +33,7 @@ fn count_other(other: &Option<Block>) -> u16
     }
 }
 
-/// How many a statement is, with those of its blocks.
+/// How many a statement counts as: itself and those of its blocks.
 #[cycle(count)]
 fn count_statement(statement: &Stmt) -> u16
     requires { statement_size (statement_of statement.now) < 2 ^ 16 }
@@ -46,7 +46,7 @@ fn count_statement(statement: &Stmt) -> u16
     }
 }
 
-/// Where a block is entered whose first statement, if it has one, has this place.
+/// Where a block is entered: at the place of its first statement, or at `after` if it has none.
 fn entry(block: &Block, place: u16, after: u16) -> u16
     ensures { result ≡ entry_of (block_of block.now) place after }
 {
@@ -57,7 +57,7 @@ fn entry(block: &Block, place: u16, after: u16) -> u16
     }
 }
 
-/// The same of the other block of an `if`.
+/// The same for the `else` block of an `if`.
 fn other_entry(other: &Option<Block>, place: u16, after: u16) -> u16
     ensures { result ≡ other_entry_of (otherwise_of (option_map block_of other.now)) place after }
 {
@@ -91,7 +91,7 @@ fn add_block(
     Ok(())
 }
 
-/// Adds the other block of an `if`.
+/// Adds the `else` block of an `if`.
 #[cycle(flatten)]
 fn add_other(
     other: &Option<Block>,

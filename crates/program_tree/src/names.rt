@@ -13,7 +13,7 @@ pub struct Names {
     set: IndexSet<String>,
 }
 
-/// By hand, so that names are dropped by one call: the check of a function that owns some of them sees no more of it.
+/// By hand, so that names are dropped by one call, which is all that the check of a function that owns them sees.
 impl Drop for Names {
     fn drop(self) {
         let Names { set: _ } = self;
@@ -50,7 +50,7 @@ impl Names {
         self.set.is_empty()
     }
 
-    /// The number of a name, where it was declared.
+    /// The number of a name, if it was declared.
     pub fn place_of(&self, name: &str) -> Option<usize>
         ensures place { result ≡ place_of self.now name.now }
         ensures within { IfSome result (λ i. i < length self.now) }
@@ -66,7 +66,7 @@ impl Names {
         self.set.get_index(place).unwrap().as_str()
     }
 
-    /// Declares a name that wasn't declared yet.
+    /// Declares a name that hasn't been declared yet.
     pub fn add(&mut self, alloc: Global, name: &str) -> Result<(), AllocError>
         requires { place_of self.old name.now ≡ None }
         ensures ok { OnOk result (self.new ≡ self.old ++ name.now ∷ []) }

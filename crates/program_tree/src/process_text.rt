@@ -1,6 +1,6 @@
 //! The text of each process of a program.
 //!
-//! The crates that read and print programs see its fields. Its ghost fields hold of each value.
+//! Its fields are public for the crates that read and print programs. Its ghost fields hold of each value.
 ghost use Rattle.std.specs.Prelude.{◌≡◌, ◌+◌, ◌<◌, ◌≤◌, length, map, slice_get, IsTrue, IfSome, option_map};
 ghost use Rattle.std.specs.Option.{ForSome};
 ghost use Rattle.std.specs.List.{All};
@@ -67,7 +67,7 @@ impl ProcessText {
         &self.starts
     }
 
-    /// The statements of the body. Its blocks stand at most 32 deep in one another, as in each block of a process.
+    /// The body. Its blocks are nested at most 32 deep, as in each block of a process.
     pub fn body(&self) -> &FlatBlock
         ensures value { tree_in result.now ≡ (code_of self.now).body }
         ensures within { IsWithinLimits (tree_in result.now) }
@@ -75,7 +75,7 @@ impl ProcessText {
         &self.body
     }
 
-    /// What runs before the body at POLL, where the process has it.
+    /// What runs before the body at POLL, if the process has it.
     pub fn on_poll(&self) -> Option<&FlatBlock>
         ensures value { option_map (λ b. tree_in b.now) result ≡ (code_of self.now).on_poll }
         ensures within { IfSome result (λ b. IsWithinLimits (tree_in b.now)) }
@@ -83,7 +83,7 @@ impl ProcessText {
         self.on_poll.as_ref()
     }
 
-    /// What runs before the body at EXIT, where the process has it.
+    /// What runs before the body at EXIT, if the process has it.
     pub fn on_exit(&self) -> Option<&FlatBlock>
         ensures value { option_map (λ b. tree_in b.now) result ≡ (code_of self.now).on_exit }
         ensures within { IfSome result (λ b. IsWithinLimits (tree_in b.now)) }
@@ -101,7 +101,7 @@ impl ProcessText {
         self.thread_blocks.len() as u8
     }
 
-    /// The block of a thread, by its number, where there is such a thread. It spawns only threads before itself.
+    /// The block of a thread, by its number, if there is such a thread. It spawns only threads before itself.
     pub fn thread(&self, number: u8) -> Option<&FlatBlock>
         ensures value { option_map (λ b. tree_in b.now) result ≡ slice_get (code_of self.now).thread_bodies number }
         ensures few { IfSome result (λ b. number < 7) }
@@ -111,7 +111,7 @@ impl ProcessText {
         self.thread_blocks.get(usize::from(number))
     }
 
-    /// The block of a callback timer, by its number in the program, where it is one of this process.
+    /// The block of a callback timer, by its number in the program, if it is one of this process.
     pub fn callback(&self, timer: u8) -> Option<&FlatBlock>
         ensures value { option_map (λ b. tree_in b.now) result ≡ callback_at (code_of self.now) timer }
         ensures within { IfSome result (λ b. IsWithinLimits (tree_in b.now)) }

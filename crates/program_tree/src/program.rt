@@ -1,7 +1,7 @@
 //! A program.
 //!
-//! The crates that read and print programs see its fields. Its ghost fields hold of each value, so each is the program
-//! of a text.
+//! Its fields are public for the crates that read and print programs. Its ghost fields hold of each value, so each is
+//! the program of a text.
 ghost use Rattle.std.specs.Prelude.{◌≡◌, ◌<◌, ◌≤◌, length, map, slice_get, Some, IfSome, option_map};
 ghost use Rattle.std.specs.Option.{ForSome};
 ghost use Rattle.std.specs.List.{All};
@@ -15,8 +15,8 @@ use crate::timer::Timer;
 use std::fmt;
 use std::fmt::{Debug, Formatter};
 
-/// A program: its declared events and semaphores, its processes in the order of its `process` line, those that start at
-/// boot, the one that packets go to, what each runs, and the timers of all of them.
+/// A program: its declared events and semaphores, its processes in the order of its `process` line, those that start
+/// at boot, the one that packets go to, what each runs, and the timers of all of them.
 pub struct Program {
     pub events: Names,
     pub semaphores: Names,
@@ -47,7 +47,7 @@ pub struct Program {
     }) },
 }
 
-/// By hand, so that a program is dropped by one call: the check of a function that owns one sees no more of it.
+/// By hand, so that a program is dropped by one call, which is all that the check of a function that owns one sees.
 impl Drop for Program {
     fn drop(self) {
         let Program {

@@ -119,7 +119,7 @@ impl Block {
 }
 
 impl Expr {
-    /// A copy of the expression. It fails only where an allocation does.
+    /// A copy of the expression. It fails only if an allocation does.
     pub(crate) fn clone_in(&self, alloc: Global) -> Result<Expr, AllocError>
         ensures { IfOk result (λ e. expression_of e ≡ expression_of self.now) }
     {
@@ -150,7 +150,7 @@ impl Expr {
 }
 
 impl Action {
-    /// A copy of the action. It fails only where an allocation does.
+    /// A copy of the action. It fails only if an allocation does.
     pub(crate) fn clone_in(&self, alloc: Global) -> Result<Action, AllocError>
         ensures { IfOk result (λ a. action_of a ≡ action_of self.now) }
     {

@@ -22,7 +22,7 @@ use Rattle.protothread.specs.Places.{part_body, yielding, Caller, innermost, cal
 use Rattle.protothread.specs.Reach.{reached_at, GoesOnAt, OperatesSo, AnswersSo}
 use Rattle.protothread.proofs.CallLaws.{callers_in-push, length-callers_in}
 
--- what a call passes, and what a thread answers that yields
+-- how many spawns a call passes, and the answer of a thread that yields
 passed-before : (y : Bool) (ss : List (Statement ℕ)) → passed (before y ss) ≡ 0
 passed-before y [] = refl
 passed-before y (s ∷ ss) = refl
@@ -90,7 +90,7 @@ module _ (code : Code) (event : Event) (looks : Looks) (t : Thread) (vars : List
       ap (λ m. advanced_of code event looks (record { part = t.part; mark = m; place = thread_place code t }) vars units) away
       ∙ ap (λ m. record { step = step.Runaway; remainder = record { part = t.part; mark = m; place = thread_place code t }; variables = vars; units = units }) (sym away)
 
--- what stands at a statement is settled
+-- a place at a statement is settled
 settled-at : (cs : List Caller) (y : Bool) (s : Statement ℕ) (rest : List (Statement ℕ)) → settled (nested cs (at y s rest)) ≡ nested cs (at y s rest)
 settled-at [] y s rest = refl
 settled-at (c ∷ []) y s rest = refl
@@ -155,7 +155,7 @@ module _ (code : Code) (part : Part) (event : Event) (looks : Looks) where
   place_at : (t : Thread) (s : Statement ℕ) (rest : List (Statement ℕ)) → rest_at (body_of_thread code t) t.position ≡ s ∷ rest → thread_place code t ≡ nested (callers_of code t) (at t.is_yielded s rest)
   place_at t s rest here = ap (λ l. nested (callers_of code t) (before t.is_yielded l)) here
 
-  -- a statement without a unit
+  -- a statement when no unit is left
   pub runs_away : (t : Thread) (s : Statement ℕ) (rest : List (Statement ℕ)) (vars : List ℕ) (units : ℕ)
       → t.part ≡ part → rest_at (body_of_thread code t) t.position ≡ s ∷ rest → units ≡ 0
       → continued code part event looks (thread_place code t) vars units ≡ record { step = step.Runaway; remainder = remainder_of code (record t { mark = RunAway }); variables = vars; units = units }
@@ -170,7 +170,7 @@ module _ (code : Code) (part : Part) (event : Event) (looks : Looks) where
       ∙ ap (λ u. record { step = step.Runaway; remainder = record { part = part; mark = RunAway; place = place }; variables = vars; units = u }) (sym none)
       ∙ ap (λ r. record { step = step.Runaway; remainder = r; variables = vars; units = units }) (meant (record t { mark = RunAway }) same)
 
-  -- one that is paid for
+  -- a statement that is paid for
   paid : (t : Thread) (s : Statement ℕ) (rest : List (Statement ℕ)) (vars : List ℕ) (units left : ℕ) (r : Reached)
       → t.part ≡ part → rest_at (body_of_thread code t) t.position ≡ s ∷ rest → units ≡ suc left → reached_at code t vars event looks s rest ≡ r
       → continued code part event looks (thread_place code t) vars units ≡ follows vars left r

@@ -1,4 +1,4 @@
--- The threads that are spawned in one another, by one more at the innermost end.
+-- The nested spawned threads, when one is added at the innermost end.
 use Rattle.std.proofs.Common.{◌≡◌, ℕ, suc, ◌+◌, ◌-◌, min, ◌<◌, ◌≤◌, true, List, [], ◌∷◌, ◌++◌, length, Option, None, Some, refl, ap, sym, ◌∙◌, subst, arith}
 use Rattle.std.specs.Prelude.{slice_get}
 use Rattle.program_tree.specs.Tree.{Body, listed}
@@ -114,7 +114,7 @@ stands_in_last code t flat cs c is h below =
     let R : List Call → Type 0 = λ ds. SpawnsSo ds (thread_body code c.thread) in
     record { flat_of = subst P (sym same) h; earlier = subst Q (sym same) (subst R (sym is) (spawns_last cs c (thread_body code c.thread) below)) }
 
--- and of a part that has spawned nothing
+-- and that of a part that has spawned nothing
 pub stands_in_part : (code : Code) (t : Thread) (flat : List Instruction) → t.calls ≡ [] → IsFlat (part_body code t.part) flat → StandsIn code t flat
 stands_in_part code t flat none h =
     let b : Body ℕ = part_body code t.part in

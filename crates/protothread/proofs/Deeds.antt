@@ -56,7 +56,7 @@ done_by_action process y vars event looks (reset t) = tt
 done_by_action process y vars event looks (restart_timer t) = tt
 done_by_action process y vars event looks (stop t) = tt
 
--- a value but 0 is true
+-- any value but 0 is true
 pub holds_true : (n : ℕ) → (n ≡ 0 → ⊥) → holds n ≡ true
 holds_true n h = grind (arith, common_steps)
 

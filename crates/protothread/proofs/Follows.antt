@@ -1,4 +1,4 @@
--- What a text says is what a run of it does.
+-- What a text says, a run of it does.
 use Rattle.std.proofs.Common.{◌≡◌, ℕ, suc, ◌+◌, ◌-◌, ◌<◌, Bool, true, false, if◌then◌else◌, nat_lt, List, [], ◌∷◌, ◌++◌, Option, None, Some, slice_set, refl, ap, sym, ◌∙◌, arith, append_assoc, subst, ◌==◌}
 use Rattle.std.proofs.lemmas.Bool.Decides.{nat_tests}
 use Rattle.std.proofs.lemmas.List.{append-nil}
@@ -23,7 +23,7 @@ use Rattle.protothread.proofs.Units.{follows, stepped, settles}
 use Rattle.protothread.specs.Reading.{Sight, Happening, operates, gives_up, Completion, done, restarts, exits, stands, IsDone, Restarts, with_answer, resumed, meaning, Awaits, met, again, never, Reads, passes, assigns, performs, waits, waits_last, yields, yields_until, yields_until_last, pauses, pauses_last, posts_last, spawn_ends, spawn_exits, spawn_stands, restarted, restarted_last, exited, chooses, repeats, leaves, ReadsAll, nothing_left, in_turn, breaks_off, ReadsThread, once, anew}
 use Rattle.protothread.specs.Runs.{Runs, operated, operated_last, gave_up, gave_up_last, has_exited, has_ended}
 
--- a run from a remainder whose next step, with so many more units, is the same
+-- a run from a remainder whose next step, with this many more units, is the same
 later_run : (code : Code) (more : ℕ) (r next : Remainder) (vars changed : List ℕ) (now : Sight) (later : List Sight) (h : List Happening) (out : Completion)
     → ((units : ℕ) → advanced_of code now.event now.looks r vars (units + more) ≡ advanced_of code now.event now.looks next changed units)
     → Runs code next changed now later h out → Runs code r vars now later h out
@@ -89,7 +89,7 @@ module _ (code : Code) (part : Part) where
   abbrev whole : List (Statement ℕ)
   whole = whole_of code part
 
-  -- a run from this place on, in a call that has come there
+  -- a run from this place on, within a call
   abbrev From : Place → (now : Sight) → (later : List Sight) → List ℕ → List Happening → Completion → Type 0
   From p now later vars h out = Runs code (record { part = part; mark = UnderWay None; place = p }) vars now later h out
 
@@ -115,7 +115,7 @@ module _ (code : Code) (part : Part) where
       (λ units. ap (λ u. continued code part now.event now.looks p vars u) (one_more units) ∙ steps p now vars units live ∙ ap (λ r. follows code part now.event now.looks vars units r) does_so)
       run
 
-  -- two places that are one
+  -- two places that settle to the same
   same_place : (p q : Place) (now : Sight) (later : List Sight) (vars : List ℕ) (h : List Happening) (out : Completion)
       → settled p ≡ settled q → From q now later vars h out → From p now later vars h out
   unfolding advanced_of
@@ -160,7 +160,7 @@ module _ (code : Code) (part : Part) where
       (gave_up_last _ (record { part = part; mark = AtRest; place = q }) vars vars now a
       (1, 0, steps p now vars 0 live ∙ ap (λ r. follows code part now.event now.looks vars 0 r) does_so) low))
 
-  -- what a run does behind an `exit`: the whole thread's ends so, and a spawned one's goes on behind its spawn
+  -- what a run does after an `exit`: that of the whole thread ends so, that of a spawned one goes on after its spawn
   abbrev Left : Option Place → (now : Sight) → (later : List Sight) → List ℕ → List Happening → Completion → Type 0
   Left None now later vars h out = (h ≡ []) × (out ≡ exits now later vars)
   Left (Some p) now later vars h out = From p now later vars h out
@@ -228,7 +228,7 @@ module _ (code : Code) (part : Part) where
         (c.onward vars now (within t p rest) (before false rest) vars (ap (λ r. spawner_reached t rest vars r) e)) f;
   }
 
-  -- what a run does behind statements of which this became
+  -- what a run does after statements with this completion
   abbrev Next : (home : List (Statement ℕ)) (y : PtState) → Context home y → (rest : List (Statement ℕ)) → Completion → List Happening → Completion → Type 0
   Next home y c rest (done now later vars) h out = From (c.place (before false rest)) now later vars h out
   Next home y c rest (restarts now later vars) h out = From (c.place (before false home)) now later vars h out

@@ -17,19 +17,19 @@ use Rattle.protothread.specs.Runs.{Runs, operated, operated_last, gave_up, gave_
 use Rattle.protothread.proofs.Units.{follows, stepped, called}
 use Rattle.protothread.proofs.Follows.{IsLive, still}
 
--- what goes on behind an answer that gives up control
+-- how a run goes on after an answer that gives up control
 abbrev pub Again : (G : Place → Sight → List Sight → List ℕ → List Happening → Completion → Type 0) → PtState → Place → (later : List Sight) → List ℕ → List Happening → Completion → Type 0
 Again G a q [] vars h out = (h ≡ gives_up a ∷ []) × (out ≡ stands vars)
 Again G a q (next ∷ later) vars h out = (k : List Happening) × (h ≡ gives_up a ∷ k) × G q next later vars k out
 
--- what goes on at a place, by the mark
+-- how it goes on at a place, by the mark
 abbrev pub Held : (G : Place → Sight → List Sight → List ℕ → List Happening → Completion → Type 0) → Mark → Place → (now : Sight) → (later : List Sight) → List ℕ → List Happening → Completion → Type 0
 Held G AtRest q now later vars h out = G q now later vars h out
 Held G (UnderWay into) q now later vars h out = G q now later vars h out
 Held G Pausing q now later vars h out = Again G (yield_answer q) q later vars h out
 Held G RunAway q now later vars h out = ⊥
 
--- what goes on behind a statement
+-- how it goes on after a statement
 abbrev pub Behind : (G : Place → Sight → List Sight → List ℕ → List Happening → Completion → Type 0) → Reached → (now : Sight) → (later : List Sight) → List ℕ → List Happening → Completion → Type 0
 Behind G (goes_on changed q) now later vars h out = G q now later changed h out
 Behind G (stops o mark q) now [] vars h out = (h ≡ operates o ∷ []) × (out ≡ stands vars)
@@ -46,7 +46,7 @@ module _ (code : Code) (part : Part) where
   StepOf G (at y s rest) now later vars h out = Behind G (reached code (whole_of code part) vars now.event now.looks (at y s rest)) now later vars h out
   StepOf G (within t p rest) now later vars h out = Behind G (reached code (whole_of code part) vars now.event now.looks (within t p rest)) now later vars h out
 
-  -- a run goes so from there, within n statements
+  -- a run goes so from this place on, within n statements
   abbrev pub Goes : (n : ℕ) → Place → (now : Sight) → (later : List Sight) → List ℕ → List Happening → Completion → Type 0
   Goes zero p now later vars h out = ⊥
   Goes (suc n) p now later vars h out = StepOf (λ q call calls v k o. Goes n q call calls v k o) (settled p) now later vars h out
@@ -65,7 +65,7 @@ module _ (code : Code) (part : Part) where
       at_live (at y s rest) l f = f
       at_live (within t u rest) l f = f
 
-  -- what goes on behind a step
+  -- how it goes on after a step
   abbrev BehindStep : Step → Mark → Place → List ℕ → (now : Sight) → (later : List Sight) → List Happening → Completion → Type 0
   BehindStep (step.Op o) mark q vars now [] h out = (h ≡ operates o ∷ []) × (out ≡ stands vars)
   BehindStep (step.Op o) mark q vars now (next ∷ later) h out =
@@ -94,7 +94,7 @@ module _ (code : Code) (part : Part) where
   far_answer Exited q now later vars h out f = (0, f)
   far_answer Ended q now later vars h out f = (0, f)
 
-  -- behind the post of a `pause`
+  -- after the post of a `pause`
   far_pause : (q : Place) (now : Sight) (later : List Sight) (vars : List ℕ) (h : List Happening) (out : Completion)
       → BehindStep (step.Done (yield_answer q)) AtRest q vars now later h out → (n : ℕ) × Again (λ q call calls v k o. Goes n q call calls v k o) (yield_answer q) q later vars h out
   far_pause ended now [] vars h out f = (0, f)

@@ -24,7 +24,7 @@ held_before : (code : Code) (whole : List (Statement ℕ)) → IsHeld code whole
 held_before code [] = refl
 held_before code (s ∷ rest) = inr refl
 
--- what is made of a thread holds it where it gives up control
+-- a thread that gives up control is held
 abbrev HeldBy : Code → (whole : List (Statement ℕ)) → Reached → Type 0
 HeldBy code whole (operates o Pausing p) = IsHeld code whole p
 HeldBy code whole (answers Waiting p) = IsHeld code whole p

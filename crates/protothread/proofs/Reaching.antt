@@ -1,4 +1,4 @@
--- What the innermost thread makes of those around it, and what the code does of it.
+-- What the innermost thread makes of those around it, and that the code does this.
 use Rattle.std.proofs.Common.{◌≡◌, ℕ, Bool, true, false, if◌then◌else◌, List, [], ◌∷◌, ◌++◌, length, refl, ap, sym, ◌∙◌, subst}
 use Rattle.std.proofs.lemmas.Bool.{ltb-true}
 use Rattle.program_tree.specs.declared.event.Event.{Event}
@@ -81,7 +81,7 @@ deed_can cs s (Spawns t) by can = can t by
 deed_can cs s Restarts by can = tt
 deed_can cs s Exits by can = tt
 
--- and that spawns a thread before its own
+-- and a statement spawns only threads before its own
 pub spawn_there : (cs : List Call) (b : Body ℕ) (place t : ℕ) (rest : List (Statement ℕ)) → SpawnsSo cs b → rest_at b place ≡ does (spawn t) ∷ rest → CanSpawn cs t
 spawn_there [] b place t rest so here = tt
 spawn_there (c ∷ cs) b place t rest so here =

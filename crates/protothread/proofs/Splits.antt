@@ -1,4 +1,4 @@
--- What a run does is what its text says.
+-- What a run does, its text says.
 use Rattle.std.proofs.Common.{◌≡◌, ℕ, zero, suc, ◌<◌, ◌≤◌, Bool, true, false, not, if◌then◌else◌, List, [], ◌∷◌, ◌++◌, Option, None, Some, slice_set, slice_index, refl, ap, sym, ◌∙◌, arith, append_assoc, subst, ◌==◌}
 use Rattle.std.proofs.lemmas.List.{append-nil}
 use Rattle.program_tree.specs.declared.event.Proc.TheVariants.{Own}
@@ -23,7 +23,7 @@ use Rattle.protothread.proofs.Follows.{IsLive, behind_end, is_true, is_false, he
 use Rattle.protothread.proofs.Goes.{Again, Behind, StepOf, Goes, entering, runs_go}
 use Rattle.protothread.specs.Runs.{Runs}
 
--- a run in two parts: statements of which this became, and what goes on behind them within m statements
+-- a run in two parts: statements with this completion, and what comes after them, within m statements
 record Split (R : List Happening → Completion → Type 0) (N : ℕ → Completion → List Happening → Completion → Type 0) (n : ℕ) (h : List Happening) (out : Completion) : Type 0 where
   became : Completion
   m : ℕ
@@ -34,12 +34,12 @@ record Split (R : List Happening → Completion → Type 0) (N : ℕ → Complet
   reads : R first became
   goes : N m became next out
 
--- the same, where it takes statements to restart
+-- the same; a restart takes at least one statement
 record SplitAll (R : List Happening → Completion → Type 0) (N : ℕ → Completion → List Happening → Completion → Type 0) (n : ℕ) (h : List Happening) (out : Completion) : Type 0 where
   split : Split R N n h out
   fewer : Restarts split.became → split.m < n
 
--- the same of another statement, in which this happened first
+-- the same for another statement, in which this happened first
 mapped : (R Q : List Happening → Completion → Type 0) (N : ℕ → Completion → List Happening → Completion → Type 0) (n l : ℕ) (h k : List Happening) (out : Completion) (a : List Happening)
     → l ≤ n → h ≡ a ++ k → ((x : List Happening) (o : Completion) → R x o → Q (a ++ x) o) → Split R N l k out → Split Q N n h out
 mapped R Q N n l h k out a low same f s = record {
@@ -53,7 +53,7 @@ mapped R Q N n l h k out a low same f s = record {
   goes = s.goes;
 }
 
--- what a statement does that needs no other words
+-- the deeds that the rules `passes`, `assigns`, `performs` and `waits` of a reading are for
 abbrev IsOrdinary : Deed → Type 0
 IsOrdinary Passes = Unit {0}
 IsOrdinary (Assigns i v) = Unit {0}

@@ -1,4 +1,4 @@
--- What the units of work are to a step, and where it gives up control.
+-- How a step depends on the units of work, and where it gives up control.
 use Rattle.std.proofs.Common.{◌≡◌, ℕ, zero, suc, ◌+◌, ◌-◌, ◌<◌, ◌≤◌, ◌⊎◌, inl, inr, Bool, true, false, if◌then◌else◌, List, refl, ap, sym, ◌∙◌, arith, subst}
 use Rattle.std.specs.Prelude.{nat_lt}
 use Rattle.std.proofs.lemmas.Bool.Decides.{nat_tests}
@@ -53,7 +53,7 @@ module _ (code : Code) (part : Part) (event : Event) (looks : Looks) where
   finish vars zero = refl
   finish vars (suc units) = refl
 
-  -- more units
+  -- with more units, a step that didn't run away is the same
   abbrev Same : (few many : Advanced) → ℕ → Type 0
   Same few many n = (few.step ≡ step.Runaway → ⊥) → many ≡ with_more few n
 

@@ -1,4 +1,4 @@
--- The threads that are spawned in one another.
+-- Nested spawned threads, the outermost first.
 use Rattle.std.specs.Prelude.{◌≡◌, ℕ, ◌<◌, min, true, List, [], ◌∷◌, ◌++◌, Option, None, Some}
 use Rattle.program_tree.specs.Scope.{block_fits, earlier_threads}
 use Rattle.program_tree.specs.Tree.{Body}
@@ -13,7 +13,7 @@ abbrev pub Fall : (n : ℕ) → List Call → Type 0
 Fall n [] = Unit {0}
 Fall n (c ∷ cs) = (c.thread < n) × Fall (before_number c.thread) cs
 
--- a part spawns any thread
+-- a part may spawn any thread
 abbrev pub AreNested : List Call → Type 0
 AreNested [] = Unit {0}
 AreNested (c ∷ cs) = Fall (before_number c.thread) cs

@@ -11,7 +11,7 @@ use Rattle.protothread.specs.Looks.{Looks}
 use Rattle.protothread.specs.Remainder.{Place, ended, at, within, before, Remainder, thread_block, whole_of}
 use Rattle.protothread.specs.Step.{Advanced, advanced_of, PaysFor}
 
--- a step that did not run away is the same with more units, and as many more are left
+-- a step that didn't run away is the same with more units, and as many more are left
 abbrev pub MoreUnitsChangeNothing : Type 0
 MoreUnitsChangeNothing =
     (code : Code) (event : Event) (looks : Looks) (r : Remainder) (variables : List ℕ) (units more : ℕ)
@@ -56,11 +56,11 @@ IsHeld code whole ended = whole ≡ []
 IsHeld code whole (at yielded s rest) = IsTrue (is_wait s) ⊎ (before false whole ≡ at yielded s rest)
 IsHeld code whole (within t p rest) = IsHeld code (thread_block code t) p
 
--- behind the post of a `pause` a thread stands at a wait
+-- after the post of a `pause` a thread stands at a wait
 abbrev pub IsSound : Code → Remainder → Type 0
 IsSound code r = r.mark ≡ Pausing → IsHeld code (whole_of code r.part) r.place
 
--- A step that gives up control leaves the thread at rest, held in such a place, from which the next call goes on.
+-- A step that gives up control leaves the thread at rest and held at its place, from which the next call goes on.
 pub record GivesUpAtAWait (code : Code) (a : Advanced) : Type 0 where
   pub gives_up : (answer : PtState) → a.step ≡ Done answer → state_number answer < 2
       → (a.remainder.mark ≡ AtRest) × IsHeld code (whole_of code a.remainder.part) a.remainder.place

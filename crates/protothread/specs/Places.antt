@@ -28,7 +28,7 @@ part_body code (part.Callback timer) = body_or_end (callback_at code timer)
 abbrev pub thread_body : Code → (thread : ℕ) → Body ℕ
 thread_body code thread = body_or_end (slice_get code.thread_bodies thread)
 
--- the block of the innermost thread, where that of the outermost is this
+-- the block of the innermost thread, given that of the outermost
 abbrev pub innermost : Code → Body ℕ → List Call → Body ℕ
 innermost code b [] = b
 innermost code b (c ∷ cs) = innermost code (thread_body code c.thread) cs
@@ -46,12 +46,12 @@ callers_in code b (c ∷ cs) = record {
   rest = rest_at b c.next;
 } ∷ callers_in code (thread_body code c.thread) cs
 
--- where a thread stands by where the innermost of its spawned threads stands
+-- where a thread stands, given where the innermost of its spawned threads stands
 abbrev pub nested : List Caller → Place → Place
 nested [] p = p
 nested (c ∷ cs) p = within c.thread (nested cs p) c.rest
 
--- what a thread answers that yields, where so many threads are spawned in one another
+-- the answer of a thread that yields, with this many spawned threads nested
 abbrev pub yielding : (spawns : ℕ) → PtState
 yielding zero = Yielded
 yielding (suc n) = Waiting

@@ -66,13 +66,13 @@ pub record GoesOnAt (code : Code) (flat : List Instruction) (made : Reached) (ol
   pub inside : StandsIn code new flat
   pub made_so : made ≡ goes_on after (thread_place code new)
 
--- it stops with an operation
+-- the thread stops with an operation
 pub record OperatesSo (code : Code) (made : Reached) (o : Op) (old new : Thread) (vars after : List ℕ) : Type 0 where
   pub part : new.part ≡ old.part
   pub variables : after ≡ vars
   pub made_so : made ≡ operates o new.mark (thread_place code new)
 
--- it gives up control
+-- the thread gives up control
 pub record AnswersSo (code : Code) (made : Reached) (answer : PtState) (old new : Thread)
     (vars after : List ℕ) : Type 0 where
   pub part : new.part ≡ old.part
@@ -86,7 +86,7 @@ Reaches code made (GoesOn flat) old new vars after = GoesOnAt code flat.now made
 Reaches code made (Operates o) old new vars after = OperatesSo code made o old new vars after
 Reaches code made (Answers a) old new vars after = AnswersSo code made a old new vars after
 
--- a thread that comes back to where it stands, in which it has paid for the spawns that it passed
+-- a call that comes back to where the thread stands, and has paid for the spawns that it passed
 pub record GoesOnFrom (old new : Thread) (units left : ℕ) : Type 0 where
   pub same : new ≡ old
   pub none_made : left ≤ units
@@ -94,7 +94,7 @@ pub record GoesOnFrom (old new : Thread) (units left : ℕ) : Type 0 where
       → advanced_of code event looks (remainder_of code old) vars units
       ≡ continued code old.part event looks (thread_place code old) vars left
 
--- a thread that stops before it comes there
+-- a call that stops before it gets there
 pub record StopsAtOnce (answer : Step) (old new : Thread) (units left : ℕ) : Type 0 where
   pub pays : PaysFor answer units left
   pub stops_so : (code : Code) (event : Event) (looks : Looks) (vars : List ℕ)

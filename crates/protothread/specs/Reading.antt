@@ -33,8 +33,8 @@ pub data Happening : Type 0 where
   operates : Op → Happening
   gives_up : PtState → Happening
 
--- What became of statements: they were done; or they were left, since the thread restarts or exits. The thread goes on
--- in the sight `now`, before the later ones. Or it stands in them, and no sight is left.
+-- What became of statements: they were done, or were left since the thread restarts or exits, and the thread goes on
+-- in the sight `now`, with the later ones after it; or the thread still stands in them, and no sight is left.
 pub data Completion : Type 0 where
   done : (now : Sight) → (later : List Sight) → (variables : List ℕ) → Completion
   restarts : (now : Sight) → (later : List Sight) → (variables : List ℕ) → Completion
@@ -49,7 +49,7 @@ abbrev pub Restarts : Completion → Type 0
 Restarts (restarts now later vars) = Unit {0}
 Restarts out = ⊥
 
--- the variable behind `into` gets the answer
+-- the variable after `into` gets the answer
 abbrev pub with_answer : (into : Option ℕ) → (variables : List ℕ) → (answer : ℕ) → List ℕ
 with_answer None vars answer = vars
 with_answer (Some i) vars answer = slice_set vars i answer
@@ -78,8 +78,8 @@ pub data Awaits (yields : PtState) (c : Expression ℕ) : (now : Sight) → (lat
       → Awaits yields c now [] vars (gives_up yields ∷ []) (stands vars)
 
 mutual
-  -- What one statement does. `yields` is what the part's caller is answered where the thread yields: YIELDED, and from
-  -- a spawned thread WAITING.
+  -- What one statement does. `yields` is the answer that the part's caller gets when the thread yields: YIELDED, or
+  -- WAITING from a spawned thread.
   pub data Reads (code : Code) : (yields : PtState) → Statement ℕ → (now : Sight) → (later : List Sight)
       → (variables : List ℕ) → List Happening → Completion → Type 0 where
     passes : (y : PtState) (a : Action ℕ) (now : Sight) (later : List Sight) (vars : List ℕ)
@@ -119,7 +119,7 @@ mutual
     posts_last : (y : PtState) (now : Sight) (vars : List ℕ)
         → Reads code y (does pause) now [] vars
         (operates (Post (One (Own code.number)) (system_number Continue) 0) ∷ []) (stands vars)
-    -- the block of the thread, in the same call; it goes on behind the spawn where that ends or exits
+    -- the block of the thread, in the same call; its spawner goes on after the spawn if the thread ends or exits
     spawn_ends : (y : PtState) (t : ℕ) (now : Sight) (later : List Sight) (vars : List ℕ) (h : List Happening)
         (call : Sight) (calls : List Sight) (changed : List ℕ)
         → ReadsThread code Waiting (thread_block code t) now later vars h (done call calls changed)
@@ -165,7 +165,7 @@ mutual
         (vars : List ℕ) (h : List Happening) (out : Completion)
         → (IsDone out → ⊥) → Reads code y s now later vars h out → ReadsAll code y (s ∷ ss) now later vars h out
 
-  -- what a thread does whose block this is: after a `restart` the whole block again
+  -- what a thread with this block does: after a `restart` the whole block again
   pub data ReadsThread (code : Code) : (yields : PtState) → List (Statement ℕ) → (now : Sight) → (later : List Sight)
       → (variables : List ℕ) → List Happening → Completion → Type 0 where
     once : (y : PtState) (block : List (Statement ℕ)) (now : Sight) (later : List Sight) (vars : List ℕ)

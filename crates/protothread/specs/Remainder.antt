@@ -7,8 +7,8 @@ use Rattle.protothread.specs.declared.part.Part.TheVariants as part
 use Rattle.protothread.specs.declared.thread.Mark.{Mark}
 use Rattle.protothread.specs.declared.thread.Mark.TheVariants.{AtRest}
 
--- Where a thread stands: at its end; at a statement, which may have yielded, before the others that are left, those of
--- the innermost block first; or at the spawn of a thread, which stands somewhere itself, before the others.
+-- Where a thread stands: at its end; at a statement, which may have yielded, with the others that are left after it,
+-- those of the innermost block first; or at the spawn of a thread, which has a place of its own, with the others.
 pub data Place : Type 0 where
   ended : Place
   at : (is_yielded : Bool) → Statement ℕ → (rest : List (Statement ℕ)) → Place
@@ -19,7 +19,7 @@ abbrev pub before : (is_yielded : Bool) → List (Statement ℕ) → Place
 before yielded [] = ended
 before yielded (s ∷ rest) = at yielded s rest
 
--- the spawner of a thread that is at its end goes on behind the spawn
+-- the spawner of a thread that is at its end goes on after the spawn
 abbrev pub spawner_place : (thread : ℕ) → Place → (rest : List (Statement ℕ)) → Place
 spawner_place thread ended rest = before false rest
 spawner_place thread p rest = within thread p rest

@@ -13,7 +13,7 @@ use Rattle.protothread.specs.Step.{advanced_of, answered_of}
 use Rattle.protothread.specs.Reading.{Sight, Happening, operates, gives_up, Completion, done, exits, stands}
 use Rattle.protothread.specs.Reading.{ReadsThread}
 
--- with some units of work, that thread answers this step and leaves this remainder and these variables
+-- with some number of units of work, the thread answers this step and leaves this remainder and these variables
 abbrev pub Steps : Code → Sight → Remainder → (variables : List ℕ) → Step → (next : Remainder) → (changed : List ℕ)
     → Type 0
 Steps code now r vars answer next changed =
@@ -26,8 +26,7 @@ Steps code now r vars answer next changed =
 
 pub data Runs (code : Code) : Remainder → (variables : List ℕ) → (now : Sight) → (later : List Sight) → List Happening
     → Completion → Type 0 where
-  -- An operation, whose answer the thread is told before it is advanced again. Nothing but a variable behind `into`
-  -- hears it.
+  -- An operation. The thread is told its answer before it is advanced again; only a variable after `into` gets it.
   operated : (r next : Remainder) (vars changed : List ℕ) (now resumed : Sight) (later : List Sight) (o : Op)
       (h : List Happening) (out : Completion)
       → Steps code now r vars (step.Op o) next changed

@@ -5,7 +5,7 @@ pub data Use : Type 0 where
   takes : Use
   signals : Use
 
--- a semaphore goes from one count to another by these uses, each of which is one that happens: nothing is taken at 0
+-- a semaphore goes from one count to another by these uses, all of which can happen: nothing is taken at 0
 abbrev pub Counts : (start : ℕ) → List Use → (count : ℕ) → Type 0
 Counts start [] count = start ≡ count
 Counts start (takes ∷ us) count = (0 < start) × Counts (start - 1) us count

@@ -36,7 +36,7 @@ pub record Advanced : Type 0 where
   pub variables : List ℕ
   pub units : ℕ
 
--- goes on behind the statement where the test holds, and else does the other
+-- goes on after the statement if the test holds, and else does the other
 abbrev pub passes_where : Bool → (other : Deed) → Deed
 passes_where test other = if test then Passes else other
 
@@ -74,8 +74,8 @@ deed_of process yielded vars event looks (reset t) = Operates (op.Reset t) None
 deed_of process yielded vars event looks (restart_timer t) = Operates (op.RestartTimer t) None
 deed_of process yielded vars event looks (stop t) = Operates (op.Stop t) None
 
--- what one statement makes of a thread: it goes on with these variables from there, stops with an operation and is then
--- marked so, or gives up control
+-- what one statement makes of a thread: it goes on with these variables from a place, stops with an operation and this
+-- mark, or gives up control
 pub data Reached : Type 0 where
   goes_on : (variables : List ℕ) → Place → Reached
   operates : Op → Mark → Place → Reached
@@ -104,8 +104,8 @@ statement_reached code whole yielded vars event looks (branch c a o) rest =
 statement_reached code whole yielded vars event looks (while c a) rest =
     goes_on vars (before false (if holds (value vars event looks c) then listed a ++ while c a ∷ rest else rest))
 
--- what its thread makes of a spawn: while it answers 0 or 1 the spawner answers 0, and on 2 or 3 the spawner goes on
--- behind
+-- what the spawned thread makes of its spawner: while it answers 0 or 1 the spawner answers 0, and on 2 or 3 the
+-- spawner goes on after the spawn
 abbrev pub spawner_reached : (thread : ℕ) → (rest : List (Statement ℕ)) → (variables : List ℕ) → Reached → Reached
 spawner_reached thread rest vars (goes_on changed p) = goes_on changed (within thread p rest)
 spawner_reached thread rest vars (operates o mark p) = operates o mark (within thread p rest)
@@ -114,15 +114,15 @@ spawner_reached thread rest vars (answers Yielded p) = answers Waiting (within t
 spawner_reached thread rest vars (answers Exited p) = goes_on vars (before false rest)
 spawner_reached thread rest vars (answers Ended p) = goes_on vars (before false rest)
 
--- what the statement where a thread stands makes of it; its block is `whole`
+-- what the statement at which a thread stands makes of it; its block is `whole`
 abbrev pub reached : Code → (whole : List (Statement ℕ)) → (variables : List ℕ) → Event → Looks → Place → Reached
 reached code whole vars event looks ended = answers Ended ended
 reached code whole vars event looks (at yielded s rest) = statement_reached code whole yielded vars event looks s rest
 reached code whole vars event looks (within t p rest) =
     spawner_reached t rest vars (reached code (thread_block code t) vars event looks p)
 
--- A thread that goes on from there: each statement that is reached costs a unit, and the end of a block or of a spawned
--- thread costs none.
+-- A thread that goes on from this place: each statement that is reached costs a unit, and the end of a block or of a
+-- spawned thread costs none.
 abbrev pub continued : Code → Part → Event → Looks → Place → (variables : List ℕ) → (units : ℕ) → Advanced
 continued code part event looks place vars zero =
     elim (settled place) [
@@ -159,13 +159,13 @@ abbrev pub passed : Place → ℕ
 passed (within t p rest) = suc (passed p)
 passed p = 0
 
--- what a thread answers that yields there: its spawner waits for it
+-- the answer of a thread that yields at this place: a spawner waits for the thread that it spawned
 abbrev pub yield_answer : Place → PtState
 yield_answer (within t p rest) = Waiting
 yield_answer p = Yielded
 
--- A step of a thread with this remainder. A call of a thread at rest pays a unit for each spawn that it passes. Behind
--- the post of a `pause` control is given up, and one that has run away stays so.
+-- A step of a thread with this remainder. A call of a thread at rest pays a unit for each spawn that it passes. After
+-- the post of a `pause` the thread gives up control, and one that has run away stays so.
 unfoldable pub advanced_of : Code → Event → Looks → Remainder → (variables : List ℕ) → (units : ℕ) → Advanced
 advanced_of code event looks r vars units =
     elim r.mark [
@@ -192,7 +192,7 @@ pub record Answered : Type 0 where
   pub remainder : Remainder
   pub variables : List ℕ
 
--- the variable named after `into`, if any, gets the answer, and no later one
+-- the variable named after `into`, if any, gets this answer, and no later one
 abbrev pub marked_answered : Mark → Mark
 marked_answered (UnderWay into) = UnderWay None
 marked_answered m = m

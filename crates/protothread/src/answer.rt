@@ -2,7 +2,7 @@
 ghost use Rattle.std.specs.Prelude.{◌≡◌, ◌<◌, ◌↔◌, IsTrue};
 ghost use Rattle.protothread.specs.State.{state_number};
 
-/// What a protothread answers where it gives up control, as `pt.h` of Contiki has it.
+/// What a protothread answers when it gives up control, as `pt.h` of Contiki has it.
 #[derive(Clone, Copy, Debug, PartialEq, Eq)]
 pub enum PtState {
     /// It waits for a condition (`PT_WAITING`).

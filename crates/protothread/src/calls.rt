@@ -1,12 +1,12 @@
-//! The threads that a thread has spawned in one another.
+//! The threads that a thread has spawned, nested in one another.
 ghost use Rattle.std.specs.Prelude.{◌≡◌, ◌+◌, ◌<◌, [], ◌∷◌, ◌++◌, length, IfNone, OnSome, IsSome, ◌↔◌, option_to_list};
 ghost use Rattle.protothread.specs.Calls.{CanSpawn, IsLast};
 
 use arrayvec::ArrayVec;
 use std::marker::Model;
 
-/// How many threads can stand in one another: the one that a part spawns, and those that spawn one another in it, each
-/// of them one of the process's 7 and before the one around it.
+/// How deep spawned threads can be nested: the one that a part spawns, whatever its number, and those inside it, each
+/// one of the process's 7 and before the one around it.
 const DEPTH: usize = 8;
 
 /// A thread that was spawned, and the place where its spawner goes on after the spawn.

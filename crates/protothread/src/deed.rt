@@ -16,7 +16,7 @@ pub(crate) enum Deed {
     Passes,
     /// A variable gets a value.
     Assigns(u8, u16),
-    /// An operation, and the variable that is told its answer.
+    /// An operation, and the variable that gets its answer.
     Operates(Op, Option<u8>),
     /// The post of a `pause`.
     Pauses(Op),
@@ -32,7 +32,7 @@ pub(crate) enum Deed {
     Exits,
 }
 
-/// Goes on where the test holds, and else does the other.
+/// Goes on if the test holds, and else does the other.
 fn passes_where(test: bool, other: Deed) -> Deed
     ensures { result ≡ by_test test other }
 {

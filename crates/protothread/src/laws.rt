@@ -1,4 +1,4 @@
-//! Laws of the step of a protothread. Each is the contract of a function with an empty body.
+//! Laws of the step of a protothread: theorems, each stated as the contract of an empty function.
 ghost use Rattle.protothread.specs.Laws.{ControlIsGivenUpAtWaits, MoreUnitsChangeNothing, OperationsCostWork};
 ghost use Rattle.protothread.specs.Laws.{RunAwayIsForGood};
 ghost use Rattle.protothread.specs.Runs.{RunsAreTheText};
@@ -10,7 +10,7 @@ pub fn more_units_change_nothing()
     ensures { MoreUnitsChangeNothing }
 {}
 
-/// A thread that has run away never does anything again, whatever units of work it is given.
+/// A thread that has run away never does anything again, however many units of work it is given.
 pub fn run_away_is_for_good()
     ensures { RunAwayIsForGood }
 {}

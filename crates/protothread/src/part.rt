@@ -19,7 +19,7 @@ pub enum Part {
     Callback(u8),
 }
 
-/// The flat code of a block, none where there is no block.
+/// The flat code of a block; empty if there is no block.
 fn code_of_block(block: Option<&FlatBlock>) -> &[Instruction]
     ensures { IsFlat (body_or_end (option_map (λ b. tree_in b.now) block.entry)) result.now }
 {
@@ -29,7 +29,7 @@ fn code_of_block(block: Option<&FlatBlock>) -> &[Instruction]
     }
 }
 
-/// The flat code of a thread of the process, none where there is no such thread.
+/// The flat code of a thread of the process; empty if there is no such thread.
 pub(crate) fn thread_code(text: &ProcessText, thread: u8) -> &[Instruction]
     ensures flat { IsFlat (thread_body (code_of text.now) thread) result.now }
     ensures earlier { block_fits (earlier_threads (before_number thread)) (thread_body (code_of text.now) thread)

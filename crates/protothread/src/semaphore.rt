@@ -34,7 +34,7 @@ impl Semaphore {
         self.count
     }
 
-    /// Subtracts one, where the count is above 0.
+    /// Subtracts one if the count is above 0. Returns whether it was.
     pub fn take(&mut self) -> bool
         ensures took { IsTrue result ↔ (0 < self.old) }
         // At 0 nothing changes.

@@ -21,7 +21,7 @@ pub enum Op {
     Reset(u16),
     /// Lets a timer run its interval again from now.
     RestartTimer(u16),
-    /// Takes a timer off.
+    /// Stops a timer.
     Stop(u16),
     /// Sends a packet with this value.
     Send(u16),
@@ -40,6 +40,6 @@ pub enum Step {
     Op(Op),
     /// It gave up control.
     Done(PtState),
-    /// It wanted a unit of work where none was left, and has run away for good.
+    /// It needed a unit of work when none was left, and has run away for good.
     Runaway,
 }

@@ -25,8 +25,7 @@ use program_tree::{Event, Expr, Instruction, ProcessText};
 enum Mark {
     /// It answered `Done`, or is fresh.
     AtRest,
-    /// It answered an operation. Where that is a post that this variable is told the answer of, it hasn't been told
-    /// yet.
+    /// It answered an operation. If that is a post whose answer this variable gets, it hasn't got it yet.
     UnderWay(Option<u8>),
     /// It answered the post of a `pause`, and now gives up control.
     Pausing,
@@ -89,7 +88,7 @@ impl Thread {
         }
     }
 
-    /// What the thread answers that yields here: a spawner waits for the thread that it spawned.
+    /// The answer when the thread yields here: a spawner waits for the thread that it spawned.
     fn yield_answer(&self) -> PtState
         ensures { result ≡ yielding (length self.now.calls) }
     {
@@ -107,7 +106,7 @@ impl Thread {
         self.position = position;
     }
 
-    /// Is fresh again, where no thread is spawned.
+    /// Makes the thread fresh again, if no thread is spawned.
     fn begin_again(&mut self)
         requires { self.old.calls ≡ [] }
         ensures { (code : Code) → remainder_of code self.new ≡ fresh_of code self.old.part }
@@ -125,7 +124,7 @@ impl Thread {
         self.is_yielded = is_yielded;
     }
 
-    /// Does a statement without blocks, the one at the thread's position, after which it goes on at this place.
+    /// Does the statement without blocks at the thread's position, after which the thread goes on at `next`.
     fn perform<'a>(
         &mut self,
         text: &'a ProcessText,
@@ -197,7 +196,7 @@ impl Thread {
         }
     }
 
-    /// Does a statement, the one at the thread's position.
+    /// Does the statement at the thread's position.
     fn reach<'a, L: Look>(
         &mut self,
         text: &'a ProcessText,
@@ -234,8 +233,8 @@ impl Thread {
         }
     }
 
-    /// Comes back to where the thread stands, and pays for the spawns that a new call passes. There is a step at once
-    /// where they can't be paid, after the post of a `pause`, and where the thread has run away.
+    /// Comes back to where the thread stands, and pays for the spawns that a new call passes. The step ends here if
+    /// they can't be paid for, after the post of a `pause`, and if the thread has run away.
     #[tactic(auto, unfolding(crate::specs::Step::advanced_of))]
     fn resume(&mut self, fuel: &mut Fuel) -> Option<Step>
         ensures { Resumes result self.old self.new fuel.old fuel.new }
@@ -281,7 +280,7 @@ impl Thread {
               units = fuel.new;
             } }
         ensures pays { PaysFor result fuel.old fuel.new }
-        // It has as many variables as before, so that `Vars::get` may ask for the same ones.
+        // There are as many variables as before, so `Vars::get` can read the same ones.
         ensures kept { length vars.new ≡ length vars.old }
     {
         if let Some(step) = self.resume(fuel) {
@@ -315,8 +314,8 @@ impl Thread {
         }
     }
 
-    /// Tells the thread the answer of its post, 0 where the event was accepted and 1 where the queue was full. The
-    /// variable named after `into` gets it, if there is one.
+    /// Tells the thread the answer of its post: 0 if the event was accepted, 1 if the queue was full. The variable
+    /// named after `into` gets it, if there is one.
     pub fn answer(&mut self, vars: &mut Vars, answer: u16)
         ensures exact { (code : Code)
             → answered_of (remainder_of code self.old) vars.old answer

@@ -40,14 +40,14 @@ fn is_event(event: &Event, system: SystemEvent, word: u8) -> bool
     event.number == system.number() && event.word == u16::from(word)
 }
 
-/// Whether a timer has expired, as a test of the list of those that have.
+/// Whether a timer has expired; the contract states it by the list of those that have.
 fn has_expired<L: Look>(look: &L, timer: u8) -> bool
     ensures { result ≡ list_any (λ t. timer == t) (L.looks look.now).expired }
 {
     look.expired(u16::from(timer))
 }
 
-/// Whether a process is running or called, as a test of the list of those that are.
+/// Whether a process is running or called; the contract states it by the list of those that are.
 fn is_running<L: Look>(look: &L, process: u8) -> bool
     ensures { result ≡ list_any (λ p. process == p) (L.looks look.now).running }
 {
@@ -81,8 +81,8 @@ fn plain_or_word(operand: &Expr, vars: &Vars, event: &Event) -> Option<u16>
     }
 }
 
-/// The value of an expression of no more than one operator, by the variables and the event alone. It takes no call, so
-/// that what most statements evaluate costs little.
+/// The value of an expression with at most one operator, by the variables and the event alone. It is inlined, so that
+/// what most statements evaluate costs little.
 #[inline(always)]
 fn short_value(expression: &Expr, vars: &Vars, event: &Event) -> Option<u16>
     ensures { (looks : Looks) → IfSome result
@@ -103,7 +103,7 @@ fn short_value(expression: &Expr, vars: &Vars, event: &Event) -> Option<u16>
     }
 }
 
-/// The same, by a call.
+/// The same, but not inlined.
 #[inline(never)]
 fn short_value_by_call(expression: &Expr, vars: &Vars, event: &Event) -> Option<u16>
     ensures { (looks : Looks) → IfSome result
@@ -144,7 +144,7 @@ fn evaluate_tree<L: Look>(expression: &Expr, vars: &Vars, event: &Event, look: &
     }
 }
 
-/// The value of an expression, for a statement that is met often: it takes no call where the expression is short.
+/// The value of an expression, for statements that are common: no call is made if the expression is short.
 #[inline(always)]
 pub(crate) fn evaluate<L: Look>(expression: &Expr, vars: &Vars, event: &Event, look: &L) -> u16
     ensures { result ≡ value vars.now event.now (L.looks look.now) (expression_of expression.now) }

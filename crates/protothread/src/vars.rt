@@ -55,7 +55,7 @@ impl Vars {
         }
     }
 
-    /// Gives a variable a value, where there is such a variable.
+    /// Gives a variable a value, if there is such a variable.
     pub(crate) fn set(&mut self, variable: u8, value: u16)
         ensures { self.new ≡ slice_set self.old variable value }
     {

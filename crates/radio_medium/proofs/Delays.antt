@@ -40,7 +40,7 @@ lookahead-le radio s r end heard =
     before_filter (λ k. D (delay radio s k)) (λ k. hears radio k s) (motes radio) (before_map D (delay radio s) (receivers radio s) here) in
     within_range (λ k. hears radio k s ≡ true → D (delay radio s k)) 0 (length radio.places) r by_receiver (omega arith) (let l : r < length radio.places = there-hears radio r s heard in omega arith) heard
 
--- a medium without a fault looks ahead
+-- a medium without a fault has a lookahead above 0
 pub lookahead-above : (radio : Radio) → medium_fault radio ≡ None → (end : ℕ) → 0 < lookahead radio end
 unfolding lookahead delays delay
 lookahead-above radio sound end =

@@ -3,18 +3,18 @@ use Rattle.std.proofs.Common.{◌≡◌, ℕ, ◌<◌, Bool, true, false, not, �
 use Rattle.std.proofs.lemmas.Bool.{lt-ltb, ltb-true, and_parts}
 use Rattle.radio_medium.specs.Medium.{Radio, is_mote, hears, square_distance, square, place_at}
 
--- between two motes that are there
+-- between two motes that exist
 pub hears_between : (radio : Radio) (r s : ℕ) → r < length radio.places → s < length radio.places
     → hears radio r s ≡ (not (r == s) && nat_le (square_distance (place_at radio s) (place_at radio r)) (square radio.range))
 unfolding hears
 hears_between radio r s receiver sender = rw (lt-ltb r _ receiver, lt-ltb s _ sender) refl
 
--- a mote that hears another is there
+-- a mote that hears another exists
 pub there-hears : (radio : Radio) (r s : ℕ) → hears radio r s ≡ true → r < length radio.places
 unfolding hears
 there-hears radio r s heard = ltb-true r _ (and_parts _ _ heard).0
 
--- and so is the other
+-- and so does the other
 pub there-heard : (radio : Radio) (r s : ℕ) → hears radio r s ≡ true → s < length radio.places
 unfolding hears
 there-heard radio r s heard = ltb-true s _ (and_parts _ _ (and_parts _ _ heard).1).0

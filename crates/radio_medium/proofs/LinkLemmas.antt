@@ -1,4 +1,4 @@
--- The ways of packets, met one by one.
+-- Links, taken one by one.
 use Rattle.std.proofs.Common.{◌≡◌, ℕ, zero, suc, ◌+◌, ◌*◌, ◌/◌, ◌^◌, ◌<◌, ◌≤◌, min, Bool, true, false, cond, if◌then◌else◌, List, [], ◌∷◌, ◌++◌, map, filter, length, get_or, Option, Some, None, inl, inr, refl, ap, sym, ◌∙◌, arith}
 use Rattle.std.specs.Prelude.{ℤ, pos, unsigned_abs, ◌-ℤ◌, All}
 use Rattle.std.specs.List.{flat_map, fold, range_with_len, reduce}
@@ -43,7 +43,7 @@ reduce-fold (x ∷ xs) = from x xs
     from a [] = refl
     from a (y ∷ ys) = from (min a y) ys
 
--- the least of the delays of all ways
+-- the least of the delays of all links
 pub least_of_ways : (all : List (List Link)) → fold with_least None (flat_map (λ links. map (λ (link : Link). link.delay) links) all) ≡ reduce min (flat_map (λ links. map (λ (link : Link). link.delay) links) all)
 least_of_ways all = reduce-fold (flat_map (λ links. map (λ (link : Link). link.delay) links) all)
 
@@ -57,7 +57,7 @@ unfolding links_of
 delays_of_all radio every [] = refl
 delays_of_all radio every (s ∷ ss) = rw (delays_of_links radio every s (receivers radio s), delays_of_all radio every ss) refl
 
--- the delays of all ways are those of all pairs that hear
+-- the delays of all links are those of all pairs that hear
 pub delays-links : (radio : Radio) (every : ℕ → ℕ → Option ℕ) → flat_map (λ links. map (λ (link : Link). link.delay) links) (map (links_of radio every) (motes radio)) ≡ delays radio
 unfolding delays
 delays-links radio every = delays_of_all radio every (motes radio)
@@ -68,7 +68,7 @@ pub links-losses : (places : List Place) (reach : Reach) (losses : List Loss) (t
 unfolding links_of receivers hears delay
 links-losses places reach losses table same = let is : table ≡ every_of losses = fun_ext (λ s. fun_ext (λ r. same s r)) in rw is refl
 
--- the places of motes are near, also that of a mote which isn't there
+-- the coordinates of motes are within the limits, and so are those of the default place for a mote that doesn't exist
 record IsNear (p : Place) : Type 0 where
   x : unsigned_abs p.x ≤ 30000
   y : unsigned_abs p.y ≤ 30000
@@ -103,7 +103,7 @@ delay_bound radio limits s r =
     let base : radio.base ≤ 1000000 = limits.base in
     omega arith
 
--- each way can be used to tell a moment
+-- on each link the moment of a copy can be computed
 pub links_fit : (radio : Radio) → IsWithinLimits radio → medium_fault radio ≡ None → (s : ℕ) → All IsFit (links_of radio (every_of radio.losses) s)
 unfolding links_of
 links_fit radio limits sound s =
@@ -112,7 +112,7 @@ links_fit radio limits sound s =
     let r : ℕ = get_or (receivers radio s) k d in
     record { delay = delay_bound radio limits s r; every = every_above_good (length radio.places) radio.losses s r (losses_good radio sound) })
 
--- one mote more whose ways are known
+-- one mote more whose links are known
 pub ways_step : (f : ℕ → List Link) (n : ℕ) (all : List (List Link)) (links : List Link) → all ≡ map f (range_with_len 0 n) → links ≡ f n → all ++ links ∷ [] ≡ map f (range_with_len 0 (n + 1))
 ways_step f n all links so_far is = rw (map-range_with_len_more f 0 n n (omega arith), so_far, is) refl
 
@@ -141,7 +141,7 @@ links_step_none radio every s n links so_far is = rw (links_more (link_of radio 
     from true e = absurd (cc)
     from false e = sym (append-nil old)
 
--- the ways from a mote, of those of all motes
+-- the links from a mote, among those of all motes
 pub ways_at : (radio : Radio) (all : List (List Link)) (s : ℕ) (d : List Link) → all ≡ map (links_of radio (every_of radio.losses)) (motes radio) → s < length radio.places
     → (s < length all) × (get_or all s d ≡ links_of radio (every_of radio.losses) s)
 ways_at radio all s d are there =
@@ -153,7 +153,7 @@ unfolding fate loses
 fates_of radio sent [] = refl
 fates_of radio sent (r ∷ rs) = ap (λ all. fate radio sent r ∷ all) (fates_of radio sent rs)
 
--- what becomes of a packet along the ways from its sender
+-- what becomes of a packet on the links from its sender
 pub fates-links : (radio : Radio) (sent : Sent) → map (fate_by sent) (links_of radio (every_of radio.losses) sent.sender) ≡ fates radio sent
 unfolding fates links_of
 fates-links radio sent = fates_of radio sent (receivers radio sent.sender)

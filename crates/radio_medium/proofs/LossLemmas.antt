@@ -1,4 +1,4 @@
--- Losses met one by one, in a table by their pairs.
+-- Losses taken one by one into a table by their pairs.
 use Rattle.std.proofs.Common.{◌≡◌, ℕ, suc, ◌+◌, ◌<◌, ◌==◌, nat_lt, Bool, true, false, not, cond, ◌&&◌, ◌||◌, ⊎_elim, inl, inr, List, [], ◌∷◌, ◌++◌, length, get_or, take, drop, Option, Some, None, option_map, Ok, Err, refl, ap, sym, ◌∙◌, subst, arith, append_assoc, drop-cons}
 use Rattle.std.specs.List.{find, list_any}
 use Rattle.std.specs.Option.{ForSome, IsSome, option_or}
@@ -65,7 +65,7 @@ bad-append motes xs (y ∷ ys) bad =
     let further : has_bad_loss motes ((xs ++ y ∷ []) ++ ys) ≡ true = bad-append motes (xs ++ y ∷ []) ys (bad-push motes xs y ∙ or_left _ _ bad) in
     rw append_assoc at further
 
--- a pair has a loss exactly where one is found
+-- a pair has a loss exactly if one is found
 found : (xs : List Loss) (s r : ℕ) → IsSome (every_of xs s r) → list_any (is_for_pair s r) xs ≡ true
 found [] s r some = some
 found (x ∷ xs) s r some =

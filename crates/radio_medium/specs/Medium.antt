@@ -71,11 +71,11 @@ lookahead radio end = unwrap_or (reduce min (delays radio)) (end + 1)
 abbrev pub is_for_pair : (s r : ℕ) → Loss → Bool
 is_for_pair s r loss = (loss.sender == s) && (loss.to == r)
 
--- of how many packets from mote s to mote r one is lost, where there is a loss for them
+-- of how many packets from mote s to mote r one is lost, if there is a loss for them
 abbrev pub every_of : List Loss → (s r : ℕ) → Option ℕ
 every_of losses s r = option_map (λ (loss : Loss). loss.every) (find (is_for_pair s r) losses)
 
--- of each `every` packets the last one is lost, and packets are numbered from 0
+-- the last of every `every` packets is lost, and packets are numbered from 0
 abbrev pub is_lost : (n : ℕ) → Option ℕ → Bool
 is_lost n every = option_map_or (λ k. (n + 1) % k == 0) every false
 
@@ -104,7 +104,7 @@ copy_of sent fate =
 unfoldable pub copies : Radio → Sent → List RadioCopy
 copies radio sent = filter_map (copy_of sent) (fates radio sent)
 
--- a loss between two motes, each of so many packets that some packet is lost
+-- a loss between two different motes of the net, whose `every` isn't 0
 abbrev pub is_good : (motes : ℕ) → Loss → Bool
 is_good motes loss =
     nat_lt loss.sender motes && (nat_lt loss.to motes && (not (loss.sender == loss.to) && not (loss.every == 0)))

@@ -1,4 +1,4 @@
-//! Groups of motes by number: where a whole group is too far to hear a mote, none of its motes is looked at.
+//! Groups of motes by number: if a whole group is too far to hear a mote, none of its motes is looked at.
 
 ghost use Rattle.std.specs.Prelude.{◌≡◌, ◌*◌, ◌-◌, ◌-ℤ◌, ◌<◌, ◌≤◌, ℕ, false, nat_le, unsigned_abs, IfOk, length};
 ghost use Rattle.radio_medium.specs.Groups.{AreGroups, HoldsMotes, Holds, IsBeyond};
@@ -65,7 +65,7 @@ fn reaches(range: u32, from: i32, centre: i32, farthest: u64) -> bool
     gap(from, centre).saturating_sub(u64::from(range)) <= farthest
 }
 
-/// How many groups so many motes are in.
+/// How many groups this many motes make.
 fn count_of(motes: usize) -> usize
     requires { motes ≤ 1000 }
     ensures enough { motes ≤ result * 32 }

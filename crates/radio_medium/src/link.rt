@@ -21,7 +21,7 @@ pub(crate) struct Link {
     pub(crate) to: u16,
     /// How many moments a packet takes.
     pub(crate) delay: u64,
-    /// The medium loses the last of each so many packets on this link, if it loses any.
+    /// Of how many packets the medium loses the last one on this link, if it loses any.
     pub(crate) every: Option<u32>,
 }
 
@@ -147,7 +147,7 @@ fn links_from(
     Ok(links)
 }
 
-/// Puts the links from a mote to those of these numbers that hear it behind the links to those before.
+/// Appends the links from a mote to those of these numbers that hear it.
 fn put_links(
     links: &mut Vec<Link>,
     places: &[Place],

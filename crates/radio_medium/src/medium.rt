@@ -27,7 +27,7 @@ pub struct Medium {
     least_delay: Option<u64>,
 }
 
-/// By hand, so that a medium is dropped by one call: the check of a function that owns one sees no more of it.
+/// By hand, so that a medium is dropped by one call: the check of a function that owns one sees that call alone.
 impl Drop for Medium {
     fn drop(self) {
         let Medium {

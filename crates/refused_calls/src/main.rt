@@ -1,6 +1,6 @@
 //! What kernels and motes answer once an allocation has failed. `tools/refuse_memory` has each allocation of this
-//! program fail in turn: it prints the same, wherever a call answers as it has to, or ends with status 1 where it came
-//! to no kernel or mote.
+//! program fail in turn: each time it prints the same if each call answers as it has to, or ends with status 1 if it
+//! got no kernel or no mote.
 #![tactic(auto)]
 
 use mote_node::{Mote, MoteError};
@@ -120,7 +120,7 @@ impl Bench {
         answers == [failed; 3] && self.out.lines.len() == lines
     }
 
-    /// Whether the kernel fails for good once it has found no memory, and what was written before is kept.
+    /// Whether the kernel fails for good once it is out of memory, and what was written before is kept.
     fn fails_for_good(&mut self, in_a_row: bool) -> bool {
         let fails = match self.first_error(in_a_row) {
             Some(KernelError::Memory) => self.has_failed(),
@@ -136,14 +136,14 @@ fn kernel_fails_for_good(alloc: Global, in_a_row: bool) -> Result<bool, NoTrial>
     Ok(bench.fails_for_good(in_a_row))
 }
 
-/// Whether a kernel that has room for its lines needs no memory for its process list.
+/// Whether a kernel that has room for its lines makes no allocation for its process list.
 fn list_has_room(alloc: Global) -> Result<bool, NoTrial> {
     let mut bench = new_bench(alloc, STARTER, LINES)?;
     let error = bench.first_error(true);
     Ok(error.is_none() && bench.out.lines.len() > LINES / 2)
 }
 
-/// Whether a turn answers that the mote has failed, and it wakes no more.
+/// Whether a turn answers that the mote has failed, and the mote asks for no more turns.
 fn mote_has_failed(mote: &mut Mote, program: &Program) -> bool {
     let later = mote.turn(program, 100, &[]).err();
     later == Some(MoteError::Failed) && mote.wake().is_none()
@@ -159,7 +159,7 @@ fn first_error_of_turns(mote: &mut Mote, program: &Program) -> Option<MoteError>
     None
 }
 
-/// Whether the mote fails for good once it has found no memory.
+/// Whether the mote fails for good once it is out of memory.
 fn turns_fail_for_good(mote: &mut Mote, program: &Program) -> bool {
     match first_error_of_turns(mote, program) {
         Some(MoteError::Memory) => mote_has_failed(mote, program),

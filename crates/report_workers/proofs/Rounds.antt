@@ -15,7 +15,7 @@ use Rattle.report_workers.specs.Parts.{Adjoin, HasTraces, IsPut, lines_told, pag
 pub written_all : (a b : Option (List ℕ)) (text : List ℕ) → Appends a b text → Written a b text []
 written_all a b text h = record { done = text; whole = sym (append-nil text); appended = h }
 
--- a front of it is written
+-- a prefix of it is written
 pub written_front_of : (a b : Option (List ℕ)) (text : List ℕ) → AppendsFront a b text → (rest : List ℕ) × Written a b text rest
 written_front_of a b text (front, byte, rest, split, more) = (byte ∷ rest, record { done = front; whole = split; appended = more })
 
@@ -48,7 +48,7 @@ put_text t first last n (p ∷ ps) (q ∷ qs) h is put =
     ap (λ (l : List ℕ). l ++ flat_map page_of qs) this ∙ ap (λ (l : List ℕ). part_text (lines_told t) first p.count ++ l) rest
     ∙ sym (part_sum (lines_told t) first p.count (n - p.count)) ∙ ap (part_text (lines_told t) first) (sym sum)
 
--- so many lines come next, and then those after them
+-- the next lines, this many, and then those after them
 pub rest_next : (lines : List (List ℕ)) (skip count : ℕ) → concat (drop skip lines) ≡ part_text lines skip count ++ concat (drop (skip + count) lines)
 rest_next lines skip count =
     ap concat (sym (take-append-drop count (drop skip lines))) ∙ concat-append (take count (drop skip lines)) (drop count (drop skip lines))

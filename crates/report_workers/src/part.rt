@@ -16,7 +16,7 @@ pub struct Part {
 }
 
 impl Part {
-    /// The part, on whose page nothing is put yet.
+    /// A part with an empty page.
     pub fn new(alloc: Global, skip: usize, count: usize) -> Part
         ensures skip { result.skip ≡ skip }
         ensures count { result.count ≡ count }

@@ -50,7 +50,7 @@ fn write_traces<R: Threads + Wait + Sync, W: Write>(
     Ok(())
 }
 
-/// How many lines the traces have, where they are many enough to be put by so many workers.
+/// How many lines the traces have, if workers are to put them: if these are two or more, and the lines `MANY` or more.
 fn many_lines(workers: u16, traces: &[Vec<Line>]) -> Option<usize>
     ensures { (net : NetTold) → length traces.now ≡ length net.motes
         → IfSome result (λ count. length (lines_of net (map lines_in traces.now)) ≡ count) }
@@ -89,15 +89,14 @@ fn write_by<R: Threads + Wait + Sync, W: Write>(
     write_medium(writer, &mut page, report)
 }
 
-/// Writes the report of a net as text, the same as `write_report`. Where its traces have many lines, so many workers
-/// put them on pages, each in a thread of its own, and this thread writes the pages; what follows the traces it puts
-/// itself.
+/// Writes the report of a net as text, the same as `write_report`. If its traces have many lines, the workers put them
+/// on pages, each in a thread of its own, and this thread writes the pages; it puts what follows the traces itself.
 ///
 /// This thread waits for the workers, so the promise holds if the call returns.
 ///
 /// # Errors
-/// `Write` where the writer failed or took no byte, `Memory` where there was no room for a page. A prefix of the text
-/// is then written, which lacks at least its last byte.
+/// `Write` where the writer failed or took no byte, `Memory` where an allocation failed. A proper prefix of the text
+/// has then been written.
 pub fn write_report_by<R: Threads + Wait + Sync, W: Write>(
     rt: &R,
     alloc: Global,

@@ -1,4 +1,5 @@
-//! One round: so many lines, cut among the workers, put by them on their pages, and written.
+//! One round: lines are cut into a part for each worker, each worker puts its part on a page, and the pages are
+//! written.
 ghost use Rattle.std.specs.Prelude.{◌≡◌, ◌<◌, ◌≤◌, ◌+◌, ◌^◌, [], IfOk};
 ghost use Rattle.std.specs.List.{flat_map};
 ghost use Rattle.trace_printer.specs.Page.{Prints};
@@ -76,8 +77,8 @@ fn write_alone<W: Write>(
     Ok(page.write(writer)?)
 }
 
-/// Writes `count` lines of the traces, after the first `skip`. Where a worker finds no memory, or its thread can't be
-/// started, this thread puts them all itself.
+/// Writes `count` lines of the traces, after the first `skip`. If an allocation of a worker fails, or its thread
+/// can't be started, this thread puts them all itself.
 pub fn write_round<R: Threads + Wait + Sync, W: Write>(
     rt: &R,
     alloc: Global,

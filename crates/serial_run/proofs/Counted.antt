@@ -32,7 +32,7 @@ not_after end t m at to h e = grind (arith, nat_tests)
 after : (end at : ℕ) → end < at → ltb end at ≡ true
 after end at h = grind (arith, nat_tests)
 
--- a turn leaves the copies that pass a test, where none of those that are due does
+-- a turn leaves the copies that pass a test, if none of those that are due does
 still_there : (p : RadioCopy → Bool) (t m : ℕ) → ((c : RadioCopy) → comes_at t m (Packet c) ≡ true → p c ≡ false) → (items : List Item) → filter p (packets (filter (is_left t m) items)) ≡ filter p (packets items)
 still_there p t m none [] = refl
 still_there p t m none (Wake u k ∷ items) =

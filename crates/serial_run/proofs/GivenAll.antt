@@ -36,7 +36,7 @@ pub second_none : {X : Type 0} (xs ys : List X) → xs ++ ys ≡ [] → ys ≡ [
 second_none [] ys e = e
 second_none (x ∷ xs) ys e = cc
 
--- nothing for this mote at this moment where all comes later
+-- nothing for this mote at this moment if all comes later
 none_for : (t m : ℕ) (items : List Item) → AllByRecursion (λ item. is_from t (suc m) item ≡ true) items → filter (is_for t m) (packets items) ≡ []
 none_for t m [] h = refl
 none_for t m (Wake u k ∷ items) h = none_for t m items h.1
@@ -50,7 +50,7 @@ boot_from [] = tt
 boot_from (k ∷ ks) = (from_first k, boot_from ks)
 
 module _ {S L : Type 0} (system : System S L) (fine : RunsForward system) where
-  -- all that is to come is at this moment and mote, or later
+  -- all pending events are at this moment and mote, or later
   abbrev IsFrom : (t m : ℕ) → NetState S L → Type 0
   IsFrom t m net = AllByRecursion (λ item. is_from t m item ≡ true) net.agenda
 

@@ -1,4 +1,4 @@
--- In a net's run the packets of a turn bear its moment and its mote already.
+-- In a net's run the packets of a turn are stamped with its moment and its mote already.
 use Rattle.std.proofs.Common.{◌≡◌, ℕ, List, [], ◌∷◌, map, refl, sym, ap, ◌∙◌, subst, inl, inr}
 use Rattle.std.proofs.lemmas.Bool.{cases_eq, eq-eqb, ne_eqb}
 use Rattle.std.specs.List.{AllByRecursion}

@@ -33,7 +33,7 @@ later_or_now t m u k h = grind (arith, nat_tests)
 due_now : (t m u k : ℕ) → (eqb u t && eqb k m) ≡ true → u ≡ t
 due_now t m u k e = grind (arith, nat_tests)
 
--- no trace has a line beyond this moment, nothing is to come before it, and the lines so far never go back
+-- no trace has a line beyond this moment, no event is pending before it, and the lines so far never go back
 record Rises (at : ℕ) (net : NetState Node Line) : Type 0 where
   agenda : AllByRecursion (λ item. at ≤ moment_of item) net.agenda
   lines : (k : ℕ) → All (λ l. l.at ≤ at) (net.traces k)

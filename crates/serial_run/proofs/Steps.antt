@@ -30,7 +30,7 @@ use Rattle.net_agenda.specs.Traces.{AddsLines}
 use Rattle.window_laws.proofs.Lists.{filter_filter, filter_both}
 use Rattle.serial_run.proofs.Kept.{wake_later}
 
--- what a turn told, and where it led
+-- what a turn gave, and where it led
 record Tells (o : Option Node) (out : TurnOut) (t : node.TurnGiven) : Type 0 where
   node : o ≡ Some t.node
   lines : out.lines.items ≡ t.lines
@@ -120,7 +120,7 @@ module _ (n : NetTold) (t m : ℕ) (state : NetState Node Line) where
           ∙ (ap (λ w. filter (is_left t m) state.agenda ++ (wake_items m w ++ map Packet (flat_map (copies n.radio) (map (stamped t m) out.sends.items)))) is.wake
           ∙ ap (λ l. filter (is_left t m) state.agenda ++ (wake_items m turned.wake ++ map Packet (flat_map (copies n.radio) (map (stamped t m) l)))) is.sends))
 
-  -- the mote's wake, where it isn't due with the turn
+  -- the mote's wake, if it isn't due with the turn
   pub wake_to_drop : (wake other : Option ℕ) (engine : Engine) → m < length n.motes → StandsAt n engine state → KeepsWakes n state
       → ((x : Tree) (d : Mote) → wake ≡ wake_in (node_in x (get_or engine.motes.items m d))) → (d : Mote)
       → other ≡ wake_but_at t wake

@@ -27,7 +27,7 @@ abbrev pub LateCopiesStay : Type 0
 LateCopiesStay = (n : NetTold) (r : ReportTold) (report : IsReportOf n r) → packets report.last.agenda
     ≡ filter (is_after n.end) (flat_map (copies n.radio) report.last.log)
 
--- so many copies are left
+-- this many copies are left
 abbrev pub LeftIsCounted : Type 0
 LeftIsCounted = (n : NetTold) (r : ReportTold) (report : IsReportOf n r) → r.left
     ≡ count_by (is_after n.end) (flat_map (copies n.radio) report.last.log)
@@ -36,7 +36,7 @@ LeftIsCounted = (n : NetTold) (r : ReportTold) (report : IsReportOf n r) → r.l
 abbrev pub is_late : (end : ℕ) → Fate → Bool
 is_late end fate = option_map_or (nat_lt end) fate.at false
 
--- and so many fates in the report have an arrival after the end
+-- and this many fates in the report have an arrival after the end
 abbrev pub FatesTellLeft : Type 0
 FatesTellLeft = (n : NetTold) (r : ReportTold) → IsReportOf n r → r.left
     ≡ count_by (is_late n.end) (flat_map (λ packet. packet.fates) r.log)
@@ -75,8 +75,8 @@ is_for moment mote copy = (copy.at == moment) && (copy.to == mote)
 abbrev pub IsGivenAll : List RadioCopy → TurnTaken → Type 0
 IsGivenAll sent turn = turn.given ≡ in_order (filter (is_for turn.moment turn.mote) sent)
 
--- where the medium is without fault and has a place for each mote, a turn is given all copies of the log for its mote
--- at its moment
+-- if the medium is without fault and has a place for each mote, a turn is given all copies of the log for its mote at
+-- its moment
 abbrev pub TurnsAreGivenAll : Type 0
 TurnsAreGivenAll = (n : NetTold) (r : ReportTold) (report : IsReportOf n r) → medium_fault n.radio ≡ None
     → length n.radio.places ≡ length n.motes

@@ -9,7 +9,7 @@ use Rattle.window_laws.specs.NetStep.{NetState, Run, boot}
 use Rattle.serial_run.specs.OnTime.{IsOnTime}
 use Rattle.serial_run.specs.Stands.{StandsAt, KeepsWakes}
 
--- The engine is where a beginning of the run leads: how the run goes on from there, it goes from boot.
+-- The engine is where a prefix of the run leads: each run that goes on from there is the rest of a run from boot.
 pub record HasReached (n : NetTold) (engine : Engine) : Type 0 where
   pub state : NetState Node Line
   pub stands : StandsAt n engine state

@@ -24,8 +24,8 @@ use Rattle.serial_run.specs.NetRun.{packet_with_fates, IsReportOf}
 abbrev pub ReportIsOne : Type 0
 ReportIsOne = (n : NetTold) (a b : ReportTold) → IsReportOf n a → IsReportOf n b → b ≡ a
 
--- A net whose medium is without fault and has a place for each mote, as every `Net` has, runs forward: wakes come later
--- than the turn, and copies no sooner than the lookahead, which is above 0.
+-- A net whose medium is without fault and has a place for each mote, as every `Net` has, runs forward: wakes come
+-- later than the turn, and copies no sooner than the lookahead, which is above 0.
 abbrev pub NetsRunForward : Type 0
 NetsRunForward = (n : NetTold) → medium_fault n.radio ≡ None → length n.radio.places ≡ length n.motes
     → RunsForward (system_of n)
@@ -42,7 +42,7 @@ pub record IsMediumLog (n : NetTold) (motes : (number : ℕ) → LoneMote Node L
   pub same : IsPermutation joined log
   pub sorted : IsSortedBy is_sooner log
 
--- what is told where each mote ran alone: its lines, the packets that all sent as a log, and how many copies are left
+-- the report if each mote ran alone: its lines, the packets that all sent as a log, and how many copies are left
 abbrev pub told_by : (n : NetTold) → (motes : (number : ℕ) → LoneMote Node Line) → (log : List Sent)
     → (rest : List RadioCopy) → ReportTold
 told_by n motes log rest = record {
@@ -51,10 +51,10 @@ told_by n motes log rest = record {
   left = length rest;
 }
 
--- Windows commute. Cut 0 to end + 1 at any rising bounds whose steps are at most the lookahead, and run each mote alone
--- through each window, the motes of a window in any order, on the copies that earlier windows sent to it: the lines of
--- each mote, the medium's log sorted by moment, sender and number, and the copies that arrive after the end are those
--- of the net's run.
+-- Windows commute. Cut 0 to end + 1 at any rising bounds whose steps are at most the lookahead, and run each mote
+-- alone through each window, the motes of a window in any order, on the copies that earlier windows sent to it: the
+-- lines of each mote, the medium's log sorted by moment, sender and number, and the copies that arrive after the end
+-- are those of the net's run.
 abbrev pub WindowsCommuteInNets : Type 0
 WindowsCommuteInNets = (n : NetTold) → medium_fault n.radio ≡ None → length n.radio.places ≡ length n.motes
     → (motes : (number : ℕ) → LoneMote Node Line) → Windows (system_of n) 0 (suc n.end) (first_mote (system_of n)) motes
@@ -85,7 +85,7 @@ OneWake items = (mote : ℕ) → length (filter (is_wake_of mote) items) ≤ 1
 abbrev pub AlwaysOneWake : Type 0
 AlwaysOneWake = (n : NetTold) (r : ReportTold) (report : IsReportOf n r) → AllByRecursion OneWake (agendas report.run)
 
--- so in none of them a mote has two wakes at one moment
+-- so in none of them does a mote have two wakes at one moment
 abbrev pub WakesAlwaysDiffer : Type 0
 WakesAlwaysDiffer = (n : NetTold) (r : ReportTold) (report : IsReportOf n r)
     → AllByRecursion WakesDiffer (agendas report.run)

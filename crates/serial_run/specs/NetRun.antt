@@ -13,7 +13,7 @@ use Rattle.net_report.specs.Report.{Packet, ReportTold}
 abbrev pub packet_with_fates : Radio → Sent → Packet
 packet_with_fates radio sent = record { sent = sent; fates = fates radio sent }
 
--- what is told of a net whose run has ended: each mote's trace, each packet with the fates of its copies, and how many
+-- the report of a net whose run has ended: each mote's trace, each packet with the fates of its copies, and how many
 -- copies are still on their way
 abbrev pub told_at : NetTold → NetState Node Line → ReportTold
 told_at n last = record {
@@ -22,7 +22,7 @@ told_at n last = record {
   left = length (packets last.agenda);
 }
 
--- the run of the net, from before the motes' first turns, ends where this is told
+-- the run of the net, from before the motes' first turns, ends with this report
 pub record IsReportOf (n : NetTold) (r : ReportTold) : Type 0 where
   pub last : NetState Node Line
   pub run : Run (system_of n) n.end (boot (system_of n)) last

@@ -38,12 +38,12 @@ pub record IsWhole (n : NetTold) (engine : Engine) : Type 0 where
   pub motes : length engine.motes.items ≡ length n.motes
   pub traces : length engine.traces.items ≡ length n.motes
 
--- the agenda has each mote's own next wake, and nothing for a mote that isn't there
+-- the agenda has each mote's own next wake, and no event for a mote that doesn't exist
 pub record KeepsWakes (n : NetTold) (net : NetState Node Line) : Type 0 where
   pub wakes : (k : ℕ) → k < length n.motes → filter (is_wake_of k) net.agenda ≡ wake_items k (wake_of (net.states k))
   pub inside : AllByRecursion (λ item. mote_of item < length n.motes) net.agenda
 
--- one mote took a turn, which told this
+-- one mote took a turn, which gave this
 pub record OneTakesTurn (tree : code.Tree) (moment : ℕ) (packets : List Arrival) (k : ℕ) (old new : List Mote)
     (out : TurnOut) : Type 0 where
   pub after : Mote

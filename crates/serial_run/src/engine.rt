@@ -31,9 +31,9 @@ pub struct Engine {
     pub traces: Vec<Vec<Line>>,
     pub log: Vec<LogLine>,
     pub agenda: Agenda,
-    /// The packets of the last turn; the next turn's take their room.
+    /// The packets of the last turn; the next turn reuses their memory.
     pub arrivals: Vec<Arrival>,
-    /// What the last turn told; the next turn writes into its room.
+    /// What the last turn gave; the next turn reuses its memory.
     pub out: Out,
 }
 

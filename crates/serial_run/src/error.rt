@@ -10,15 +10,15 @@ use std::fmt;
 /// Why a run gives no report.
 #[derive(Clone, Copy, Debug, PartialEq, Eq)]
 pub enum RunError {
-    /// The number of workers is none of 1 to 16.
+    /// The number of workers isn't from 1 to 16.
     Workers = 1,
     /// The cut doesn't name a worker for each mote of the net, or names one for more.
     CutLength = 2,
-    /// The cut gives a mote to a worker that isn't there.
+    /// The cut gives a mote to a worker that doesn't exist.
     CutWorker = 3,
-    /// Out of memory; an allocation failed.
+    /// Out of memory: an allocation failed.
     Memory = 4,
-    /// A thread couldn't be started, the gate refused a start, or the executor in a thread answered an error.
+    /// A thread couldn't be started, the gate refused a start, or the executor in a thread returned an error.
     Thread = 5,
     /// With marks: a worker stopped because another worker failed, and none reported `Memory` or `Thread`.
     Stopped = 6,

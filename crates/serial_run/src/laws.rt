@@ -23,8 +23,8 @@ pub fn report_is_there()
 
 /// Windows commute. Cut 0 to end + 1 at any rising bounds whose steps are at most the lookahead, and run each mote
 /// alone through each window, the motes of a window in any order, on the copies that earlier windows sent to it. The
-/// lines of each mote, the medium's log sorted by moment, sender and number, and the copies left are those of the net's
-/// run.
+/// lines of each mote, the medium's log sorted by moment, sender and number, and the copies left are those of the
+/// net's run.
 pub fn windows_commute()
     ensures { WindowsCommuteInNets }
 {}
@@ -37,8 +37,8 @@ pub fn traces_hand_on()
 
 /// The items that are in the buckets of an agenda, read back from one bucket after another, are those of the net's one
 /// list: the same packets, each as often, and a wake of a mote at a moment where the list has one; so they are a
-/// permutation of the list where no mote has two wakes at one moment. The map is asked for its length since it then
-/// says that its keys rise: no two buckets are of one moment.
+/// permutation of the list if no mote has two wakes at one moment. The map is asked for its length since it then says
+/// that its keys rise: no two buckets are of one moment.
 pub fn buckets_hold_items(agenda: &Agenda)
     ensures { BucketsHoldItems agenda.now.buckets }
 {
@@ -78,8 +78,8 @@ pub fn copies_come_in_time()
     ensures { CopiesComeInTime }
 {}
 
-/// Where the medium is without fault and has a place for each mote, as in every `Net`, a turn is given all copies of
-/// the log for its mote at its moment, in the order of sender, then number.
+/// If the medium is without fault and has a place for each mote, as in every `Net`, a turn is given all copies of the
+/// log for its mote at its moment, in the order of sender, then number.
 pub fn turns_are_given_all()
     ensures { TurnsAreGivenAll }
 {}
@@ -91,8 +91,8 @@ pub fn moments_and_numbers_rise()
     ensures log { LogCountsUp }
 {}
 
-/// The packets that a mote sends in a turn of a net's run are stamped with the turn's moment and the mote already: to
-/// stamp them changes nothing.
+/// The packets that a mote sends in a turn of a net's run are stamped with the turn's moment and the mote already:
+/// stamping them changes nothing.
 pub fn sends_are_stamped()
     ensures { SendsAreStamped }
 {}

@@ -15,7 +15,7 @@ use radio_medium::Medium;
 use radio_packet::Sent;
 use std::alloc::AllocError;
 
-/// One packet goes out.
+/// Sends one packet.
 fn send(
     medium: &Medium,
     sent: &Sent,
@@ -35,7 +35,7 @@ fn send(
     Ok(())
 }
 
-/// The packets of a mote's turn go out.
+/// Sends the packets of a mote's turn.
 pub fn send_all(
     medium: &Medium,
     moment: u64,

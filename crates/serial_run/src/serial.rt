@@ -45,8 +45,8 @@ pub fn run_serial(alloc: Global, net: &Net) -> Result<Report, RunError>
     ensures report { IfOk result (λ r. IsReportOf (net_of net.now) (report_of r)) }
     // There is a trace for each mote.
     ensures traces { IfOk result (λ r. vec_len r.traces ≡ length (net_of net.now).motes) }
-    // Each trace delivers each accepted event, in order, nothing follows a halt in it, and only a process that is not
-    // listed starts.
+    // Each trace delivers events in the order in which they were accepted, nothing follows a halt in it, and only a
+    // process that is not listed starts.
     ensures handed_on { IfOk result (λ r. All (λ trace. IsInOrder trace.items) r.traces.items) }
     ensures err { IfErr result (λ e. e ≡ RunError.Memory) }
 {

@@ -15,7 +15,7 @@ use Rattle.simulation.specs.declared.error.SimError.{SimError}
 use Rattle.simulation.specs.declared.error.SimError.TheVariants as fault
 use Rattle.simulation.specs.Simulation.{IsScenario, Reported, RefusesText, Way, SimulatedWith, SimulatedSome}
 
--- the text tells this net
+-- the text describes this net
 abbrev pub scenario_of : (bytes : List ℕ) (n : NetTold) → IsText bytes → TellsNet bytes n → IsScenario bytes
 scenario_of bytes n short told = record { is_text = short; net = n; told = told }
 
@@ -23,7 +23,7 @@ scenario_of bytes n short told = record { is_text = short; net = n; told = told 
 pub reported : (written : List ℕ → Type 0) (bytes : List ℕ) (n : NetTold) (r : ReportTold) → IsText bytes → TellsNet bytes n → IsReportOf n r → written (report_text n r) → Reported bytes written
 reported written bytes n r short told ran h = record { from = scenario_of bytes n short told; report = r; run = ran; got = h }
 
--- a fault that is answered to a text is its first, or out of memory
+-- a fault that a text is refused with is its first, or out of memory
 pub refused : (bytes : List ℕ) (e : ScenarioError) → Answers bytes (Err e) → RefusesText bytes e
 refused bytes scenario.Memory h = tt
 refused bytes scenario.Toml h = h
@@ -43,7 +43,7 @@ some_bytes way bytes old new (Err (fault.Run e)) h = (bytes, h)
 some_bytes way bytes old new (Err (fault.Print e)) h = (bytes, h)
 some_bytes way bytes old new (Err e) h = tt
 
--- of one net two reports have one text
+-- two reports of one net have the same text
 same_text : ReportIsOne → (m n : NetTold) (r s : ReportTold) → m ≡ n → IsReportOf m r → IsReportOf n s → report_text m r ≡ report_text n s
 same_text one m n r s same ran run =
     ap (λ net. report_text net r) same ∙ ap (report_text n) (one n s r run (subst (λ net. IsReportOf net r) same ran))

@@ -1,4 +1,4 @@
--- The net that a scenario's text tells has a report.
+-- The net of each scenario's text has a report.
 use Rattle.std.proofs.Common.{◌≡◌, codes, length, None, sym, ap, ◌∙◌}
 use Rattle.std.proofs.lemmas.List.{length-map}
 use Rattle.radio_medium.specs.Medium.{medium_fault}

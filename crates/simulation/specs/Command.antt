@@ -38,7 +38,7 @@ pub record Simulates (asked : Asked) (old new : Streams) (status : ℕ) : Type 0
       → IfSome old.input (λ bytes. SimulatedWith (way_of asked.options) bytes old.output new.output answer)
   -- with a file the input isn't read
   pub unread : IsSome asked.file → new.input ≡ old.input
-  -- a report is that of some bytes, by so many workers of the kind that is asked for
+  -- a report is that of some bytes, by the number and kind of workers that are asked for
   pub of_some : SimulatedSome (way_of asked.options) old.output new.output answer
   pub unwritten : IfErr answer (Unwritten old.output new.output)
   pub status_is : status ≡ status_of answer

@@ -1,4 +1,4 @@
--- The line that tells a fault, after the name of the program.
+-- The line that reports a fault, after the name of the program.
 use Rattle.std.specs.Prelude.{ℕ, List, ◌++◌, codes, decimal}
 use Rattle.program_tree.specs.Kinds.{kind_number}
 use Rattle.radio_medium.specs.Errors.{medium_fault_number}

@@ -6,8 +6,8 @@ use Rattle.net_scenario.specs.Reading.{TellsNet}
 use Rattle.serial_run.specs.NetRun.{IsReportOf}
 use Rattle.simulation.specs.Simulation.{Way, SimulatedWith}
 
--- The same scenario, the same bytes, on one thread or by any number of workers of either kind: of two runs that read
--- the same bytes, answer Ok and write after the same bytes, both leave the same.
+-- The same scenario, the same bytes, on one thread or by any number of workers of either kind: if two runs read the
+-- same bytes, answer Ok, and write after the same bytes, both leave the same.
 abbrev pub OneReport : Type 0
 OneReport = (bytes old a b : List ℕ) (v w : Way)
     → SimulatedWith v bytes (Some old) (Some a) (Ok tt) → SimulatedWith w bytes (Some old) (Some b) (Ok tt) → a ≡ b

@@ -27,7 +27,7 @@ sim_fault input.TooLong = fault.TooLong
 sim_fault input.NotText = fault.NotText
 sim_fault input.Memory = fault.Memory
 
--- the bytes are a text of at most a mebibyte, which tells this net
+-- the bytes are a text of at most a mebibyte, which describes this net
 pub record IsScenario (bytes : List ℕ) : Type 0 where
   pub is_text : IsText bytes
   pub net : NetTold
@@ -45,7 +45,7 @@ abbrev pub RefusesText : List ℕ → ScenarioError → Type 0
 RefusesText bytes scenario.Memory = Unit {0}
 RefusesText bytes e = TellsFault bytes e
 
--- how a net is run: on one thread, or by so many workers with this kind of synchronization
+-- how a net is run: on one thread, or by this many workers with this kind of synchronization
 abbrev pub Way : Type 0
 Way = Option (ℕ × SyncKind)
 
@@ -57,7 +57,7 @@ way_by (Some n) sync = Some (n, sync)
 abbrev pub way_of : Options → Way
 way_of options = way_by options.workers options.sync
 
--- as many workers as there may be
+-- the number of workers is one that is allowed
 abbrev pub MayWork : ℕ → Type 0
 MayWork n = (1 ≤ n) × (n ≤ 16)
 
@@ -71,8 +71,8 @@ abbrev pub HasMarks : Way → Type 0
 HasMarks None = ⊥
 HasMarks (Some way) = way.1 ≡ Marks
 
--- the cause of a run's fault: another number of workers; else a failed allocation or, with workers, a thread. With
--- marks the contract leaves room for `Stopped`, with which a worker gives up where another failed; no run answers it.
+-- the cause of a run's fault: a number of workers that isn't allowed; else a failed allocation or, with workers, a
+-- thread. With marks the contract also allows `Stopped`: a worker gave up since another failed; no run returns it.
 abbrev pub RefusesRun : Way → RunError → Type 0
 RefusesRun way run.Workers = ¬ MayRun way
 RefusesRun way run.CutLength = ⊥
@@ -81,12 +81,12 @@ RefusesRun way run.Memory = MayRun way
 RefusesRun way run.Thread = IsSome way × MayRun way
 RefusesRun way run.Stopped = HasMarks way × MayRun way
 
--- the answer to running a net in this way: the report is that of the net's run, which knows of no worker
+-- the answer to running a net in this way: the report is that of the net's run, whose definition knows no worker
 abbrev pub RunsWith : Way → NetTold → Result Report RunError → Type 0
 RunsWith way net (Ok report) = MayRun way × IsReportOf net (report_of report)
 RunsWith way net (Err e) = RefusesRun way e
 
--- Each answer where its cause is, on one thread or by workers of either kind. The reader or an allocation may fail at
+-- Each answer with its cause, on one thread or by workers of either kind. The reader or an allocation may fail at
 -- any bytes, and an allocation of the run, or a thread, at any scenario.
 abbrev pub SimulatedWith : Way → List ℕ → (old new : Option (List ℕ)) → Result (Unit {0}) SimError → Type 0
 SimulatedWith way bytes old new (Ok u) = MayRun way × Reported bytes (Appends old new)
@@ -98,7 +98,7 @@ SimulatedWith way bytes old new (Err (fault.Run e)) = IsScenario bytes × Refuse
 SimulatedWith way bytes old new (Err (fault.Print e)) = MayRun way × Reported bytes (AppendsFront old new)
 SimulatedWith way bytes old new (Err fault.Memory) = Unit {0}
 
--- what an answer that doesn't stand for the reader says of some bytes, whichever the reader gave
+-- what an answer says of some bytes, whichever the reader gave; one about reading, or out of memory, says nothing
 abbrev pub SimulatedSome : Way → (old new : Option (List ℕ)) → Result (Unit {0}) SimError → Type 0
 SimulatedSome way old new (Ok u) = (bytes : List ℕ) × SimulatedWith way bytes old new (Ok u)
 SimulatedSome way old new (Err (fault.Scenario e)) =
@@ -108,7 +108,7 @@ SimulatedSome way old new (Err (fault.Print e)) =
     (bytes : List ℕ) × SimulatedWith way bytes old new (Err (fault.Print e))
 SimulatedSome way old new (Err e) = Unit {0}
 
--- a fault that has written nothing, unless it came in printing
+-- a fault has written nothing, unless it came in printing
 abbrev pub Unwritten : (old new : Option (List ℕ)) → SimError → Type 0
 Unwritten old new (fault.Print e) = Unit {0}
 Unwritten old new e = Keeps old new

@@ -28,7 +28,7 @@ fn cut_of(alloc: Global, kind: CutKind, motes: u16, workers: u16) -> Result<Cut,
     }
 }
 
-/// So many workers, how the motes are cut among them, and how they are synchronized.
+/// How many workers there are, how the motes are cut among them, and how they are synchronized.
 #[derive(Clone, Copy)]
 pub struct Team {
     pub workers: u16,
@@ -36,7 +36,7 @@ pub struct Team {
     pub sync: SyncKind,
 }
 
-/// The report of a net, by these workers. Their number is looked at before the cut is made.
+/// The report of a net, by these workers. Their number is checked before the cut is made.
 ///
 /// # Errors
 /// `Workers` where they aren't 1 to 16, else `Memory` or `Thread`.

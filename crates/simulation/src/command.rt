@@ -22,7 +22,7 @@ use std::thread::Threads;
 use window_workers::{Gate, NoGate};
 
 /// The exit status of a simulation: 0, or 1 where it has a fault, whose line then goes to `errors`. A line that can't
-/// be written changes nothing.
+/// be written doesn't change the status.
 pub fn status_of<E: Write>(answer: Result<(), SimError>, errors: &mut E) -> u8
     ensures status { result ≡ status_of answer }
     ensures quiet { answer ≡ Ok tt → Keeps (E.contents errors.old) (E.contents errors.new) }
@@ -112,7 +112,7 @@ where
         SimulatedWith (way_of asked.now.options) bytes (W.contents output.old) (W.contents output.new) result) }
     // With one, `input` isn't read.
     ensures unread { IsSome asked.now.file → R.remaining input.new ≡ R.remaining input.old }
-    // A report is that of some bytes, by so many workers of the kind that is asked for.
+    // A report is that of some bytes, by the number and kind of workers that are asked for.
     ensures some { SimulatedSome (way_of asked.now.options) (W.contents output.old) (W.contents output.new) result }
     ensures unwritten { IfErr result (Unwritten (W.contents output.old) (W.contents output.new)) }
 {
@@ -122,7 +122,7 @@ where
     }
 }
 
-/// Does what the words ask for, and answers the exit status.
+/// Does what the words ask for, and returns the exit status.
 fn run_asked<T, R, W, E>(
     rt: &T,
     asked: &Asked<'_>,
@@ -143,13 +143,13 @@ where
     status_of(answer, errors)
 }
 
-/// Does what the program does with these words of the command line, the program's name first: simulates the scenario in
-/// the file that they name, or else the one that `input` gives, on one thread or by workers, and writes its report to
-/// `output`, or the line of its fault to `errors`. Help that is asked for goes to `output`, and what is wrong with the
-/// words to `errors`.
+/// Does what the program does with these words of the command line, the program's name first: simulates the scenario
+/// in the file that they name, or else the one that `input` gives, on one thread or by workers, and writes its report
+/// to `output`, or the line of its fault to `errors`. Help that is asked for goes to `output`, and what is wrong with
+/// the words to `errors`.
 ///
-/// It answers the exit status: 0 where the report or the help was due, 1 where there was a fault, and 2 where the fault
-/// was in the words. A help text or a fault's line that can't be written changes nothing.
+/// It returns the exit status: 0 for a report or help, 1 for a fault, and 2 for a fault of the words. A help text or a
+/// fault's line that can't be written doesn't change it.
 pub fn run_command<T, R, W, E>(
     rt: &T,
     words: &[&str],

@@ -68,7 +68,7 @@ fn name_of_sync(sync: SyncKind) -> &'static str
     }
 }
 
-/// The options for so many workers, the cut of this name and the kind of synchronization of this name. Without a name
+/// The options with this number of workers, and the cut and the kind of synchronization of these names. Without a name
 /// it is that of the default options.
 fn options_for(workers: Option<u16>, cut: Option<&str>, sync: Option<&str>) -> Options
     ensures workers { result.workers ≡ workers }
@@ -149,8 +149,8 @@ fn file_arg<'a>(alloc: Global) -> Arg<'a> {
     Arg::new(alloc, "FILE").help("The scenario; without it, standard input is read")
 }
 
-/// The program's one command. No argument is made before those before it have gone into it, so none is owned where that
-/// can fail.
+/// The program's one command. Each argument is made once those before it have been added, so none is owned where
+/// adding one can fail.
 fn command<'a>(alloc: Global) -> Result<Command<'a>, AllocError> {
     Command::new(alloc, "motesim")
         .about(

@@ -17,7 +17,7 @@ use std::thread::Threads;
 use trace_printer::write_report;
 use window_workers::{Gate, run_serial};
 
-/// Simulates the scenario that the text tells on one thread, and writes the report.
+/// Simulates the scenario of this text on one thread, and writes the report.
 fn simulate_text<W: Write>(alloc: Global, text: &str, writer: &mut W) -> Result<(), SimError>
     requires { IsText text.now }
     ensures answer { SimulatedWith None text.now (W.contents writer.old) (W.contents writer.new) result }
@@ -29,7 +29,7 @@ fn simulate_text<W: Write>(alloc: Global, text: &str, writer: &mut W) -> Result<
     Ok(())
 }
 
-/// Simulates the scenario that the text tells by these workers, and writes the report.
+/// Simulates the scenario of this text by these workers, and writes the report.
 fn simulate_text_by<T, W, G>(
     rt: &T,
     alloc: Global,
@@ -59,8 +59,8 @@ where
 /// In this order: `Read` where a call of the reader failed before the limit was passed, an interrupted one included;
 /// `TooLong` where more than 1,048,576 bytes came, also from a reader that never ends; `NotText` where they aren't
 /// UTF-8; `Scenario` with the scenario's first fault; `Run` where an allocation of the run failed; `Print` where the
-/// writer failed or took no byte, and then a prefix of the report is written. `Memory`, and `Memory` of a part, only
-/// where an allocation failed. An error other than `Print` has written nothing.
+/// writer failed or took no byte, and then a proper prefix of the report has been written. `Memory`, and `Memory` of a
+/// part, only where an allocation failed. An error other than `Print` has written nothing.
 #[tactic(auto, using(crate::proofs::Printed::some_bytes))]
 pub fn simulate_serial<R: Read, W: Write>(
     alloc: Global,
@@ -73,7 +73,7 @@ pub fn simulate_serial<R: Read, W: Write>(
         (λ input. SimulatedWith None input (W.contents writer.old) (W.contents writer.new) result) }
     // Whatever the reader, a report is that of some bytes, and a scenario's fault is that of some bytes.
     ensures some { SimulatedSome None (W.contents writer.old) (W.contents writer.new) result }
-    // Only a print has written anything.
+    // Of the errors only `Print` may have written anything.
     ensures unwritten { IfErr result (Unwritten (W.contents writer.old) (W.contents writer.new)) }
 {
     let text = read_text(alloc, reader)?;
@@ -81,15 +81,15 @@ pub fn simulate_serial<R: Read, W: Write>(
 }
 
 /// Reads a scenario to its end, simulates it as the options say, and writes its report: on one thread where they name
-/// no workers, else by so many workers, window by window, each in a thread of its own for each window, or with marks
-/// in one for the whole run; a long report is put by as many threads. The bytes of the report are the same. Workers
+/// no workers, else by that many workers, window by window. By joins each worker has a thread for each window, with
+/// marks one for the whole run; a long report is put by as many threads. The bytes of the report are the same. Workers
 /// wait for one another, so the promise holds if the run returns.
 ///
 /// # Errors
-/// As `simulate_serial`; `Run` with `Workers` where there aren't 1 to 16 of them, which is looked at once the scenario
-/// is read, and with `Memory` or `Thread` where an allocation of a worker failed, or its thread couldn't be started or
-/// run. The contract leaves room for `Stopped` with marks: a worker that waits for marks gives up where another failed.
-/// No run answers it, since that other worker's error is told.
+/// As `simulate_serial`; `Run` with `Workers` where there aren't 1 to 16 of them, which is checked once the scenario
+/// has been read, and with `Memory` or `Thread` where an allocation of a worker failed, or its thread couldn't be
+/// started or run. With marks the contract also allows `Stopped`: a worker that waits for marks gives up if another
+/// failed. No run returns it, since that other worker's error is reported.
 #[tactic(auto, using(crate::proofs::Printed::some_bytes))]
 pub fn simulate<T, R, W, G>(
     rt: &T,

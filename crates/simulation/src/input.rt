@@ -32,8 +32,8 @@ impl From<AllocError> for InputError {
     }
 }
 
-/// All bytes of a reader, where they are at most `LONGEST_TEXT`. It stops at the first read that goes past that limit,
-/// so it ends at a reader that never does.
+/// All bytes of a reader, if they are at most `LONGEST_TEXT`. Reading stops at the first call that goes past that
+/// limit, so it ends also with a reader that never does.
 fn read_all<R: Read>(alloc: Global, reader: &mut R) -> Result<Vec<u8>, InputError>
     ensures told { IfSome (R.remaining reader.old) (λ input. ReadsBytes input result) }
     ensures bounded { IfOk result (λ bytes. vec_len bytes ≤ longest_text) }

@@ -1,4 +1,5 @@
-//! Laws of the definitions, each a theorem, stated as the contract of an empty function or of one that only calls such.
+//! Laws of the definitions, each a theorem, stated as the contract of a function that is empty or only calls other
+//! laws.
 ghost use Rattle.simulation.specs.Laws.{OneReport, ScenarioHasReport};
 
 use net_scenario::laws::at_most_one_net;
@@ -13,7 +14,7 @@ pub fn at_most_one_report()
     report_is_one();
 }
 
-/// The net that a scenario's text tells has a report.
+/// The net of each scenario's text has a report.
 pub fn scenario_has_report()
     ensures { ScenarioHasReport }
 {

@@ -18,18 +18,18 @@ pub enum CutKind {
 /// Whether workers simulate a scenario, how the motes are cut among them, and how they are synchronized.
 #[derive(Clone, Copy, Debug, PartialEq, Eq)]
 pub struct Options {
-    /// How many workers there are, each in threads of its own; or none, and one thread takes all turns.
+    /// How many workers there are, each in threads of its own; without a number, one thread takes all turns.
     pub workers: Option<u16>,
     pub cut: CutKind,
-    /// Whether each worker has a thread in each window, and all are joined at its end, or one thread for the whole
-    /// run, in which it waits for the marks of the others.
+    /// Whether each worker has a thread for each window, joined at its end, or one for the whole run, in which it
+    /// waits for the marks of the others.
     pub sync: SyncKind,
 }
 
 impl Default for Options {
     ghost is_default = { λ o. (o.workers ≡ None) × (o.cut ≡ kind.Block) × (o.sync ≡ wait.Joins) };
 
-    /// One thread; where workers are named, a cut in blocks, and joins.
+    /// One thread; for workers, a cut in blocks, and joins.
     fn default() -> Options {
         Options {
             workers: None,

@@ -1,5 +1,5 @@
 //! What no scenario and no command line shows: streams that fail, gates, and calls with options that the words can't
-//! ask for. Most tests have a text written of what came of some runs, and compare it in a function that they share.
+//! ask for. Most tests write what came of some runs into a text, and compare it in a function that they share.
 //! Those of `simulate` have one reader, one writer and one gate, so that what they call is compiled for these alone.
 
 mod fault_lines;
@@ -44,7 +44,7 @@ const TWO_SENDERS: Told = Told {
         0 start a\n0 send 0 7\n0 leave a\nmedium\n0 0 0 5 1@2\n0 2 0 7 1@2\nleft 0\n",
 };
 
-/// A reader that gives at most so many bytes a call, and fails after so many calls.
+/// A reader that gives at most `most` bytes a call, and fails after `calls` calls.
 #[derive(Drop)]
 struct Source<'a> {
     rest: &'a [u8],
@@ -65,7 +65,7 @@ impl Read for Source<'_> {
     }
 }
 
-/// A writer that takes at most so many bytes a call; after so many calls it fails, or takes nothing.
+/// A writer that takes at most `most` bytes a call; after `calls` calls it fails, or takes nothing.
 #[derive(Drop)]
 struct Sink {
     bytes: Vec<u8>,
@@ -164,9 +164,9 @@ struct Trial<'a> {
     of: &'a [u16],
     /// The worker that gets no thread.
     shut: Option<u16>,
-    /// After how many calls the reader fails, which gives 16 bytes a call.
+    /// After how many calls the reader fails; it gives 16 bytes a call.
     reads: usize,
-    /// After how many calls the writer fails, which takes a byte a call.
+    /// After how many calls the writer fails; it takes a byte a call.
     writes: usize,
 }
 
@@ -184,7 +184,7 @@ impl Trial<'_> {
     }
 }
 
-/// How many bytes of a report are there, or None where the bytes are others.
+/// How many bytes these are, or `None` if they aren't a prefix of the report.
 fn front_of(report: &[u8], bytes: &[u8]) -> Option<usize> {
     if report.starts_with(bytes) {
         Some(bytes.len())
@@ -194,7 +194,7 @@ fn front_of(report: &[u8], bytes: &[u8]) -> Option<usize> {
 }
 
 /// Writes down what a simulation answered, how many bytes of the report are out, and how many starts were asked for;
-/// where it was done, also the turns by each mote's own worker and those by others.
+/// at `Ok` also the turns by each mote's own worker and those by others.
 fn write_answer(
     text: &mut String,
     answer: &Result<(), SimError>,
@@ -211,7 +211,7 @@ fn write_answer(
     text.push('|')
 }
 
-/// Writes down what comes of that, with these bytes in the place of its scenario.
+/// Writes down what comes of a trial, with these bytes in place of its scenario.
 fn write_trial<T>(
     rt: &T,
     text: &mut String,
@@ -234,7 +234,7 @@ where
     write_answer(text, &answer, front, &gate)
 }
 
-/// Fails where something else is written down of that.
+/// Fails unless `want` is written down of that.
 fn bytes_tell<T>(rt: &T, trial: Trial, scenario: &[u8], want: &str) -> Result<(), Fail>
 where
     T: AllocGlobal + Threads + Wait + RandomSource + Sync,
@@ -244,7 +244,7 @@ where
     same_text(text.as_str(), want)
 }
 
-/// Fails where something else is written down of a simulation.
+/// Fails unless `want` is written down of a simulation.
 fn tells<T>(rt: &T, trial: Trial, want: &str) -> Result<(), Fail>
 where
     T: AllocGlobal + Threads + Wait + RandomSource + Sync,

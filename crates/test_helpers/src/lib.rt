@@ -1,5 +1,5 @@
-//! What several crates of tests do: they have a text written of what a part answered, which is compared once, and they
-//! simulate nets of a few motes. They are plain functions that promise nothing, since no proof rests on them.
+//! What several crates of tests share: they write what a part answered into a text, which is compared once, and they
+//! simulate nets of a few motes. The functions have no contracts, since no proof rests on them.
 #![tactic(auto)]
 
 mod nets;

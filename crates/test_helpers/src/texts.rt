@@ -1,11 +1,11 @@
-//! Texts of what was told, and their comparison.
+//! Texts of what parts answered, and their comparison.
 
 use radio_packet::{RadioCopy, Sent};
 use std::alloc::AllocError;
 use std::test::Fail;
 use trace_lines::Line;
 
-/// Fails where two texts differ, and shows both.
+/// Fails if two texts differ, and shows both.
 pub fn same_text(told: &str, want: &str) -> Result<(), Fail> {
     if told == want {
         return Ok(());

@@ -15,7 +15,7 @@ pub enum What {
     Full(Target, u8, u16),
     /// The event with this serial reaches a process.
     Take(u64, Proc),
-    /// The event with this serial was to reach a process that isn't there.
+    /// The event with this serial was for a process that isn't, or no longer is, on the process list.
     Drop(u64, Proc),
     /// A process prints a value.
     Print(Proc, u16),
@@ -25,7 +25,7 @@ pub enum What {
     Halt,
     /// A packet with this number and value is sent.
     Send(u64, u16),
-    /// A packet went into the receive ring: the mote that sent it, its number there and its value.
+    /// A packet went into the receive ring: the mote that sent it, its number among that mote's packets, its value.
     Recv(u16, u64, u16),
     /// A packet found the receive ring full.
     Lost(u16, u64),

@@ -25,7 +25,7 @@ pub mapped-drop : {X Y : Type 0} (g : Y → List ℕ) (f : X → Y) (xs : List X
 mapped-drop g f xs i d h =
     flat_map-map g f (drop i xs) ∙ flat_map-drop (λ x. g (f x)) xs i d h ∙ ap (λ l. g (f (get_or xs i d)) ++ l) (sym (flat_map-map g f (drop (i + 1) xs)))
 
--- a word of those to come is put after a space
+-- the next of the remaining words is put after a space
 pub spaced_more : {X : Type 0} (f : X → List ℕ) (xs : List X) (i : ℕ) (d : X) (p q whole : List ℕ) → i < length xs → q ≡ p ++ 32 ∷ f (get_or xs i d)
     → p ++ flat_map (λ w. 32 ∷ w) (map f (drop i xs)) ≡ whole → q ++ flat_map (λ w. 32 ∷ w) (map f (drop (i + 1) xs)) ≡ whole
 spaced_more f xs i d p q whole h is before =

@@ -29,7 +29,7 @@ four_set at room a b c d within =
     let three = set two (at + 2) c in
     rw (take-set_at three (at + 3) (at + 4) d (omega arith) (omega (arith, length-set two (at + 2) c, length-set one (at + 1) b, length-set room at a)), take-set_at two (at + 2) (at + 3) c (omega arith) (omega (arith, length-set one (at + 1) b, length-set room at a)), take-set_at one (at + 1) (at + 2) b (omega arith) (omega (arith, length-set room at a)), take-set_at room at (at + 1) a (omega arith) (omega arith), append_assoc, append_assoc, append_assoc) refl
 
--- the digits of a entry that was put
+-- the digits of an entry that was put
 digits_of_entry : (at end : ℕ) (before room entry digits : List ℕ) → IsEntry digits entry → take (at + 4) room ≡ take at before ++ entry → at ≤ length before → end ≡ at + length digits → take end room ≡ take at before ++ digits
 digits_of_entry at end before room entry digits right put within is =
     let there : length (take at before) ≡ at = length-take-le at before within in
@@ -49,7 +49,7 @@ entry_is n small =
           ]
     ]
 
--- the entries of so many numbers from n on
+-- the entries of the next numbers from n on, this many
 entries : ℕ → ℕ → List ℕ
 entries zero n = []
 entries (suc k) n = entry n ++ entries k (suc n)

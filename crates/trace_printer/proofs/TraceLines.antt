@@ -109,7 +109,7 @@ lines_text n (m ∷ ms) [] = refl
 lines_text n (m ∷ ms) (t ∷ ts) =
     rw (concat-append (mote_lines n m t) (lines_from (n + 1) ms ts), mapped_lines (line_text m.tree) t, lines_text (n + 1) ms ts) refl
 
--- a part of the next lines is put, and a part of the rest comes
+-- a part of the next lines is put, and a part of the rest is still to be put
 pub part_next : (page put : List ℕ) (all lines rest : List (List ℕ)) (whole : List ℕ) (skip count skip_on count_on : ℕ) → all ≡ lines ++ rest → put ≡ page ++ part_text lines skip count
     → skip_on ≡ skip - length lines → count_on ≡ count - (length lines - skip) → page ++ part_text all skip count ≡ whole → put ++ part_text rest skip_on count_on ≡ whole
 part_next page put all lines rest whole skip count skip_on count_on is more skips counts before =

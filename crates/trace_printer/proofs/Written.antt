@@ -34,7 +34,7 @@ pub written_stops : (a b : Option (List ℕ)) (text rest : List ℕ) → Written
 written_stops a b text [] w h = cc
 written_stops a b text (byte ∷ rest) w h = (w.done, byte, rest, w.whole, w.appended)
 
--- of the rest a piece comes next, and all of the piece but a part is written
+-- the rest begins with a piece, and all of the piece but a part is written
 pub written_next : (a b c : Option (List ℕ)) (text rest piece left part : List ℕ) → Written a b text rest → rest ≡ piece ++ left → Written b c piece part → Written a c text (part ++ left)
 written_next a b c text rest piece left part w is more =
     record {
@@ -90,7 +90,7 @@ put_printed a b p q s text is w = subst (λ l. Written a b l s) (append-nil q �
 pub put_stopped : (a b : Option (List ℕ)) (p q text : List ℕ) → q ≡ p ++ text → (rest : List ℕ) × Written a b (q ++ []) rest → (rest : List ℕ) × Written a b (p ++ text) rest
 put_stopped a b p q text is (rest, w) = (rest, put_printed a b p q rest text is w)
 
--- the next text is printed of those that come
+-- the next of the remaining texts is printed
 pub printed_next : (a b c : Option (List ℕ)) (text p s piece left rest : List ℕ) → Written a b text (p ++ rest) → rest ≡ piece ++ left → Written b c (p ++ piece) s → Written a c text (s ++ left)
 printed_next a b c text p s piece left rest w is more =
     written_next a b c text (p ++ rest) (p ++ piece) left s w (ap (λ l. p ++ l) is ∙ sym (append_assoc p piece left)) more

@@ -20,6 +20,6 @@ lines_from mote (m ∷ ms) [] = []
 abbrev pub lines_of : NetTold → List (List Line) → List (List ℕ)
 lines_of net traces = lines_from 0 net.motes traces
 
--- the text of so many lines, without the first `skip`
+-- the text of at most `count` lines, after the first `skip`
 abbrev pub part_text : (lines : List (List ℕ)) → (skip count : ℕ) → List ℕ
 part_text lines skip count = concat (take count (drop skip lines))

@@ -25,7 +25,7 @@ const COM: u8 = SystemEvent::Com as u8;
 
 const PACKET: u8 = SystemEvent::Packet as u8;
 
-/// The name of a process of the program, or nothing where the program has no such process.
+/// The name of a process of the program, or the empty text if the program has no such process.
 fn own_word(program: &Program, number: u8) -> &str
     ensures { result.now ≡ unwrap_or (slice_get (tree_of program.now).processes number) [] }
 {

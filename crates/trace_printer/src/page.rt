@@ -10,12 +10,12 @@ use std::marker::Model;
 /// How many bytes a page has room for without growing.
 const ROOM: usize = 65_536;
 
-/// From how many bytes on a page is written. After them a line fits that is half as long as the page, with some room to
-/// spare.
+/// The number of bytes from which on a page is written. After them there is still room for a line half as long as the
+/// page, and some to spare.
 const FULL: usize = 32_640;
 
-/// Lines that wait to be written, so that the writer is called once for many of them: so many bytes, and room after
-/// them.
+/// Lines that wait to be written, so that the writer is called once for many of them: the first `len` bytes. The
+/// others are room for more.
 #[derive(Drop)]
 pub struct Page {
     pub(crate) bytes: Vec<u8>,
@@ -31,7 +31,8 @@ impl Model for Page {
     ghost view = { λ p. take p.len p.bytes.items };
 }
 
-/// Makes so much room after the first `len` bytes, which stay. What grows is doubled, so a page seldom grows.
+/// Makes room for `room` bytes after the first `len`, which stay. A page that grows gets twice what it needs, so it
+/// seldom grows.
 #[inline(always)]
 pub fn make_room(bytes: &mut Vec<u8>, len: usize, room: usize) -> Result<(), AllocError>
     requires { len ≤ length bytes.old.items }
@@ -59,7 +60,7 @@ impl Page {
         self.len >= FULL
     }
 
-    /// A page without any room yet.
+    /// An empty page, for which nothing is allocated yet.
     pub fn empty(alloc: Global) -> Page
         ensures { result ≡ [] }
     {
@@ -69,14 +70,14 @@ impl Page {
         }
     }
 
-    /// Writes the page. After a fault a prefix of it has been written, which lacks at least a byte.
+    /// Writes the page. At an error a proper prefix of it has been written.
     pub fn write<W: Write>(&self, writer: &mut W) -> Result<(), WriteFault>
         ensures { Writes (W.contents writer.old) (W.contents writer.new) result self.now }
     {
         write_bytes(writer, &self.bytes[..self.len])
     }
 
-    /// Writes the page, and empties it. After a fault a prefix of it has been written, which lacks at least a byte.
+    /// Writes the page, and empties it. At an error a proper prefix of it has been written.
     pub fn write_to<W: Write>(&mut self, writer: &mut W) -> Result<(), WriteFault>
         ensures written { Writes (W.contents writer.old) (W.contents writer.new) result self.old }
         ensures emptied { OnOk result (self.new ≡ []) }

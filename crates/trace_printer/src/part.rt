@@ -15,8 +15,8 @@ use program_tree::Program;
 use std::alloc::AllocError;
 use trace_lines::Line;
 
-/// How many lines the motes with these traces show: those of each trace, and one before them. None where a number of
-/// the machine can't count them.
+/// How many lines the motes with these traces show: those of each trace, and one before them. `None` if the count
+/// overflows.
 pub fn count_lines(traces: &[Vec<Line>]) -> Option<usize>
     ensures { (net : NetTold) → length traces.now ≡ length net.motes
         → IfSome result (λ count. length (lines_of net (map lines_in traces.now)) ≡ count) }
@@ -28,7 +28,7 @@ pub fn count_lines(traces: &[Vec<Line>]) -> Option<usize>
     Some(count)
 }
 
-/// So many lines of a trace, without the first `skip`.
+/// At most `count` lines of a trace, after the first `skip`.
 fn some_of(trace: &[Line], skip: usize, count: usize) -> &[Line]
     ensures { result.now ≡ take count (drop skip trace.now) }
 {
@@ -46,7 +46,7 @@ fn put_lines(page: &mut Page, program: &Program, lines: &[Line]) -> Result<(), A
     Ok(())
 }
 
-/// Puts so many of the lines that a mote shows, without the first `skip`.
+/// Puts at most `count` of the lines that a mote shows, after the first `skip`.
 fn put_mote_part(
     page: &mut Page,
     mote: u16,
@@ -70,7 +70,7 @@ fn put_mote_part(
     put_lines(page, program, some_of(trace, 0, count - 1))
 }
 
-/// Puts so many of the lines that the motes show, without the first `skip`.
+/// Puts at most `count` of the lines that the motes show, after the first `skip`.
 pub fn put_part(
     page: &mut Page,
     net: &Net,

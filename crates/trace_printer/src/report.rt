@@ -21,7 +21,7 @@ use std::alloc::Global;
 use std::io::Write;
 use trace_lines::Line;
 
-/// Writes the page where it is full.
+/// Writes the page if it is full.
 fn write_if_full<W: Write>(writer: &mut W, page: &mut Page) -> Result<(), WriteFault>
     ensures { Prints (W.contents writer.old) (W.contents writer.new) page.old page.new result [] }
 {
@@ -135,7 +135,7 @@ fn write_end<W: Write>(writer: &mut W, page: &mut Page, left: u64) -> Result<(),
     Ok(page.write_to(writer)?)
 }
 
-/// Writes what waits on the page, and what a report tells after its traces: the log of the medium, and the count of
+/// Writes what waits on the page, and what comes after the traces in a report: the log of the medium, and the count of
 /// copies still on their way.
 pub fn write_medium<W: Write>(
     writer: &mut W,
@@ -154,8 +154,8 @@ pub fn write_medium<W: Write>(
 /// their way. The text is gathered on a page of 64 KiB, which is made first.
 ///
 /// # Errors
-/// `Write` where the writer failed or took no byte, `Memory` where there was no room for the page, or for a line longer
-/// than half of it. A prefix of the text is then written, which lacks at least its last byte.
+/// `Write` where the writer failed or took no byte, `Memory` where an allocation failed, for the page or for a line
+/// longer than half of it. A proper prefix of the text has then been written.
 pub fn write_report<W: Write>(
     alloc: Global,
     net: &Net,

@@ -1,4 +1,4 @@
-//! Words put into room that is there, from a place on. Each call gives the place after its word.
+//! Words put into a slice that has room for them, from a place on. Each call returns the place after its word.
 ghost use Rattle.std.specs.Prelude.{◌≡◌, ◌<◌, ◌≤◌, ◌+◌, ◌/◌, ◌%◌, [], ◌∷◌, ◌++◌, length, take, decimal};
 ghost use Rattle.trace_printer.specs.Words.{arrival_word};
 
@@ -15,7 +15,7 @@ pub fn put_byte(room: &mut [u8], at: usize, byte: u8) -> usize
     at + 1
 }
 
-/// Puts a text of `N` to twice `N` bytes: its first `N` and its last `N`, some of which may be the same.
+/// Puts a text of `N` to twice `N` bytes: its first `N` and its last `N`, which may overlap.
 #[inline(always)]
 fn put_ends<const N: usize>(room: &mut [u8], at: usize, text: &[u8]) -> usize
     requires size { (N ≤ length text.now) × (length text.now ≤ N + N) }
@@ -64,7 +64,7 @@ fn digits(number: u64) -> usize
     count
 }
 
-/// Puts a number of so many digits.
+/// Puts a number of `count` digits.
 #[inline(always)]
 fn put_digits(room: &mut [u8], at: usize, number: u64, count: usize) -> usize
     requires count { count ≡ length (decimal number) }
@@ -77,7 +77,8 @@ fn put_digits(room: &mut [u8], at: usize, number: u64, count: usize) -> usize
     end
 }
 
-/// Puts a number below a thousand: its four bytes of the table at once, of which those after its digits don't count.
+/// Puts a number below a thousand: all four bytes of its entry in the table. Those after its digits lie beyond the
+/// place that is returned.
 #[inline(always)]
 fn put_short_number(room: &mut [u8], at: usize, number: u64) -> usize
     requires { (number < 1000) × (at + 4 ≤ length room.old) }
@@ -116,8 +117,8 @@ fn put_four_digits(room: &mut [u8], at: usize, number: u64) -> usize
     put_byte(room, at + 3, last_digit(number))
 }
 
-/// Puts the last three digits of a number, zeros in front too. The table has no zeros in front, so it gives the last
-/// two digits after a 1, as those of a hundred more; the first of the three is then put in place of the 1.
+/// Puts the last three digits of a number, leading zeros included. The table has no leading zeros, so the last two
+/// digits come from the entry of a hundred more, after a 1; the first of the three is then put in place of the 1.
 #[inline(always)]
 fn put_last_three(room: &mut [u8], at: usize, number: u64) -> usize
     requires { at + 4 ≤ length room.old }
@@ -158,8 +159,8 @@ fn put_long_number(room: &mut [u8], at: usize, number: u64) -> usize
     }
 }
 
-/// Puts a number. Most are below a thousand, and take no call. (With more than those put in place here, a line of a
-/// trace would be too long to be put without a call itself.)
+/// Puts a number. Most are below a thousand, and are put inline. (If longer ones were too, the code that puts a line
+/// of a trace would be too large to be inlined itself.)
 #[inline(always)]
 pub fn put_number(room: &mut [u8], at: usize, number: u64) -> usize
     requires { at + 20 ≤ length room.old }

@@ -63,7 +63,7 @@ pub other_wake : (k m : ℕ) (wake : Option ℕ) → (k ≡ m → ⊥) → filte
 other_wake k m None ne = refl
 other_wake k m (Some u) ne = let f : eqb m k ≡ false = ne_eqb m k (λ e. ne (sym e)) in rw f refl
 
--- before the first turns: each mote has its wake, and no copy is there
+-- before the first turns: each mote has its wake, and there is no copy
 pub first_wakes : (n k : ℕ) → filter {X = Item} (is_wake_of k) (map (λ mote. Wake 0 mote) (up_to n)) ≡ wake_items k (cond (ltb k n) (Some 0) None)
 first_wakes zero k = let a : ltb k 0 ≡ false = le-ltb k 0 zero-le in rw a refl
 first_wakes (suc n) k =

@@ -1,4 +1,4 @@
--- A turn leaves nothing to come but what is later.
+-- After a turn all pending events come after it, by moment and mote.
 use Rattle.std.proofs.Common.{◌≡◌, ℕ, suc, ◌<◌, true, false, Bool, not, ◌&&◌, ◌||◌, ltb, eqb, List, [], ◌∷◌, map, refl, arith, Option, Some, None}
 use Rattle.std.specs.List.{filter, flat_map, AllByRecursion}
 use Rattle.std.proofs.lemmas.Bool.{false≢true}

@@ -39,7 +39,7 @@ any_none : {X : Type 0} (p : X → Bool) (xs : List X) → AllByRecursion (λ x.
 any_none p [] h = refl
 any_none p (x ∷ xs) h = rw h.0 (any_none p xs h.1)
 
--- of the pieces of all motes, one sender's
+-- from the joined lists of all motes, the list of one sender
 pub from_pieces : (f : ℕ → List RadioCopy) → ((k : ℕ) → AllByRecursion (λ copy. copy.sender ≡ k) (f k)) → (n s : ℕ)
     → filter (is_from_sender s) (flat_map f (up_to n)) ≡ cond (ltb s n) (f s) []
 from_pieces f each zero s = let a : ltb s 0 ≡ false = le-ltb s 0 (omega arith) in rw a refl
@@ -128,7 +128,7 @@ module _ {S L : Type 0} (system : System S L) (fine : RunsForward system) where
       step ih (inl e) = subst (λ m. NoneBefore (suc t) m.wake) (sym (history_busy system t number e)) (later_is t _ (fine.wakes_later number (history system t number).state t (given_at system t (history system t) number)))
       step ih (inr e) = subst (λ m. NoneBefore (suc t) m.wake) (sym (history_idle system t number e)) (not_now t _ (no_wake_now t number e) ih)
 
-  -- a mote's sends bear its number
+  -- a mote's packets are stamped with its number
   own_sends : (moment number : ℕ) → AllByRecursion (λ sent. sent.sender ≡ number) (history system moment number).sends
   unfolding history
   own_sends zero number = tt
@@ -164,7 +164,7 @@ module _ {S L : Type 0} (system : System S L) (fine : RunsForward system) where
     abbrev pub Holds : ℕ → List RadioCopy → Type 0
     Holds t given = (u s : ℕ) → filter (is_from_sender s) (filter (is_at u) given) ≡ filter (is_at u) (filter (is_within number t bound) (copies_by system (history system from) s))
 
-    -- a moment later: nothing of this moment is left, and all else is
+    -- one moment later: nothing of this moment is left, and all else is
     hold_on : (t : ℕ) (before after : List RadioCopy) → Holds t before → filter (is_at t) after ≡ [] → ((u : ℕ) → (u ≡ t → ⊥) → filter (is_at u) after ≡ filter (is_at u) before) → Holds (suc t) after
     hold_on t before after holds none same u s =
         elim (cases_eq u t) [

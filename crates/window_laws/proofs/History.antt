@@ -1,4 +1,5 @@
--- What every mote has done before each moment, moment by moment: neither the serial run nor the windows.
+-- What every mote has done before each moment, defined moment by moment, apart from both the serial run and the
+-- windows.
 use Rattle.std.proofs.Common.{◌≡◌, ℕ, suc, zero, ◌+◌, ◌<◌, ◌≤◌, Bool, true, false, cond, ◌||◌, ltb, List, [], ◌∷◌, ◌++◌, map, refl, sym, ap, ◌∙◌, ⊎_elim, inl, inr, arith, append-nil, add-suc, add-zero}
 use Rattle.std.specs.List.{filter, flat_map, AllByRecursion}
 use Rattle.std.proofs.lemmas.Bool.{cases_Bool, false_from_ne_true}
@@ -60,7 +61,7 @@ module _ {S L : Type 0} (system : System S L) where
         each [] = tt
         each (value ∷ values) = (every_weaker _ _ (λ copy h. (h.sender, h.to, h.later)) _ (fine.copies_later (stamped moment number value)), each values)
 
-    -- THE KEY: what comes before the lookahead is past isn't changed by the turns of a moment
+    -- the key step: the turns of a moment don't change which copies arrive before the lookahead has passed
     pub unseen : (p : RadioCopy → Bool) (moment : ℕ) → ((copy : RadioCopy) → p copy ≡ true → copy.at < moment + system.lookahead)
         → (s : ℕ) → filter p (copies_by system (history (suc moment)) s) ≡ filter p (copies_by system (history moment) s)
     unseen p moment h s =

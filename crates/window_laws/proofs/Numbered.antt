@@ -42,7 +42,7 @@ same_sent x y a b c d =
     ∙ (ap (λ k. record { at = y.at; sender = y.sender; number = k; value = x.value }) c
     ∙ ap (λ k. record { at = y.at; sender = y.sender; number = y.number; value = k }) d))
 
--- each sooner than those behind it
+-- each sooner than those after it
 abbrev IsStrict : List Sent → Type 0
 IsStrict [] = Unit {0}
 IsStrict (x ∷ xs) = AllByRecursion (λ y. is_sooner x y ≡ true) xs × IsStrict xs

@@ -48,7 +48,7 @@ sooner : (t u : ℕ) (wake : Option ℕ) → t ≤ u → NoneBefore u wake → N
 sooner t u None h k = tt
 sooner t u (Some wake) h k = omega arith
 
--- a stretch in which no mote has a turn, of any length, is windows too
+-- a stretch of any length in which no mote has a turn is covered by windows, too
 pub gap : {S L : Type 0} (system : System S L) → 0 < system.lookahead → (end to i from : ℕ) → from + i ≡ to → (motes last : ℕ → LoneMote S L) (rest : List RadioCopy)
     → IsPending system from motes rest → ((k : ℕ) → k < system.motes → NoneBefore to (motes k).wake) → AllByRecursion (λ copy. to ≤ copy.at) rest
     → Windows system to end motes last → Windows system from end motes last

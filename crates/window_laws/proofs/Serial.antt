@@ -140,7 +140,7 @@ module _ {S L : Type 0} (system : System S L) (fine : RunsForward system) where
       (ap (list_any (comes_at t m)) (meets.wakes m h) ∙ (any_own t m (mix t m m).wake ∙ ap (λ x. wakes_at t x.wake) (mix_from t m m (le_self m))))
       (sym (filled_in_order (packets (filter (comes_at t m) net.agenda))) ∙ ap is_filled (given_same t m net meets))
 
-  -- the place goes on, and nothing happens
+  -- the place moves on without a turn
   forward : (t m t' m' : ℕ) (net : NetState S L) → Meets t m net
       → ((k : ℕ) → k < system.motes → mix t' m' k ≡ mix t m k)
       → AllByRecursion (λ item. (is_from t' m' item ≡ true) × (mote_of item < system.motes)) net.agenda

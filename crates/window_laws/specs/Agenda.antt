@@ -1,4 +1,4 @@
--- The agenda of a net: one list of what is to come, the motes' wakes and the copies of packets on their way.
+-- The agenda of a net: one list of the pending events, the motes' wakes and the copies of packets on their way.
 use Rattle.std.specs.Prelude.{ℕ, zero, suc, ◌≡◌, Bool, true, false, not, ◌&&◌, ◌||◌, ◌==◌, nat_lt, List, [], ◌∷◌, ◌++◌}
 use Rattle.std.specs.Prelude.{Option, Some, None}
 use Rattle.std.specs.List.{list_any, AllByRecursion}
@@ -34,7 +34,7 @@ abbrev pub wake_items : (mote : ℕ) → Option ℕ → List Item
 wake_items mote None = []
 wake_items mote (Some moment) = Wake moment mote ∷ []
 
--- what stays where this mote turns at this moment: all that isn't due, but for the mote's wake
+-- what stays when this mote takes its turn at this moment: all that isn't due, except the mote's wake
 abbrev pub is_left : (moment mote : ℕ) → Item → Bool
 is_left moment mote item = not (comes_at moment mote item || is_wake_of mote item)
 

@@ -7,7 +7,7 @@ use Rattle.window_laws.specs.Order.{in_order}
 use Rattle.window_laws.specs.Agenda.{Item, Wake, Packet, moment_of, comes_at, is_left, packets, wake_items, IsLeast}
 use Rattle.window_laws.specs.Agenda.{up_to}
 
--- the state and the trace of each mote, what is to come, and the packets that were sent, in order
+-- the state and the trace of each mote, the pending events, and the packets that were sent, in order
 pub record NetState (S L : Type 0) : Type 0 where
   pub states : (mote : ℕ) → S
   pub traces : (mote : ℕ) → List L
@@ -23,11 +23,11 @@ boot system = record {
   log = [];
 }
 
--- one part of a family changed
+-- one member of a family replaced
 abbrev pub put : {X : Type 0} → (ℕ → X) → ℕ → X → ℕ → X
 put parts mote part other = if other == mote then part else parts other
 
--- a packet bears the mote and the moment of the turn that sent it
+-- a packet is stamped with the mote and the moment of the turn that sent it
 abbrev pub stamped : (moment mote : ℕ) → Sent → Sent
 stamped moment mote sent = record sent { at = moment; sender = mote }
 
@@ -53,7 +53,7 @@ turned_at system moment mote net =
 abbrev pub turn_at : {S L : Type 0} → System S L → (moment mote : ℕ) → NetState S L → NetState S L
 turn_at system moment mote net = after_turn system moment mote net (turned_at system moment mote net)
 
--- the mote of the least item turns, until no item is at or before the end
+-- the mote of the least item takes its turn, until no item is at or before the end
 pub data Run {S L : Type 0} (system : System S L) (end : ℕ) : NetState S L → NetState S L → Type 0 where
   Done : {net : NetState S L} → AllByRecursion (λ item. end < moment_of item) net.agenda → Run system end net net
   Turn : {net last : NetState S L} (moment mote : ℕ)

@@ -1,4 +1,4 @@
--- What the run of a net leaves to tell.
+-- The report of the run of a net.
 use Rattle.std.specs.Prelude.{◌≡◌, ℕ, List, length, map}
 use Rattle.std.specs.List.Sorted.{IsSortedBy, IsPermutation}
 use Rattle.radio_packet.specs.declared.sent.Sent.{Sent}
@@ -25,7 +25,7 @@ RunIsOne {S} {L} system = (end : ℕ) (a b : NetState S L) → Run system end (b
 abbrev pub RunIsThere : {S L : Type 0} → System S L → Type 0
 RunIsThere {S} {L} system = RunsForward system → (end : ℕ) → (net : NetState S L) × Run system end (boot system) net
 
--- where the numbers of each mote's packets rise, the packets of a run sorted by moment, sender and number are its log
+-- if the numbers of each mote's packets rise, the packets of a run sorted by moment, sender and number are its log
 abbrev pub LogIsInOrder : {S L : Type 0} → System S L → Type 0
 LogIsInOrder {S} {L} system =
     RunsForward system → (end : ℕ) (net : NetState S L) → Run system end (boot system) net → NumbersRise net.log

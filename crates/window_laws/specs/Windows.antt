@@ -57,7 +57,7 @@ pub record IsQuiet (moment : ℕ) (wake : Option ℕ) (given : List RadioCopy) :
   pub no_copies : AllByRecursion (λ copy. moment ≤ copy.at) given
 
 -- A mote alone, up to a bound: while the lesser of its wake and the least moment of a copy is below the bound, it
--- turns at that moment on all copies of the moment, in order.
+-- takes its turn at that moment on all copies of the moment, in order.
 pub data Alone {S L : Type 0} (system : System S L) (number bound : ℕ) : (given : List RadioCopy)
     → (mote last : LoneMote S L) → Type 0 where
   Rests : {given : List RadioCopy} {mote : LoneMote S L} → IsQuiet bound mote.wake given
@@ -85,7 +85,7 @@ abbrev pub is_within : (number from bound : ℕ) → RadioCopy → Bool
 is_within number from bound copy = (copy.to == number) && (not (nat_lt copy.at from) && nat_lt copy.at bound)
 
 -- What a mote is given for a window: at each moment of the window, of each sender, the copies for it that earlier
--- windows sent, in the order of sending, and nothing at other moments; in any mixture otherwise.
+-- windows sent, in the order of sending, otherwise mixed in any way; and nothing at other moments.
 abbrev pub IsGiven : {S L : Type 0} → System S L → (from bound : ℕ) → (motes : (number : ℕ) → LoneMote S L)
     → (number : ℕ) → List RadioCopy → Type 0
 IsGiven system from bound motes number given = (moment sender : ℕ)
@@ -127,21 +127,21 @@ IsLeft system end motes rest =
 abbrev pub as_log : List Sent → List Sent
 as_log sends = sorted_by (λ sent. sent.at) (λ sent. sent.sender) sends
 
--- the net at the end of its run, and the motes at the end of the last window, have the same to tell
+-- the net at the end of its run, and the motes at the end of the last window, have the same traces, log and copies
+-- left
 pub record IsSame {S L : Type 0} (system : System S L) (end : ℕ) (net : NetState S L)
     (motes : (number : ℕ) → LoneMote S L) : Type 0 where
   pub lines : (number : ℕ) → number < system.motes → net.traces number ≡ (motes number).lines
   pub log : (joined : List Sent) → IsJoined system motes joined → net.log ≡ as_log joined
   pub left : (rest : List RadioCopy) → IsLeft system end motes rest → length (packets net.agenda) ≡ length rest
 
--- Windows commute: whatever windows lead from 0 past the end, the net has a run, and what it has to tell at its end is
--- the same.
+-- Windows commute: whatever windows lead from 0 past the end, the net has a run, and its end is the same.
 abbrev pub WindowsCommute : {S L : Type 0} → System S L → Type 0
 WindowsCommute {S} {L} system = RunsForward system → (end : ℕ) (motes : (number : ℕ) → LoneMote S L)
     → Windows system 0 (suc end) (first_mote system) motes
     → (net : NetState S L) × Run system end (boot system) net × IsSame system end net motes
 
--- so whoever ran the windows, and joined packets and copies in whatever way, has the report of the run
+-- so the windows give the report of the run, in whatever way their packets and copies are joined
 abbrev pub WindowsReport : {S L : Type 0} → System S L → Type 0
 WindowsReport {S} {L} system = RunsForward system → (end : ℕ) (motes : (number : ℕ) → LoneMote S L)
     → Windows system 0 (suc end) (first_mote system) motes

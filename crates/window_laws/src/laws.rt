@@ -1,12 +1,12 @@
-//! Laws of nets, whatever a mote is. Each is the contract of a function that does nothing.
+//! Laws of nets, whatever a mote is. Each is a theorem, stated as the contract of an empty function.
 
 ghost use Rattle.window_laws.specs.Order.{InOrderSorts};
 ghost use Rattle.window_laws.specs.System.{System};
 ghost use Rattle.window_laws.specs.Report.{LogIsInOrder, RunIsOne, RunIsThere};
 ghost use Rattle.window_laws.specs.Windows.{WindowsAreThere, WindowsCommute, WindowsReport};
 
-/// A turn's copies in order are those copies, sorted by sender and number; those with the same of both stay as they
-/// stood.
+/// A turn's copies in order are those copies, sorted by sender and number; those with the same of both keep their
+/// order.
 pub fn in_order_sorts()
     ensures { InOrderSorts }
 {}
@@ -21,7 +21,7 @@ pub fn run_is_there<S, L>()
     ensures { (system : System S L) → RunIsThere system }
 {}
 
-/// Where the numbers of each mote's packets rise, the packets of a run sorted by moment, sender and number are its log.
+/// If the numbers of each mote's packets rise, the packets of a run sorted by moment, sender and number are its log.
 pub fn log_is_in_order<S, L>()
     ensures { (system : System S L) → LogIsInOrder system }
 {}
@@ -33,7 +33,7 @@ pub fn windows_commute<S, L>()
     ensures { (system : System S L) → WindowsCommute system }
 {}
 
-/// So what the windows leave is the report of the run, however packets and copies of different motes were joined.
+/// So the windows give the report of the run, however packets and copies of different motes were joined.
 pub fn windows_report<S, L>()
     ensures { (system : System S L) → WindowsReport system }
 {}

@@ -33,7 +33,7 @@ module _ (program : Tree) (until : ℕ) (copies : List RadioCopy) (out : WindowO
   opened_gives (Some o) (Some n) window course h =
       let P : Option Window → Type 0 = λ w. MatchOption w (GivesNoMore (course_in o) out) (λ w. Gives w out) in subst P window h
 
--- a window whose mote can go on has its turns before it
+-- a window whose mote can go on has its turns ahead
 pub opened_goes_on : (program : Tree) (until : ℕ) (copies : List RadioCopy) (own : Option OwnWindow) (mote : Option Node) → IsSomeAnd own (λ o. window_in o ≡ opened program until copies mote)
     → CanGoOn (opened program until copies mote) → HasTurns own
 opened_goes_on program until copies None mote window on = absurd window

@@ -1,4 +1,4 @@
--- The front of a list, all of which passes a test.
+-- The longest prefix of a list of which all elements pass a test.
 use Rattle.std.proofs.Common.{◌≡◌, ℕ, zero, suc, ◌+◌, ◌<◌, Bool, true, false, List, [], ◌∷◌, take, length, get_or, refl, sym, ap, ◌∙◌, subst, arith}
 use Rattle.std.specs.List.{take_while, AllByRecursion}
 use Rattle.std.proofs.lemmas.List.{take_more}

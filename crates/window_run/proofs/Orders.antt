@@ -1,4 +1,4 @@
--- Copies in order: the front ones, sorted, are all of their moment.
+-- Copies in order: the first ones, sorted, are all those of their moment.
 use Rattle.std.proofs.Common.{◌≡◌, ℕ, zero, suc, ◌-◌, ◌≤◌, min, Bool, true, false, not, ◌&&◌, ◌||◌, ltb, eqb, List, [], ◌∷◌, map, take, drop, length, Option, Some, None, refl, sym, ap, ◌∙◌, inl, inr, arith, length-drop}
 use Rattle.std.proofs.Math.Seq.{take-length}
 use Rattle.std.specs.List.{slice_get, filter, list_any, list_all, take_while, AllByRecursion}
@@ -55,7 +55,7 @@ goes a b s t n m e h = grind (arith, nat_tests)
 rest_from : (x : RadioCopy) (xs : List RadioCopy) → AllByRecursion (λ y. comes_before x y ≡ true) xs → AllByRecursion (λ y. x.at ≤ y.at) xs
 rest_from x xs h = every_weaker _ _ (λ y e. at_le x.at y.at x.sender y.sender x.number y.number e) xs h
 
--- none of a rising list comes before its first
+-- no copy of a rising list arrives before its first
 from_first : (x : RadioCopy) (xs : List RadioCopy) → is_rising (x ∷ xs) ≡ true → AllByRecursion (λ y. x.at ≤ y.at) (x ∷ xs)
 from_first x xs h = (omega arith, rest_from x xs (rises (x ∷ xs) h).0)
 

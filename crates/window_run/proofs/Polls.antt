@@ -32,7 +32,7 @@ at_rest old own out is spent over made left = rw (← is) (given (window_in own)
     given None over made left = record { spent = spent; left = left refl }
     given (Some w) over made left = record { last = w.mote; run = λ system turns. Rests over; given = made }
 
--- a run goes on from a turn before it
+-- a run after a turn, with that turn before it, is a run
 turn_before : (w v : Window) (moment : ℕ) (last : LoneNode) → HasTurn moment w → v ≡ window_after_turn moment w → EndsAs v last → EndsAs w last
 turn_before w v moment last left made run = λ system turns. (
     let given = in_order (filter (is_at moment) w.copies) in
@@ -71,7 +71,7 @@ goes_on None new turned on = absurd on
 goes_on (Some own) None turned on = absurd turned
 goes_on (Some own) (Some after) turned on = on_after (window_in own) (window_in after) turned.moment turned.left turned.turned on
 
--- where a mote can go on, its turn is refused for want of memory alone
+-- if a mote can go on, the only error of its turn is out of memory
 pub at_refusal : (old : Option OwnWindow) (own : OwnWindow) (moment : ℕ) (e : MoteError) → Some own ≡ old
     → IfSome (window_in own) (HasTurn moment) → IfSome (window_in own) (IsErrorAt moment e) → HasTurns old → e ≡ Memory
 at_refusal old own moment e is left error on = of_window (window_in own) left error (rw (← is) at on)

@@ -1,4 +1,4 @@
--- The window after a turn, from what the code has in hand.
+-- The window after a turn, from the values that the code has.
 use Rattle.std.proofs.Common.{◌≡◌, ℕ, suc, ◌≤◌, true, List, [], ◌∷◌, ◌++◌, map, drop, length, Option, Some, None, option_map, refl, sym, ap, arith}
 use Rattle.std.specs.Prelude.{IfSome}
 use Rattle.std.specs.List.{filter, take_while}
@@ -25,7 +25,7 @@ use Rattle.window_run.specs.Window.{HasTurn, IsNextOf, IsOver, window_after_turn
 use Rattle.window_run.specs.Turns.{TurnsTo}
 use Rattle.window_run.proofs.Orders.{IsTaken, taken, quiet_before}
 
--- packets that bear a turn are stamped already
+-- packets that are stamped with a turn are unchanged by its stamp
 stamped_is : (moment number : ℕ) (sends : List Sent) → PacketsBear moment number sends → map (stamped moment number) sends ≡ sends
 stamped_is moment number [] h = refl
 stamped_is moment number (x ∷ xs) h =
@@ -47,7 +47,7 @@ turned p until m copies rest given wake lines sends n n' out took cut made =
     let wakes : out.wake ≡ (turn_of m given n).wake = ap (λ t. t.wake) made in
     rw (at, stamp, node, wrote, sent, wakes, cut, took.rest_is) refl
 
--- the same of a mote that may have failed, which takes no turn
+-- the same of a mote that may have failed; one that has failed takes no turn
 pub turns_to : (p : Tree) (until m : ℕ) (copies rest : List RadioCopy) (given : List Arrival) (wake : Option ℕ) (lines : List Line) (sends : List Sent) (old new : Option Node) (out : TurnOut)
     → (old ≡ None → ⊥) → IfSome (option_map (window_over p until copies wake lines sends) old) (HasTurn m) → is_rising copies ≡ true
     → given ≡ map arrival_of (take_while (is_at m) copies) → rest ≡ drop (length given) copies
@@ -59,7 +59,7 @@ turns_to p until m copies rest given wake lines sends (Some n) (Some n') out the
     let made' : turn_told out n' ≡ turn_of m given n = cc in
     turned p until m copies rest given wake lines sends n n' out (taken m copies given rising left.next.quiet.no_copies took) cut made'
 
--- no turn is left where the next comes after the bound
+-- no turn is left if the next comes at the bound or after it
 pub over_after : (w : OwnWindow) (m : ℕ) → IsNextOf m w.wake (drop w.next w.copies.items) → w.until ≤ m → IfSome (window_in w) IsOver
 unfolding window_in
 over_after w m next late = over (node_in (tree_of w.program.now) w.mote)
@@ -68,7 +68,7 @@ over_after w m next late = over (node_in (tree_of w.program.now) w.mote)
     over None = tt
     over (Some n) = quiet_before m w.until w.wake (drop w.next w.copies.items) next late
 
--- there is no window where the mote has failed
+-- if there is no window, the mote has failed
 pub no_node : (w : OwnWindow) → window_in w ≡ None → node_in (tree_of w.program.now) w.mote ≡ None
 unfolding window_in
 no_node w e = none (node_in (tree_of w.program.now) w.mote) e

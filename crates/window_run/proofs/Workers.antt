@@ -1,4 +1,4 @@
--- What a worker may answer, before and after a round of polls.
+-- What a worker may return, before and after a round of polls.
 use Rattle.std.proofs.Common.{◌≡◌, ℕ, zero, suc, ◌<◌, Bool, true, List, [], ◌∷◌, Vec, Result, Ok, Err, length, get_or, sym, subst, inl, inr, arith}
 use Rattle.std.specs.Prelude.{IfOk, IfErr}
 use Rattle.std.proofs.Math.ListN.{set}
@@ -26,7 +26,7 @@ pub answers_gathered : {G : Type 0} (slots : List (Slot G)) (r : Result (Vec Win
 answers_gathered slots (Ok outs) given error = given
 answers_gathered slots (Err e) given error = λ all. error
 
--- where one place was changed to what holds too
+-- if one place was changed to an element that has the property too
 pub set_holds : {X : Type 0} (P : X → Type 0) (xs : List X) (k : ℕ) (old new : X) → old ≡ get_or xs k old → k < length xs → (P old → P new) → AllByRecursion P xs → AllByRecursion P (set xs k new)
 set_holds P [] k old new is low step h = tt
 set_holds P (x ∷ xs) zero old new is low step h = let e : old ≡ x = is in (step (subst P (sym e) h.0), h.1)

@@ -10,7 +10,7 @@ module _ {A B : Type 0} (R : A → B → Type 0) where
   push_zip [] (w ∷ ws) x y h r = absurd h
   push_zip (v ∷ vs) [] x y h r = absurd h
 
-  -- where one place was changed to what gives no more
+  -- if one place was changed to something that gives no more
   pub set_gives : (xs : List A) (k : ℕ) (old new : A) (ys : List B) → old ≡ get_or xs k old → k < length xs → ((y : B) → R new y → R old y) → AllZip R (set xs k new) ys → AllZip R xs ys
   set_gives [] k old new ys is low less h = absurd (omega arith)
   set_gives (x ∷ xs) zero old new [] is low less h = absurd h
@@ -27,7 +27,7 @@ module _ {A B C : Type 0} (R : A → B → Type 0) (S : B → C → Type 0) (T :
   zip_zip (x ∷ xs) [] zs h k = absurd h
   zip_zip (x ∷ xs) (y ∷ ys) [] h k = absurd k
 
--- what each of one list has from its partner
+-- what each element of the second list has by its partner in the first
 pub all_from : {X Y : Type 0} (P : X → Type 0) (Q : Y → Type 0) (xs : List X) (ys : List Y) → AllZip (λ x y. P x → Q y) xs ys → AllByRecursion P xs → AllByRecursion Q ys
 all_from P Q [] [] h all = tt
 all_from P Q (x ∷ xs) (y ∷ ys) h all = (h.0 all.0, all_from P Q xs ys h.1 all.1)

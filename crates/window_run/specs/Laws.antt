@@ -14,7 +14,7 @@ EndIsOne = (window : Window) (a b : LoneNode) → EndsAs window a → EndsAs win
 abbrev pub with_earlier : List Line → List Sent → LoneNode → LoneNode
 with_earlier lines sends mote = record mote { lines = lines ++ mote.lines; sends = sends ++ mote.sends }
 
--- what was written and sent before a window stays in front of what its run adds
+-- what was written and sent before a window stays before what its run adds
 abbrev pub EarlierStaysInFront : Type 0
 EarlierStaysInFront = (window : Window) (last : LoneNode) → EndsAs window last → (lines : List Line) (sends : List Sent)
     → WindowRun (number_of window.mote.state) window.until window.copies (with_earlier lines sends window.mote)

@@ -1,4 +1,4 @@
--- The window that an engine stands in.
+-- The window that an engine is in.
 use Rattle.std.specs.Prelude.{◌≡◌, ℕ, ◌<◌, List, [], drop, Option, None, option_map}
 use Rattle.program_tree.specs.Code.{Tree}
 use Rattle.program_tree.specs.Program.{tree_of}
@@ -22,15 +22,15 @@ window_over program until copies wake lines sends n = record {
   mote = record { state = n; wake = wake; lines = lines; sends = sends };
 }
 
--- the window that an engine stands in; there is none where its mote has failed
+-- the window that an engine is in; there is none if its mote has failed
 unfoldable pub window_in : OwnWindow → Option Window
 window_in w =
     let program = tree_of w.program.now in
     option_map (window_over program w.until (drop w.next w.copies.items) w.wake w.lines.items w.sends.items)
     (node_in program w.mote)
 
--- ---- of any mote, also of one that has failed
--- what is still to come in a window, and what the mote wrote and sent there so far
+-- ---- of any mote, even one that has failed
+-- the pending events of a window, and what the mote wrote and sent there so far
 pub record Course : Type 0 where
   pub program : Tree
   pub until : ℕ

@@ -29,7 +29,7 @@ ResidentGives n until resident out = IfSome (slice_get n.motes resident.number)
     (λ m. MatchOption (window_of until m resident) (GivesNothing m.tree until resident.copies.items out)
     (λ w. Gives w out))
 
--- so do all, place by place
+-- all do so, place by place
 abbrev pub GivesList : NetTold → (until : ℕ) → List Resident → List WindowOut → Type 0
 GivesList n until residents outs = AllZip (ResidentGives n until) residents outs
 
@@ -37,7 +37,7 @@ GivesList n until residents outs = AllZip (ResidentGives n until) residents outs
 abbrev pub ResidentGoesOn : NetTold → (until : ℕ) → Resident → Type 0
 ResidentGoesOn n until resident = IfSome (slice_get n.motes resident.number) (λ m. CanGoOn (window_of until m resident))
 
--- so it is of all
+-- the same of all residents
 abbrev pub AreGoingOn : NetTold → (until : ℕ) → List Resident → Type 0
 AreGoingOn n until residents = AllByRecursion (ResidentGoesOn n until) residents
 

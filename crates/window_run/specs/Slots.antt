@@ -32,7 +32,7 @@ SlotsGoOn slots = AllByRecursion SlotGoesOn slots
 abbrev pub IsOf : {G : Type 0} → NetTold → (until : ℕ) → Resident → Slot G → Type 0
 IsOf n until resident slot = (out : WindowOut) → SlotGives slot out → ResidentGives n until resident out
 
--- where there is no error, the worker's answer is what its slots give; an error is out of memory, where all can go on
+-- what the worker may return: what its slots give, or an error, which is out of memory if all can go on
 abbrev pub WorkerMayAnswer : {G : Type 0} → List (Slot G) → Result (Vec WindowOut Global) MoteError → Type 0
 WorkerMayAnswer slots (Ok outs) = SlotsGive slots outs.items
 WorkerMayAnswer slots (Err e) = SlotsGoOn slots → e ≡ Memory

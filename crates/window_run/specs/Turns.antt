@@ -1,4 +1,4 @@
--- What a poll does to a mote's window, also to that of a mote that had failed before.
+-- What a poll does to a mote's window, even to that of a mote that had failed before.
 use Rattle.std.specs.Prelude.{◌≡◌, ◌⊎◌, ℕ, true, Option, Some, None, Result, Ok, Err, IfSome, IsSomeAnd, MatchOption}
 use Rattle.mote_node.specs.declared.mote.MoteError.{MoteError}
 use Rattle.mote_node.specs.declared.mote.MoteError.TheVariants.{Failed, Memory, Past}
@@ -10,7 +10,7 @@ use Rattle.window_run.specs.Own.{window_in, Course, course_in, ComesNext, GivesN
 use Rattle.window_run.specs.Window.{Window, HasTurn, IsOver, window_after_turn}
 use Rattle.window_run.specs.Out.{shown, Gives}
 
--- what a window that is not given up may give
+-- what a window may give that hasn't been dropped
 abbrev pub MayGive : Option OwnWindow → WindowOut → Type 0
 MayGive None out = ⊥
 MayGive (Some own) out = MatchOption (window_in own) (GivesNoMore (course_in own) out) (λ w. Gives w out)
@@ -19,12 +19,12 @@ MayGive (Some own) out = MatchOption (window_in own) (GivesNoMore (course_in own
 abbrev pub CanGoOn : Option Window → Type 0
 CanGoOn window = IsSomeAnd window IsAhead
 
--- a window of such a mote that is not given up
+-- a window of such a mote, which hasn't been dropped
 abbrev pub HasTurns : Option OwnWindow → Type 0
 HasTurns None = ⊥
 HasTurns (Some own) = CanGoOn (window_in own)
 
--- where there is no error, it is what the window gives; an error is out of memory, where the mote can go on
+-- what a poll may return: what the window gives, or an error, which is out of memory if the mote can go on
 abbrev pub MayAnswer : Option OwnWindow → Result WindowOut MoteError → Type 0
 MayAnswer own (Ok out) = MayGive own out
 MayAnswer own (Err e) = HasTurns own → e ≡ Memory
@@ -44,15 +44,15 @@ abbrev pub TakesTurn : (old new : Option OwnWindow) → Type 0
 TakesTurn (Some old) (Some new) = IsFirstTurn (window_in old) (window_in new)
 TakesTurn _ _ = ⊥
 
--- no memory was found for the turn, or its moment isn't above that of the mote's last turn
+-- an allocation for the turn failed, or its moment isn't after that of the mote's last turn
 abbrev pub IsErrorAt : (moment : ℕ) → MoteError → Window → Type 0
 IsErrorAt moment e window = (e ≡ Memory) ⊎ ((e ≡ Past) × (is_past moment window.mote.state.last ≡ true))
 
--- the mote had failed before, or no memory was found for what came to it
+-- the mote had failed before, or an allocation for what came to it failed
 abbrev pub IsRefusal : MoteError → Type 0
 IsRefusal e = (e ≡ Failed) ⊎ (e ≡ Memory)
 
--- the error of the window's first turn; where the mote had failed, of the first that it was to take
+-- the error of the window's first turn; if the mote had failed, of the first turn that it would have taken
 pub record IsFirstError (course : Course) (window : Option Window) (e : MoteError) : Type 0 where
   pub moment : ℕ
   pub awaited : ComesNext moment course
@@ -60,7 +60,7 @@ pub record IsFirstError (course : Course) (window : Option Window) (e : MoteErro
   pub error : IfSome window (IsErrorAt moment e)
   pub refusal : window ≡ None → IsRefusal e
 
--- an error is that of the first turn, or says that the window was given up
+-- an error is that of the first turn, or says that the window was dropped before
 abbrev pub ErrsAs : Option OwnWindow → MoteError → Type 0
 ErrsAs None e = e ≡ Failed
 ErrsAs (Some own) e = IsFirstError (course_in own) (window_in own) e

@@ -19,7 +19,6 @@ LoneNode = LoneMote Node Line
 abbrev pub lone_node : Node → LoneNode
 lone_node n = record { state = n; wake = wake_of n; lines = []; sends = [] }
 
--- the number of the mote
 abbrev pub number_of : Node → ℕ
 number_of n = n.mote.state.mote
 
@@ -30,7 +29,7 @@ abbrev pub WindowRun : (number until : ℕ) → (copies : List RadioCopy) → (m
 WindowRun number until copies mote last =
     (system : System Node Line) → system.turn ≡ node_turn → Alone system number until copies mote last
 
--- a mote in its window, and the copies that are still to come; its program is this
+-- a mote in its window: its program, the window's bound, and the copies that are still pending
 pub record Window : Type 0 where
   pub program : Tree
   pub until : ℕ
@@ -41,7 +40,7 @@ pub record Window : Type 0 where
 abbrev pub EndsAs : Window → LoneNode → Type 0
 EndsAs window last = WindowRun (number_of window.mote.state) window.until window.copies window.mote last
 
--- the lesser of the wake and the least copy's moment
+-- the moment is the lesser of the wake and the least moment of a copy
 pub record IsNextOf (moment : ℕ) (wake : Option ℕ) (copies : List RadioCopy) : Type 0 where
   pub quiet : IsQuiet moment wake copies
   pub comes : (wakes_at moment wake || list_any (is_at moment) copies) ≡ true
@@ -70,7 +69,7 @@ window_after_turn moment window = record window {
   mote = lone_turn moment window.mote (in_order (filter (is_at moment) window.copies));
 }
 
--- by moment, then sender, then number; copies with the same of all three may stand in any order
+-- by moment, then sender, then number; copies that agree in all three may be in any order
 abbrev pub comes_before : RadioCopy → RadioCopy → Bool
 comes_before a b = nat_lt a.at b.at
     || ((a.at == b.at) && (nat_lt a.sender b.sender || ((a.sender == b.sender) && not (nat_lt b.number a.number))))

@@ -2,11 +2,11 @@
 
 /// What is called from inside the workers.
 pub trait Gate {
-    /// It is called once inside each turn, when the copies for it are there and before the mote takes them, with the
-    /// worker, the turn's moment and the mote.
+    /// Called once inside each turn, after the copies for the turn were collected and before the mote takes them, with
+    /// the worker, the turn's moment and the mote.
     fn inside(&self, worker: u16, moment: u64, mote: u16);
 
-    /// Whether a worker's thread may start. It is asked before each start; `false` counts as a start that failed.
+    /// Whether a worker's thread may start. Called before each start; `false` counts as a start that failed.
     fn start(&self, _worker: u16) -> bool {
         true
     }

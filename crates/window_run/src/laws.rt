@@ -7,7 +7,7 @@ pub fn one_window_run()
     ensures { EndIsOne }
 {}
 
-/// After whatever lines and packets came before the window, its run is the same.
+/// Whatever lines and packets came before the window, its run is the same.
 pub fn earlier_stays_in_front()
     ensures { EarlierStaysInFront }
 {}
@@ -17,8 +17,8 @@ pub fn ends_with_its_wake()
     ensures { EndsWithItsWake }
 {}
 
-/// After a turn of a window, what comes next comes later. So `Past` is answered at most by a window's first turn, where
-/// that isn't above the mote's last turn before the window.
+/// After a turn of a window, what comes next comes later. So only a window's first turn can return `Past`: if its
+/// moment isn't after that of the mote's last turn before the window.
 pub fn no_turn_is_past()
     ensures { NoTurnIsPast }
 {}

@@ -22,8 +22,8 @@ use radio_packet::RadioCopy;
 use std::alloc::Global;
 use std::mem;
 
-/// A mote in its window, until it was ready. A poll with a turn left takes exactly that turn, at the lesser of the
-/// mote's wake and the next copy's moment, and yields; with no turn left below the bound it is ready.
+/// A mote in its window, until the future is ready. A poll with a turn left takes exactly that turn, at the lesser of
+/// the mote's wake and the next copy's moment, and yields; with no turn left below the bound it is ready.
 pub struct MoteWindow<'a, G> {
     own: Option<OwnWindow<'a>>,
     worker: u16,
@@ -44,7 +44,7 @@ impl<G> Drop for MoteWindow<'_, G> {
 
 impl<'a, G: Gate> MoteWindow<'a, G> {
     /// The window of a mote with this program, up to `until`, which is at most 2^40. The copies are the mote's, each
-    /// below `until`, in the order of moment, sender and number. This takes no memory.
+    /// below `until`, in the order of moment, sender and number. This allocates nothing.
     pub fn new(
         alloc: Global,
         mote: Mote,
@@ -67,7 +67,7 @@ impl<'a, G: Gate> MoteWindow<'a, G> {
         MoteWindow::over(own, worker, gate)
     }
 
-    /// The window of a mote, as is.
+    /// A future over this window, unchanged.
     pub(crate) fn over(own: OwnWindow<'a>, worker: u16, gate: &'a G) -> MoteWindow<'a, G>
         ensures worker { result.worker ≡ worker }
         ensures own { result.own ≡ Some own.entry }
@@ -80,7 +80,7 @@ impl<'a, G: Gate> MoteWindow<'a, G> {
         }
     }
 
-    /// Gives the window this room for its turns, and takes what it had.
+    /// Swaps the scratch buffers of the window's turns with these.
     pub(crate) fn swap_room(&mut self, room: &mut Option<Box<TurnRoom>>)
         ensures { self.new.own ≡ self.old.own }
     {
@@ -88,8 +88,8 @@ impl<'a, G: Gate> MoteWindow<'a, G> {
     }
 }
 
-/// What a window gives, once no turn is left; it is given up. A function by itself, so that a turn clears no place on
-/// the stack for it.
+/// Takes the window, once no turn is left, and returns what it gives. A separate function, so that a turn clears no
+/// stack space for it.
 #[inline(always)]
 fn finish(own: &mut Option<OwnWindow<'_>>, room: &mut Option<Box<TurnRoom>>) -> WindowOut
     requires { IsSome own.old }
@@ -100,7 +100,7 @@ fn finish(own: &mut Option<OwnWindow<'_>>, room: &mut Option<Box<TurnRoom>>) -> 
     own.take().unwrap().finish(room)
 }
 
-/// Gives a window up, with its mote; by itself for the same reason.
+/// Drops a window, with its mote; a separate function for the same reason.
 #[inline(always)]
 fn give_up(own: &mut Option<OwnWindow<'_>>)
     ensures { own.new ≡ None }
@@ -113,12 +113,12 @@ impl<G: Gate> Future for MoteWindow<'_, G> {
 
     ghost gives = { λ w r. MayAnswer w.own r };
 
-    /// Takes one turn and yields, or is ready. A mote that had failed takes none: it is ready with what it had, where
-    /// nothing comes to it in the window.
+    /// Takes one turn and yields, or is ready. A mote that had failed before takes none: it is ready with what it had,
+    /// if nothing comes to it in the window.
     ///
     /// # Errors
-    /// That of the turn, and then the mote is given up; `Failed` at a poll after that, and where something comes to a
-    /// mote that had failed before.
+    /// That of the turn, and then the mote is dropped; `Failed` at a poll after that, and if something comes to a mote
+    /// that had failed before.
     fn poll(&mut self, cx: &mut Context<'_>) -> Poll<Self::Output>
         ensures value { IfReady result (MayAnswer self.old.own) }
         ensures again { OnPending result ⊤ }

@@ -56,9 +56,9 @@ impl<'a> OwnWindow<'a> {
     ghost use Rattle.window_run.specs.Own.{window_in, course_in, course_of, IsSpent, ComesNext, StaysFailed};
     ghost use Rattle.window_run.specs.Turns.{TurnsTo, IsErrorAt, IsRefusal};
 
-    /// The mote, with this program, before its first turn in the window. The copies are the mote's, each below `until`,
-    /// in the order of moment, sender and number. `until` is at most 2^40. Lines and packets are written into this
-    /// room. This takes no memory.
+    /// The mote, with this program, before its first turn in the window. The copies are the mote's, each below
+    /// `until`, in the order of moment, sender and number. `until` is at most 2^40. Lines and packets are written into
+    /// these scratch buffers. This allocates nothing.
     #[tactic(auto, unfolding(crate::specs::Own::window_in, crate::specs::Own::course_in))]
     pub fn new(
         alloc: Global,
@@ -95,7 +95,7 @@ impl<'a> OwnWindow<'a> {
         }
     }
 
-    /// The moment of the next turn, where one is left in the window.
+    /// The moment of the next turn, if one is left in the window.
     #[tactic(auto, unfolding(crate::specs::Own::window_in, crate::specs::Own::course_in))]
     pub fn next_moment(&self) -> Option<u64>
         ensures comes { let c = course_in self.now in MatchOption result (IsSpent c) (λ moment. ComesNext moment c) }
@@ -110,11 +110,11 @@ impl<'a> OwnWindow<'a> {
         }
     }
 
-    /// Takes the turn at that moment, in the room that an earlier turn left, or in one that is made now. Once the
-    /// copies for it are there, the gate is called, and then the mote takes them.
+    /// Takes the turn at that moment, with the scratch buffers of an earlier turn, or with new ones. Once the copies
+    /// for the turn were collected, the gate is called, and then the mote takes them.
     ///
     /// # Errors
-    /// That of `Mote::turn`, so `Failed` where the mote had failed; `Memory` also where an allocation for buffers,
+    /// That of `Mote::turn_into`, so `Failed` if the mote had failed; `Memory` also if an allocation for buffers,
     /// copies, lines or packets failed.
     #[tactic(auto, unfolding(crate::specs::Own::window_in))]
     pub fn turn<G: Gate>(
@@ -142,7 +142,7 @@ impl<'a> OwnWindow<'a> {
         Ok(())
     }
 
-    /// What the window gives, once no turn is left. The list of its copies is left in the room, where one is there.
+    /// What the window gives, once no turn is left. Its list of copies goes to the scratch buffers, if there are any.
     #[tactic(auto, unfolding(crate::specs::Own::window_in, crate::specs::Own::course_in))]
     pub fn finish(self, room: &mut Option<Box<TurnRoom>>) -> WindowOut
         ensures made { IfSome (window_in self.entry) (λ w. shown w.program result ≡ Some w.mote) }
@@ -169,7 +169,7 @@ impl<'a> OwnWindow<'a> {
     }
 }
 
-/// Moves all to the end of a list. Where that is empty the two change places, so nothing is copied.
+/// Moves all elements of `more` to the end of a list. If that is empty, the two are swapped, so nothing is copied.
 fn move_to<T>(list: &mut Vec<T>, more: &mut Vec<T>) -> Result<(), AllocError>
     ensures { OnOk result (list.new.items ≡ list.old.items ++ more.old.items) }
 {
@@ -205,7 +205,7 @@ fn arrival(copy: &RadioCopy) -> Arrival
     }
 }
 
-/// Takes the first copies, those that arrive at this moment.
+/// Collects the arrivals of the first copies, those that arrive at this moment.
 fn take_arrivals(
     copies: &[RadioCopy],
     moment: u64,

@@ -1,4 +1,4 @@
-//! The room that a worker's turns and windows write into.
+//! Scratch buffers of a worker's turns and windows.
 
 ghost use Rattle.std.specs.Prelude.{◌≡◌, []};
 
@@ -6,9 +6,9 @@ use process_kernel::{Line, Out};
 use radio_packet::{Arrival, RadioCopy, Sent};
 use std::alloc::{AllocError, Global};
 
-/// Scratch buffers of a turn, for what comes to a mote and what it writes and sends. Each turn begins with both anew,
-/// so they go from turn to turn, and from mote to mote. With them go the lists that held the copies of windows; what
-/// those hold is unspecified.
+/// Scratch buffers of a turn, for what comes to a mote and what it writes and sends. Each turn begins by clearing
+/// both, so they are passed from turn to turn, and from mote to mote. With them are lists that held the copies of
+/// earlier windows; what those lists hold is unspecified.
 #[derive(Drop)]
 pub struct TurnRoom {
     pub(crate) arrivals: Vec<Arrival>,
@@ -16,10 +16,10 @@ pub struct TurnRoom {
     pub(crate) copies: Vec<Vec<RadioCopy>>,
 }
 
-/// The longest list of copies that is kept for a later window, so that those kept take little memory.
+/// The largest capacity of a list of copies that is kept for a later window, so that those kept take little memory.
 const LONGEST_KEPT: usize = 32;
 
-/// The room that is there, or else one that is made.
+/// The scratch buffers, made now if there are none.
 pub(crate) fn room_in(
     alloc: Global,
     room: &mut Option<Box<TurnRoom>>,
@@ -38,7 +38,7 @@ pub(crate) fn room_in(
     }
 }
 
-/// An empty list for the copies of a window: one that an earlier window left in the room, if any is there.
+/// An empty list for the copies of a window: that of an earlier window, if any was kept.
 pub fn copies_in(alloc: Global, room: &mut Option<Box<TurnRoom>>) -> Vec<RadioCopy>
     ensures { result.items ≡ [] }
 {
@@ -54,8 +54,7 @@ pub fn copies_in(alloc: Global, room: &mut Option<Box<TurnRoom>>) -> Vec<RadioCo
     }
 }
 
-/// Leaves a list of copies in the room for a later window. One that is long, or for which there is no place, is given
-/// up.
+/// Keeps a list of copies for a later window. A list with a large capacity, or that can't be stored, is dropped.
 pub(crate) fn keep_copies(room: &mut Option<Box<TurnRoom>>, copies: Vec<RadioCopy>) {
     let Some(room) = room else {
         return;
@@ -69,7 +68,7 @@ pub(crate) fn keep_copies(room: &mut Option<Box<TurnRoom>>, copies: Vec<RadioCop
     }
 }
 
-/// The room for what a mote writes and sends in a window. The window begins with both lists empty, whatever they had.
+/// Scratch buffers for what a mote writes and sends in a window. The window begins by clearing both.
 #[derive(Drop)]
 pub struct WindowRoom {
     pub lines: Vec<Line>,
@@ -77,7 +76,7 @@ pub struct WindowRoom {
 }
 
 impl WindowRoom {
-    /// No room yet. This takes no memory.
+    /// Empty buffers. This allocates nothing.
     pub fn new(alloc: Global) -> WindowRoom {
         WindowRoom {
             lines: Vec::new(alloc),

@@ -11,7 +11,7 @@ use std::error::Error;
 use std::fmt;
 
 /// A mote with its number in the net, the copies that come to it in the window, in the order of moment, sender and
-/// number, and the room for what it writes and sends there.
+/// number, and scratch buffers for what it writes and sends there.
 #[derive(Drop)]
 pub struct Resident {
     pub number: u16,
@@ -28,12 +28,12 @@ pub struct Residents {
     pub residents: Vec<Resident>,
 }
 
-/// Why a worker gives nothing.
+/// Why running a worker's motes through a window failed.
 #[derive(Clone, Copy, Debug, PartialEq, Eq)]
 pub enum ShareError {
-    /// Out of memory; an allocation failed.
+    /// Out of memory: an allocation failed.
     Memory = 1,
-    /// The executor answered an error.
+    /// The executor returned an error.
     Thread = 2,
 }
 

@@ -41,7 +41,7 @@ impl<G: Gate> Slot<'_, G> {
         out.unwrap()
     }
 
-    /// Polls the window once, where it was not ready before. Its turn takes place in this room.
+    /// Polls the window once, if it was not ready before. Its turn uses these scratch buffers.
     pub(crate) fn advance(
         &mut self,
         room: &mut Option<Box<TurnRoom>>,

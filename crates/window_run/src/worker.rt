@@ -28,11 +28,11 @@ use std::random::RandomSource;
 use std::sync::Wait;
 
 /// Polls each unfinished window once in turn, and then yields. It is ready once all are, with what they gave, in the
-/// order of the residents; or once one gave an error.
+/// order of the residents; or once one returned an error.
 pub struct ShareWindow<'a, G> {
     alloc: Global,
     slots: Vec<Slot<'a, G>>,
-    /// The room of the turns, which goes from window to window.
+    /// The scratch buffers of the turns, which are passed from window to window.
     room: &'a mut Option<Box<TurnRoom>>,
 }
 
@@ -72,7 +72,7 @@ fn open<'a, G: Gate>(
 
 impl<'a, G: Gate> ShareWindow<'a, G> {
     /// The worker's motes, each before its first turn in the window up to `until`, which is at most 2^40. Each is a
-    /// mote of the net. The turns take place in this room.
+    /// mote of the net. The turns use these scratch buffers.
     pub fn new(
         alloc: Global,
         net: &'a Net,
@@ -141,7 +141,7 @@ fn all_done<G: Gate>(slots: &[Slot<'_, G>]) -> bool
     slots.iter().all(|slot| slot.is_done())
 }
 
-/// What the windows gave.
+/// Collects what the windows gave.
 fn collect_outs<G: Gate>(
     alloc: Global,
     slots: Vec<Slot<'_, G>>,
@@ -160,11 +160,11 @@ fn collect_outs<G: Gate>(
 }
 
 /// Runs a worker's motes, each of them a mote of the net, through the window up to `until`, which is at most 2^40, by
-/// the worker's future. What each gives stands in the order of the residents. No mote has failed, and what comes to
-/// each comes after its last turn. The room of the turns goes from window to window.
+/// the worker's future. What each gives is in the order of the residents. No mote has failed, and what comes to each
+/// comes after its last turn. The scratch buffers of the turns are passed from window to window.
 ///
 /// # Errors
-/// `Memory`, and `Thread` where the executor answered an error.
+/// `Memory`, and `Thread` if the executor returned an error.
 pub fn run_share<R, G>(
     rt: &R,
     alloc: Global,

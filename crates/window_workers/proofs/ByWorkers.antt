@@ -1,4 +1,4 @@
--- What the workers tell at the end is the report, and what went through their inboxes are the copies of its log.
+-- What the workers report is the report of the net, and what went through their inboxes are the copies of its log.
 use Rattle.std.proofs.Common.{◌≡◌, ℕ, zero, suc, ◌+◌, ◌<◌, List, [], ◌∷◌, length, map, get_or, refl, sym, ap, ◌∙◌, subst, arith, Some, None, Vec, length-append}
 use Rattle.std.specs.Prelude.{All}
 use Rattle.std.specs.declared.alloc.Global.{Global}
@@ -69,7 +69,7 @@ module _ (n : NetTold) (fault : medium_fault n.radio ≡ None) (placed : length 
             ∙ w.told));
       }
 
-  -- what the workers told, joined, is the report
+  -- what the workers report, joined, is the report of the net
   pub told_is : (r : Report) → AreTracesOf of ended r.traces.items → IsLogOf n (logs_of ended) (map told_line r.medium.items)
       → sum_by (λ (one : Ended). one.left) ended + sum_by (λ (pair : Pair). length (gathered_by pair.1)) (zip group.inboxes.items group.takers.items)
       ≡ r.left + sum_by (λ (pair : Pair). length (taken_by pair.1)) (zip group.inboxes.items group.takers.items)

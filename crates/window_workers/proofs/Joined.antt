@@ -1,4 +1,4 @@
--- What the workers told at the end, joined: the packets, the traces and the count of copies left.
+-- What the workers report at the end, joined: the packets, the traces and the count of copies left.
 use Rattle.std.proofs.Common.{◌≡◌, ◌⊎◌, ℕ, suc, ◌+◌, ◌<◌, ◌≤◌, ◌^◌, true, false, cond, eqb, ltb, List, [], ◌∷◌, length, map, get_or, refl, sym, ap, ◌∙◌, subst, inl, inr, arith, Some, Vec}
 use Rattle.std.specs.declared.alloc.Global.{Global}
 use Rattle.std.specs.List.{filter, slice_get, sum_by, AllByRecursion as Each, AllZip}
@@ -38,11 +38,11 @@ use Rattle.serial_run.proofs.Reports.{family}
 use Rattle.window_workers.proofs.Sums.{two_sums}
 use Rattle.window_workers.proofs.Waiting.{left_here}
 
--- a mote past the last is nobody's
+-- a number past the last mote belongs to no worker
 nobody : (of : List ℕ) (s i : ℕ) → length of ≤ s → is_own of i s ≡ false
 nobody of s i h = ap (λ o. option_map_or (λ w. eqb w i) o false) (beyond of s h)
 
--- and one worker's isn't another's
+-- and a mote of one worker isn't another's
 not_mine : (of : List ℕ) (s w i : ℕ) → slice_get of s ≡ Some w → (i ≡ w → ⊥) → is_own of i s ≡ false
 not_mine of s w i e ne = ap (λ o. option_map_or (λ w. eqb w i) o false) e ∙ ne_eqb w i (λ q. ne (sym q))
 

@@ -9,7 +9,7 @@ use Rattle.copy_inbox.specs.Gathered.{known_of, untaken_of, Whole}
 use Rattle.copy_inbox.specs.Handles.{InboxId, TakerView}
 use Rattle.window_workers.specs.Crossed.{Pair}
 
--- where all that was pushed is taken, nothing is known
+-- if all that was pushed is taken, nothing is known
 whole_known : (gs : List Gathered) (taken : List Item) → Whole gs taken → known_of gs taken ≡ 0
 whole_known [] taken h = refl
 whole_known (g ∷ gs) taken h =

@@ -1,4 +1,4 @@
--- What is left at the end for one worker: what was still to come to its motes, and what lies in its inbox.
+-- What is left at the end for one worker: what is pending for its motes, and what is in its inbox.
 use Rattle.std.proofs.Common.{◌≡◌, ℕ, suc, ◌+◌, ◌≤◌, false, not, ltb, List, [], ◌++◌, length, sym, ap, ◌∙◌, arith, append-nil, length-append, Option}
 use Rattle.std.specs.Prelude.{IsPermutation}
 use Rattle.std.specs.List.{filter}
@@ -26,7 +26,7 @@ is_late end at h = grind (arith, nat_tests)
 
 module _ (n : NetTold) (fine : RunsForward (system_of n)) (of : List ℕ) (from : ℕ) (motes : Motes) (led : Windows (system_of n) 0 from (first_mote (system_of n)) motes) (first : Option ℕ) (starts : NoneBefore from first)
     (v : ℕ) (share : Share) (taker : TakerView) (here : IsWorkerAt n of from motes first v share taker) where
-  -- all that lies in the inbox
+  -- all that is in the inbox
   abbrev lying : List RadioCopy
   lying = waiting n fine of from motes led first starts v share taker here
 

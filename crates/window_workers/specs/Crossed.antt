@@ -14,7 +14,7 @@ use Rattle.serial_run.specs.Counted.{is_by}
 abbrev pub Pair : Type 0
 Pair = InboxId × TakerView
 
--- the packets that a report's log tells of
+-- the packets of a report's log
 abbrev pub packets_told : ReportTold → List Sent
 packets_told r = map (λ packet. packet.sent) r.log
 

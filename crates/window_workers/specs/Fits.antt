@@ -11,16 +11,16 @@ use Rattle.fork_join.specs.declared.work.Refused.TheVariants as refused
 abbrev pub most_workers : ℕ
 most_workers = 16
 
--- the first fault of a cut: there are no workers or too many, or not a worker for each mote, or a worker that isn't
--- there
+-- the first fault of a cut: there are no workers or too many, or not a worker for each mote, or a worker that doesn't
+-- exist
 abbrev pub cut_fault : (motes workers : ℕ) → (of : List ℕ) → Option RunError
 cut_fault motes workers of =
     if (workers == 0) || nat_lt most_workers workers then Some Workers
     else (if not (length of == motes) then Some CutLength
     else (if list_all (λ worker. nat_lt worker workers) of then None else Some CutWorker))
 
--- what a call may answer at an error, where the cut has this fault or none: the fault, or else out of memory, or a
--- thread that couldn't be started; with marks also that a worker stopped because another worker failed
+-- the errors that a call may return, if the cut has this fault or none: the fault; else out of memory, or an error of
+-- a thread; with marks also that a worker stopped because another worker failed
 abbrev pub IsAnswerTo : SyncKind → Option RunError → RunError → Type 0
 IsAnswerTo sync (Some fault) error = error ≡ fault
 IsAnswerTo sync None Workers = ⊥
@@ -31,7 +31,7 @@ IsAnswerTo sync None Thread = Unit {0}
 IsAnswerTo Joins None Stopped = ⊥
 IsAnswerTo Marks None Stopped = Unit {0}
 
--- why a worker gave up, as an error of the run; with joins none stops because another failed
+-- why a worker gave up, as an error of the run; with joins none stops because another worker failed
 abbrev pub of_refused : SyncKind → Refused → RunError
 of_refused sync refused.Memory = Memory
 of_refused sync refused.Thread = Thread

@@ -17,7 +17,7 @@ use Rattle.net_report.specs.declared.LogLine.{LogLine}
 use Rattle.net_report.specs.Report.{Packet}
 use Rattle.serial_run.specs.NetRun.{packet_with_fates}
 
--- a share that is taken apart tells what it kept
+-- a share that is taken apart yields what it kept
 abbrev pub TellsWhatItKept : Share → Ended → Type 0
 TellsWhatItKept share ended = (n : NetTold) (of : List ℕ) (worker from : ℕ) (motes : Motes) (taken : List RadioCopy)
     → Keeps n of worker from motes taken share → TellsAtEnd n of worker from motes taken ended
@@ -44,7 +44,7 @@ pub record IsLogOf (n : NetTold) (sends : List Sent) (log : List Packet) : Type 
   pub in_order : IsSortedBy is_sooner sorted
   pub told : log ≡ map (packet_with_fates n.radio) sorted
 
--- what one worker told of one mote's trace
+-- one mote's trace, as one worker reports it
 abbrev pub trace_at : List Ended → (worker mote : ℕ) → Ended → Vec Line Global → Vec Line Global
 trace_at ended worker mote d e = slice_index_or (slice_index_or ended worker d).traces.items mote e
 
@@ -57,7 +57,7 @@ pub record TakesTrace (worker mote : ℕ) (old new : List Ended) (trace : Vec Li
   pub others : (w k : ℕ) (d : Ended) (e : Vec Line Global) → (k ≡ mote → ⊥) → trace_at new w k d e
       ≡ trace_at old w k d e
 
--- of each mote the trace that its worker told
+-- the trace of each mote, as its worker reports it
 pub record AreTracesOf (of : List ℕ) (ended : List Ended) (traces : List (Vec Line Global)) : Type 0 where
   pub count : length traces ≡ length of
   pub each : (k : ℕ) (d : Ended) (e : Vec Line Global) → k < length of → slice_index_or traces k e

@@ -23,14 +23,14 @@ pub fn end_all(alloc: Global, shares: Vec<Share>) -> Result<Vec<Ended>, AllocErr
     Ok(all)
 }
 
-/// The sum of two counts of copies. Where it is past the greatest number there are more copies than any memory holds.
+/// The sum of two counts of copies. If it overflows, there are more copies than any memory holds.
 fn plus(one: u64, other: u64) -> Result<u64, AllocError>
     ensures { IfOk result (λ sum. sum ≡ one + other) }
 {
     one.checked_add(other).ok_or(AllocError)
 }
 
-/// How many copies were still to come to the workers' motes.
+/// How many copies were still on their way to the workers' motes.
 fn left_to_come(ended: &[Ended]) -> Result<u64, AllocError>
     ensures { IfOk result (λ left. left ≡ sum_by (λ one. one.left) ended.now) }
 {
@@ -41,7 +41,7 @@ fn left_to_come(ended: &[Ended]) -> Result<u64, AllocError>
     Ok(left)
 }
 
-/// How many copies lie in the inboxes.
+/// How many copies are in the inboxes.
 fn left_in_inboxes(pairs: &[(Inbox, Taker)]) -> Result<u64, AllocError>
     requires { Each (λ pair. IsSettled pair.0 pair.1) pairs.now }
     ensures { IfOk result (λ left. sum_by (λ pair. length (gathered_by pair.1)) pairs.now

@@ -9,14 +9,14 @@ use serial_run::RunError;
 /// The most workers that a run may have.
 pub const MOST_WORKERS: u16 = 16;
 
-/// Whether each of these workers is one of so many.
+/// Whether each mote's worker is one of this many workers.
 fn are_there(workers: usize, of: &[u16]) -> bool
     ensures { result ≡ list_all (λ worker. nat_lt worker workers) of.now }
 {
     of.iter().all(|worker| usize::from(*worker) < workers)
 }
 
-/// The first fault of a cut of so many motes among so many workers, if it has one. `of` tells the worker of each mote.
+/// The first fault of a cut of this many motes among this many workers, if any. `of` is the worker of each mote.
 pub fn fault_of(motes: u16, workers: usize, of: &[u16]) -> Option<RunError>
     ensures { result ≡ cut_fault motes workers of.now }
 {

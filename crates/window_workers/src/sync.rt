@@ -3,7 +3,7 @@
 ghost use Rattle.std.specs.Prelude.{◌≡◌};
 ghost use Rattle.window_workers.specs.Sync.{has_marks};
 
-/// The kind of synchronization between workers. The report is the same.
+/// The kind of synchronization between workers. The report doesn't depend on it.
 #[derive(Clone, Copy, Debug, Default, PartialEq, Eq)]
 pub enum SyncKind {
     /// Each window has threads of its own, which are joined at its end. The inboxes have no marks.

@@ -20,7 +20,7 @@ fn take_trace(alloc: Global, ended: &mut Vec<Ended>, worker: usize, mote: usize)
     mem::replace(&mut one.traces[mote], Vec::new(alloc))
 }
 
-/// The trace of each mote, by its number, from its worker. `of` tells the worker of each mote.
+/// The trace of each mote, by its number, from its worker. `of` is the worker of each mote.
 pub fn joined_traces(
     alloc: Global,
     of: &[u16],

@@ -1,4 +1,4 @@
-//! The run of a net by workers, each in threads of its own, window by window, or in one thread for the whole run.
+//! The run of a net by workers: each has a new thread for each window, or one thread for the whole run.
 
 ghost use Rattle.std.specs.Prelude.{◌≡◌, ◌≤◌, suc, length, map, vec_len, All, None, IfOk, IfErr};
 ghost use Rattle.std.specs.List.{AllByRecursion as Each, AllZip, zip};
@@ -37,7 +37,7 @@ use std::thread::Threads;
 use window_run::Gate;
 use worker_cut::Cut;
 
-/// The workers' report at the end, and their inboxes. `of` tells the worker of each mote.
+/// The workers' report at the end, and their inboxes. `of` is the worker of each mote.
 fn make_report(
     alloc: Global,
     net: &Net,
@@ -53,7 +53,7 @@ fn make_report(
     ensures err { IfErr result (λ e. e ≡ RunError.Memory) }
 {
     // Each wake and each copy comes later than the turn that makes it, so the windows of all motes are those of one
-    // run. The call's clauses say that the medium is without fault; what it returns isn't used.
+    // run. The call is for its clauses, which say that the medium is without fault; the result isn't used.
     let _ahead = net.medium().lookahead(net.end());
     let Workers {
         shares,
@@ -76,7 +76,7 @@ fn make_report(
     Ok((report, pairs))
 }
 
-/// All windows of the run, by workers with this kind of synchronization.
+/// Runs all windows, by workers with this kind of synchronization.
 fn run_by_kind<R, G>(
     rt: &R,
     alloc: Global,
@@ -113,15 +113,15 @@ where
 }
 
 /// The report of a net, by one worker for each inbox: copies from a mote of one worker to a mote of another go through
-/// the inbox of the receiver's worker. It is the report of one thread, whatever the cut, and whatever the kind of
-/// synchronization: with joins the inboxes have no marks, and with marks they have. At the end every sender is
+/// the inbox of the receiver's worker. It is the report of the run on one thread, whatever the cut, and whatever the
+/// kind of synchronization: with joins the inboxes have no marks, and with marks they have. At the end every sender is
 /// gathered.
 ///
 /// # Errors
-/// `Workers`, `CutLength` and `CutWorker` exactly where the cut doesn't fit, the first of them that holds; else
-/// `Memory`, or `Thread` where a thread couldn't be started, the gate refused a start, or an executor answered an
-/// error; with marks also `Stopped`, where a worker stopped because another worker failed, and none reported one of
-/// these. The inboxes are then given up.
+/// `Workers`, `CutLength` or `CutWorker` exactly when the cut doesn't fit, the first of them that applies; else
+/// `Memory`, or `Thread` if a thread couldn't be started, the gate refused a start, or an executor returned an error;
+/// with marks also `Stopped`, if a worker stopped because another worker failed, and none reported one of these. The
+/// inboxes are then dropped.
 pub fn run_inboxes<R, G>(
     rt: &R,
     alloc: Global,
@@ -139,8 +139,8 @@ where
     ensures report { IfOk result (λ r. IsReportOf (net_of net.now) (report_of r.0)) }
     // There is a trace for each mote.
     ensures traces { IfOk result (λ r. vec_len r.0.traces ≡ length (net_of net.now).motes) }
-    // Each trace delivers each accepted event, in order, nothing follows a halt in it, and only a process that is not
-    // listed starts.
+    // Each trace delivers events in the order in which they were accepted, nothing follows a halt in it, and only a
+    // process that is not listed starts.
     ensures handed_on { IfOk result (λ r. All (λ trace. IsInOrder trace.items) r.0.traces.items) }
     // The inboxes come back, in order, each with its taker, which has gathered all senders.
     ensures inboxes { IfOk result (λ r. map (λ pair. pair.0) r.1.items ≡ map (λ pair. pair.0) pairs.items) }
@@ -150,7 +150,7 @@ where
         → Each (λ pair. known_of pair.1.state.gathered pair.1.state.taken ≡ 0) r.1.items) }
     // Through them went the copies from worker to worker, each once and nothing else.
     ensures crossed { IfOk result (λ r. AllCrossed (net_of net.now) cut.now.of.items (report_of r.0) r.1.items) }
-    // A fault of the cut is answered exactly where there is one.
+    // A fault of the cut is returned exactly when there is one.
     ensures fits { IfOk result (λ r. cut_fault (length (net_of net.now).motes) (length pairs.items) cut.now.of.items
         ≡ None) }
     ensures err { IfErr result (IsAnswerTo sync
@@ -170,14 +170,14 @@ where
     make_report(alloc, net, of, group)
 }
 
-/// The report of a net, by so many workers, each in threads of its own: that of one thread, whatever the cut, and
-/// whatever the kind of synchronization. Its inboxes are new ones, and end with it: the copies that are left in them
-/// are given up.
+/// The report of a net, by this many workers, each in threads of its own: that of the run on one thread, whatever the
+/// cut, and whatever the kind of synchronization. The inboxes are made for the run, and dropped at its end with the
+/// copies that are left in them.
 ///
 /// # Errors
-/// `Workers`, `CutLength` and `CutWorker` exactly where the cut doesn't fit, the first of them that holds; else
-/// `Memory`, or `Thread` where a thread couldn't be started, the gate refused a start, or an executor answered an
-/// error; with marks also `Stopped`.
+/// `Workers`, `CutLength` or `CutWorker` exactly when the cut doesn't fit, the first of them that applies; else
+/// `Memory`, or `Thread` if a thread couldn't be started, the gate refused a start, or an executor returned an error;
+/// with marks also `Stopped`.
 pub fn run_workers<R, G>(
     rt: &R,
     alloc: Global,
@@ -193,10 +193,10 @@ where
     ensures report { IfOk result (λ r. IsReportOf (net_of net.now) (report_of r)) }
     // There is a trace for each mote.
     ensures traces { IfOk result (λ r. vec_len r.traces ≡ length (net_of net.now).motes) }
-    // Each trace delivers each accepted event, in order, nothing follows a halt in it, and only a process that is not
-    // listed starts.
+    // Each trace delivers events in the order in which they were accepted, nothing follows a halt in it, and only a
+    // process that is not listed starts.
     ensures handed_on { IfOk result (λ r. All (λ trace. IsInOrder trace.items) r.traces.items) }
-    // A fault of the cut is answered exactly where there is one.
+    // A fault of the cut is returned exactly when there is one.
     ensures fits { IfOk result (λ r. cut_fault (length (net_of net.now).motes) workers cut.now.of.items ≡ None) }
     ensures err { IfErr result (IsAnswerTo sync (cut_fault (length (net_of net.now).motes) workers cut.now.of.items)) }
 {

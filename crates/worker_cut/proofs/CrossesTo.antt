@@ -45,7 +45,7 @@ module _ (copies : Sent → List RadioCopy) (p : RadioCopy → Bool) where
   passing-cons : (x : Sent) (xs : List Sent) → passing (x ∷ xs) ≡ filter p (copies x) ++ passing xs
   passing-cons x xs = filter-append p (copies x) (flat_map copies xs)
 
-  -- two packets that change places
+  -- inserting a packet in order permutes the copies that pass
   inserted_passing : (first second : Sent → ℕ) (x : Sent) (ys : List Sent) → IsPermutation (passing (x ∷ ys)) (passing (insert_by first second x ys))
   inserted_passing first second x [] = IsPermutation-refl (passing (x ∷ []))
   inserted_passing first second x (y ∷ ys) =
@@ -82,7 +82,7 @@ same_tests p q [] h = refl
 same_tests p q (x ∷ xs) h = let ih = same_tests p q xs h.1 in rw h.0 (ap (λ l. cond (q x) (x ∷ l) l) ih)
 
 module _ {S L : Type 0} (system : System S L) (fine : RunsForward system) where
-  -- of the copies of some packets, those of one sender
+  -- the copies of one sender, from those of all packets
   from_sender : (s : ℕ) (sends : List Sent) → filter (is_from_sender s) (flat_map system.copies sends) ≡ flat_map system.copies (filter (is_sent_by s) sends)
   from_sender s [] = refl
   from_sender s (x ∷ xs) =

@@ -1,4 +1,4 @@
--- The windows so far, and what is on its way behind them.
+-- The windows so far, and what is on its way after them.
 use Rattle.std.proofs.Common.{◌≡◌, ℕ, suc, ◌+◌, ◌-◌, ◌<◌, ◌≤◌, true, cond, ltb, List, [], ◌∷◌, map, length, refl, sym, ap, ◌∙◌, subst, arith, inl, inr}
 use Rattle.std.specs.List.{filter, flat_map, AllByRecursion}
 use Rattle.std.proofs.lemmas.Bool.{cases_Bool, ltb-true, ltb-false, not-true}
@@ -47,7 +47,7 @@ module _ {S L : Type 0} (system : System S L) (fine : RunsForward system) where
       each [] = tt
       each (sent ∷ sends) = (every_weaker _ _ (λ copy h. h.to) (system.copies sent) (fine.copies_later sent), each sends)
 
-  -- all copies that are on their way
+  -- all copies that are still on their way
   abbrev pub coming : (from : ℕ) → (motes : ℕ → LoneMote S L) → List RadioCopy
   coming from motes = filter (comes_from from) (flat_map (copies_by system motes) (up_to system.motes))
 
@@ -59,7 +59,7 @@ module _ {S L : Type 0} (system : System S L) (fine : RunsForward system) where
       again : cond (ltb s system.motes) (copies_by system motes s) [] ≡ copies_by system motes s
       again = elim (cases_Bool (ltb s system.motes)) [ inl e ↦ rw e refl | inr e ↦ rw e refl ]
 
-  -- where nothing is to come before a moment, the windows lead there
+  -- if no event is pending before a moment, the windows lead there
   pub idle : (from next : ℕ) (motes : ℕ → LoneMote S L) → from ≤ next → LedTo from motes
       → ((k : ℕ) → k < system.motes → NoneBefore next (motes k).wake)
       → ((s : ℕ) → AllByRecursion (λ copy. from ≤ copy.at → next ≤ copy.at) (copies_by system motes s))

@@ -9,7 +9,7 @@ use Rattle.worker_cut.specs.Crossed.{is_own}
 abbrev pub crosses_to : (of : List ℕ) → (worker : ℕ) → RadioCopy → Bool
 crosses_to of worker copy = not (is_own of worker copy.sender) && is_own of worker copy.to
 
--- of the copies of these packets, those that cross to this worker, each once and no others
+-- of the copies of these packets, exactly those that cross to this worker, each once
 abbrev pub AreThoseTo : (copies : Sent → List RadioCopy) → (of : List ℕ) → (worker : ℕ) → (log : List Sent)
     → List RadioCopy → Type 0
 AreThoseTo copies of worker log got = IsPermutation (filter (crosses_to of worker) (flat_map copies log)) got

@@ -2,10 +2,10 @@
 use Rattle.std.specs.Prelude.{ℕ, ◌*◌, ◌/◌, ◌%◌, List, map}
 use Rattle.window_laws.specs.Agenda.{up_to}
 
--- blocks of motes that follow one another
+-- blocks of consecutive motes
 abbrev pub block_cut : (motes workers : ℕ) → List ℕ
 block_cut motes workers = map (λ mote. (mote * workers) / motes) (up_to motes)
 
--- the motes dealt in turn
+-- the motes dealt out in turn
 abbrev pub stripe_cut : (motes workers : ℕ) → List ℕ
 stripe_cut motes workers = map (λ mote. mote % workers) (up_to motes)

@@ -19,7 +19,7 @@ GatheredCopies system of motes worker gathered =
 abbrev pub HasTaken : (gathered taken : List RadioCopy) → Type 0
 HasTaken gathered taken = (sender : ℕ) → filter (is_from_sender sender) taken ≡ filter (is_from_sender sender) gathered
 
--- at each moment of the window, of each mote, the copies for this mote that its worker has
+-- at each moment of the window, from each sender, the copies for this mote that its worker has seen
 abbrev pub IsFromSources : {S L : Type 0} → System S L → (own : ℕ → Bool) → (from bound : ℕ)
     → (motes : (number : ℕ) → LoneMote S L) → (taken : List RadioCopy) → (number : ℕ)
     → (given : List RadioCopy) → Type 0

@@ -10,7 +10,7 @@ use std::alloc::{AllocError, Global};
 pub struct Cut {
     /// The worker of each mote, by the mote's number.
     pub of: Vec<u16>,
-    /// The longest window wished, in moments, or 0 for no wish.
+    /// The longest window that is asked for, in moments; 0 for none.
     pub longest: u32,
 }
 
@@ -24,8 +24,8 @@ fn in_blocks(mote: u16, motes: u16, workers: u16) -> u16
 }
 
 impl Cut {
-    /// Gives each worker motes that follow one another, as many as each other worker or one more or less: mote i goes
-    /// to the worker `i * workers / motes`.
+    /// Gives each worker a block of consecutive motes, the blocks differing in size by at most one: mote i goes to the
+    /// worker `i * workers / motes`.
     pub fn block(alloc: Global, motes: u16, workers: u16) -> Result<Cut, AllocError>
         requires motes { 0 < motes }
         requires workers { 0 < workers }
@@ -39,7 +39,7 @@ impl Cut {
         Ok(Cut { of, longest: 0 })
     }
 
-    /// Deals the motes in turn: mote i goes to the worker `i` mod `workers`.
+    /// Deals the motes out in turn: mote i goes to the worker `i` mod `workers`.
     pub fn stripe(alloc: Global, motes: u16, workers: u16) -> Result<Cut, AllocError>
         requires motes { 0 < motes }
         requires workers { 0 < workers }

@@ -3,8 +3,8 @@
 ghost use Rattle.window_laws.specs.System.{System};
 ghost use Rattle.worker_cut.specs.Laws.{WindowCopiesAreWhole, CrossedOnce};
 
-/// The copies for a mote in a window, chosen from what its worker's own motes sent and from what the worker took of all
-/// that crossed to it, are those that the law of windows asks for.
+/// The copies for a mote in a window, selected from what its worker's own motes sent and from what the worker took of
+/// all that crossed to it, are those that the law of windows requires.
 pub fn window_copies_are_whole<S, L>()
     ensures { (system : System S L) → WindowCopiesAreWhole system }
 {}

@@ -1,9 +1,9 @@
-//! Whose a mote is.
+//! Which worker has a mote.
 
 ghost use Rattle.std.specs.Prelude.{◌≡◌};
 ghost use Rattle.worker_cut.specs.Crossed.{is_own};
 
-/// Whether a mote is one of this worker's: `of` tells the worker of each mote.
+/// Whether a mote is one of this worker's; `of` is the worker of each mote.
 pub fn is_own(of: &[u16], worker: u16, mote: u16) -> bool
     ensures { result ≡ is_own of.now worker mote }
 {

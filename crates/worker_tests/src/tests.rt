@@ -1,5 +1,5 @@
 //! Most tests write what they see into one text and compare it once, in a function that they share: so a test owns
-//! little where it can end early, which is what its proof costs most.
+//! little where it can end early, which would cost its proof most.
 
 mod held_back;
 mod inboxes;
@@ -115,8 +115,8 @@ struct Run<'a> {
     longest: u32,
 }
 
-/// The run by so many workers, with the worker of each mote, and windows of so many moments at most, or as many as may
-/// be.
+/// The run by `workers` workers, with the worker of each mote, and windows of at most `longest` moments; 0 asks for no
+/// such limit.
 fn by(workers: u16, of: &[u16], longest: u32) -> Run<'_> {
     Run {
         workers,
@@ -136,7 +136,7 @@ fn cut_of(alloc: Global, run: &Run<'_>) -> Result<Cut, AllocError> {
 /// What comes of a run.
 #[derive(Clone, Copy, Debug)]
 enum Outcome {
-    /// The report of one thread, in which so many copies are left.
+    /// The report of one thread, in which this many copies are left.
     Same(u64),
     /// Another report.
     Other,
@@ -144,7 +144,7 @@ enum Outcome {
     Fault(RunError),
 }
 
-/// Whether two reports have one text.
+/// Whether two reports have the same text.
 fn are_same(alloc: Global, first: &Report, second: &Report) -> Result<bool, AllocError> {
     let first = format!(in alloc; "{first:?}")?;
     let second = format!(in alloc; "{second:?}")?;
@@ -159,7 +159,7 @@ fn is_of_one_thread(alloc: Global, net: &Net, report: &Report) -> bool {
     }
 }
 
-/// What a report is beside that of one thread.
+/// A report compared with that of one thread.
 fn compare(alloc: Global, net: &Net, report: &Report) -> Outcome {
     if is_of_one_thread(alloc, net, report) {
         Outcome::Same(report.left)

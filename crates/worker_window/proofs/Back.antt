@@ -105,7 +105,7 @@ module _ (n : NetTold) (of : List ℕ) (worker from until : ℕ) (before now : M
   same_here : (j : ℕ) → (j ≡ k → ⊥) → outgoing j ≡ here j
   same_here j ne = ap (λ b. own j && not b) (among_more j others k ∙ (ap (λ b. is_one_of j others || b) (ne_eqb k j (λ f. ne (sym f))) ∙ or_none (is_one_of j others)))
 
-  -- of the mote that is back, and of another
+  -- by cases: the mote that is back, or another
   by_mote : (P : ℕ → Type 0) → P k → ((j : ℕ) → (j ≡ k → ⊥) → P j) → (j : ℕ) → P j
   by_mote P one rest j = elim (cases_eq j k) [ inl e ↦ subst P (sym e) one | inr ne ↦ rest j ne ]
 

@@ -1,4 +1,4 @@
--- No turn comes too late: each mote's last turn was before the moment at which its share stands.
+-- No turn is past: each mote's last turn was before the moment of its share.
 use Rattle.std.proofs.Common.{◌≡◌, ◌∙◌, ℕ, ◌<◌, ◌≤◌, false, nat_le, Option, Some, None, List, refl, ap, arith}
 use Rattle.std.proofs.lemmas.Bool.Decides.{nat_tests}
 use Rattle.trace_lines.specs.declared.line.Line.{Line}

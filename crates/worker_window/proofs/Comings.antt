@@ -21,7 +21,7 @@ use Rattle.worker_window.proofs.Gives.{IsSentIn, IsBack, come_late}
 use Rattle.worker_window.proofs.Lent.{among_more, different_less}
 use Rattle.worker_window.proofs.Back.{next, at_k, elsewhere, out_more, is_back}
 
--- an answer of a mote of this worker
+-- what a mote of this worker gave
 pub record IsFitOwn (n : NetTold) (of : List ℕ) (worker until : ℕ) (out : WindowOut) : Type 0 where
   pub number : ℕ
   pub mine : is_own of worker number ≡ true
@@ -51,7 +51,7 @@ go_out n of worker until out placed fit =
     not_true true e = absurd (cc)
     not_true false e = refl
 
--- the answers of residents
+-- what residents gave
 pub zip_every : (P : Resident → Type 0) (R : Resident → WindowOut → Type 0) (Q : WindowOut → Type 0) → ((r : Resident) (o : WindowOut) → P r → R r o → Q o)
     → (rs : List Resident) (os : List WindowOut) → AllByRecursion P rs → AllZip R rs os → AllByRecursion Q os
 zip_every P R Q f [] [] p z = tt
@@ -66,7 +66,7 @@ zip_numbers P R Q f [] (o ∷ os) p z = absurd z
 zip_numbers P R Q f (r ∷ rs) [] p z = absurd z
 zip_numbers P R Q f (r ∷ rs) (o ∷ os) p z = (f r o p.0 z.0, zip_numbers P R Q f rs os p.1 z.1)
 
--- the last of two lists
+-- the last elements of two lists
 pub record Last {X : Type 0} (R : ℕ → X → Type 0) (ks : List ℕ) (xs : List X) (x : X) : Type 0 where
   pub front : List ℕ
   pub number : ℕ
@@ -95,11 +95,11 @@ pub none_of : {X : Type 0} (R : ℕ → X → Type 0) (ks : List ℕ) → AllZip
 none_of R [] z = refl
 none_of R (k ∷ ks) z = absurd z
 
--- of this mote this wake is pending
+-- this is the pending wake of this mote
 abbrev pub IsPending : (until : ℕ) → Motes → (k : ℕ) → (wake : Option ℕ) → Type 0
 IsPending until motes k wake = wake ≡ wake_from until (motes k).wake
 
--- some motes are still out
+-- some motes are still lent
 pub record Coming (n : NetTold) (of : List ℕ) (worker from until : ℕ) (motes : Motes) (taken : List RadioCopy) (window_copies : ℕ → List RadioCopy) (share : Share) (outs : List WindowOut) (wakes : List (Option ℕ)) (outgoing : List RadioCopy) : Type 0 where
   pub rest : List ℕ
   pub different : are_different rest ≡ true

@@ -53,7 +53,7 @@ pub record IsBack (n : NetTold) (own : ℕ → Bool) (from until : ℕ) (motes :
   pub turned_before : is_past until last.state.last ≡ false
   pub sent : AllByRecursion (IsSentIn k from until) out.sends.items
 
--- the mote that an answer tells
+-- the mote that a window gave
 pub record IsTold (o : Option Node) (out : WindowOut) (last : LoneMote Node Line) : Type 0 where
   pub node : o ≡ Some last.state
   pub wake : out.wake ≡ last.wake
@@ -118,7 +118,7 @@ module _ (n : NetTold) (from until : ℕ) where
   stamps k t h l [] = tt
   stamps k t h l (x ∷ sends) = (record { sender = refl; later = h; soon = l }, stamps k t h l sends)
 
-  -- where a resident's answer is told, the mote is back
+  -- what a resident's window gave is a mote back from its window
   module _ (own : ℕ → Bool) (motes : Motes) (window_copies : ℕ → List RadioCopy) (k : ℕ) (mine : own k ≡ true) (there : k < length n.motes) (numbered : number_of (motes k).state ≡ k)
       (wakes : (motes k).wake ≡ wake_of (motes k).state) (wakes_from : NoneBefore from (motes k).wake) (window_copies_from : AllByRecursion (λ c. from ≤ c.at) (window_copies k)) (before : is_past until (motes k).state.last ≡ false) where
     front_is : in_front (motes k).lines (motes k).sends (lone_node (motes k).state) ≡ motes k
@@ -156,7 +156,7 @@ module _ (n : NetTold) (from until : ℕ) where
           alone : Alone (system_of n) k until (window_copies k) (lone_node (motes k).state) gives.last
           alone = alone_alike (system_of n) k until (window_copies k) alike (subst (λ j. Alone (system_of n) j until given (lone_node (motes k).state) gives.last) numbered (gives.run (system_of n) turn_is))
 
-  -- the copies of what a mote sent in the window come after it
+  -- the copies of what a mote sent in the window arrive after it
   pub record ComesLate (k : ℕ) (copy : RadioCopy) : Type 0 where
     pub sender : copy.sender ≡ k
     pub late : until ≤ copy.at

@@ -1,4 +1,4 @@
--- The items of a share's agenda: wakes of the worker's motes and copies for them, all still to come.
+-- The items of a share's agenda: wakes of the worker's motes and copies for them, none before the share's moment.
 use Rattle.std.proofs.Common.{◌≡◌, ℕ, ◌≤◌, Bool, true, false, cond, not, ◌&&◌, ltb, eqb, List, [], ◌∷◌, refl, sym, ap, subst, inl, inr, arith, Option, Some, None}
 use Rattle.std.specs.List.{filter, AllByRecursion}
 use Rattle.std.proofs.lemmas.Bool.{cases_Bool, eq-eqb, and_parts, le-ltb}
@@ -38,7 +38,7 @@ module _ (P : Item → Type 0) where
       let g = rw e at (c x.sender) in
       (g.0, every_item items w (rest_copies x items c))
 
-  -- and so the other way round
+  -- and conversely
   pub wake_of_all : (items : List Item) (k : ℕ) → AllByRecursion P items → AllByRecursion P (filter (is_wake_of k) items)
   wake_of_all [] k h = tt
   wake_of_all (x ∷ items) k h = elim (cases_Bool (is_wake_of k x)) [ inl e ↦ rw e (h.0, wake_of_all items k h.1) | inr e ↦ rw e (wake_of_all items k h.1) ]
@@ -57,12 +57,12 @@ to_come own at from h = let p = and_parts own (not (ltb at from)) h in (p.0, not
 not_sooner : (a b : ℕ) → ltb a b ≡ false → b ≤ a
 not_sooner a b h = grind (arith, nat_tests)
 
--- a wake that is still to come
+-- a wake that isn't before the moment
 pub wake_still : (from : ℕ) (wake : Option ℕ) → NoneBefore from wake → wake_from from wake ≡ wake
 wake_still from None h = refl
 wake_still from (Some t) h = let e : ltb t from ≡ false = le-ltb t from h in rw e refl
 
--- where all are still to come
+-- if no wake is before the moment
 pub all_wakes : (own : ℕ → Bool) (from : ℕ) (motes : Motes) → ((k : ℕ) → own k ≡ true → NoneBefore from (motes k).wake) → (k : ℕ)
     → cond (own k) (wake_items k (wake_from from (motes k).wake)) [] ≡ cond (own k) (wake_items k (motes k).wake) []
 all_wakes own from motes quiet k = of (own k) refl

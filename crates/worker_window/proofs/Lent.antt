@@ -27,7 +27,7 @@ some_within [] k x e = absurd (none_is_not x e)
 some_within (y ∷ xs) zero x e = omega arith
 some_within (y ∷ xs) (suc k) x e = let h = some_within xs k x e in omega arith
 
--- a number more
+-- one more number
 pub among_more : (j : ℕ) (ks : List ℕ) (k : ℕ) → is_one_of j (ks ++ k ∷ []) ≡ (is_one_of j ks || eqb k j)
 among_more j [] k = or_false (eqb k j)
   where
@@ -56,7 +56,7 @@ different_more (i ∷ ks) k d n =
     not_true true e = absurd (cc)
     not_true false e = refl
 
--- and back
+-- and one less
 pub different_less : (ks : List ℕ) (k : ℕ) → are_different (ks ++ k ∷ []) ≡ true → (are_different ks ≡ true) × (is_one_of k ks ≡ false)
 different_less [] k d = (refl, refl)
 different_less (i ∷ ks) k d =

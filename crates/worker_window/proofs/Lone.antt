@@ -1,4 +1,4 @@
--- A mote alone: what it wrote and sent before, and which window_copies it was given, make no difference to its run.
+-- A mote alone: what it wrote and sent before, and the order of the copies of each moment, don't change its run.
 use Rattle.std.proofs.Common.{◌≡◌, ℕ, ◌<◌, ◌≤◌, ◌⊎◌, Bool, true, false, not, ◌||◌, eqb, List, [], ◌∷◌, ◌++◌, refl, sym, ap, ◌∙◌, subst, inl, inr, arith, append_assoc, Option, Some, None}
 use Rattle.std.specs.List.{filter, list_any, AllByRecursion}
 use Rattle.std.proofs.lemmas.Bool.{cases_Bool, cases_eq, cases_lt, eq-eqb, ne_eqb, eqb-true, or_parts, false≢true}
@@ -12,7 +12,7 @@ use Rattle.window_laws.specs.Windows.{LoneMote, after_lone_turn, lone_turn, is_a
 use Rattle.window_laws.proofs.Lists.{filter_stronger, every_filter, any_every, is_filled}
 use Rattle.window_laws.proofs.Alone.{filled_given}
 
--- with lines and packets of before in front
+-- with earlier lines and packets before its own
 abbrev pub in_front : {S L : Type 0} → List L → List Sent → LoneMote S L → LoneMote S L
 in_front lines sends mote = record mote { lines = lines ++ mote.lines; sends = sends ++ mote.sends }
 
@@ -92,7 +92,7 @@ module _ {S L : Type 0} (system : System S L) (k bound : ℕ) where
   rests_quiet (Rests quiet) = quiet.no_wake
   rests_quiet (Turns t quiet comes low rest) = rests_quiet rest
 
-  -- what each turn of the window keeps holds at its end
+  -- what each turn of the window preserves holds at its end
   module _ (wakes_later : (mote : ℕ) (state : S) (moment : ℕ) (given : List RadioCopy) → IsLater moment (system.turn mote state moment given).wake) (from : ℕ) where
     wake_at : (t : ℕ) (wake : Option ℕ) → NoneBefore from wake → wakes_at t wake ≡ true → from ≤ t
     wake_at t None h e = absurd (false≢true e)

@@ -66,7 +66,7 @@ module _ (n : NetTold) (of : List ℕ) (worker from until : ℕ) (motes : Motes)
   abbrev pub own : ℕ → Bool
   own = is_own of worker
 
-  -- all that is to come, with what has arrived
+  -- all pending events, with what has arrived
   abbrev pub items : List Item
   items = keeps.agenda.items ++ map Packet arrived
 

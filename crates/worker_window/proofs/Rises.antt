@@ -48,7 +48,7 @@ module _ {X : Type 0} (first second : X → ℕ) where
   sorted_is_sorted [] = tt
   sorted_is_sorted (x ∷ xs) = insert_sorted x (sorted_by first second xs) (sorted_is_sorted xs)
 
--- each copy may stand before those behind it
+-- each copy may come before those after it
 abbrev pub Rises : List RadioCopy → Type 0
 Rises [] = Unit {0}
 Rises (x ∷ xs) = AllByRecursion (λ y. comes_before x y ≡ true) xs × Rises xs
@@ -76,7 +76,7 @@ rises_at t (x ∷ xs) s h = (
 pub in_order_rises : (t : ℕ) (xs : List RadioCopy) → AllByRecursion (λ c. c.at ≡ t) xs → Rises (in_order xs)
 in_order_rises t xs h = rises_at t (in_order xs) (sorted_is_sorted sender_of number_of xs) (every_sorted sender_of number_of (λ c. c.at ≡ t) xs h)
 
--- behind copies of earlier moments
+-- after copies of earlier moments
 pub rises_on : (t : ℕ) (xs ys : List RadioCopy) → Rises xs → Rises ys → AllByRecursion (λ c. c.at < t) xs → AllByRecursion (λ c. c.at ≡ t) ys → Rises (xs ++ ys)
 rises_on t [] ys r s h k = s
 rises_on t (x ∷ xs) ys r s h k = (
@@ -92,7 +92,7 @@ pub is_rising_from : (xs : List RadioCopy) → Rises xs → is_rising xs ≡ tru
 is_rising_from [] r = refl
 is_rising_from (x ∷ xs) r = let e = all_of (comes_before x) xs r.0 in rw e (is_rising_from xs r.1)
 
--- what a mote is given of its copies, with their moment and the mote, is those copies
+-- the arrivals made of a mote's copies, with the moment and the mote, make the same copies again
 pub copies_again : (t m : ℕ) (xs : List RadioCopy) → AllByRecursion (λ c. (c.at ≡ t) × (c.to ≡ m)) xs → map (copy_at t m) (map arrival_of xs) ≡ xs
 copies_again t m [] h = refl
 copies_again t m (x ∷ xs) h =

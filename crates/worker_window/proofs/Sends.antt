@@ -1,4 +1,4 @@
--- Copies and packets go on their way one after another.
+-- Copies and packets are sent one after another.
 use Rattle.std.proofs.Common.{◌≡◌, ℕ, ◌+◌, ◌<◌, Bool, true, List, [], ◌∷◌, ◌++◌, length, map, take, get_or, refl, sym, ap, ◌∙◌, append-nil, append_assoc, Option, Some, None}
 use Rattle.std.specs.Prelude.{Result, Ok, Err}
 use Rattle.std.specs.Result.{OnOk}
@@ -21,12 +21,12 @@ module _ {A B : Type 0} (made : List A → List B) (splits : (xs ys : List A) �
       append_assoc before (made (take i xs)) (made (get_or xs i d ∷ []))
       ∙ ap (λ l. before ++ l) (sym (ap made (take_more xs i d lt) ∙ splits (take i xs) (get_or xs i d ∷ [])))
 
--- a packet more
+-- one more packet
 pub more_sends : (before sends : List Sent) (i : ℕ) (d : Sent) → i < length sends → (before ++ take i sends) ++ get_or sends i d ∷ [] ≡ before ++ take (i + 1) sends
 more_sends = more (λ sends. sends) (λ xs ys. refl)
 
 module _ (p : RadioCopy → Bool) where
-  -- the copy of a fate more
+  -- the copy of one more fate
   module _ (copy : Fate → Option RadioCopy) where
     abbrev some : List Fate → List RadioCopy
     some fates = filter p (filter_map copy fates)
@@ -42,7 +42,7 @@ module _ (p : RadioCopy → Bool) where
         → (before ++ some (take i fates)) ++ some (get_or fates i d ∷ []) ≡ before ++ some (take (i + 1) fates)
     more_away = more some some_splits
 
-  -- the copies of a packet more
+  -- the copies of one more packet
   module _ (copies : Sent → List RadioCopy) where
     abbrev all : List Sent → List RadioCopy
     all sends = filter p (flat_map copies sends)
@@ -62,7 +62,7 @@ module _ (p : RadioCopy → Bool) where
     pub more_sent_away : (before : List RadioCopy) (sends : List Sent) (i : ℕ) (d : Sent) → i < length sends → (before ++ all (take i sends)) ++ filter p (copies (get_or sends i d)) ≡ before ++ all (take (i + 1) sends)
     more_sent_away before sends i d lt = ap (λ l. (before ++ all (take i sends)) ++ l) (one (get_or sends i d)) ∙ more all all_splits before sends i d lt
 
--- where all fates are of copies for own motes, all copies stay
+-- if all fates are of copies for own motes, all copies stay with the worker
 module _ (own : ℕ → Bool) (sent : Sent) where
   pub all_own : (fates : List Fate) → list_all (λ (fate : Fate). own fate.to) fates ≡ true → filter (λ (copy : RadioCopy). own copy.to) (filter_map (copy_of sent) fates) ≡ filter_map (copy_of sent) fates
   all_own [] h = refl

@@ -29,7 +29,7 @@ use Rattle.worker_window.proofs.Lone.{quiet_alike}
 use Rattle.worker_window.proofs.Parts.{items, window_copies, window_copies_from, alike, idle_alone, all_in, later, later_wakes, later_copies, quiet_else, here_parts}
 use Rattle.worker_window.proofs.Comings.{Coming, IsPending, zip_numbers}
 
--- who is called is inside
+-- what holds of the mote of each item holds of each mote that is called
 pub called_in : (P : ℕ → Type 0) (until k : ℕ) (items : List Item) → AllByRecursion (λ item. P (mote_of item)) items → list_any (calls_for until k) items ≡ true → P k
 called_in P until k items all e =
     any_every (P k) (calls_for until k) _ (λ item f h. subst P (eqb-true (mote_of item) k (and_parts (ltb (moment_of item) until) (eqb (mote_of item) k) f).1) h) items e all
@@ -117,7 +117,7 @@ module _ (n : NetTold) (of : List ℕ) (worker from until : ℕ) (motes : Motes)
       told (tree_at n k)
       ∙ (ap (λ o. wake_from until (wake_in o)) (ap (node_at (tree_at n k)) (sym called.mote) ∙ keeps.nodes k h) ∙ ap (wake_from until) (sym (keeps.wakes k h)))
 
-  -- nothing comes too late to the motes that are called
+  -- the motes that are called can go on
   pub go_on : AreGoingOn n until residents
   go_on = every_weaker (IsCalled calls old.motes.items) (ResidentGoesOn n until) one_goes_on residents lent.called
 

@@ -1,4 +1,4 @@
--- One trace has lines more, and the others none.
+-- One trace has more lines, and the others are unchanged.
 use Rattle.std.proofs.Common.{◌≡◌, ℕ, ◌<◌, ◌⊎◌, cond, eqb, List, [], ◌++◌, length, get_or, set, sym, ap, ◌∙◌, inl, inr, append-nil, Vec, get_or-set_same, get_or-set_other}
 use Rattle.std.specs.declared.alloc.Global.{Global}
 use Rattle.std.proofs.lemmas.Bool.{cases_eq, eq-eqb, ne_eqb}

@@ -20,7 +20,7 @@ copies_for [] mote = None
 copies_for (place ∷ places) zero = option_map (λ copies. copies.items) place
 copies_for (place ∷ places) (suc mote) = copies_for places mote
 
--- this mote, for which these are the copies, is called no more
+-- this mote, with these copies, is no longer called
 pub record TakesCall (mote : ℕ) (copies : List RadioCopy) (old new : CalledMotes) : Type 0 where
   pub called : copies_for old mote ≡ Some copies
   pub others : (k : ℕ) → copies_for new k ≡ (if mote == k then None else copies_for old k)
@@ -30,11 +30,11 @@ pub record TakesCall (mote : ℕ) (copies : List RadioCopy) (old new : CalledMot
 abbrev pub is_not_before : (until : ℕ) → Item → Bool
 is_not_before until item = not (nat_lt (moment_of item) until)
 
--- something comes to this mote before this moment
+-- the item is an event of this mote before this moment
 abbrev pub calls_for : (until mote : ℕ) → Item → Bool
 calls_for until mote item = nat_lt (moment_of item) until && (mote_of item == mote)
 
--- the copies for a mote, rising, are those that the items have for it at each moment
+-- the copies for a mote are rising, and are those that the items have for it at each moment before a bound
 pub record TakesCopiesFor (until : ℕ) (items : List Item) (mote : ℕ) (copies : List RadioCopy) : Type 0 where
   pub rising : is_rising copies ≡ true
   pub all : (moment : ℕ) → filter (is_at moment) copies

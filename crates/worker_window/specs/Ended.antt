@@ -1,4 +1,4 @@
--- What a worker has to tell at the end.
+-- What a worker reports at the end.
 use Rattle.std.specs.Prelude.{ℕ, ◌≡◌, true, if◌then◌else◌, List, [], length, slice_index_or, Vec}
 use Rattle.std.specs.List.{filter}
 use Rattle.std.specs.declared.alloc.Global.{Global}
@@ -12,7 +12,7 @@ use Rattle.worker_cut.specs.Crossed.{is_own, copies_seen}
 use Rattle.worker_window.specs.Log.{packets_in, HaveFates}
 use Rattle.worker_window.specs.Share.{Motes, is_to_come}
 
--- the traces and the packets of the worker's motes, and how many copies are still to come to them
+-- the traces and the packets of the worker's motes, and how many copies are still on their way to them
 pub record TellsAtEnd (n : NetTold) (of : List ℕ) (worker from : ℕ) (motes : Motes) (taken : List RadioCopy)
     (ended : Ended) : Type 0 where
   pub traces_kept : length ended.traces.items ≡ length n.motes

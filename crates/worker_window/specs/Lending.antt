@@ -37,11 +37,11 @@ pub record IsCalled (calls : CalledMotes) (motes : List (Option Mote)) (resident
   pub mote : mote_here motes resident.number ≡ Some resident.mote
   pub copies : copies_for calls resident.number ≡ Some resident.copies.items
 
--- the wake that a mote tells, from a moment on
+-- the wake of a mote, unless it is before a moment
 abbrev pub IsWakeOf : (until : ℕ) → Resident → (wake : Option ℕ) → Type 0
 IsWakeOf until resident wake = (tree : Tree) → wake ≡ wake_from until (wake_in (node_in tree resident.mote))
 
--- the motes that are called are lent, and these are the wakes that they tell
+-- the motes that are called are lent, and these are their wakes
 pub record MotesAreLent (until : ℕ) (calls : CalledMotes) (old new : List (Option Mote)) (residents : List Resident)
     (wakes : List (Option ℕ)) : Type 0 where
   pub different : are_different (numbers_of residents) ≡ true

@@ -9,14 +9,14 @@ use Rattle.worker_cut.specs.Crossed.{is_own, copies_seen}
 use Rattle.worker_window.specs.declared.share.Share.{Share}
 use Rattle.worker_window.specs.Share.{Motes, Keeps, is_to_come}
 
--- the copies from this sender that are still to come to the worker's motes
+-- the copies from this sender that are still on their way to the worker's motes
 abbrev pub copies_to_come : NetTold → (of : List ℕ) → (worker from : ℕ) → Motes → (taken : List RadioCopy)
     → (sender : ℕ) → List RadioCopy
 copies_to_come n of worker from motes taken sender =
     let own = is_own of worker in filter (is_to_come own from) (copies_seen (system_of n) own motes taken sender)
 
--- A share that stands at a moment: nothing comes to it before the next moment. So it stands at each moment up to that
--- one, and no copy comes before it.
+-- `next` is the first pending event of a share at the moment `from`: it isn't before `from`; the share is also one at
+-- each later moment up to `next`; and no copy arrives before `next`.
 pub record IsNextFrom (n : NetTold) (of : List ℕ) (worker from : ℕ) (motes : Motes) (taken : List RadioCopy)
     (share : Share) (next : Option ℕ) : Type 0 where
   pub wakes : NoneBefore from next
@@ -24,7 +24,7 @@ pub record IsNextFrom (n : NetTold) (of : List ℕ) (worker from : ℕ) (motes :
   pub no_copies : (moment : ℕ) → NoneBefore moment next → (sender : ℕ)
       → Each (λ copy. moment ≤ copy.at) (copies_to_come n of worker from motes taken sender)
 
--- so it is, whosever share it is and wherever it stands
+-- this is the first pending event, whichever worker's share it is, and at whatever moment
 abbrev pub TellsNext : Share → (next : Option ℕ) → Type 0
 TellsNext share next = (n : NetTold) (of : List ℕ) (worker from : ℕ) (motes : Motes) (taken : List RadioCopy)
     → Keeps n of worker from motes taken share → IsNextFrom n of worker from motes taken share next

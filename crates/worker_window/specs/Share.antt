@@ -42,8 +42,8 @@ abbrev pub wake_from : (from : ℕ) → Option ℕ → Option ℕ
 wake_from from None = None
 wake_from from (Some wake) = if nat_lt wake from then None else Some wake
 
--- the agenda has the next wake of each of the worker's motes, where that is still to come, and of each sender all
--- copies that are to come, in the order of sending
+-- the agenda has the next wake of each of the worker's motes, unless that is before the moment, and of each sender all
+-- copies for them that arrive at the moment or later, in the order of sending
 pub record HasToCome (n : NetTold) (own : ℕ → Bool) (from : ℕ) (motes : Motes) (taken : List RadioCopy)
     (buckets : Buckets) : Type 0 where
   pub items : List Item

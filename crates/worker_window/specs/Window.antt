@@ -18,8 +18,8 @@ pub record RunsOwnMote (n : NetTold) (own : ℕ → Bool) (from until : ℕ) (mo
   pub is_given : IsFromSources (system_of n) own from until motes taken number given
   pub alone : Alone (system_of n) number until given (motes number) (next number)
 
--- the outgoing copies of the packets that a mote of this worker has sent so far, in the order of sending; none where
--- the mote is another worker's
+-- the outgoing copies of the packets that a mote of this worker has sent so far, in the order of sending; none if the
+-- mote is another worker's
 abbrev pub outgoing_by : NetTold → (own : ℕ → Bool) → Motes → (sender : ℕ) → List RadioCopy
 outgoing_by n own motes sender =
     if own sender then filter (is_for_others own) (copies_by (system_of n) motes sender) else []
@@ -37,8 +37,8 @@ pub record RunsWindow (n : NetTold) (of : List ℕ) (worker from until : ℕ) (m
       ++ filter (is_from_sender s) outgoing
   pub late : Each (λ (copy : RadioCopy). until ≤ copy.at) outgoing
 
--- Wherever the share stood at or before the window's end, where the window is no longer than the lookahead and each
--- copy that arrived is expected: the new share is what the window makes of it, and these are the outgoing copies.
+-- At whatever moment, not after the window's end, the share was: if the window is no longer than the lookahead and
+-- each copy that arrived is expected, the new share is what the window makes of it, and these are the outgoing copies.
 abbrev pub RunsThrough : NetTold → (of : List ℕ) → (until : ℕ) → (arrived : List RadioCopy) → (old new : Share)
     → (outgoing : List RadioCopy) → Type 0
 RunsThrough n of until arrived old new outgoing = (worker from : ℕ) (motes : Motes) (taken : List RadioCopy)
@@ -46,8 +46,8 @@ RunsThrough n of until arrived old new outgoing = (worker from : ℕ) (motes : M
     → Each (IsExpected of worker from) arrived
     → RunsWindow n of worker from until motes (taken ++ arrived) new outgoing
 
--- wherever the share stood, where each of these copies is expected: the new one keeps the same, with them among what it
--- has taken
+-- at whatever moment the share was, if each of these copies is expected, the new one keeps the same, with them among
+-- what it has taken
 abbrev pub TakesIn : (arrived : List RadioCopy) → (old new : Share) → Type 0
 TakesIn arrived old new = (n : NetTold) (of : List ℕ) (worker from : ℕ) (motes : Motes) (taken : List RadioCopy)
     → Keeps n of worker from motes taken old → Each (IsExpected of worker from) arrived

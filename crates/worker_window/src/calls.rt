@@ -13,8 +13,8 @@ use net_agenda::Agenda;
 use radio_packet::{Arrival, RadioCopy};
 use std::alloc::{AllocError, Global};
 
-/// The motes that have a turn in a window, each with the copies that come to it. The place at the number of a mote has
-/// none where the mote isn't called.
+/// The motes that have a turn in a window, which are called, each with the copies that come to it. The place at the
+/// number of a mote that isn't called is `None`.
 #[derive(Drop)]
 pub struct CalledMotes {
     pub alloc: Global,
@@ -23,7 +23,7 @@ pub struct CalledMotes {
 }
 
 impl CalledMotes {
-    /// No mote.
+    /// No mote is called.
     fn new(alloc: Global) -> CalledMotes
         ensures { (mote : ℕ) → copies_for result.copies.items mote ≡ None }
     {
@@ -33,7 +33,7 @@ impl CalledMotes {
         }
     }
 
-    /// Makes places up to that of a mote.
+    /// Extends the list up to the place of a mote.
     fn reach(&mut self, mote: u16) -> Result<(), AllocError>
         ensures same { (k : ℕ) → copies_for self.new.copies.items k ≡ copies_for self.old.copies.items k }
         ensures there { OnOk result (mote < length self.new.copies.items) }
@@ -56,7 +56,7 @@ impl CalledMotes {
         }
     }
 
-    /// A mote is called at a moment, with the copies that arrive.
+    /// Calls a mote at a moment, with the copies that arrive.
     fn add(
         &mut self,
         moment: u64,
@@ -102,7 +102,7 @@ fn copy_at(moment: u64, mote: u16, arrival: &Arrival) -> RadioCopy
     }
 }
 
-/// Appends the copies of packets that arrive together. Each is made once there is room, so straight at its place.
+/// Appends the copies of packets that arrive together. It reserves the memory first, so each copy is made in place.
 fn add_copies(
     copies: &mut Vec<RadioCopy>,
     moment: u64,

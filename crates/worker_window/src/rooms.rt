@@ -6,8 +6,8 @@ use radio_packet::RadioCopy;
 use std::alloc::{AllocError, Global};
 use window_run::{TurnRoom, WindowRoom, copies_in};
 
-/// Buffers for the lines and packets of a mote's window, and the room of the turns. What they hold between two windows
-/// is unspecified.
+/// Buffers for the lines and packets of a mote's window, and those of the turns. What they hold between two windows is
+/// unspecified.
 pub(crate) struct Rooms {
     alloc: Global,
     buffers: Vec<WindowRoom>,
@@ -34,14 +34,14 @@ impl Rooms {
         }
     }
 
-    /// An empty list for the copies of a window: that of an earlier one, if any is here.
+    /// An empty list for the copies of a window: that of an earlier window, if any was kept.
     pub(crate) fn copies(&mut self) -> Vec<RadioCopy>
         ensures { result.items ≡ [] }
     {
         copies_in(self.alloc, &mut self.turns)
     }
 
-    /// The buffers for a window: those of an earlier one, if any are here.
+    /// The buffers for a window: those of an earlier window, if any were put back.
     pub(crate) fn take(&mut self) -> WindowRoom {
         match self.buffers.pop() {
             Some(buffers) => buffers,

@@ -21,9 +21,9 @@ use process_kernel::Line;
 use std::alloc::{AllocError, Global};
 use worker_cut::is_own;
 
-/// What one worker of a net has. Motes and traces stand by the number of the mote, with none and an empty one for the
-/// motes of other workers; the packets of the worker's motes, each mote's in order; the pending events of its motes;
-/// and scratch buffers of windows.
+/// What one worker of a net has: its motes and their traces, each by the number of the mote, with no mote and an empty
+/// trace for the motes of other workers; the packets of its motes, each mote's in order; the pending events of its
+/// motes; and scratch buffers of windows.
 pub struct Share {
     pub(crate) alloc: Global,
     pub(crate) worker: u16,
@@ -34,7 +34,7 @@ pub struct Share {
     pub(crate) rooms: Rooms,
 }
 
-/// By hand, so that a share is dropped by one call: the check of a function that owns one sees no more of it.
+/// By hand, so that dropping a share is one call, which is all that the check of a function that owns one sees.
 impl Drop for Share {
     fn drop(self) {
         let Share {
@@ -49,7 +49,7 @@ impl Drop for Share {
     }
 }
 
-/// What a worker has to tell at the end: the traces of its motes, by number, the packets that they sent, each mote's in
+/// What a worker reports at the end: the traces of its motes, by number, the packets that they sent, each mote's in
 /// order, and how many copies of packets are still on their way to them.
 #[derive(Drop)]
 pub struct Ended {
@@ -58,7 +58,7 @@ pub struct Ended {
     pub left: u64,
 }
 
-/// A mote of the worker as it begins: it wakes at 0. There is none for a mote of another worker.
+/// Makes a mote of the worker, which wakes at 0; none for a mote of another worker.
 fn begin(
     alloc: Global,
     net: &Net,
@@ -79,7 +79,7 @@ fn begin(
 }
 
 impl Share {
-    /// The share of a worker before the motes' first turns: each mote wakes at 0. `of` tells the worker of each mote.
+    /// The share of a worker before the motes' first turns: each mote wakes at 0. `of` is the worker of each mote.
     pub fn new(alloc: Global, net: &Net, of: &[u16], worker: u16) -> Result<Share, AllocError>
         requires { length of.now ≡ length (net_of net.now).motes }
         ensures { let n = net_of net.now in IfOk result

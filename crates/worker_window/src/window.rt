@@ -32,7 +32,7 @@ use std::sync::Wait;
 use window_run::{Gate, Resident, ShareError, WindowOut, WindowRoom, run_share};
 use worker_cut::is_own;
 
-/// A wake that isn't before a moment.
+/// The wake, unless it is before a moment.
 fn wake_from(until: u64, wake: Option<u64>) -> Option<u64>
     ensures { result ≡ wake_from until wake }
 {
@@ -47,7 +47,7 @@ fn wake_from(until: u64, wake: Option<u64>) -> Option<u64>
     }
 }
 
-/// Takes a mote that is here out of the share.
+/// Takes a mote out of the share, which has it.
 fn take_mote(motes: &mut Vec<Option<Mote>>, number: u16) -> Mote
     requires { IsSome (mote_here motes.old.items number) }
     ensures mote { mote_here motes.old.items number ≡ Some result }
@@ -56,8 +56,8 @@ fn take_mote(motes: &mut Vec<Option<Mote>>, number: u16) -> Mote
     motes[usize::from(number)].take().unwrap()
 }
 
-/// Lends the motes that are called: takes them out of the share, until they come back (`take_back`). Their wakes that
-/// aren't before `until`, which the agenda keeps, take the place of what the list has.
+/// Lends the motes that are called: takes them out of the share, until they come back (`take_back`). `wakes` is
+/// overwritten with the wake of each, or none if that is before `until`: the others are still on the agenda.
 pub(crate) fn lend(
     motes: &mut Vec<Option<Mote>>,
     wakes: &mut Vec<Option<u64>>,
@@ -88,7 +88,6 @@ pub(crate) fn lend(
     Ok(residents)
 }
 
-/// Takes the last of the wakes.
 fn last_wake(wakes: &mut Vec<Option<u64>>) -> Option<u64>
     requires { 0 < length wakes.old.items }
     ensures { wakes.old.items ≡ wakes.new.items ++ result ∷ [] }
@@ -96,8 +95,8 @@ fn last_wake(wakes: &mut Vec<Option<u64>>) -> Option<u64>
     wakes.pop().unwrap()
 }
 
-/// A copy goes on its way: one for a mote of the worker becomes a pending event; one for another worker's mote is
-/// appended to `outgoing`.
+/// Sends a copy: one for a mote of the worker becomes a pending event; one for another worker's mote is appended to
+/// `outgoing`.
 fn send_copy(
     of: &[u16],
     worker: u16,
@@ -117,7 +116,7 @@ fn send_copy(
     Ok(())
 }
 
-/// The copy of a packet with this fate goes on its way, where it isn't lost.
+/// Sends the copy of a packet with this fate, unless it is lost.
 fn send_fate(
     of: &[u16],
     worker: u16,
@@ -151,7 +150,7 @@ fn are_own(of: &[u16], worker: u16, fates: &[Fate]) -> bool
     fates.iter().all(|fate| is_own(of, worker, fate.to))
 }
 
-/// The copies of a packet with these fates go on their way.
+/// Sends the copies of a packet with these fates.
 fn send_fates(
     of: &[u16],
     worker: u16,
@@ -174,7 +173,7 @@ fn send_fates(
     Ok(())
 }
 
-/// The packets of a mote go out, and are logged with the fates of their copies: the copies for the worker's own motes
+/// Sends the packets of a mote, and logs them with the fates of their copies: the copies for the worker's own motes
 /// become pending events, the others are appended to `outgoing`.
 pub(crate) fn send_all(
     medium: &Medium,
@@ -202,8 +201,8 @@ pub(crate) fn send_all(
 }
 
 impl Share {
-    /// A mote comes back from its window: its old wake leaves the agenda, its next one enters; its packets go out, and
-    /// its lines and packets are kept. The copies for other workers' motes are appended to `outgoing`.
+    /// Takes a mote back from its window: its old wake leaves the agenda, its next one enters; its packets are sent,
+    /// and its lines and packets are kept. The copies for other workers' motes are appended to `outgoing`.
     fn take_back(
         &mut self,
         medium: &Medium,
@@ -246,7 +245,7 @@ impl Share {
     /// Takes in copies that arrived from other workers, before the window in which the first of them can have a turn.
     ///
     /// # Errors
-    /// `Memory` alone.
+    /// Out of memory only.
     pub fn take_in(&mut self, arrived: &[RadioCopy]) -> Result<(), AllocError>
         ensures { OnOk result (TakesIn arrived.now self.old self.new) }
     {
@@ -256,12 +255,12 @@ impl Share {
 
     /// Runs the worker's motes through the window up to `until`, which is at most 2^40: takes in the copies that
     /// arrived from other workers, runs each mote that has something before `until` by the worker's future, and keeps
-    /// the pending events of its own motes. The answer is the copies for other workers' motes, those of each mote in
-    /// the order of sending. `of` tells the worker of each mote. The time goes with the turns of the window and the
-    /// copies that it takes and makes, but for a place for each mote up to the highest that has a turn.
+    /// the pending events of its own motes. It returns the copies for other workers' motes, those of each mote in the
+    /// order of sending. `of` is the worker of each mote. The running time grows with the turns of the window and the
+    /// copies that it takes and makes, apart from a place for each mote up to the highest that has a turn.
     ///
     /// # Errors
-    /// `Memory`, and `Thread` where the executor answered an error.
+    /// `Memory`, and `Thread` if the executor returned an error.
     pub fn run_window<R, G>(
         &mut self,
         rt: &R,

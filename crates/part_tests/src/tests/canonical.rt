@@ -12,13 +12,13 @@ fn canonical(alloc: Global, text: &str) -> Result<String, Fail> {
     Ok(print_program(alloc, &program)?)
 }
 
-/// Fails where the canonical text of a text's program is another one.
+/// Fails unless `want` is the canonical text of a text's program.
 fn has_canonical(alloc: Global, text: &str, want: &str) -> Result<(), Fail> {
     let printed = canonical(alloc, text)?;
     same_text(printed.as_str(), want)
 }
 
-/// Fails where this isn't the canonical text of the program of a text, and of itself.
+/// Fails unless `want` is the canonical text of a text's program, and of its own.
 fn prints(alloc: Global, text: &str, want: &str) -> Result<(), Fail> {
     has_canonical(alloc, text, want)?;
     has_canonical(alloc, want, want)

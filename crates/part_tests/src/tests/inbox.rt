@@ -62,7 +62,7 @@ pub(crate) fn with_two(
     Ok((inbox, taker, first, second))
 }
 
-// Pushes a copy. Where memory is refused, it is not there to be taken.
+// Pushes a copy. If an allocation fails, nothing is pushed.
 pub(crate) fn push<R: Wait>(rt: &R, inbox: &Inbox, sender: &mut Sender, copied: RadioCopy)
     requires { sender.old.inbox ≡ inbox.now }
     ensures { (sender.new.inbox ≡ inbox.now) × (sender.new.state.number ≡ sender.old.state.number)
@@ -100,7 +100,7 @@ pub(crate) fn write_known(text: &mut String, inbox: &Inbox, taker: &Taker) -> Re
     write!(text, "known {known}|")
 }
 
-// Takes so many copies, or all that are known where those are fewer.
+// Takes `most` copies, or all known ones if those are fewer.
 fn drain<R: Wait>(
     rt: &R,
     inbox: &Inbox,
@@ -115,8 +115,8 @@ fn drain<R: Wait>(
     inbox.drain(rt, taker, most.min(known))
 }
 
-// Takes so many copies, or all that are known where those are fewer. They are written down, between how many are known
-// before and behind.
+// Takes `most` copies, or all known ones if those are fewer. Writes them down, between the numbers of known copies
+// before and after.
 fn write_taken<R: Wait>(
     rt: &R,
     text: &mut String,
@@ -135,7 +135,7 @@ fn write_taken<R: Wait>(
     Ok(())
 }
 
-// Gathers both senders, and takes so many copies behind each.
+// Gathers both senders, and takes some copies after each.
 fn write_both_gathered<R: Wait>(
     rt: &R,
     text: &mut String,
@@ -158,7 +158,7 @@ fn write_both_gathered<R: Wait>(
     write_taken(rt, text, inbox, taker, most.1)
 }
 
-// Two senders push these copies. Writes down what is taken behind the gathering of each, and what is left at the end.
+// Two senders push these copies. Writes down what is taken after each is gathered, and what is left at the end.
 fn write_of_two<R: Wait>(
     rt: &R,
     alloc: Global,
@@ -194,7 +194,7 @@ fn write_one_behind_the_other<R: Wait>(
     Ok(())
 }
 
-// A sender that is made after another was gathered pushes behind it.
+// A sender that is made after another was gathered pushes after it.
 fn write_late_sender<R: Wait>(rt: &R, alloc: Global, text: &mut String) -> Result<(), InboxError> {
     let (inbox, mut taker) = Inbox::make(alloc)?;
     write_one_behind_the_other(rt, text, &inbox, &mut taker)?;
@@ -206,11 +206,11 @@ fn write_in_one_thread<R: Wait>(
     alloc: Global,
     text: &mut String,
 ) -> Result<(), InboxError> {
-    // Two copies of each, taken by three and by the closing.
+    // Two copies of each sender: three are drained, and closing the inbox gives the last.
     let four = [copy(0, 0), copy(1, 0), copy(1, 1), copy(0, 1)];
     write_of_two(rt, alloc, text, &four, (0, 3))?;
-    // What a sender pushed is in the inbox before the sender is gathered: the taker takes it, though it knows only of
-    // the other's.
+    // A copy lies in the inbox before its sender is gathered: the taker takes it, though only the other sender's copy
+    // is known.
     text.push_str("of both|")?;
     write_of_two(rt, alloc, text, &[copy(1, 8), copy(0, 7)], (1, 0))?;
     text.push_str("of nobody|")?;
@@ -286,7 +286,7 @@ fn from_two<R: Threads + Wait + Sync>(
     inbox.close(rt, taker)
 }
 
-// Whether these are so many copies of each of two senders, those of each in its order.
+// Whether these are `count` copies of each of two senders, each sender's in order.
 fn are_in_order(copies: &[RadioCopy], count: u64) -> bool {
     let mut next = [0u64; 2];
     for copied in copies {
@@ -299,7 +299,7 @@ fn are_in_order(copies: &[RadioCopy], count: u64) -> bool {
     next == [count; 2]
 }
 
-// Takes all that is known, and tells whether that is so many copies of sender 0, in order.
+// Takes all known copies. Whether they are `count` copies of sender 0, in order.
 fn takes_known<R: Wait>(rt: &R, inbox: &Inbox, mut taker: Taker, count: u64) -> bool
     requires { (taker.inbox ≡ inbox.now) × (taker.state.marked ≡ false) }
 {
@@ -310,7 +310,7 @@ fn takes_known<R: Wait>(rt: &R, inbox: &Inbox, mut taker: Taker, count: u64) -> 
     }
 }
 
-// The same while another thread pushes behind that.
+// The same while another thread pushes more.
 fn takes_beside<R: Threads + Wait + Sync>(
     rt: &R,
     inbox: &Inbox,
@@ -332,7 +332,7 @@ fn takes_beside<R: Threads + Wait + Sync>(
     taken
 }
 
-// Whether these are so many copies of one sender, in order.
+// Whether these are `count` copies of one sender, in order.
 fn are_of(copies: &[RadioCopy], mote: u16, count: u64) -> bool {
     let mut number = 0u64;
     for copied in copies {
@@ -344,7 +344,7 @@ fn are_of(copies: &[RadioCopy], mote: u16, count: u64) -> bool {
     number == count
 }
 
-// Two threads push so many copies each: all come out, those of each sender in its order.
+// Two threads push `count` copies each: all come out, each sender's in order.
 fn two_come_out<R: Threads + Wait + Sync>(
     rt: &R,
     alloc: Global,
@@ -354,7 +354,7 @@ fn two_come_out<R: Threads + Wait + Sync>(
     Ok(are_in_order(copies.as_slice(), count))
 }
 
-// The taker takes what it knows of one sender while another pushes behind that.
+// The taker takes the known copies of one sender while another sender pushes more.
 fn first_comes_out<R: Threads + Wait + Sync>(
     rt: &R,
     alloc: Global,

@@ -41,7 +41,7 @@ enum Act {
     Look,
     /// It is booted at moment 0.
     Boot,
-    /// So many packets of mote 3 are put into its ring, with their numbers as their values.
+    /// This many packets of mote 3 are put into its ring, with their numbers as their values.
     Packets(u16),
     /// A process is to be polled.
     Poll(Proc),
@@ -84,7 +84,7 @@ impl Bench {
         self.run(now)
     }
 
-    /// How many of so many packets the ring takes.
+    /// How many of `count` packets the ring takes.
     fn packets_taken(&mut self, count: u16) -> u32 {
         let mut taken = 0u32;
         for number in 0..count {
@@ -149,7 +149,7 @@ fn write_acts(alloc: Global, text: &mut String, program: &str, acts: &[Act]) -> 
     Ok(())
 }
 
-/// Fails where something else is written of that.
+/// Fails unless `want` is written of that.
 fn tells(alloc: Global, program: &str, acts: &[Act], want: &str) -> Result<(), Fail> {
     let mut text = String::new(alloc);
     write_acts(alloc, &mut text, program, acts)?;

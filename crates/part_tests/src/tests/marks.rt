@@ -12,7 +12,7 @@ use std::thread;
 use std::thread::Threads;
 use test_helpers::{same_text, write_copies};
 
-// Pushes a mark. Where memory is refused, it is not there to be taken.
+// Pushes a mark. If an allocation fails, nothing is pushed.
 fn push_mark<R: Wait>(rt: &R, inbox: &Inbox, sender: &mut Sender, window: u64)
     requires inbox { sender.old.inbox ≡ inbox.now }
     requires marked { sender.old.state.marked ≡ true }
@@ -34,7 +34,7 @@ fn write_item(text: &mut String, item: Option<Item>) -> Result<(), AllocError> {
     }
 }
 
-// Takes so many times what is next, and writes it down.
+// Takes the next item `count` times, and writes down what came.
 fn write_nexts<R: Wait>(
     rt: &R,
     text: &mut String,
@@ -74,7 +74,7 @@ fn write_end<R: Wait>(
     write_rest(rt, text, inbox, taker)
 }
 
-// Two senders push marks, the first one behind a copy. Writes down what is taken.
+// Two senders push marks, the first one after a copy. Writes down what is taken.
 fn write_pushed_marks<R: Wait>(
     rt: &R,
     text: &mut String,
@@ -96,15 +96,15 @@ fn write_pushed_marks<R: Wait>(
     write_nexts(rt, text, inbox, taker, 4)
 }
 
-// What two senders pushed is taken in order, each with its sender's number, though nothing is known of them; then
-// nothing is there, and nothing is left at the end.
+// What two senders pushed is taken in order, each item with its sender's number, though none is known; then the inbox
+// is empty, and nothing is left at the end.
 fn write_marked<R: Wait>(rt: &R, alloc: Global, text: &mut String) -> Result<(), InboxError> {
     let (inbox, mut taker, mut first, mut second) = with_two(alloc, true)?;
     write_pushed_marks(rt, text, &inbox, &mut taker, &mut first, &mut second)?;
     write_end(rt, text, inbox, taker, first, second)
 }
 
-// Gathers a sender, and takes what it pushed. Writes down what is known time after time.
+// Gathers a sender, and takes what it pushed. Writes down each time how many items are known.
 fn write_gathered<R: Wait>(
     rt: &R,
     text: &mut String,
@@ -133,7 +133,7 @@ fn write_known_marks<R: Wait>(rt: &R, alloc: Global, text: &mut String) -> Resul
     Ok(write_gathered(rt, text, &inbox, &mut taker, only)?)
 }
 
-// Two senders push a copy each. Writes down what is taken before and behind.
+// Two senders push a copy each. Writes down what is taken before and after.
 fn write_pushed<R: Wait>(
     rt: &R,
     text: &mut String,
@@ -188,7 +188,7 @@ fn push_window<R: Wait>(rt: &R, inbox: &Inbox, sender: &mut Sender, window: u64)
     push_mark(rt, inbox, sender, window);
 }
 
-// Pushes so many windows.
+// Pushes the copies and the mark of each window.
 fn push_windows<R: Wait>(rt: &R, inbox: &Inbox, mut sender: Sender, windows: u64)
     requires inbox { sender.inbox ≡ inbox.now }
     requires marked { sender.state.marked ≡ true }
@@ -205,11 +205,11 @@ struct Heard {
     full: u64,
     /// How many copies of the window were taken.
     copies: u64,
-    /// How many marks were taken, where none is missing.
+    /// How many marks were taken, if none is missing.
     marks: u64,
 }
 
-// What was taken once this is.
+// What was taken, this item included.
 fn after(heard: Heard, what: Carried) -> Heard {
     match what {
         Carried::Packet(copied) => Heard {
@@ -226,8 +226,8 @@ fn after(heard: Heard, what: Carried) -> Heard {
     }
 }
 
-// Takes until the mark of the last of so many windows; gives way where nothing is there. Tells in how many windows
-// three copies came before the mark.
+// Takes items until the mark of the last window has come, and yields the processor while the inbox is empty. Returns
+// in how many windows three copies came before the mark.
 fn take_windows<R: Wait>(rt: &R, inbox: &Inbox, taker: &mut Taker, windows: u64) -> u64
     requires { taker.old.inbox ≡ inbox.now }
 {
@@ -248,7 +248,7 @@ fn take_windows<R: Wait>(rt: &R, inbox: &Inbox, taker: &mut Taker, windows: u64)
     unreachable!()
 }
 
-// The same by a taker of its own.
+// The same with a taker that it owns.
 fn take_all<R: Wait>(rt: &R, inbox: &Inbox, mut taker: Taker, windows: u64) -> u64
     requires { taker.inbox ≡ inbox.now }
 {

@@ -91,7 +91,7 @@ fn four_motes(alloc: Global) -> Result<Medium, MediumError>
     Medium::new(alloc, &places, 3, 2, 1, &[loss])
 }
 
-/// Copies rise by receiver, not by arrival.
+/// Copies come in the order of their receivers, not of their arrivals.
 fn write_rising(text: &mut String, medium: &Medium) -> Result<(), AllocError>
     requires { length medium.now.places ≡ 4 }
 {
@@ -113,7 +113,7 @@ const EACH_SECOND: Loss = Loss {
     every: 2,
 };
 
-/// Writes down why a medium was refused, and the number of that.
+/// Writes down why a medium was refused, and the number of that error.
 fn write_fault(text: &mut String, fault: Option<MediumError>) -> Result<(), AllocError> {
     match fault {
         Some(error) => write!(text, "{error:?} {}|", error.number()),
@@ -130,7 +130,7 @@ fn write_bad_losses(alloc: Global, text: &mut String) -> Result<(), AllocError> 
     Ok(())
 }
 
-/// What is refused of several faults.
+/// Which of several faults is reported.
 fn write_first_faults(alloc: Global, text: &mut String) -> Result<(), AllocError> {
     for (base, per) in [(0, 0), (1, 0), (1, 1)] {
         write_fault(

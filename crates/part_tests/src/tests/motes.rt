@@ -117,7 +117,7 @@ fn write_turns(
     Ok(())
 }
 
-/// Fails where something else is written of that.
+/// Fails unless `want` is written of that.
 fn tells(
     alloc: Global,
     number: u16,
@@ -130,7 +130,7 @@ fn tells(
     same_text(text.as_str(), want)
 }
 
-/// A turn at a moment that isn't above the last turn's is refused, and the next one that is above it isn't.
+/// A turn at a moment that isn't later than the last turn's is refused, and the next one that is later isn't.
 const PAST_TURN: &str =
     "Some(0)|0 Start(Etimer)|0 Start(Ctimer)|0 Start(Radio)|0 Start(Own(0))|0 Print(Own(0), 1)|\
      wake None|None|Past|None|wake None|None|";
@@ -204,7 +204,7 @@ fn mote_by_hand(rt: HostRuntime) -> Result<(), Fail> {
     Ok(())
 }
 
-/// The numbers by which the errors of motes and of kernels are told.
+/// The numbers of the errors of motes and of kernels.
 #[test]
 fn numbers_of_errors(rt: HostRuntime) {
     let motes = [

@@ -66,7 +66,7 @@ enum Act {
     Answer(u16),
     /// A thread of this part, at its beginning, takes its place.
     Begin(Part),
-    /// It has so many units from now on.
+    /// It has this many units from now on.
     Units(u32),
 }
 
@@ -137,7 +137,7 @@ fn write_acts(
     Ok(())
 }
 
-/// Fails where something else is written of that.
+/// Fails unless `want` is written of that.
 fn code_tells(
     alloc: Global,
     code: &ProcessText,
@@ -171,14 +171,14 @@ const CASES: [(&str, u32, &[Act], &str); 14] = [
         &[INIT; 5],
         "Op(Print(1)) 99|Done(Yielded) 98|Op(Print(2)) 96|Done(Ended) 96|Op(Print(1)) 95|",
     ),
-    // The first event has the word 0 already, and the thread yields nevertheless.
+    // The first event already has the word 0, and the thread yields all the same.
     (
         "process a; code a { body { yield_until (data == 0); print 1; } }",
         100,
         &[MSG_0, MSG_1, MSG_0, MSG_0],
         "Done(Yielded) 99|Done(Yielded) 98|Op(Print(1)) 96|Done(Ended) 96|",
     ),
-    // An endless loop runs away, and no later with more units. What its variable has, `onexit` prints.
+    // An endless loop runs away, and stays so with more units. `onexit` prints the value of its variable.
     (
         "process a; code a { var x = 0; onexit { print x; } body { while 1 { x = (x + 1); } } }",
         9_996,
@@ -200,7 +200,7 @@ const CASES: [(&str, u32, &[Act], &str); 14] = [
         &[INIT; 2],
         "Op(Print(4997)) 0|Runaway 0|",
     ),
-    // Both ways of an `if`.
+    // Both branches of an `if`.
     (
         "process a; code a { body { if 0 { print 1; } else { print 2; } if 7 { print 3; } else { \
          print 4; } if 0 { print 5; } print 6; } }",
@@ -233,14 +233,14 @@ const CASES: [(&str, u32, &[Act], &str); 14] = [
         "Op(Poll(Own(0))) 95|Done(Waiting) 94|Op(Poll(Own(0))) 90|Done(Waiting) 89|Op(Print(2)) 84|\
          Op(Print(7)) 82|Op(Print(6)) 81|Done(Ended) 81|",
     ),
-    // The answer of a pause's post isn't asked for, and any CONTINUE ends the wait.
+    // The answer to a pause's post isn't used, and any CONTINUE ends the wait.
     (
         "process a; code a { var v = 7; body { pause; print v; exit; print 9; } }",
         10,
         &[INIT, Act::Answer(1), INIT, INIT, GO_ON, GO_ON],
         "Op(Post(One(Own(0)), 133, 0)) 9|Done(Yielded) 9|Done(Yielded) 8|Op(Print(7)) 6|Done(Exited) 5|",
     ),
-    // Only the variable behind `into` is told the answer.
+    // Only the variable after `into` gets the answer.
     (
         "event e; process a, b; code a { var v = 7; body { post b e 5 into v; print v; broadcast msg 6; \
          print v; synch b exit 2; } } code b { body { } }",
@@ -249,7 +249,7 @@ const CASES: [(&str, u32, &[Act], &str); 14] = [
         "Op(Post(One(Own(1)), 139, 5)) 9|Op(Print(1)) 8|Op(Post(All, 134, 6)) 7|\
          Op(Print(1)) 6|Op(Synch(Own(1), 131, 2)) 5|",
     ),
-    // The look has a count of 4 for semaphore 0, and of 0 for any other.
+    // The mote's fixed state has a count of 4 for semaphore 0, and of 0 for any other.
     (
         "semaphore s = 4; semaphore t = 0; process a; code a { body { acquire s; signal t; acquire t; } }",
         10,

@@ -36,7 +36,7 @@ fn write_answers(text: &mut String, queue: &mut EventQueue) -> Result<(), AllocE
     write!(text, "{first:?} {second:?} {taken:?} {third:?}")
 }
 
-/// Fails where something else is written of that.
+/// Fails unless `want` is written of that.
 fn tells(alloc: Global, queue: &mut EventQueue, want: &str) -> Result<(), Fail>
     requires { queue.old.accepted ≡ 0 }
 {

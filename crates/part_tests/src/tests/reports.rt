@@ -42,7 +42,7 @@ pub(crate) fn report_of_trace(alloc: Global, trace: Vec<Line>) -> Result<Report,
     })
 }
 
-/// Fails where these aren't the bytes of this text.
+/// Fails unless these are the bytes of this text.
 fn same_bytes(told: &[u8], want: &str) -> Result<(), Fail> {
     match str::from_utf8(told) {
         Ok(told) => same_text(told, want),
@@ -70,7 +70,7 @@ pub(crate) fn report_of(alloc: Global, happens: &[(u64, What)]) -> Result<Report
     report_of_trace(alloc, trace)
 }
 
-/// Writes the report of one mote in which this happens, behind what is written.
+/// Appends the report of one mote in which this happens.
 fn write_trace(
     alloc: Global,
     net: &Net,

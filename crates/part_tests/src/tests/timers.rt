@@ -8,8 +8,8 @@ use std::test::Fail;
 
 const OWN: Proc = Proc::Own(0);
 
-/// Whether timer 1, which is refused at moment 1, is behind timer 0 once it was restarted, and gone once it was
-/// stopped.
+/// Whether timer 1, which is refused at moment 1, comes before timer 0 again once it was restarted and is due, and is
+/// gone once it was stopped.
 fn goes_on_behind(timers: &mut Timers) -> bool
     requires { length timers.old.timers ≡ 2 }
 {
@@ -36,7 +36,7 @@ fn refused_one_stays(timers: &mut Timers) -> bool
     fresh && walked && goes_on_behind(timers)
 }
 
-/// A new timer was never set, so it has expired. One whose event is refused stays, and the walk goes on behind it. A
+/// A new timer was never set, so it has expired. One whose event is refused stays, and the walk goes on after it. A
 /// later restart leaves its place alone.
 #[test]
 fn refused_timer_waits(rt: HostRuntime) -> Result<(), Fail> {
@@ -45,8 +45,8 @@ fn refused_timer_waits(rt: HostRuntime) -> Result<(), Fail> {
     Ok(())
 }
 
-/// What two new callbacks answer: each is asked for, the second is put twice, both are asked for again, the
-/// first is removed, the second is removed twice, and is asked for.
+/// What two new callbacks answer: each is looked up, the second is put twice, both are looked up again, the first is
+/// removed, and the second is removed twice and looked up.
 fn answers(callbacks: &mut Callbacks) -> [bool; 8]
     requires { callbacks.old.limit ≡ 2 }
 {

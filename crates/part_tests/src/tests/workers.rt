@@ -11,15 +11,15 @@ use std::test::Fail;
 use std::thread::Threads;
 use test_helpers::same_text;
 
-/// Adds ten to the number of each worker, but gives up at some, and lets one not start.
+/// Adds ten to the number of each worker, but gives up at some numbers, and refuses one start.
 struct AddTen {
-    /// At this number it finds no memory.
+    /// At this number it is out of memory.
     no_memory: u64,
     /// At this number its thread fails.
     no_thread: u64,
-    /// At this number it stops for another.
+    /// At this number it stops, as if another worker had failed.
     stopped: u64,
-    /// The worker with this number isn't let start.
+    /// The worker with this number isn't allowed to start.
     shut_out: u64,
     /// Whether each worker waits until it is told to give up.
     waits: bool,
@@ -113,8 +113,8 @@ fn run_all<R: Threads + Wait + Sync>(
     fork_join(rt, alloc, workers, work)
 }
 
-/// Has these workers work, and writes down what they answer, how many were asked for, and how often the work was told
-/// to give up.
+/// Runs these workers, and writes down what they answer, how many were asked for, and how often the work was told to
+/// give up.
 fn write_joined<R: Threads + Wait + Sync>(
     rt: &R,
     alloc: Global,
@@ -128,7 +128,8 @@ fn write_joined<R: Threads + Wait + Sync>(
     write!(text, "{done:?} {asked} {given_up}|")
 }
 
-/// Of the workers that give up, the first one's error is told that didn't stop for another, and all were started.
+/// Of the workers that give up, the first one that didn't stop because of another has its error reported, and all were
+/// started.
 fn write_giving_up<R: Threads + Wait + Sync>(
     rt: &R,
     alloc: Global,
@@ -169,9 +170,10 @@ fn write_workers<R: Threads + Wait + Sync>(
 ) -> Result<(), AllocError> {
     write_joined(rt, alloc, text, add_ten(0, 0, 0, 0, false), &[3, 1, 2])?;
     write_giving_up(rt, alloc, text)?;
-    // A worker that isn't let start is told as one whose thread couldn't be started, and the next one isn't asked for.
+    // A worker that isn't allowed to start is reported as one whose thread couldn't be started, and the next one isn't
+    // asked for.
     write_joined(rt, alloc, text, add_ten(0, 0, 0, 2, false), &[1, 2, 3])?;
-    // What a worker that was started answers goes before a start that was refused, but for one that stopped.
+    // The error of a worker that was started takes precedence over a refused start, unless that worker only stopped.
     write_joined(rt, alloc, text, add_ten(1, 0, 4, 2, false), &[1, 2, 3])?;
     write_joined(rt, alloc, text, add_ten(1, 0, 4, 2, false), &[4, 2, 3])?;
     write_waiting(rt, alloc, text)

@@ -15,7 +15,7 @@ use std::test::Fail;
 use test_helpers::PRINT_THEN_YIELD;
 use trace_printer::{PrintError, write_report};
 
-/// What the run of `PRINT_THEN_YIELD` reports behind the starts of the system processes.
+/// What the run of `PRINT_THEN_YIELD` reports after the starts of the system processes.
 const OUTPUT: &str = "mote 0 p\n0 start a\n0 print a 1\nmedium\nleft 0\n";
 
 /// How many lines the trace of many lines has.
@@ -54,8 +54,8 @@ impl Write for Roomy {
     }
 }
 
-/// Has a report written to a writer with so much room, which takes at most so many bytes a call. Whether that gets the
-/// beginning of these bytes, as much as there is room for, and whether all is told to be written or a fault of the
+/// Writes a report to a writer that takes at most `most` bytes a call, and `room` bytes in all. Whether it gets the
+/// first `room` bytes of what is wanted, and whether the answer is `Ok` if these are all, and else an error of the
 /// writer.
 fn gets(alloc: Global, net: &Net, report: &Report, wanted: &[u8], most: usize, room: usize) -> bool
     requires { vec_len report.now.traces ≡ length (net_of net.now).motes }
@@ -75,7 +75,7 @@ fn gets(alloc: Global, net: &Net, report: &Report, wanted: &[u8], most: usize, r
     told == answer && bytes.len() == room && wanted.starts_with(bytes)
 }
 
-/// The same where so many bytes of room are lacking.
+/// The same for each number of bytes by which the room falls short.
 fn gets_each(
     alloc: Global,
     net: &Net,
@@ -101,7 +101,7 @@ fn gets_each(
     true
 }
 
-/// Whether a writer that takes nothing is told to have failed.
+/// Whether a writer that takes nothing is reported to have failed.
 fn takes_nothing(alloc: Global, net: &Net, report: &Report) -> bool
     requires { vec_len report.now.traces ≡ length (net_of net.now).motes }
 {
@@ -125,13 +125,13 @@ fn gets_byte_by_byte(alloc: Global, net: &Net, report: &Report) -> bool
     true
 }
 
-/// What the run of `PRINT_THEN_YIELD` does behind the starts of the system processes.
+/// What the run of `PRINT_THEN_YIELD` does after the starts of the system processes.
 const FEW: [(u64, What); 2] = [
     (0, What::Start(Proc::Own(0))),
     (0, What::Print(Proc::Own(0), 1)),
 ];
 
-/// Whether the report of few lines is written so, and a writer that takes nothing is told.
+/// Whether both are so for the report of few lines.
 fn few_lines(alloc: Global, net: &Net) -> Result<bool, AllocError>
     requires { length (net_of net.now).motes ≡ 1 }
 {
@@ -150,7 +150,7 @@ fn sends(alloc: Global) -> Result<Vec<Line>, AllocError> {
     Ok(trace)
 }
 
-/// The report of one mote that sends so often.
+/// The report of one mote that sends `LINES` packets.
 fn report_of_sends(alloc: Global) -> Result<Report, AllocError>
     ensures { IfOk result (λ r. vec_len r.traces ≡ 1) }
 {
@@ -168,7 +168,7 @@ fn write_wanted(text: &mut String) -> Result<(), AllocError> {
     text.push_str("medium\nleft 0\n")
 }
 
-/// How many bytes of room are lacking for the report of many lines.
+/// By how many bytes the room falls short for the report of many lines.
 const LACKS: [usize; 5] = [0, 1, 2, 65_536, 200_000];
 
 /// Whether a writer that takes 1,000 bytes a call gets as much of this report as it has room for.
@@ -179,7 +179,7 @@ fn many_lines(alloc: Global, net: &Net, wanted: &str) -> Result<bool, AllocError
     Ok(gets_each(alloc, net, &report, wanted.as_bytes(), 1_000, &LACKS))
 }
 
-/// Fails where a writer of the report of the only mote of a net isn't treated so.
+/// Fails unless a net has one mote, and all this is so for its reports of few lines and of many.
 fn few_and_many(alloc: Global, net: &Net, wanted: &str) -> Result<(), Fail> {
     if net.motes() == 1 && few_lines(alloc, net)? && many_lines(alloc, net, wanted)? {
         return Ok(());
@@ -187,7 +187,7 @@ fn few_and_many(alloc: Global, net: &Net, wanted: &str) -> Result<(), Fail> {
     Err(Fail::new(format_args!("otherwise")))
 }
 
-/// The same of a net that has one.
+/// The same, with the wanted text of the many lines made first.
 fn gets_written(alloc: Global, net: &Net) -> Result<(), Fail> {
     let mut text = String::new(alloc);
     write_wanted(&mut text)?;

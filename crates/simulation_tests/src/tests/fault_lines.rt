@@ -1,4 +1,4 @@
-//! What the program writes and answers where a stream fails, and for the faults of a run.
+//! What the program writes and answers when a stream fails, and for the faults of a run.
 
 use super::{PRINT_THEN_YIELD, Sink, Source, front_of};
 use simulation::{RunError, SimError, run_command, status_of};
@@ -50,8 +50,8 @@ fn faults_of_the_run(rt: HostRuntime) -> Result<(), Fail> {
     )
 }
 
-/// The scenario, after how many calls the reader, the writer of the report and that of the faults fail, and whether
-/// these two fail or take nothing then.
+/// The scenario; after how many calls the reader, the report's writer and the faults' writer fail; and whether the two
+/// writers then fail or take nothing.
 #[derive(Clone, Copy)]
 struct Streams<'a> {
     scenario: &'a str,
@@ -80,7 +80,7 @@ where
     text.push('|')
 }
 
-/// Fails where something else is written down of some runs of the program.
+/// Fails unless `want` is written down of some runs of the program.
 fn commands_tell<T>(rt: &T, runs: &[Streams], want: &str) -> Result<(), Fail>
 where
     T: AllocGlobal + Files + Threads + Wait + RandomSource + Sync,
@@ -92,7 +92,7 @@ where
     same_text(text.as_str(), want)
 }
 
-/// Streams that are whole.
+/// Streams that never fail.
 const WHOLE: Streams<'static> = Streams {
     scenario: test_helpers::PRINT_THEN_YIELD,
     reads: usize::MAX,
@@ -101,13 +101,13 @@ const WHOLE: Streams<'static> = Streams {
     fails: true,
 };
 
-/// The same, whose writers take nothing in the place of failing.
+/// The same, with writers that would take nothing instead of failing.
 const TAKES_NONE: Streams<'static> = Streams {
     fails: false,
     ..WHOLE
 };
 
-/// The same of an empty scenario.
+/// The same with an empty scenario.
 const EMPTY: Streams<'static> = Streams {
     scenario: "",
     ..TAKES_NONE

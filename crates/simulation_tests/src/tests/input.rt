@@ -5,7 +5,7 @@ use simulation::{InputError, read_text};
 use std::alloc::{AllocError, Global};
 use std::test::Fail;
 
-/// Whether a reader that gives one byte at a time, and fails once it has given so many, is told.
+/// Whether a reader that gives one byte at a time, and fails after `left` bytes, is reported.
 fn is_told(alloc: Global, left: usize) -> bool {
     let mut failing = Source {
         rest: &[b' '; 20],
@@ -22,7 +22,7 @@ fn tells_a_failing_reader(rt: HostRuntime) {
     }
 }
 
-/// Digits and letters, again and again, of which those that stand 4,096 apart differ.
+/// Digits and letters, over and over; any two that are 4,096 apart differ.
 fn digits_and_letters(alloc: Global) -> Result<Vec<u8>, AllocError> {
     let mut bytes = Vec::new(alloc);
     for _ in 0..200 {
@@ -31,7 +31,7 @@ fn digits_and_letters(alloc: Global) -> Result<Vec<u8>, AllocError> {
     Ok(bytes)
 }
 
-/// Whether these bytes are read as they are, so many at most at a time.
+/// Whether these bytes are read unchanged, at most `most` at a time.
 fn reads(alloc: Global, bytes: &[u8], most: usize) -> bool {
     let mut sparing = Source {
         rest: bytes,
@@ -44,7 +44,7 @@ fn reads(alloc: Global, bytes: &[u8], most: usize) -> bool {
     }
 }
 
-/// Whether so many of the bytes are read, as many at a time as are asked for, or fewer.
+/// Whether the first `length` bytes are read, as many at a time as are asked for, or fewer.
 fn reads_front(alloc: Global, bytes: &[u8], length: usize) -> bool {
     match bytes.get(..length) {
         Some(front) => {

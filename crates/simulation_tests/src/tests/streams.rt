@@ -5,8 +5,9 @@ use simulation::{CutKind, Options, PrintError, SimError, SyncKind, simulate_seri
 use std::alloc::Global;
 use std::test::Fail;
 
-/// Whether a simulation on one thread ends so, with so many bytes of the report out, where the reader fails after so
-/// many calls, which gives 16 bytes a call, and the writer after so many, which takes a byte a call.
+/// Whether a simulation on one thread answers `want`, with `bytes` bytes of the report out. The reader gives 16 bytes
+/// a call, and fails after `reads` calls; the writer takes a byte a call, and after `writes` calls fails or takes
+/// nothing.
 fn ends(
     alloc: Global,
     reads: usize,
@@ -38,7 +39,7 @@ fn failing_reader(rt: HostRuntime) {
     assert!(rt; ends(rt.alloc(), 13, 100, true, Ok(()), 89));
 }
 
-/// Whether a writer that fails after so many calls, or takes nothing, is told.
+/// Whether a writer that fails or takes nothing after `calls` calls is reported.
 fn tells_the_writer(alloc: Global, calls: usize, fails: bool) -> bool {
     let want = Err(SimError::Print(PrintError::Write));
     ends(alloc, 13, calls, fails, want, calls)
@@ -54,7 +55,7 @@ fn failing_writer(rt: HostRuntime) {
     assert!(rt; ends(rt.alloc(), 13, 89, true, Ok(()), 89));
 }
 
-/// By workers a failing reader is told before anything is started, and a failing writer once all is done.
+/// By workers a failing reader is reported before anything is started, and a failing writer once the run is done.
 #[test]
 fn failing_streams_with_workers(rt: HostRuntime) -> Result<(), Fail> {
     for sync in [SyncKind::Joins, SyncKind::Marks] {

@@ -10,8 +10,7 @@ use std::test::Fail;
 use std::thread::Threads;
 use test_helpers::same_text;
 
-/// Writes down what these words ask for: the file, the number of workers, the cut, and how workers wait for one
-/// another.
+/// Writes down what these words ask for: the file, the number of workers, the cut, and the kind of synchronization.
 fn write_asked(alloc: Global, text: &mut String, words: &[&str]) -> Result<(), AllocError> {
     let Some(asked) = asked_by(alloc, words).ok() else {
         return text.push_str("a fault|");
@@ -74,7 +73,7 @@ where
     write_answer(text, &answer, front, &gate)
 }
 
-/// Fails where something else is written down of these command lines.
+/// Fails unless `want` is written down of these command lines.
 fn runs_tell<T>(rt: &T, lines: &[&[&str]], want: &str) -> Result<(), Fail>
 where
     T: AllocGlobal + Files + Threads + Wait + RandomSource + Sync,
@@ -106,8 +105,8 @@ const RUNS: [&[&str]; 9] = [
     ],
 ];
 
-/// By joins each worker is started in each of two windows, by marks once. Of sixteen workers, blocks give the motes to
-/// 0, 5 and 10, and stripes to 0, 1 and 2, as of three or four.
+/// With joins each worker is started in each of two windows, with marks once. Of sixteen workers, blocks give the
+/// motes to 0, 5 and 10, and stripes to 0, 1 and 2; of three or four workers either cut gives them to 0, 1 and 2.
 #[test]
 fn runs_by_the_words(rt: HostRuntime) -> Result<(), Fail> {
     runs_tell(

@@ -1,4 +1,4 @@
-//! Simulations by workers: who takes which turn, how many threads there are, and what comes where there are none.
+//! Simulations by workers: who takes which turn, how many threads there are, and what happens when one isn't started.
 
 use super::{PRINT_THEN_YIELD, TWO_SENDERS, Told, Trial, bytes_tell, tells};
 use simulation::{CutKind, Options, SyncKind};
@@ -29,7 +29,7 @@ fn default_options(rt: HostRuntime) {
     assert_eq!(rt; Options::default(), options);
 }
 
-/// Four motes that hear no other, with one turn each.
+/// Four motes that don't hear one another, with one turn each.
 const FOUR_MOTES: Told = Told {
     scenario: "\
         version = 1\n\
@@ -97,7 +97,7 @@ fn no_workers(rt: HostRuntime) -> Result<(), Fail> {
     )
 }
 
-/// Fails where a run of one mote with one turn, so of one window, asks for other starts than these.
+/// Fails unless a run of one mote with one turn, and so one window, asks for these starts.
 fn tells_starts<T>(rt: &T, workers: u16, want: &str) -> Result<(), Fail>
 where
     T: AllocGlobal + Threads + Wait + RandomSource + Sync,
@@ -143,7 +143,8 @@ fn starts_in_two_windows(rt: HostRuntime) -> Result<(), Fail> {
     Ok(())
 }
 
-/// Fails where so many workers, of which one isn't let start, answer something else. None after it is asked for.
+/// Fails unless `want` is written down of runs in which worker `shut` isn't allowed to start. None after it is asked
+/// for.
 fn tells_shut<T>(rt: &T, workers: u16, shut: u16, want: &str) -> Result<(), Fail>
 where
     T: AllocGlobal + Threads + Wait + RandomSource + Sync,
@@ -158,7 +159,7 @@ where
     Ok(())
 }
 
-/// With marks those that were started before wait for one that isn't there, and end all the same.
+/// With marks the workers that were started wait for one that wasn't, and still end.
 #[test]
 fn refused_starts(rt: HostRuntime) -> Result<(), Fail> {
     tells_shut(&rt, 2, 0, "Err(Run(Thread)) Some(0) 1|")?;
@@ -167,7 +168,7 @@ fn refused_starts(rt: HostRuntime) -> Result<(), Fail> {
     tells_shut(&rt, 3, 2, "Err(Run(Thread)) Some(0) 3|")
 }
 
-/// Fails where so many workers are answered something else, or not once the scenario is read.
+/// Fails unless this number of workers is refused, after the faults of reading the scenario.
 fn tells_number<T>(rt: &T, options: Options) -> Result<(), Fail>
 where
     T: AllocGlobal + Threads + Wait + RandomSource + Sync,

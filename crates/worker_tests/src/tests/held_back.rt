@@ -1,5 +1,5 @@
-//! That no window is longer than is wished, by workers of either kind: no worker comes to its next window while another
-//! is in this one.
+//! That no window is longer than was asked for, by workers of either kind: no worker comes to its next window while
+//! another is in this one.
 
 use super::{BUSY_PAIR, SYNCS, by, run_by_workers};
 use net_scenario::{Net, read_scenario};
@@ -51,7 +51,7 @@ where
     write!(text, "{told:?} {}|", gate.seen.load(SeqCst))
 }
 
-/// Fails where worker 0 gets ahead, with joins or with marks.
+/// Fails if worker 0 gets ahead, with joins or with marks.
 fn holds_back<R>(rt: &R, net: &Net) -> Result<(), Fail>
 where
     R: Threads + Wait + Sync + RandomSource + AllocGlobal,
@@ -63,7 +63,7 @@ where
     same_text(text.as_str(), "Same(0) 0|Same(0) 0|")
 }
 
-/// The motes don't hear one another, so one window would do for all; windows of one moment are wished.
+/// The motes don't hear one another, so one window would do for all; windows of one moment are asked for.
 #[test]
 fn windows_hold_the_faster_back(rt: HostRuntime) -> Result<(), Fail> {
     let net = read_scenario(rt.alloc(), BUSY_PAIR)?;

@@ -15,7 +15,7 @@ use std::thread::Threads;
 use test_helpers::same_text;
 use window_workers::{Gate, NoGate, SyncKind, run_inboxes};
 
-/// What comes of a run over new inboxes, one for each worker, and these at its end; none where there is no report.
+/// What comes of a run over new inboxes, one for each worker, and the inboxes at its end; none if there is no report.
 fn over_inboxes<R, G>(
     rt: &R,
     net: &Net,
@@ -66,7 +66,7 @@ where
     write_closed(rt, pairs, text)
 }
 
-/// Fails where something else is written of these runs.
+/// Fails unless `want` is written of these runs.
 fn tells_by<R>(rt: &R, net: &Net, sync: SyncKind, runs: &[Run<'_>], want: &str) -> Result<(), Fail>
 where
     R: Threads + Wait + Sync + RandomSource + AllocGlobal,
@@ -78,7 +78,7 @@ where
     same_text(text.as_str(), want)
 }
 
-/// Fails where something else is written of these runs of a scenario: this with joins, and that with marks.
+/// Fails unless `joins` is written of these runs of a scenario with joins, and `marks` of those with marks.
 fn tells<R>(rt: &R, scenario: &str, runs: &[Run<'_>], joins: &str, marks: &str) -> Result<(), Fail>
 where
     R: Threads + Wait + Sync + RandomSource + AllocGlobal,
@@ -88,8 +88,8 @@ where
     tells_by(rt, &net, SyncKind::Marks, runs, marks)
 }
 
-/// The copy that would arrive after the end lies in the inbox of its receiver's worker; with marks that worker took it
-/// out of there.
+/// The copy that would arrive after the end lies in the inbox of its receiver's worker; with marks that worker has
+/// taken it out.
 #[test]
 fn a_copy_left_in_its_inbox(rt: HostRuntime) -> Result<(), Fail> {
     let joins = "Same(1)|0 []|1 [RadioCopy { at: 5, to: 1, sender: 0, number: 0, value: 9 }]|";
@@ -102,7 +102,7 @@ fn a_copy_left_in_its_inbox(rt: HostRuntime) -> Result<(), Fail> {
     )
 }
 
-/// The workers of the cut are to be among those that have an inbox.
+/// Each worker of the cut must have an inbox.
 #[test]
 fn refused_inboxes(rt: HostRuntime) -> Result<(), Fail> {
     let runs = [

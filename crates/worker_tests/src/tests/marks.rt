@@ -82,7 +82,7 @@ fn push_window<R: Wait>(
     Ok(())
 }
 
-/// Takes a window, and writes down what comes of it: the copies, or why there are none. Whether it was taken.
+/// Takes a window, and writes down the copies, or why there are none. Returns whether it was taken.
 fn write_window<R: Wait>(
     rt: &R,
     alloc: Global,
@@ -135,7 +135,7 @@ fn write_windows<R: Wait>(
     requires marked { (first.old.state.marked ≡ true) × (second.old.state.marked ≡ true) }
     requires counts { Counts worker_2.old.marks.items worker_2.old.base.taker.state }
 {
-    // It is looked at only where a mark is missing.
+    // The flag is looked at only while a mark is missing.
     let stop = AtomicBool::new(true);
     push_window(rt, inbox, first, Some(copy(5, 0)), 0)?;
     push_window(rt, inbox, first, Some(copy(9, 1)), 1)?;

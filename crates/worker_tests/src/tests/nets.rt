@@ -1,4 +1,4 @@
-//! The values of a net, and a text that the program's reader would refuse before.
+//! The values of a net, and a text so long that `simulate` refuses it before a scenario is read.
 
 ghost use Rattle.std.specs.Prelude.{◌<◌, length};
 ghost use Rattle.mote_net.specs.Net.{net_of};
@@ -82,14 +82,14 @@ fn write_net(text: &mut String, net: &Net) -> Result<(), AllocError> {
     Ok(())
 }
 
-/// Fails where something else is written of a net.
+/// Fails unless `want` is written of a net.
 fn net_tells(alloc: Global, net: &Net, want: &str) -> Result<(), Fail> {
     let mut text = String::new(alloc);
     write_net(&mut text, net)?;
     same_text(text.as_str(), want)
 }
 
-/// Fails where something else is written of a scenario's net.
+/// Fails unless `want` is written of a scenario's net.
 fn tells(alloc: Global, scenario: &str, want: &str) -> Result<(), Fail> {
     let net = read_scenario(alloc, scenario)?;
     net_tells(alloc, &net, want)
@@ -114,7 +114,7 @@ fn long_comment(alloc: Global) -> Result<String, AllocError> {
     Ok(text)
 }
 
-/// The number of a text's first fault, or 0 where it tells a net.
+/// The number of a text's first fault, or 0 if the text describes a net.
 fn fault_number(alloc: Global, text: &str) -> u8 {
     match read_scenario(alloc, text) {
         Ok(_) => 0,
@@ -122,7 +122,7 @@ fn fault_number(alloc: Global, text: &str) -> u8 {
     }
 }
 
-/// One byte more than a text may have is told before all that the text lacks.
+/// A text that is one byte too long is refused for that, before anything that it lacks.
 #[test]
 fn text_too_long(rt: HostRuntime) -> Result<(), Fail> {
     let text = long_comment(rt.alloc())?;

@@ -1,5 +1,5 @@
 //! That turns of workers overlap in time, shown by gates at which they wait for one another. The gate is called inside
-//! a turn, so a lock that is held round each turn lets none of them meet.
+//! a turn, so with a lock held around each turn none of them would meet.
 
 use super::inboxes::write_inboxes;
 use super::{BUSY_PAIR, BUSY_TRIO, Run, SYNCS, by, run_by_workers};
@@ -21,7 +21,7 @@ struct Rendezvous {
     all: u64,
     /// How many workers came to their turn of a moment.
     came: [AtomicU64; 3],
-    /// How many of them saw all there.
+    /// How many of them saw that all came.
     met: [AtomicU64; 3],
 }
 
@@ -81,7 +81,7 @@ where
     Ok(write_meetings(text, &gate)?)
 }
 
-/// Fails where something else is written of a net, with joins and then with marks.
+/// Fails unless `want` is written of a net, with joins and then with marks.
 fn meet<R>(rt: &R, net: &Net, run: &Run<'_>, want: &str) -> Result<(), Fail>
 where
     R: Threads + Wait + Sync + RandomSource + AllocGlobal,
@@ -93,7 +93,7 @@ where
     same_text(text.as_str(), want)
 }
 
-/// Fails where something else is written of a scenario.
+/// Fails unless `want` is written of a scenario.
 fn tells<R>(rt: &R, scenario: &str, run: &Run<'_>, want: &str) -> Result<(), Fail>
 where
     R: Threads + Wait + Sync + RandomSource + AllocGlobal,

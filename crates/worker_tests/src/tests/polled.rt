@@ -83,7 +83,7 @@ fn write_three_polls(
     Ok(())
 }
 
-/// Fails where something else is written of that.
+/// Fails unless `want` is written of that.
 fn gives(
     alloc: Global,
     bench: &Bench,
@@ -98,7 +98,7 @@ fn gives(
     same_text(text.as_str(), want)
 }
 
-/// The same of a new mote to which no copy comes.
+/// The same for a new mote to which no copy comes.
 fn new_mote_gives(alloc: Global, bench: &Bench, want: &str) -> Result<(), Fail> {
     let mote = Mote::new(alloc, 0, &bench.program, 32)?;
     gives(alloc, bench, mote, Vec::new(alloc), want)
@@ -125,20 +125,20 @@ fn one_copy(alloc: Global) -> Result<Vec<RadioCopy>, AllocError>
     Ok(vec![in alloc; copy]?)
 }
 
-/// Fails where three polls give something else of a mote to which a copy comes before its last turn.
+/// Fails unless three polls give `want` for a mote to which a copy comes before its last turn.
 fn late_copy_gives(alloc: Global, bench: &Bench, want: &str) -> Result<(), Fail> {
     let mote = turned_mote(alloc, &bench.program)?;
     let copies = one_copy(alloc)?;
     gives(alloc, bench, mote, copies, want)
 }
 
-/// Fails where something else is written of a new mote of this program.
+/// Fails unless `want` is written of a new mote of this program.
 fn tells<R: RandomSource + AllocGlobal>(rt: &R, program: &str, want: &str) -> Result<(), Fail> {
     let bench = new_bench(rt, program)?;
     new_mote_gives(rt.alloc(), &bench, want)
 }
 
-/// What three polls of the window of a mote that has one turn give: after that the window is ready, and given up.
+/// What three polls give of the window of a mote that has one turn: pending, then ready; polled again it fails.
 const ONE_TURN_TOLD: &str =
     "pending|0 Start(Etimer)|0 Start(Ctimer)|0 Start(Radio)|0 Start(Own(0))|0 Print(Own(0), 1)|Failed|";
 

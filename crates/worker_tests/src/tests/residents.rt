@@ -71,7 +71,7 @@ fn one_copy(alloc: Global) -> Result<Vec<RadioCopy>, AllocError>
     Ok(vec![in alloc; copy]?)
 }
 
-/// What the two motes give, to one of which a copy comes.
+/// What the two motes give if a copy comes to mote 1.
 fn outs_with_a_copy<R: Wait + RandomSource + AllocGlobal>(
     rt: &R,
     net: &Net,
@@ -93,14 +93,14 @@ fn write_outs(text: &mut String, outs: &[WindowOut]) -> Result<(), AllocError> {
     Ok(())
 }
 
-/// Fails where something else is written of them.
+/// Fails unless `want` is written of them.
 fn outs_tell(alloc: Global, outs: &[WindowOut], want: &str) -> Result<(), Fail> {
     let mut text = String::new(alloc);
     write_outs(&mut text, outs)?;
     same_text(text.as_str(), want)
 }
 
-/// Fails where the first two motes of a net give something else.
+/// Fails unless the first two motes of a net give `want`.
 fn give<R: Wait + RandomSource + AllocGlobal>(rt: &R, net: &Net, want: &str) -> Result<(), Fail> {
     if net.motes() < 2 {
         return Err(Fail::new(format_args!("not two motes")));
@@ -136,7 +136,7 @@ impl Gate for Diary {
     }
 }
 
-/// The motes in the order of their turns at 0, 1 and 2, and how many give something.
+/// The motes in the order of their turns at 0, 1 and 2, and how many give a result.
 fn order_of_turns<R: Wait + RandomSource + AllocGlobal>(
     rt: &R,
     net: &Net,
@@ -151,7 +151,7 @@ fn order_of_turns<R: Wait + RandomSource + AllocGlobal>(
     Ok((diary.motes.load(SeqCst), outs.len()))
 }
 
-/// Fails where the two motes of a net don't take their turns alternately, or one gives nothing.
+/// Fails unless the two motes of a net take their turns alternately, and both give a result.
 fn alternate<R: Wait + RandomSource + AllocGlobal>(rt: &R, net: &Net) -> Result<(), Fail> {
     if net.motes() == 2 && order_of_turns(rt, net)? == (121212, 2) {
         return Ok(());

@@ -36,8 +36,8 @@ impl Gate for Watch<'_> {
     }
 }
 
-/// Writes down what comes of a run of which this worker isn't let start, how many starts were asked for, and how many
-/// turns the motes' own workers took.
+/// Writes down what comes of a run in which this worker isn't allowed to start, how many starts were asked for, and
+/// how many turns the motes' own workers took.
 fn write_run<R>(
     rt: &R,
     net: &Net,
@@ -61,10 +61,10 @@ where
     write!(text, "{told:?} {asked} {turns}|")
 }
 
-/// A run, and the worker that isn't let start.
+/// A run, and the worker that isn't allowed to start.
 type Start<'a> = (Run<'a>, Option<u16>);
 
-/// Fails where something else is written of these runs.
+/// Fails unless `want` is written of these runs.
 fn tells_by<R>(
     rt: &R,
     net: &Net,
@@ -82,7 +82,7 @@ where
     same_text(text.as_str(), want)
 }
 
-/// Fails where something else comes of these runs of a scenario: this with joins, and that with marks.
+/// Fails unless `joins` comes of these runs of a scenario with joins, and `marks` of those with marks.
 fn tells<R>(
     rt: &R,
     scenario: &str,
@@ -119,7 +119,7 @@ fn cuts_of_two_senders(rt: HostRuntime) -> Result<(), Fail> {
     tells(&rt, TWO_SENDERS, &runs, joins, marks)
 }
 
-/// Of several faults the first is told, in the order of the first three here, before anything is started.
+/// Of several faults the first is reported, in the order of the first three here, before anything is started.
 #[test]
 fn refused_workers_and_cuts(rt: HostRuntime) -> Result<(), Fail> {
     let runs = [
@@ -138,8 +138,8 @@ fn refused_workers_and_cuts(rt: HostRuntime) -> Result<(), Fail> {
     tells(&rt, BUSY_TRIO, &runs, want, want)
 }
 
-/// The worker that isn't let start is told, and no worker after it is asked for. With marks the workers before it wait
-/// for it in vain, and end nevertheless.
+/// The worker that isn't allowed to start is reported, and no worker after it is asked for. With marks the workers
+/// before it wait for it in vain, and still end.
 #[test]
 fn a_start_that_is_refused(rt: HostRuntime) -> Result<(), Fail> {
     let runs = [
@@ -154,7 +154,7 @@ fn a_start_that_is_refused(rt: HostRuntime) -> Result<(), Fail> {
     tells(&rt, TWO_SENDERS, &runs, want, want)
 }
 
-/// Fails where another error is told than the refused start of worker 1, or a failed allocation.
+/// Fails if an error is reported that is neither the refused start of worker 1 nor a failed allocation.
 fn lowest_error<R>(rt: &R, net: &Net, sync: SyncKind) -> Result<(), Fail>
 where
     R: Threads + Wait + Sync + RandomSource + AllocGlobal,
@@ -167,9 +167,9 @@ where
     same_text(text.as_str(), "Fault(Thread) 2 3|")
 }
 
-/// The error of the lowest worker is told: the refused start of worker 1 only where worker 0, which was started, came
-/// through its three turns. With each allocation refused in turn this is looked at; with ample memory the start is
-/// told.
+/// The error of the lowest worker is reported: the refused start of worker 1 only if worker 0, which was started, came
+/// through its three turns. This is checked with each allocation failing in turn (`--fail-alloc`); with ample memory
+/// the start is reported.
 #[test]
 fn the_lowest_workers_error(rt: HostRuntime) -> Result<(), Fail> {
     let net = read_scenario(rt.alloc(), BUSY_PAIR)?;
@@ -193,7 +193,7 @@ fn starts_are_counted(rt: HostRuntime) -> Result<(), Fail> {
     tells(&rt, PACKET_AFTER_TIMER, &runs, joins, marks)
 }
 
-/// The same where the end comes before the packet, which is left: turns at 0 and 2 are in one window, or in two.
+/// The same if the end comes before the packet, which is left: turns at 0 and 2 are in one window, or in two.
 #[test]
 fn longest_windows(rt: HostRuntime) -> Result<(), Fail> {
     let runs = [
@@ -209,7 +209,7 @@ fn longest_windows(rt: HostRuntime) -> Result<(), Fail> {
 }
 
 /// Each of 16 workers is started, also the 13 that have no mote: with joins in each of three windows of one moment, or
-/// in the one window that there is, and with marks once.
+/// in the only window, and with marks once.
 #[test]
 fn workers_without_motes_are_started(rt: HostRuntime) -> Result<(), Fail> {
     let runs = [
@@ -220,7 +220,7 @@ fn workers_without_motes_are_started(rt: HostRuntime) -> Result<(), Fail> {
     tells(&rt, BUSY_TRIO, &runs, joins, "Same(0) 16 9|Same(0) 16 9|")
 }
 
-/// Again and again by many workers, of which most have no mote: with marks none of them stops since another has ended.
+/// Repeated runs by many workers, most of which have no mote: with marks none of them stops because another has ended.
 #[test]
 fn no_run_is_stopped(rt: HostRuntime) -> Result<(), Fail> {
     let runs = [(by(16, &[0, 5, 10], 1), None); 10];

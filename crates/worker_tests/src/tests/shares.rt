@@ -21,7 +21,7 @@ fn copy_at(at: u64, number: u64) -> RadioCopy {
     }
 }
 
-/// How many copies are still to come to mote 1, where two arrived and then one more.
+/// How many copies are pending once a share has taken in two for mote 1, and then one more.
 fn left_of_three(alloc: Global, net: &Net) -> Result<u64, AllocError>
     requires { length (net_of net.now).motes ≡ 2 }
 {
@@ -31,7 +31,7 @@ fn left_of_three(alloc: Global, net: &Net) -> Result<u64, AllocError>
     Ok(share.end()?.left)
 }
 
-/// Fails where it isn't three, of a net of two motes.
+/// Fails unless they are three, in a net of two motes.
 fn leaves_three(alloc: Global, net: &Net) -> Result<(), Fail> {
     if net.motes() == 2 && left_of_three(alloc, net)? == 3 {
         return Ok(());
@@ -39,7 +39,7 @@ fn leaves_three(alloc: Global, net: &Net) -> Result<(), Fail> {
     Err(Fail::new(format_args!("otherwise")))
 }
 
-/// All copies that a share takes in are to come.
+/// All copies that a share takes in are pending.
 #[test]
 fn copies_taken_in(rt: HostRuntime) -> Result<(), Fail> {
     let net = read_scenario(rt.alloc(), COPY_PAST_THE_END)?;

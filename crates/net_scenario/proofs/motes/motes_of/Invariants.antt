@@ -8,7 +8,7 @@ use Rattle.mote_net.specs.Net.{setup_of}
 use Rattle.net_scenario.specs.Net.{mote_of_table, unread_fault}
 use Rattle.net_scenario.proofs.motes.motes_of.Given as goal
 
--- no fault is to come, and the motes so far and those to come are all of them
+-- the items still to be read have no fault, and the motes so far and theirs are all of them
 abbrev pub invariant-loop-item : goal.invariant-loop-item
 invariant-loop-item l = record {
   read : first_some (unread_fault (map named_tree l.programs)) (tables_in (items_view (drop l.item-index l.items)))

@@ -5,7 +5,7 @@ use Rattle.net_scenario.specs.Rules.{keys_fault, loss_rules}
 use Rattle.net_scenario.specs.Net.{loss_of}
 use Rattle.net_scenario.proofs.places.losses_of.Given as goal
 
--- no fault is to come, and those so far and those to come are all of them
+-- the items still to be read have no fault, and the losses so far and theirs are all of them
 abbrev pub invariant-loop-item : goal.invariant-loop-item
 invariant-loop-item l = record {
   ruled : first_some (keys_fault loss_rules) (tables_in (items_view (drop l.item-index l.items))) ≡ None;

@@ -4,7 +4,7 @@ use Rattle.trace_printer.specs.Page.{Written}
 use Rattle.report_workers.specs.Parts.{lines_told}
 use Rattle.report_workers.proofs.report.write_traces.Given as goal
 
--- the lines to come are left to write
+-- the remaining lines are left to write
 abbrev pub invariant-rounds : goal.invariant-rounds
 invariant-rounds g l = record {
   within : l.skip ≤ l.lines;

@@ -3,6 +3,6 @@ use Rattle.std.specs.List.{flat_map}
 use Rattle.trace_printer.specs.Words.{fate_word}
 use Rattle.trace_printer.proofs.lines.put_fates.Given as goal
 
--- with the fates to come, the page is what it will be
+-- the page, followed by the remaining fates, is the final page
 abbrev pub invariant-loop-fate : goal.invariant-loop-fate
 invariant-loop-fate l = l.page ++ flat_map (λ w. 32 ∷ w) (map fate_word (drop l.fate-index l.fates)) ≡ l.fn.page ++ flat_map (λ w. 32 ∷ w) (map fate_word l.fates)

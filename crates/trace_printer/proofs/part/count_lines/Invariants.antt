@@ -2,6 +2,6 @@ use Rattle.std.proofs.Common.{◌≡◌, ◌+◌, length, drop}
 use Rattle.std.specs.List.{sum_by}
 use Rattle.trace_printer.proofs.part.count_lines.Given as goal
 
--- with the lines of the traces to come, it is the count of all
+-- the count, with the lines of the remaining traces, is that of all
 abbrev pub invariant-loop-trace : goal.invariant-loop-trace
 invariant-loop-trace l = l.count + sum_by (λ t. length t.items + 1) (drop l.trace-index l.traces) ≡ sum_by (λ t. length t.items + 1) l.traces

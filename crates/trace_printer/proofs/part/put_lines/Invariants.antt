@@ -4,6 +4,6 @@ use Rattle.program_tree.specs.Program.{tree_of}
 use Rattle.trace_printer.specs.ReportText.{line_text}
 use Rattle.trace_printer.proofs.part.put_lines.Given as goal
 
--- with the lines to come, the page is what it will be
+-- the page, followed by the remaining lines, is the final page
 abbrev pub invariant-loop-line : goal.invariant-loop-line
 invariant-loop-line l = l.page ++ flat_map (line_text (tree_of l.program)) (drop l.line-index l.lines) ≡ l.fn.page ++ flat_map (line_text (tree_of l.program)) l.lines

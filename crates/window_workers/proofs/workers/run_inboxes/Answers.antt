@@ -30,7 +30,7 @@ long_as v = search rules
 pairs_long : (v : Vec Pair Global) → vec_len v ≡ length v.items
 pairs_long v = search rules
 
--- the cut is one for these inboxes
+-- the cut is one among the workers of these inboxes
 is_cut : (motes there workers : ℕ) (pairs : List Pair) (inboxes : List InboxId) (of : List ℕ) → cut_fault motes workers of ≡ None → motes ≡ there → workers ≡ length pairs → inboxes ≡ map (λ (pair : Pair). pair.0) pairs
     → IsCut there (length inboxes) of
 is_cut motes there workers pairs inboxes of none all each same =

@@ -11,7 +11,7 @@ unwrap-requires c =
     let below = takes _ _ _ c.self.view_is c.requires in
     c.insert.ensures.succeeds (omega (arith, c.self.inside.members.ok.0, length-lt_limit c.args.number c.self.inside.members.items _ c.self.invariant below missing))
 
--- it is written in front, in the block that was there
+-- it is inserted at the front, without reallocation
 items : (c : goal.After-unwrap) → c.insert.new.self.items ≡ c.args.number ∷ c.self.inside.members.items
 items c = rw c.unwrap.ensures at c.insert.ensures.items
 

@@ -11,7 +11,7 @@ few : (done : Bool) (old new : List Member) (m : Member) → new ≡ (if done th
 few true old new m is low = let more = length-insert old 0 m (omega arith) in let n = ap length is in omega arith
 few false old new m is low = let n = ap length is in omega arith
 
--- a process of the mote that is missing has room
+-- there is room for a process of the mote that isn't on the list
 pub invariant_of-self-2-clause-few_members : goal.invariant_of-self-2-clause-few_members
 invariant_of-self-2-clause-few_members c =
     let s = c.args.self.now in
