@@ -2,7 +2,7 @@
 
 tools/wrong_bodies notes what it tries. A line has the wrong body, the day, `refused` or `open`, and a digest of all that
 the answer rests on, by which it can be told whether any of that has changed since: the wrong body, its crate, the code
-and the definitions of the crates below, and the kit.
+and the definitions of the crates below, and the kit's logic. Lines that are comments alone don't count.
 """
 from __future__ import annotations
 
@@ -12,12 +12,14 @@ from collections.abc import Callable, Iterable, Mapping
 from pathlib import Path
 from typing import NamedTuple
 
-from motesim.version import KIT
+from motesim.version import LOGIC
 from project.tree import PARTS, TOP
 
 KEPT = TOP / 'log/wrong_bodies.tsv'
 # What a crate's functions take of a crate below: its contracts, and the words in which they are said.
 SEEN_ABOVE = 'src', 'specs'
+# How a line begins that is a comment alone.
+COMMENTS = {'.rt': b'//', '.antt': b'--'}
 
 
 class Tried(NamedTuple):
@@ -27,15 +29,22 @@ class Tried(NamedTuple):
     digest: str
 
 
+def without_comments(path: Path) -> bytes:
+    """A file without the lines that are comments alone."""
+    mark = COMMENTS.get(path.suffix)
+    rows = path.read_bytes().split(b'\n')
+    return b'\n'.join(row for row in rows if not (mark and row.lstrip().startswith(mark)))
+
+
 def digest(crate: Path, edit: Path, below: Iterable[Path] = ()) -> str:
-    """A digest of a wrong body, of its crate's files, of those of the crates below, and of the kit."""
+    """A digest of a wrong body, of its crate's files, of those of the crates below, and of the kit's logic."""
     found = hashlib.sha256(edit.read_bytes())
-    found.update(KIT.encode())
+    found.update(LOGIC.encode())
     for folder, parts in [(crate, PARTS), *((it, SEEN_ABOVE) for it in sorted(below))]:
         for part in parts:
             for path in sorted((folder / part).rglob('*')):
                 if path.is_file():
-                    data = path.read_bytes()
+                    data = without_comments(path)
                     found.update(b'%s %d\n' % (str(path.relative_to(folder.parent)).encode(), len(data)))
                     found.update(data)
     return found.hexdigest()[:16]

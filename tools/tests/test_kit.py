@@ -9,14 +9,14 @@ from unittest import mock
 
 import here
 from motesim.faults import Fault
-from motesim.version import KIT
+from motesim.version import KIT, LOGIC
 from project import kit, tree
 
 
 @unittest.skipUnless(shutil.which('rt'), 'the command rt of the Rattle kit is not here')
 class AtHand(unittest.TestCase):
-    def test_it_is_the_kit_that_is_named(self):
-        self.assertEqual(kit.version(), KIT)
+    def test_it_has_the_logic_that_is_named(self):
+        self.assertIsNone(kit.another())
 
     def test_the_readme_names_it(self):
         self.assertIn('`%s`' % KIT, (here.TOP / 'README.md').read_text('utf-8'))
@@ -55,7 +55,8 @@ class Linker(unittest.TestCase):
 
 class Others(unittest.TestCase):
     def test_another_kit_is_told(self):
-        for at_hand, told in (KIT, None), ('another kit', 'the kit here is another kit, and what stands here was proved with %s' % KIT):
+        said = 'the kit here is another kit, and what stands here was proved with %s' % KIT
+        for at_hand, told in (KIT, None), ('rattle-kit-x %s' % LOGIC, None), ('another kit', said):
             with mock.patch.object(kit, 'version', lambda: at_hand):
                 self.assertEqual(bool(kit.another()), bool(told))
                 self.assertIn(told or 'None', str(kit.another()))

@@ -58,9 +58,23 @@ class Tried(unittest.TestCase):
         sums.append(tried.digest(crate, edit, [below]))
         (below / 'src/lib.rt').write_text('fn a() {}\n')
         sums.append(tried.digest(crate, edit, [below]))
-        with mock.patch.object(tried, 'KIT', 'another'):
+        with mock.patch.object(tried, 'LOGIC', 'another'):
             sums.append(tried.digest(crate, edit, [below]))
         self.assertEqual(len(set(sums)), 4)
+
+    def test_a_comment_does_not_count(self):
+        crate, edit = self.room / 'low', self.room / 'a.edit'
+        for part in 'src', 'specs':
+            (crate / part).mkdir(parents=True)
+        edit.write_text('file: src/lib.rt\n')
+        (crate / 'src/lib.rt').write_text('/// What it does.\nfn a() {} // for now\n')
+        (crate / 'specs/A.antt').write_text('-- a word\na = b\n')
+        sums = [tried.digest(crate, edit)]
+        (crate / 'src/lib.rt').write_text('    // Says more.\n//! And more.\nfn a() {} // for now\n')
+        (crate / 'specs/A.antt').write_text('a = b\n')
+        self.assertEqual(tried.digest(crate, edit), sums[0])
+        (crate / 'specs/A.antt').write_text('a = b -- c\n')
+        self.assertNotEqual(tried.digest(crate, edit), sums[0])
 
     def test_a_digest_has_all_that_is_read(self):
         crate, edit = self.room / 'low', self.room / 'a.edit'

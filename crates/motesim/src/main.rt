@@ -11,7 +11,7 @@ use std::sync::Wait;
 use std::thread::Threads;
 use std::{env, io};
 
-fn lent(alloc: Global, words: &[String]) -> Result<Vec<&str>, AllocError> {
+fn borrow_words(alloc: Global, words: &[String]) -> Result<Vec<&str>, AllocError> {
     words.iter().map(|word| word.as_str()).collect(alloc)
 }
 
@@ -35,7 +35,7 @@ where
     W: Write,
     E: Write,
 {
-    let words = lent(rt.alloc(), words)?;
+    let words = borrow_words(rt.alloc(), words)?;
     Ok(run_command(rt, &words, input, output, errors))
 }
 

@@ -100,6 +100,10 @@ KeepsCounts old new = (new.fuel ≡ old.fuel) × (new.started ≡ old.started)
 abbrev pub KeepsLists : Machine → Machine → Type 0
 KeepsLists old new = (new.ring ≡ old.ring) × (new.shown.timers ≡ old.shown.timers)
 
+-- lines and packets may be added, and neither the ring nor the timers change
+abbrev pub OnlyAdds : Machine → Machine → Type 0
+OnlyAdds old new = KeepsLists old new × Grows old.out new.out
+
 abbrev pub mote_of : Tree → Machine → (booted halted : Bool) → Mote
 mote_of program m booted halted = record { state = at_rest (state_of program m); booted = booted; halted = halted }
 

@@ -5,8 +5,8 @@ ghost use Rattle.process_kernel.specs.Calls.{told, is_system_event as has_number
 
 use program_tree::{Event, SystemEvent};
 
-/// An event of the kernel's own, with a word.
-pub fn told(event: SystemEvent, word: u16) -> Event
+/// An event of the kernel's own, with a word; its sender is 0.
+pub fn system_event(event: SystemEvent, word: u16) -> Event
     ensures { result ≡ told event word }
 {
     Event {

@@ -11,7 +11,7 @@ ghost use Rattle.process_kernel.specs.Kill.{kill_of};
 ghost use Rattle.process_kernel.specs.Operation.{posted, act_of, perform_of};
 ghost use Rattle.process_kernel.specs.Views.{HasRoom, told_thread};
 
-use crate::event::told;
+use crate::event::system_event;
 use crate::machine::{Machine, Stop};
 use crate::process::Member;
 use crate::table::is_same;
@@ -108,7 +108,7 @@ impl Machine {
         }
         if self.has_process(process) && !self.is_listed(process) {
             self.enlist(process)?;
-            self.call(program, process, &told(SystemEvent::Init, 0))
+            self.call(program, process, &system_event(SystemEvent::Init, 0))
         } else {
             Ok(())
         }
@@ -140,7 +140,7 @@ impl Machine {
         }
         let members = self.snapshot();
         self.begin_exit(process);
-        let exited = told(SystemEvent::Exited, process_number(process));
+        let exited = system_event(SystemEvent::Exited, process_number(process));
         self.walk(program, &exited, process, members.as_slice())?;
         if !is_same(process, behalf) {
             self.run_last(program, process)?;
@@ -156,7 +156,7 @@ impl Machine {
         ensures { Follows program.now self.old result self.new (λ calls state. last_run_of calls state process) }
     {
         self.spend()?;
-        self.react(program, process, &told(SystemEvent::Exit, 0))?;
+        self.react(program, process, &system_event(SystemEvent::Exit, 0))?;
         Ok(())
     }
 

@@ -6,7 +6,7 @@ ghost use Rattle.process_kernel.specs.Polls.{poll_turn_of, walk_polls, polls_of,
 ghost use Rattle.process_kernel.specs.Processes.{flag_at};
 ghost use Rattle.process_kernel.specs.Views.{HasRoom};
 
-use crate::event::told;
+use crate::event::system_event;
 use crate::machine::{Machine, Stop};
 use crate::process::Member;
 use arrayvec::ArrayVec;
@@ -95,7 +95,7 @@ impl Machine {
             return Ok(());
         }
         self.set_mark(member.process, false);
-        self.call(program, member.process, &told(SystemEvent::Poll, 0))
+        self.call(program, member.process, &system_event(SystemEvent::Poll, 0))
     }
 
     fn first_marked(&self) -> Option<usize>

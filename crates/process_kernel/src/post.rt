@@ -6,7 +6,7 @@ ghost use Rattle.process_kernel.specs.State.{Goes};
 ghost use Rattle.process_kernel.specs.Writes.{write_of, spend_of, halted_of};
 ghost use Rattle.process_kernel.specs.Posts.{post_of, poll_of, send_of};
 ghost use Rattle.process_kernel.specs.Semaphores.{take_of, signal_of};
-ghost use Rattle.process_kernel.specs.Views.{state_of, Tells, Grows, KeepsCounts, KeepsLists};
+ghost use Rattle.process_kernel.specs.Views.{state_of, Tells, Grows, KeepsCounts, KeepsLists, OnlyAdds};
 
 use crate::machine::{Machine, Stop};
 use crate::table::is_alive;
@@ -22,8 +22,7 @@ impl Machine {
     pub fn write(&mut self, what: What) -> Result<(), Stop>
         ensures exact { (t : Tree) → Tells result (state_of t self.new) (write_of (state_of t self.old) what) }
         ensures kept { KeepsCounts self.old self.new }
-        ensures lists { KeepsLists self.old self.new }
-        ensures grows { Grows self.old.out self.new.out }
+        ensures adds { OnlyAdds self.old self.new }
     {
         let at = self.shown.moment;
         self.out.lines.push(Line { at, what })?;
@@ -84,8 +83,7 @@ impl Machine {
     pub fn poll(&mut self, process: Proc)
         ensures exact { (t : Tree) → state_of t self.new ≡ poll_of (state_of t self.old) process }
         ensures kept { KeepsCounts self.old self.new }
-        ensures lists { KeepsLists self.old self.new }
-        ensures grows { Grows self.old.out self.new.out }
+        ensures adds { OnlyAdds self.old self.new }
     {
         if is_alive(self.process_state(process)) {
             self.set_mark(process, true);

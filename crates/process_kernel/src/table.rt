@@ -6,7 +6,7 @@ ghost use Rattle.process_kernel.specs.Members.{place_of, is_same as are_same, ho
 ghost use Rattle.process_kernel.specs.Processes.{state_at as state_of_process, flag_at, is_running_state};
 ghost use Rattle.process_kernel.specs.Processes.{is_called_state, with_state, with_exiting, with_mark};
 ghost use Rattle.process_kernel.specs.Processes.{is_alive as lives};
-ghost use Rattle.process_kernel.specs.Views.{state_of, Grows, KeepsCounts, KeepsLists};
+ghost use Rattle.process_kernel.specs.Views.{state_of, Grows, KeepsCounts, OnlyAdds};
 
 use crate::machine::Machine;
 use crate::process::{Member, ProcessState};
@@ -159,8 +159,7 @@ impl Machine {
     pub fn set_mark(&mut self, process: Proc, mark: bool)
         ensures exact { (t : Tree) → state_of t self.new ≡ with_mark (state_of t self.old) process mark }
         ensures kept { KeepsCounts self.old self.new }
-        ensures lists { KeepsLists self.old self.new }
-        ensures grows { Grows self.old.out self.new.out }
+        ensures adds { OnlyAdds self.old self.new }
     {
         let place = place_of(process);
         if place < self.marks.len() {

@@ -10,7 +10,7 @@ ghost use Rattle.process_kernel.specs.TimerOperations.{reset_of, restart_of, sto
 ghost use Rattle.process_kernel.specs.Etimer.{fired_of, pass_of, purge_of, etimer_of};
 ghost use Rattle.process_kernel.specs.Views.{state_of, Tells, Grows, KeepsCounts};
 
-use crate::event::{is_event, told};
+use crate::event::{is_event, system_event};
 use crate::machine::{Machine, Stop};
 use program_tree::{Event, Proc, Program, SystemEvent, Target};
 
@@ -145,7 +145,7 @@ impl Machine {
     {
         let mut after = None;
         while let Some((timer, owner)) = self.shown.timers.next_due(self.shown.moment, after) {
-            let is_full = self.post(Target::One(owner), told(SystemEvent::Timer, timer))?;
+            let is_full = self.post(Target::One(owner), system_event(SystemEvent::Timer, timer))?;
             if is_full {
                 self.poll(Proc::Etimer);
                 after = Some(timer);

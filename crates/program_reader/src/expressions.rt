@@ -44,7 +44,7 @@ impl Drop for Sides {
 }
 
 impl Sides {
-    fn joined(self, alloc: Global) -> Result<Expr, AllocError>
+    fn into_expression(self, alloc: Global) -> Result<Expr, AllocError>
         ensures { IfOk result (λ e. expression_of e ≡ binary self.operator (expression_of self.left)
             (expression_of self.right)) }
     {
@@ -79,7 +79,7 @@ impl Cursor<'_> {
 impl Reader<'_> {
     /// A keyword that asks about something, and after it in parentheses its name.
     #[tactic(auto, using(crate::proofs::ExpressionSteps::word_steps))]
-    fn told(&mut self, place: &Context, telling: Telling) -> Result<Expr, Refusal>
+    fn question(&mut self, place: &Context, telling: Telling) -> Result<Expr, Refusal>
         requires here { first self.old.cursor ≡ Some (token.Keyword (telling_keyword telling)) }
         ensures { AnswersExpression self.old self.new place.now result }
     {
@@ -115,7 +115,7 @@ impl Reader<'_> {
                 self.cursor.advance();
                 Ok(alone.value())
             }
-            Some(ValueWord::Telling(telling)) => self.told(place, telling),
+            Some(ValueWord::Telling(telling)) => self.question(place, telling),
             Some(ValueWord::Is) => self.is(place),
             None => Err(self.cursor.unfit()),
         }
@@ -183,7 +183,7 @@ impl Reader<'_> {
         }
         self.cursor.advance();
         let sides = self.sides(&place.inner())?;
-        Ok(sides.joined(self.alloc)?)
+        Ok(sides.into_expression(self.alloc)?)
     }
 
     /// An expression, at this place.

@@ -22,7 +22,7 @@ pub struct Loss {
 pub(crate) type EveryByPair = HashMap<(u32, u32), u32>;
 
 /// All losses by their pairs; a bad one is an error.
-pub(crate) fn gathered(
+pub(crate) fn gather_losses(
     alloc: Global,
     motes: usize,
     losses: &[Loss],

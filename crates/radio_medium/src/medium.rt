@@ -7,7 +7,7 @@ ghost use Rattle.radio_medium.specs.Links.{links_of, IsFit};
 
 use crate::error::MediumError;
 use crate::link::{Link, all_links, copies_along, fates_along, least_delay};
-use crate::losses::{Loss, gathered};
+use crate::losses::{Loss, gather_losses};
 use crate::place::Place;
 use crate::reach::Reach;
 use radio_packet::{Fate, RadioCopy, Sent};
@@ -76,7 +76,7 @@ impl Medium {
         if per == 0 {
             return Err(MediumError::ZeroPer);
         }
-        let every = gathered(alloc, places.len(), losses)?;
+        let every = gather_losses(alloc, places.len(), losses)?;
         let reach = Reach { range, base, per };
         let links = all_links(alloc, places, reach, &every)?;
         let least_delay = least_delay(&links);

@@ -25,7 +25,7 @@ returns-in_err-is_full-clause-exact c = λ t.
     let halts = halt_step
     (state_of t c.loop-timer.self) c.loop-timer.after c.in-Some.timer c.in-Some.owner now.0
     at c.in_err-is_full.field-0.0 (state_of t c.post.new.self)
-    (rw (← c.told.ensures) (c.in_err-is_full.ensures.exact t)) in
+    (rw (← c.system_event.ensures) (c.in_err-is_full.ensures.exact t)) in
     rw now.2 (search (rules, halts))
 
 pub loop-timer-preserved-then-is_full : goal.loop-timer-preserved-then-is_full
@@ -36,7 +36,7 @@ loop-timer-preserved-then-is_full c = (
   λ t.
       let now = c.loop-timer.invariant.3 t in
       let same : c.poll.new.self.shown.timers ≡ c.loop-timer.self.shown.timers =
-      c.poll.ensures.lists.1 ∙ c.in_ok-is_full.ensures.lists.1 in
+      c.poll.ensures.adds.0.1 ∙ c.in_ok-is_full.ensures.lists.1 in
       let at : Found (state_of t c.loop-timer.self) c.loop-timer.after c.in-Some.timer c.in-Some.owner =
       record { first = c.in-Some.ensures.first; owner = c.in-Some.ensures.owner } in (
         now.0,

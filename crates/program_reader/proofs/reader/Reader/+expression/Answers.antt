@@ -41,9 +41,9 @@ binary-returns t c = record {
   same = search rules;
   ok =
       let low : c.args.place.now.level < 32 = omega (arith, c.requires.shallow, c.if-place-eq-LEVELS.false) in
-      binary_reads _ _ _ _ _ _ _ _ _ _ c.inner.ensures.context c.in_ok-joined.ensures c.requires.here low
+      binary_reads _ _ _ _ _ _ _ _ _ _ c.inner.ensures.context c.in_ok-into_expression.ensures c.requires.here low
       c.advance.ensures c.in_ok-sides.ensures.ok;
-  numbered = binary_numbered _ _ _ _ _ c.in_ok-joined.ensures c.in_ok-sides.ensures.left_numbered
+  numbered = binary_numbered _ _ _ _ _ c.in_ok-into_expression.ensures c.in_ok-sides.ensures.left_numbered
       c.in_ok-sides.ensures.right_numbered;
   fits = search rules;
   err = search rules;

@@ -1,7 +1,7 @@
 use Rattle.std.proofs.Common.{arith}
 use Rattle.std.proofs.lemmas.Result.{err_from_is_err_and}
 use Rattle.radio_medium.proofs.LossLemmas.{HasLosses-none, HasLosses-more, refused_at}
-use Rattle.radio_medium.proofs.losses.gathered.Goals as goal
+use Rattle.radio_medium.proofs.losses.gather_losses.Goals as goal
 
 pub loop-loss-init : goal.loop-loss-init
 loop-loss-init c = HasLosses-none _ _ c.new-every.ensures.empty

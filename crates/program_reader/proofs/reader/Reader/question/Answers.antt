@@ -1,7 +1,7 @@
 use Rattle.std.proofs.Common.{rules}
 use Rattle.program_reader.proofs.ExpressionSteps.{told_reads}
 use Rattle.program_reader.proofs.ValueLaws.{telling_made, telling_numbered, telling_fits}
-use Rattle.program_reader.proofs.reader.Reader.told.Goals as goal
+use Rattle.program_reader.proofs.reader.Reader.question.Goals as goal
 
 pub returns : goal.returns
 returns c = record {
