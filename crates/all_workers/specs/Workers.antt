@@ -37,7 +37,8 @@ pub record IsWorkerAt (n : NetTold) (of : List ℕ) (from : ℕ) (motes : Motes)
   pub gathered : GatheredCopies (system_of n) of motes worker (gathered_by taker)
   pub waits : (sender : ℕ) → Waits first sender taker
 
--- The workers stand before a moment: the windows up to it led the motes there, and each worker has its part of it.
+-- The workers stand before the moment `from`: windows from 0 to `from` led to these `motes`, and each worker's share
+-- and taker hold its part of them.
 pub record IsAt (n : NetTold) (of : List ℕ) (from : ℕ) (group : Workers) : Type 0 where
   pub motes : Motes
   pub led : Windows (system_of n) 0 from (first_mote (system_of n)) motes

@@ -1,4 +1,5 @@
-//! What both kinds of workers share: the group between windows, a window's width, the making of endpoints, one worker.
+//! What joins and marks have in common: the group between windows, a window's width, the making of endpoints, one
+//! worker.
 #![tactic(auto)]
 
 pub mod laws;

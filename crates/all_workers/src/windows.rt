@@ -32,7 +32,7 @@ pub fn window_width(lookahead: u64, longest: u32) -> u64
     longest
 }
 
-/// The moment before which a window ends that begins at `from`, at or before the end, and is at most `width` long.
+/// The exclusive end of a window that begins at `from`: `from + width`, cut off at `end + 1`.
 pub fn window_end(from: u64, width: u64, end: u64) -> u64
     requires above_zero { 0 < width }
     requires early { end ≤ latest_end }

@@ -15,7 +15,7 @@ use worker_window::Share;
 pub struct Worker {
     pub share: Share,
     pub endpoint: Endpoint,
-    /// When the first of the copies that it delivered, and that are still in an inbox, arrives.
+    /// When the earliest copy arrives that it delivered and that is still in an inbox.
     pub first_out: Option<u64>,
 }
 

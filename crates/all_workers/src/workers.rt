@@ -14,8 +14,8 @@ use mote_net::Net;
 use std::alloc::Global;
 use worker_window::Share;
 
-/// The workers of a net: their shares, their inboxes with the takers, and when the first of the copies in the inboxes
-/// arrives.
+/// The workers of a net: their shares, their inboxes with the takers, and `first_out`, when the earliest of the copies
+/// in the inboxes arrives.
 #[derive(Drop)]
 pub struct Workers {
     pub shares: Vec<Share>,

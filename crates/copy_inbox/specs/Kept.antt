@@ -15,6 +15,11 @@ pub record KeepsCounts (v : View) (first : ℕ) (kept : List Count) (known : ℕ
   pub few : first ≤ 2 ^ 62
   pub gathered : (s : ℕ) → s < first → is_gathered (taker_state_in v).gathered s ≡ true
 
+-- one more item of the sender can be counted, unless the count of the sender was dropped
+abbrev pub CanCount : (first sender : ℕ) → List Count → Type 0
+CanCount first sender counts = first ≤ sender → (c : Count)
+    → (slice_index_or counts (sender - first) c).taken + 1 < 2 ^ 64
+
 -- one more item of the sender was taken, which isn't counted if the count of the sender was dropped; `gathered` says
 -- whether the sender was gathered
 pub record CountsTaken (first sender : ℕ) (old new : List Count) (gathered : Bool) : Type 0 where

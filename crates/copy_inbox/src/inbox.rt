@@ -277,7 +277,7 @@ impl Inbox {
         Ok(())
     }
 
-    /// Takes a sender in again: the taker then knows all that it pushed, and it can push no more.
+    /// Takes back a sender, which can push no more; the taker then knows all that was pushed through it.
     pub fn gather<R: Wait>(&self, rt: &R, taker: &mut Taker, sender: Sender)
         requires taker { taker.old.inbox ≡ self.now }
         requires sender { sender.inbox ≡ self.now }
@@ -298,8 +298,8 @@ impl Inbox {
     }
 
     /// Takes the oldest copy or mark, with the number of its sender, without allocating. It returns `None` only if
-    /// nothing is known and the queue was empty at some moment of the call. What was taken of a gathered sender stays
-    /// a prefix of what it pushed.
+    /// nothing is known, and then nothing has changed. What was taken of a gathered sender stays a prefix of what it
+    /// pushed.
     pub fn take_next<R: Wait>(&self, rt: &R, taker: &mut Taker) -> Option<Item>
         requires { taker.old.inbox ≡ self.now }
         ensures inbox { taker.new.inbox ≡ taker.old.inbox }

@@ -32,10 +32,10 @@ impl<T, W: Work<T>> Promise<Result<T, Refused>> for Promised<W, T> {
 /// their order.
 ///
 /// # Errors
-/// The `Memory` or `Thread` of the first worker that returned one, if any that was started did; else `Thread` if a
-/// thread couldn't be started, or `may_start` refused it, or `Memory` if an allocation for its handle failed; else
-/// `Stopped` if a worker returned it. A worker for whose result an allocation failed counts as one that returned
-/// `Memory`.
+/// The `Memory` or `Thread` of the first worker that returned one, of those whose handle was kept; else `Thread` if a
+/// thread couldn't be started, or `may_start` refused it, or `Memory` if an allocation for the handles failed; else
+/// `Stopped` if a worker returned it. A worker whose handle couldn't be stored is joined, and its answer dropped. A
+/// worker for whose result an allocation failed counts as one that returned `Memory`.
 pub fn fork_join<R, T, W>(
     rt: &R,
     alloc: Global,

@@ -8,16 +8,14 @@ use crate::worker::sooner;
 use all_workers::{Worker, Workers};
 use worker_window::Share;
 
-/// The moment of the first pending event of a worker's motes: a wrapper that gives the proof of the loop over all
-/// shares one clause.
+/// `Share::next`, as a function with one clause, for the loop's proof.
 fn next_of(share: &Share) -> Option<u64>
     ensures { TellsNext share.now result }
 {
     share.next()
 }
 
-/// When the first of the copies that a worker delivered arrives: a wrapper that gives the proof of the loop over all
-/// workers one clause.
+/// The `first_out` of a worker, as a function with one clause, for the loop's proof.
 fn first_out_of(worker: &Worker) -> Option<u64>
     ensures { result ≡ worker.now.first_out }
 {

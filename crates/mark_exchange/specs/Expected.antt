@@ -11,7 +11,8 @@ use Rattle.mark_exchange.specs.declared.take.MarkError.{MarkError}
 use Rattle.mark_exchange.specs.declared.take.Standing.{Standing}
 use Rattle.mark_exchange.specs.declared.take.MarkError.TheVariants.{Memory, Stopped, Unexpected}
 
--- a worker's position between two windows: the worker of each mote, its own number, and when its next window begins
+-- a worker's position between two windows (`Standing` in the code): the worker of each mote, its own number, and when
+-- its next window begins
 pub record Position : Type 0 where
   pub of : List ℕ
   pub worker : ℕ

@@ -17,7 +17,8 @@ pub fn no_marks(alloc: Global, senders: usize) -> Result<Vec<u64>, AllocError>
     Ok(marks)
 }
 
-/// Whether more marks than `window` have come from each sender: the marks of the windows up to this one.
+/// Whether the mark of window number `window` (from 0) has come from each sender: whether more marks than `window`
+/// have, those of the windows up to this one.
 pub fn all_past(marks: &[u64], window: u64) -> bool
     ensures { IsTrue result ↔ AllPast window marks.now }
 {

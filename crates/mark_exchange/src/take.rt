@@ -48,7 +48,7 @@ impl<T: Drop> From<AllocFailed<T>> for MarkError {
     }
 }
 
-/// The position of a worker between two windows.
+/// The position of a worker between two windows; `Position` in definitions.
 #[derive(Clone, Copy)]
 pub struct Standing<'a> {
     pub worker: u16,
@@ -72,7 +72,7 @@ fn is_expected(standing: &Standing<'_>, copy: RadioCopy) -> bool
     standing.from <= copy.at
 }
 
-/// Counts a mark that was taken; appends a copy that was taken to those that arrived, if it is expected.
+/// Receives an item that was taken: counts a mark; appends a copy to those that arrived, if it is expected.
 fn hear(
     standing: &Standing<'_>,
     marks: &mut Vec<u64>,
@@ -134,7 +134,8 @@ fn take_waiting<R: Wait>(
     unreachable!()
 }
 
-/// Takes items until more marks than `window` have come from each sender, and returns their copies.
+/// Takes items until the mark of window number `window` (from 0) has come from each sender, that is, until more marks
+/// than `window` have; returns the copies taken on the way.
 ///
 /// # Errors
 /// `Memory`; `Stopped` if the flag was seen set while a mark was missing; `Unexpected` if a copy came that isn't

@@ -10,7 +10,7 @@ use std::sync::Wait;
 use std::sync::atomic::{AtomicBool, Ordering};
 use std::time::Duration;
 
-// How often a worker may find no item in one window before it sleeps: at least, and at most.
+// Bounds of the spin budget: fruitless looks per window before the worker sleeps.
 const LEAST_LOOKS: u32 = 32;
 
 const MOST_LOOKS: u32 = 1024;

@@ -70,9 +70,11 @@ pub fn two_windows_lie_there()
     ensures { TwoWindowsLieThere }
 {}
 
-/// The same if each worker has one queue for the items of all others, of which it takes the oldest: each run is one of
-/// the runs of the laws above; somebody can go on while a window is left; a run that can't go on has made all its
-/// steps, and every queue is empty; and every run can go on to the end.
+/// The same if each worker has one queue for the items of all others, of which it takes the oldest: the senders on
+/// each queue can be numbered apart; each run is one of the runs of the laws above; somebody can go on while a window
+/// is left; a run that can't go on has made all its steps, and every queue is empty; every run can go on to the end;
+/// and a run that can't go on is at the end even if workers keep to an order of their own among the steps that they
+/// may take, such as all copies of a window before its marks.
 pub fn queues_do_not_stick()
     ensures senders { SendersAreThere }
     ensures runs { QueuedRunsAreRuns }

@@ -119,7 +119,7 @@ fn take_window<R: Wait + AllocGlobal>(
     Ok(())
 }
 
-/// Runs a worker that has run the windows before this one through this one.
+/// Runs one window: the worker's motes run and send, then it takes. The worker has run all earlier ones.
 fn run_one<R: Wait + RandomSource + AllocGlobal, G: Gate>(
     rt: &R,
     gate: &G,

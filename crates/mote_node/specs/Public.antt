@@ -13,11 +13,11 @@ use Rattle.mote_node.specs.Turn.{TurnGiven}
 abbrev pub node_over : (last : Option ℕ) → (collides : Bool) → Mote → Node
 node_over last collides m = record { mote = m; last = last; collides = collides }
 
--- The node that a `Mote` with this program holds, even after it has failed.
+-- The node of a `Mote` with this program, whether or not it has failed.
 unfoldable pub node_held : Tree → MoteOfCode → Node
 node_held t m = node_over m.last m.collide (held_in t m.kernel.value)
 
--- The node that a `Mote` with this program is; one that ran out of memory is none.
+-- The node of a `Mote` with this program, unless it has failed.
 unfoldable pub node_in : Tree → MoteOfCode → Option Node
 node_in t m = if m.failed then None else option_map (node_over m.last m.collide) (mote_in t m.kernel.value)
 

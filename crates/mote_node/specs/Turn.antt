@@ -26,7 +26,7 @@ is_some_due moment (Some expiration) = nat_le expiration moment
 unfoldable pub poll_due : (moment : ℕ) → Mote → Mote
 poll_due moment m = if is_some_due moment (next_expiration_of m.state.timers) then with_poll m Etimer else m
 
--- the most kernel runs of a turn; the boot is none of them
+-- the most kernel runs of a turn, not counting the boot
 abbrev pub most_runs : ℕ
 most_runs = 64
 

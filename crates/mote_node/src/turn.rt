@@ -14,7 +14,7 @@ use program_tree::{Proc, Program};
 use radio_packet::Arrival;
 use std::alloc::AllocError;
 
-/// The most kernel runs of a turn; the boot is none of them.
+/// The most kernel runs of a turn, not counting the boot.
 const RUNS: u8 = 64;
 
 /// The first turn boots the mote.
@@ -59,7 +59,7 @@ fn hear_or_lose(
     Ok(heard)
 }
 
-/// The packets go into the ring in their order. If any does, the radio process is to be polled.
+/// The packets go into the ring in their order. If any does, asks for a poll of the radio process.
 fn hear_all(
     kernel: &mut Kernel,
     moment: u64,
@@ -80,9 +80,9 @@ fn hear_all(
     Ok(())
 }
 
-/// If a timer is due, the etimer process is to be polled.
+/// If a timer is due, asks for a poll of the etimer process.
 #[tactic(auto, unfolding(crate::specs::Turn::poll_due))]
-fn poll_due(kernel: &mut Kernel, moment: u64)
+fn poll_etimer(kernel: &mut Kernel, moment: u64)
     ensures { (t : Tree) → mote_in t kernel.new ≡ option_map (poll_due moment) (mote_in t kernel.old) }
 {
     if let Some(due) = kernel.next_expiration() {
@@ -128,7 +128,7 @@ fn turn_mote(
         return Ok(());
     }
     hear_all(kernel, moment, packets, out)?;
-    poll_due(kernel, moment);
+    poll_etimer(kernel, moment);
     run_all(kernel, program, moment, out)
 }
 

@@ -164,7 +164,7 @@ impl Agenda {
         Ok(())
     }
 
-    /// Takes out all pending events of a mote at a moment. Its packets replace what the list has, in order.
+    /// Takes out all pending events of a mote at a moment. The mote's packets replace what the list has, in order.
     pub fn take_due_into(
         &mut self,
         moment: u64,
@@ -185,7 +185,7 @@ impl Agenda {
         taken
     }
 
-    /// Takes out all pending events of a mote at a moment, and returns its packets, in order.
+    /// Takes out all pending events of a mote at a moment, and returns the mote's packets, in order.
     pub fn take_due(&mut self, moment: u64, mote: u16) -> Result<Vec<Arrival>, AllocError>
         ensures copies { IfOk result (λ arrivals. AreDue moment mote self.old.buckets arrivals.items) }
         ensures rest { TakesDue moment mote self.old.buckets self.new.buckets }
@@ -210,7 +210,7 @@ impl Agenda {
         }
     }
 
-    /// How many packets are on their way.
+    /// How many copies are on their way.
     pub fn left(self) -> Result<u64, AllocError>
         ensures { (items : List Item) → Holds self.buckets items → IfOk result (λ left. left ≡ length (packets items)) }
     {

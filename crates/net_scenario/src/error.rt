@@ -33,7 +33,7 @@ pub enum ScenarioError {
     UnknownProgram,
     /// The program with this name can't be read.
     Program(ProgramName, ReadError),
-    /// The numbers and losses of the medium make none.
+    /// No medium can be made of these numbers and losses.
     Medium(MediumError),
     /// An allocation failed.
     Memory,

@@ -57,9 +57,10 @@ fn net_from(alloc: Global, top: &Table) -> Result<Net, ScenarioError>
     Ok(Net::new(end, collide, medium, programs, motes))
 }
 
-/// The net that a scenario's text describes, or the first fault of the text: its length, its TOML, its tables in
-/// order, the motes' programs, the programs' texts in byte order of their names, and the numbers of the medium.
-/// `Memory` may be returned in place of any of these, only if an allocation failed.
+/// The net that a scenario's text describes, or its first fault, looked for in this order: its length; its TOML; its
+/// tables in order; whether the programs exist that `queue` and the motes name; the texts of all programs, in byte
+/// order of their names; the numbers and losses of the medium. `Memory` may be returned in place of any of these, only
+/// if an allocation failed.
 pub fn read_scenario(alloc: Global, text: &str) -> Result<Net, ScenarioError>
     ensures { Answers text.now result }
 {

@@ -88,7 +88,8 @@ abbrev pub Pays : Proc → Machine → Machine → Type 0
 Pays p old new =
     IsTrue (is_running_state (state_at old.shown.states.items p)) → new.started + new.fuel + 1 ≤ old.started + old.fuel
 
--- a number is left for each process that can still be started, and for this many more
+-- Incarnations are numbered below 2^32: a number is left for each process that can still be started, one per unit of
+-- work, and for this many more.
 abbrev pub HasRoom : ℕ → Machine → Type 0
 HasRoom n m = m.started + m.fuel + n < 2 ^ 32
 

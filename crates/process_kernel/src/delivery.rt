@@ -14,7 +14,7 @@ use program_tree::{Proc, Program, Target};
 use trace_lines::What;
 
 /// Up to this many processes are copied into a short array, since a call initializes its whole array.
-const SOME: usize = 16;
+const FEW: usize = 16;
 
 impl Machine {
     /// Removes the oldest event from the queue, if there is one, and delivers it.
@@ -48,25 +48,25 @@ impl Machine {
         ensures { Follows program.now self.old result self.new
             (λ calls. walk_event calls posted.now self.old.members.items) }
     {
-        if self.members.len() <= SOME {
-            self.deliver_to_some(program, posted)
+        if self.members.len() <= FEW {
+            self.deliver_to_few(program, posted)
         } else {
             self.deliver_to_many(program, posted)
         }
     }
 
-    /// Delivers an event to all of at most 16 processes.
-    fn deliver_to_some(&mut self, program: &Program, posted: &Posted) -> Result<(), Stop>
+    /// Delivers an event to all, where at most 16 are listed.
+    fn deliver_to_few(&mut self, program: &Program, posted: &Posted) -> Result<(), Stop>
         requires units { HasRoom 0 self.old }
-        requires some { length self.old.members.items ≤ 16 }
+        requires few { length self.old.members.items ≤ 16 }
         ensures { Follows program.now self.old result self.new
             (λ calls. walk_event calls posted.now self.old.members.items) }
     {
-        let members: ArrayVec<Member, SOME> = self.snapshot_from(0);
+        let members: ArrayVec<Member, FEW> = self.snapshot_from(0);
         self.walk_event(program, posted, members.as_slice())
     }
 
-    /// Delivers an event to all of any number of processes.
+    /// Delivers an event to all, however many are listed.
     fn deliver_to_many(&mut self, program: &Program, posted: &Posted) -> Result<(), Stop>
         requires { HasRoom 0 self.old }
         ensures { Follows program.now self.old result self.new
@@ -92,7 +92,8 @@ impl Machine {
         Ok(())
     }
 
-    /// The turn of an incarnation in the walk of an event that goes to all.
+    /// The turn of an incarnation in the walk of an event that goes to all: first the polls run, if the flag is set;
+    /// then the event is given to its process, or dropped if the incarnation is no longer on the list.
     #[inline(always)]
     #[tactic(auto, unfolding(crate::specs::Delivery::visit_of))]
     fn give_in_turn(

@@ -49,7 +49,8 @@ impl<T: Drop> From<AllocFailed<T>> for Stop {
 /// The kernel of a mote. The tables have the system processes first, then those of the program in their order; threads
 /// and variables are those of the program's processes alone. While a body runs, a fresh one stands in its place.
 /// `is_numbered` says that the incarnations on the process list are known to be numbered from 0 on, which spares
-/// numbering them anew. The fields that a run touches stand together, so that it needs few cache lines.
+/// numbering them anew. A mark, one of `marks` for each process, is Contiki's `needspoll` flag, and `flag` is its
+/// `poll_requested`. The fields that a run touches stand together, so that it needs few cache lines.
 #[derive(Drop)]
 pub struct Machine {
     pub(crate) shown: Shown,

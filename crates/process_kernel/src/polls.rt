@@ -16,7 +16,7 @@ use program_tree::{Program, SystemEvent};
 const FEW: usize = 4;
 
 impl Machine {
-    /// The polls, if the flag is set.
+    /// Polls each listed process whose mark is set, if a poll was requested (`flag`).
     #[inline(always)]
     #[tactic(auto, unfolding(crate::specs::Polls::polls_of, crate::specs::Polls::polls_due_of))]
     pub fn poll_due(&mut self, program: &Program) -> Result<(), Stop>

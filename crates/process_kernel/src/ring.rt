@@ -11,7 +11,7 @@ use std::marker::Model;
 /// How many packets the ring holds.
 const ROOM: usize = 8;
 
-/// A packet in the ring. Its number stands first, so that it takes 16 bytes.
+/// A packet in the ring. This field order makes the value 16 bytes.
 #[derive(Clone, Copy)]
 struct Heard {
     number: u64,

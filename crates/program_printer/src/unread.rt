@@ -1,4 +1,5 @@
-//! The tokens of expressions, statements and blocks, with each number's name put back.
+//! Unreading, the reverse of reading: from a tree back to its tokens, with each number's name put back. Here that of
+//! expressions, statements and blocks.
 ghost use Rattle.std.specs.Prelude.{◌≡◌, ◌-◌, ◌∷◌, ◌++◌, [], map, OnOk, slice_index_or, option_map};
 ghost use Rattle.program_tree.specs.EventNames.{cast_of, sent_of, any_of, cast_map, sent_map, any_map};
 ghost use Rattle.program_tree.specs.InScope.{name_in};

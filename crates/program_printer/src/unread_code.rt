@@ -1,4 +1,4 @@
-//! The tokens of declarations, codes and whole programs.
+//! Unreading, the reverse of reading: the tokens of declarations, codes and whole programs.
 ghost use Rattle.std.specs.Prelude.{◌≡◌, ◌++◌, [], length, map, IfOk, OnOk, slice_index_or, option_map};
 ghost use Rattle.std.specs.List.{flat_map, zip};
 ghost use Rattle.program_tree.specs.Program.{code_of, tree_of};

@@ -124,7 +124,7 @@ medium_fault radio =
     else if radio.per == 0 then Some ZeroPer
     else if has_bad_loss (length radio.places) radio.losses then Some BadLoss else None
 
--- the medium of these, or their first fault; out of memory no claim is made
+-- the medium of these, or their first fault; if an allocation failed, nothing is claimed
 abbrev pub MakesMedium : Radio → Result Radio MediumError → Type 0
 MakesMedium radio (Ok medium) = (medium ≡ radio) × (medium_fault radio ≡ None)
 MakesMedium radio (Err Memory) = Unit {0}

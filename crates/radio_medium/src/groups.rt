@@ -9,7 +9,7 @@ use std::alloc::{AllocError, Global};
 /// How many motes are in a group; the last one may have fewer.
 pub(crate) const GROUP_SIZE: usize = 32;
 
-/// The place of one mote of a group, and how far the others are from it at most, along each axis.
+/// A group: the place of its first mote (`centre`), and how far the others are from that at most, along each axis.
 #[derive(Clone, Copy)]
 pub(crate) struct Group {
     pub(crate) centre: Place,
@@ -57,8 +57,7 @@ impl Group {
     }
 }
 
-/// Whether a coordinate is no farther from that of a group's centre than the range and the group's farthest mote
-/// together.
+/// Whether |from - centre| <= range + farthest, on one axis.
 fn reaches(range: u32, from: i32, centre: i32, farthest: u64) -> bool
     ensures { result ≡ nat_le (unsigned_abs (from -ℤ centre) - range) farthest }
 {

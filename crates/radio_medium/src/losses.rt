@@ -57,7 +57,7 @@ fn is_good(motes: usize, loss: Loss) -> bool
     is_there && loss.sender != loss.to && loss.every != 0
 }
 
-/// Whether the copy of the packet with this number is lost, if the last of every `every` is.
+/// Whether packet `number` is lost, if the last of each `every` packets is; without `every` none is.
 pub(crate) fn is_lost(number: u64, every: Option<u32>) -> bool
     requires { ForSome every (λ k. 0 < k) }
     ensures { result ≡ is_lost number every }

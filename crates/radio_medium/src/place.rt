@@ -10,7 +10,7 @@ pub struct Place {
     pub y: i32,
 }
 
-/// How far apart two numbers are. Its square takes no test of which of them is less.
+/// How far apart two numbers are: |a - b|.
 #[inline(always)]
 pub(crate) fn gap(a: i32, b: i32) -> u64
     ensures { result ≡ unsigned_abs (a -ℤ b) }

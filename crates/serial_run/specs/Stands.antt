@@ -1,5 +1,6 @@
 -- Where a run of the engine stands.
-use Rattle.std.specs.Prelude.{ℕ, ◌≡◌, ◌<◌, ◌++◌, List, length, map, Vec, Some, option_map, slice_index_or, slice_set}
+use Rattle.std.specs.Prelude.{ℕ, ◌≡◌, ◌<◌, ◌++◌, List, length, map, Vec, Option, Some, option_map}
+use Rattle.std.specs.Prelude.{slice_index_or, slice_set}
 use Rattle.std.specs.List.{filter, AllByRecursion}
 use Rattle.std.specs.declared.alloc.Global.{Global}
 use Rattle.radio_packet.specs.declared.arrival.Arrival.{Arrival}
@@ -7,7 +8,7 @@ use Rattle.trace_lines.specs.declared.line.Line.{Line}
 use Rattle.mote_node.specs.declared.mote.Mote.{Mote}
 use Rattle.mote_node.specs.declared.mote.TurnOut.{TurnOut}
 use Rattle.mote_node.specs.Node.{Node}
-use Rattle.mote_node.specs.Public.{node_in, turn_told}
+use Rattle.mote_node.specs.Public.{node_in, turn_told, wake_in}
 use Rattle.mote_node.specs.Turn.{turn_of}
 use Rattle.mote_node.specs.Wake.{wake_of}
 use Rattle.mote_net.specs.Net.{NetTold}
@@ -15,9 +16,10 @@ use Rattle.net_report.specs.Report.{told_line}
 use Rattle.serial_run.specs.declared.engine.Engine.{Engine}
 use Rattle.window_laws.specs.Agenda.{mote_of, is_wake_of, wake_items}
 use Rattle.net_agenda.specs.Buckets.{Holds}
-use Rattle.net_agenda.specs.NetSystem.{tree_at}
+use Rattle.net_agenda.specs.NetSystem.{system_of, tree_at}
 use Rattle.serial_run.specs.NetRun.{packet_with_fates}
-use Rattle.window_laws.specs.NetStep.{NetState}
+use Rattle.serial_run.specs.OnTime.{CanTurn}
+use Rattle.window_laws.specs.NetStep.{NetState, turn_at}
 use Rattle.program_tree.specs.Code as code
 
 abbrev pub OneNode : NetTold → List Mote → NetState Node Line → (mote : ℕ) → Type 0
@@ -42,6 +44,19 @@ pub record IsWhole (n : NetTold) (engine : Engine) : Type 0 where
 pub record KeepsWakes (n : NetTold) (net : NetState Node Line) : Type 0 where
   pub wakes : (k : ℕ) → k < length n.motes → filter (is_wake_of k) net.agenda ≡ wake_items k (wake_of (net.states k))
   pub inside : AllByRecursion (λ item. mote_of item < length n.motes) net.agenda
+
+-- wherever the net stood, it stands after this turn
+abbrev pub TurnLeads : NetTold → (moment mote : ℕ) → Engine → Engine → Type 0
+TurnLeads n moment mote old new = (state : NetState Node Line) → StandsAt n old state → KeepsWakes n state
+    → StandsAt n new (turn_at (system_of n) moment mote state)
+
+-- one of the motes has not failed, and its last turn was before this moment
+abbrev pub CanTurnAt : code.Tree → (moment : ℕ) → List Mote → (mote : ℕ) → Type 0
+CanTurnAt tree moment motes k = (d : Mote) → CanTurn moment (node_in tree (slice_index_or motes k d))
+
+-- when one of the motes wakes next
+abbrev pub IsWakeAt : List Mote → (mote : ℕ) → Option ℕ → Type 0
+IsWakeAt motes k wake = (tree : code.Tree) (d : Mote) → wake ≡ wake_in (node_in tree (slice_index_or motes k d))
 
 -- one mote took a turn, which gave this
 pub record OneTakesTurn (tree : code.Tree) (moment : ℕ) (packets : List Arrival) (k : ℕ) (old new : List Mote)

@@ -1,18 +1,14 @@
 //! A net as it runs: its motes, their traces, the medium's log, and the pending events.
 
-ghost use Rattle.std.specs.Prelude.{◌≡◌, ◌<◌, ◌≤◌, ◌^◌, length, slice_index_or, Some, OnOk, IfOk};
+ghost use Rattle.std.specs.Prelude.{◌≡◌, ◌<◌, ◌≤◌, ◌^◌, length, Some, OnOk, IfOk};
 ghost use Rattle.program_tree.specs.Program.{tree_of};
-ghost use Rattle.mote_node.specs.Node.{Node};
-ghost use Rattle.mote_node.specs.Public.{node_in, told_with, wake_in};
-ghost use Rattle.mote_node.specs.declared.mote.Mote.{Mote as MoteOfCode};
-ghost use Rattle.program_tree.specs.Code.{Tree};
+ghost use Rattle.mote_node.specs.Public.{told_with};
 ghost use Rattle.trace_lines.specs.declared.line.Line.{Line};
 ghost use Rattle.mote_net.specs.Net.{net_of};
 ghost use Rattle.net_agenda.specs.Buckets.{wake_but_at};
-ghost use Rattle.net_agenda.specs.NetSystem.{system_of, first_node_in, tree_at};
-ghost use Rattle.window_laws.specs.NetStep.{NetState, turn_at, boot};
-ghost use Rattle.serial_run.specs.OnTime.{CanTurn};
-ghost use Rattle.serial_run.specs.Stands.{StandsAt, IsWhole, KeepsWakes, OneTakesTurn};
+ghost use Rattle.net_agenda.specs.NetSystem.{system_of, tree_at};
+ghost use Rattle.window_laws.specs.NetStep.{boot};
+ghost use Rattle.serial_run.specs.Stands.{StandsAt, IsWhole, TurnLeads, CanTurnAt, IsWakeAt, OneTakesTurn};
 
 use crate::sends::send_all;
 use mote_net::Net;
@@ -64,8 +60,7 @@ fn turn_mote(
 ) -> Result<Option<u64>, AllocError>
     requires there { number < length motes.old.items }
     requires early { moment ≤ 2 ^ 40 }
-    requires ready { (d : MoteOfCode) → CanTurn moment
-        (node_in (tree_of program.now) (slice_index_or motes.old.items number d)) }
+    requires ready { CanTurnAt (tree_of program.now) moment motes.old.items number }
     ensures { IfOk result (λ wake. OneTakesTurn
         (tree_of program.now) moment packets.now number motes.old.items motes.new.items (told_with out.new wake)) }
 {
@@ -79,7 +74,7 @@ fn turn_mote(
 /// When one of the motes wakes next.
 fn wake_at(motes: &[Mote], number: u16) -> Option<u64>
     requires { number < length motes.now }
-    ensures { (t : Tree) (d : MoteOfCode) → result ≡ wake_in (node_in t (slice_index_or motes.now number d)) }
+    ensures { IsWakeAt motes.now number result }
 {
     motes[usize::from(number)].wake()
 }
@@ -112,11 +107,8 @@ impl Engine {
         requires there { number < length (net_of net.now).motes }
         requires early { moment ≤ 2 ^ 40 }
         requires whole { IsWhole (net_of net.now) self.old }
-        requires ready { (d : MoteOfCode) → CanTurn moment
-            (node_in (tree_at (net_of net.now) number) (slice_index_or self.old.motes.items number d)) }
-        ensures stands { let n = net_of net.now in
-            OnOk result ((state : NetState Node Line) → StandsAt n self.old state → KeepsWakes n state
-            → StandsAt n self.new (turn_at (system_of n) moment number state)) }
+        requires ready { CanTurnAt (tree_at (net_of net.now) number) moment self.old.motes.items number }
+        ensures stands { OnOk result (TurnLeads (net_of net.now) moment number self.old self.new) }
         ensures whole { OnOk result (IsWhole (net_of net.now) self.new) }
     {
         self.agenda

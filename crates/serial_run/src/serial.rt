@@ -24,8 +24,7 @@ fn run_to_end(engine: &mut Engine, net: &Net) -> Result<(), AllocError>
     ensures ended { OnOk result (HasEnded (net_of net.now) engine.new) }
 {
     let end = net.end();
-    // Each wake and each copy comes later than the turn that makes it, so the run comes to its end. The call's clauses
-    // say that the medium is without fault; what it returns isn't used.
+    // Called only for its clause `no_fault`, which the proof needs.
     let _ahead = net.medium().lookahead(end);
     'turns: while let Some((moment, number)) = engine.agenda.first() {
         if moment > end {

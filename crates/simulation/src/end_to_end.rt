@@ -82,8 +82,8 @@ pub fn simulate_serial<R: Read, W: Write>(
 
 /// Reads a scenario to its end, simulates it as the options say, and writes its report: on one thread where they name
 /// no workers, else by that many workers, window by window. By joins each worker has a thread for each window, with
-/// marks one for the whole run; a long report is put by as many threads. The bytes of the report are the same. Workers
-/// wait for one another, so the promise holds if the run returns.
+/// marks one for the whole run; a long report is formatted by as many threads. The bytes of the report are the same.
+/// Workers wait for one another, so the promise holds if the run returns.
 ///
 /// # Errors
 /// As `simulate_serial`; `Run` with `Workers` where there aren't 1 to 16 of them, which is checked once the scenario

@@ -42,7 +42,7 @@ pub fn put_medium(page: &mut Page) -> Result<(), AllocError>
     Ok(())
 }
 
-/// Puts the last line.
+/// Puts `left N`, the count of copies on their way.
 pub fn put_left(page: &mut Page, left: u64) -> Result<(), AllocError>
     ensures { OnOk result (page.new ≡ page.old ++ left_text left) }
 {

@@ -1,4 +1,4 @@
-//! A report, by way of a page.
+//! Writes a report through a buffer of 64 KiB, the page.
 ghost use Rattle.std.specs.Prelude.{◌≡◌, ◌++◌, ◌∷◌, [], length, map, vec_len, codes, decimal};
 ghost use Rattle.std.specs.List.{flat_map};
 ghost use Rattle.program_tree.specs.Program.{tree_of};

@@ -93,7 +93,7 @@ sorted_front m (x ∷ xs) r =
       | inr e ↦ rw e (sorted_front m xs r.1)
     ]
 
--- what the engine takes from the front is what the definition picks from anywhere
+-- what the code takes from the front is what the definition picks from anywhere
 pub record IsTaken (m : ℕ) (xs : List RadioCopy) (given : List Arrival) : Type 0 where
   pub given_is : given ≡ map arrival_of (in_order (filter (is_at m) xs))
   pub rest_is : drop (length given) xs ≡ filter (λ y. not (is_at m y)) xs

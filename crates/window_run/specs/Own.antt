@@ -1,4 +1,4 @@
--- The window that an engine is in.
+-- The window that an `OwnWindow`, the state of a mote's window in the code, stands for.
 use Rattle.std.specs.Prelude.{◌≡◌, ℕ, ◌<◌, List, [], drop, Option, None, option_map}
 use Rattle.program_tree.specs.Code.{Tree}
 use Rattle.program_tree.specs.Program.{tree_of}
@@ -22,7 +22,7 @@ window_over program until copies wake lines sends n = record {
   mote = record { state = n; wake = wake; lines = lines; sends = sends };
 }
 
--- the window that an engine is in; there is none if its mote has failed
+-- the window that an `OwnWindow` stands for; there is none if its mote has failed
 unfoldable pub window_in : OwnWindow → Option Window
 window_in w =
     let program = tree_of w.program.now in

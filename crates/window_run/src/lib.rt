@@ -1,5 +1,5 @@
-//! A mote's window: what a mote does alone up to a bound, as a relation; its engine, a future that takes one turn per
-//! poll; and a worker's own future over the windows of its motes.
+//! A mote's window: what a mote does alone up to a bound, as a relation; the state of such a window, and a future that
+//! takes one turn of it per poll; and a worker's own future over the windows of its motes.
 #![tactic(auto)]
 
 mod gate;

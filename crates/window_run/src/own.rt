@@ -1,4 +1,4 @@
-//! The engine of one mote's window.
+//! The state of one mote's window.
 
 ghost use Rattle.std.specs.Prelude.{◌≡◌, ◌≤◌, ◌^◌, ◌++◌, true, Some, map, vec_len};
 ghost use Rattle.std.specs.Prelude.{IfErr, IfSome, MatchOption, OnOk, None, []};
@@ -110,8 +110,8 @@ impl<'a> OwnWindow<'a> {
         }
     }
 
-    /// Takes the turn at that moment, with the scratch buffers of an earlier turn, or with new ones. Once the copies
-    /// for the turn were collected, the gate is called, and then the mote takes them.
+    /// Takes the turn at `moment`, which `next_moment` gave, with the scratch buffers of an earlier turn, or with new
+    /// ones. Once the copies for the turn were collected, the gate is called, and then the mote takes them.
     ///
     /// # Errors
     /// That of `Mote::turn_into`, so `Failed` if the mote had failed; `Memory` also if an allocation for buffers,
@@ -142,7 +142,8 @@ impl<'a> OwnWindow<'a> {
         Ok(())
     }
 
-    /// What the window gives, once no turn is left. Its list of copies goes to the scratch buffers, if there are any.
+    /// What the window gives, once no turn is left. If there are scratch buffers, its list of copies goes to them, for
+    /// a later window.
     #[tactic(auto, unfolding(crate::specs::Own::window_in, crate::specs::Own::course_in))]
     pub fn finish(self, room: &mut Option<Box<TurnRoom>>) -> WindowOut
         ensures made { IfSome (window_in self.entry) (λ w. shown w.program result ≡ Some w.mote) }

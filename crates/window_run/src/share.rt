@@ -1,4 +1,4 @@
-//! What one worker has in a window.
+//! The motes that one worker has lent out for a window.
 
 ghost use Rattle.std.specs.Prelude.{◌≡◌, true, Some};
 ghost use Rattle.window_run.specs.Window.{is_rising};
@@ -10,8 +10,8 @@ use std::alloc::AllocError;
 use std::error::Error;
 use std::fmt;
 
-/// A mote with its number in the net, the copies that come to it in the window, in the order of moment, sender and
-/// number, and scratch buffers for what it writes and sends there.
+/// A mote that is lent out for a window: with its number in the net, the copies that come to it in the window, in the
+/// order of moment, sender and number, and scratch buffers for what it writes and sends there.
 #[derive(Drop)]
 pub struct Resident {
     pub number: u16,
@@ -21,7 +21,7 @@ pub struct Resident {
     ghost rising: { is_rising copies.items ≡ true },
 }
 
-/// The motes of one worker.
+/// The motes that one worker has lent out for a window: those that have a turn in it.
 #[derive(Drop)]
 pub struct Residents {
     pub worker: u16,

@@ -33,6 +33,10 @@ logs_of ended = flat_map (λ one. packets_in one.log.items) ended
 abbrev pub is_sooner_line : LogLine → LogLine → Bool
 is_sooner_line a b = is_sooner a.sent b.sent
 
+-- the worker has a trace of this number
+abbrev pub HasTrace : (worker mote : ℕ) → List Ended → Type 0
+HasTrace worker mote ended = (d : Ended) → mote < length (slice_index_or ended worker d).traces.items
+
 -- its traces are the other's
 abbrev pub KeepsTraces : Ended → Ended → Type 0
 KeepsTraces old new = new.traces ≡ old.traces

@@ -1,9 +1,8 @@
 //! The traces of all motes, each from its worker.
 
-ghost use Rattle.std.specs.Prelude.{ℕ, ◌≡◌, ◌<◌, length, slice_index_or, IfOk};
+ghost use Rattle.std.specs.Prelude.{◌≡◌, ◌<◌, length, IfOk};
 ghost use Rattle.std.specs.List.{AllByRecursion as Each};
-ghost use Rattle.worker_window.specs.declared.share.Ended.{Ended as EndedOfCode};
-ghost use Rattle.window_workers.specs.Over.{TakesTrace, AreTracesOf};
+ghost use Rattle.window_workers.specs.Over.{HasTrace, TakesTrace, AreTracesOf};
 
 use process_kernel::Line;
 use std::alloc::{AllocError, Global};
@@ -13,7 +12,7 @@ use worker_window::Ended;
 /// Takes the trace of a mote from its worker.
 fn take_trace(alloc: Global, ended: &mut Vec<Ended>, worker: usize, mote: usize) -> Vec<Line>
     requires worker { worker < length ended.old.items }
-    requires mote { (d : EndedOfCode) → mote < length (slice_index_or ended.old.items worker d).traces.items }
+    requires mote { HasTrace worker mote ended.old.items }
     ensures { TakesTrace worker mote ended.old.items ended.new.items result }
 {
     let one = &mut ended[worker];

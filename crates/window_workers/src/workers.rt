@@ -52,8 +52,7 @@ fn make_report(
     ensures crossed { IfOk result (λ r. AllCrossed (net_of net.now) of.now (report_of r.0) r.1.items) }
     ensures err { IfErr result (λ e. e ≡ RunError.Memory) }
 {
-    // Each wake and each copy comes later than the turn that makes it, so the windows of all motes are those of one
-    // run. The call is for its clauses, which say that the medium is without fault; the result isn't used.
+    // Called only for its clause `no_fault`, which the proof needs.
     let _ahead = net.medium().lookahead(net.end());
     let Workers {
         shares,

@@ -1,11 +1,11 @@
-//! Which worker has which mote.
+//! Which worker has which mote, and how long a window may be.
 
 ghost use Rattle.std.specs.Prelude.{◌≡◌, ◌<◌, ◌*◌, ◌/◌, IfOk};
 ghost use Rattle.worker_cut.specs.Cut.{block_cut, stripe_cut};
 
 use std::alloc::{AllocError, Global};
 
-/// A cut of the motes of a net among workers.
+/// A cut of the motes of a net among workers, with a cap on a window's length.
 #[derive(Debug, Drop)]
 pub struct Cut {
     /// The worker of each mote, by the mote's number.

@@ -37,8 +37,8 @@ pub record RunsWindow (n : NetTold) (of : List ℕ) (worker from until : ℕ) (m
       ++ filter (is_from_sender s) outgoing
   pub late : Each (λ (copy : RadioCopy). until ≤ copy.at) outgoing
 
--- At whatever moment, not after the window's end, the share was: if the window is no longer than the lookahead and
--- each copy that arrived is expected, the new share is what the window makes of it, and these are the outgoing copies.
+-- For each moment `from` <= `until` at which `old` was a whole share (`Keeps`): if until - from <= lookahead and each
+-- arrived copy is expected, then `new` is what the window makes of it, and `outgoing` are the outgoing copies.
 abbrev pub RunsThrough : NetTold → (of : List ℕ) → (until : ℕ) → (arrived : List RadioCopy) → (old new : Share)
     → (outgoing : List RadioCopy) → Type 0
 RunsThrough n of until arrived old new outgoing = (worker from : ℕ) (motes : Motes) (taken : List RadioCopy)
@@ -46,8 +46,8 @@ RunsThrough n of until arrived old new outgoing = (worker from : ℕ) (motes : M
     → Each (IsExpected of worker from) arrived
     → RunsWindow n of worker from until motes (taken ++ arrived) new outgoing
 
--- at whatever moment the share was, if each of these copies is expected, the new one keeps the same, with them among
--- what it has taken
+-- for each moment `from` at which `old` was a whole share: if each arrived copy is expected, then `new` keeps the same
+-- as `old` at `from`, with these copies among what it has taken
 abbrev pub TakesIn : (arrived : List RadioCopy) → (old new : Share) → Type 0
 TakesIn arrived old new = (n : NetTold) (of : List ℕ) (worker from : ℕ) (motes : Motes) (taken : List RadioCopy)
     → Keeps n of worker from motes taken old → Each (IsExpected of worker from) arrived

@@ -57,7 +57,8 @@ fn take_mote(motes: &mut Vec<Option<Mote>>, number: u16) -> Mote
 }
 
 /// Lends the motes that are called: takes them out of the share, until they come back (`take_back`). `wakes` is
-/// overwritten with the wake of each, or none if that is before `until`: the others are still on the agenda.
+/// overwritten: `wakes[i]` is the wake of the mote at `i` in the result, or none if that is before `until`; the others
+/// are still on the agenda.
 pub(crate) fn lend(
     motes: &mut Vec<Option<Mote>>,
     wakes: &mut Vec<Option<u64>>,
@@ -256,8 +257,10 @@ impl Share {
     /// Runs the worker's motes through the window up to `until`, which is at most 2^40: takes in the copies that
     /// arrived from other workers, runs each mote that has something before `until` by the worker's future, and keeps
     /// the pending events of its own motes. It returns the copies for other workers' motes, those of each mote in the
-    /// order of sending. `of` is the worker of each mote. The running time grows with the turns of the window and the
-    /// copies that it takes and makes, apart from a place for each mote up to the highest that has a turn.
+    /// order of sending. `of` is the worker of each mote.
+    ///
+    /// Time: it grows with the window's turns and the copies that it takes and makes; besides, there is one slot per
+    /// mote number up to the highest with a turn, and each poll of the worker's future looks at all motes with a turn.
     ///
     /// # Errors
     /// `Memory`, and `Thread` if the executor returned an error.

@@ -13,4 +13,4 @@ returns c =
     let t = tree_of c.args.program.now in
     on_ok_weaker c.run_all.result
     (whole_turn c.args.moment c.args.packets.now _ _ _ _ _ c.args.out.now c.boot.new.out c.hear_all.new.out c.run_all.new.out
-    c.in_ok-boot.ensures (rw c.if-is_halted.false at (c.is_halted.ensures.mote t)) (c.in_ok-hear_all.ensures t) (c.poll_due.ensures t)) c.run_all.ensures
+    c.in_ok-boot.ensures (rw c.if-is_halted.false at (c.is_halted.ensures.mote t)) (c.in_ok-hear_all.ensures t) (c.poll_etimer.ensures t)) c.run_all.ensures
