@@ -7,15 +7,18 @@ use Rattle.std.proofs.lemmas.List.{map-append, append-nil, drop_all, length-map,
 use Rattle.std.proofs.Math.Seq.{drop-cons}
 use Rattle.program_tree.specs.Shapes.{Name}
 use Rattle.program_printer.specs.Spelled.{expression_tokens, statement_tokens, items_tokens, block_tokens}
+use Rattle.program_printer.specs.Spelled.{action_tokens}
 use Rattle.program_tree.specs.Tokens as token
 use Rattle.program_tree.specs.Tokens.{Token, token_of}
 use Rattle.program_tree.specs.Tree.{Class, statement_of, statement_map, body_of, body_map}
+use Rattle.program_tree.specs.Tree.{action_of, action_map}
 use Rattle.program_tree.specs.Tree.{expression_of, expression_map, block_of}
 use Rattle.program_tree.specs.declared.keyword.Keyword.TheVariants as word
 use Rattle.program_tree.specs.declared.tree.Block.{Block}
 use Rattle.program_tree.specs.declared.tree.Expr.{Expr}
-use Rattle.program_tree.specs.declared.tree.Stmt.{Stmt, If, While}
-use Rattle.program_tree.proofs.TreeLaws.{branch_of-If, while_of-While}
+use Rattle.program_tree.specs.declared.tree.Stmt.{Stmt, Do, If, While}
+use Rattle.program_tree.specs.declared.tree.Action.{Action}
+use Rattle.program_tree.proofs.TreeLaws.{branch_of-If, while_of-While, does_of-Do}
 use Rattle.program_tree.specs.declared.token.Token.{Token as TokenRead}
 
 pub mapped : (old new more : List TokenRead) → new ≡ old ++ more → map token_of new ≡ map token_of old
@@ -112,6 +115,32 @@ module _ (f : Class → ℕ → Name) (e : Expr) (a : Block) (t0 t1 t2 : List To
       let y : List Token = block_tokens (body_map f (block_of a)) in
       k ∙ ap (λ ts. ts ++ y) h ∙ append_assoc t0 (token.Keyword word.While ∷ x) y
       ∙ ap (λ z. t0 ++ statement_tokens (statement_map f z)) (sym (ap statement_of same ∙ while_of-While e a))
+
+-- a block none of whose statements is added yet
+pub block_begun : (f : Class → ℕ → Name) (ss : List Stmt) (old new : List Token) → new ≡ old ++ (token.OpenBrace ∷ [])
+    → new ++ flat_map (λ s. statement_tokens (statement_map f (statement_of s))) ss
+    ≡ old ++ (token.OpenBrace ∷ flat_map (λ s. statement_tokens (statement_map f (statement_of s))) ss)
+block_begun f ss old new e =
+    let all : List Token = flat_map (λ s. statement_tokens (statement_map f (statement_of s))) ss in
+    ap (λ ts. ts ++ all) e ∙ append_assoc old (token.OpenBrace ∷ []) all
+
+-- one more of them, read from the same list
+pub block_more : (f : Class → ℕ → Name) (ss items : List Stmt) (i : ℕ) (s : Stmt) (mid new all : List Token)
+    → items ≡ ss → i < length items → s ≡ get_or items i s
+    → mid ++ flat_map (λ s. statement_tokens (statement_map f (statement_of s))) (drop i ss) ≡ all
+    → new ≡ mid ++ statement_tokens (statement_map f (statement_of s))
+    → new ++ flat_map (λ s. statement_tokens (statement_map f (statement_of s))) (drop (i + 1) ss) ≡ all
+block_more f ss items i s mid new all same h is so_far more =
+    one_more (λ s. statement_tokens (statement_map f (statement_of s))) ss i s mid new all
+    (omega (arith, ap length same)) so_far (more ∙ ap (λ z. mid ++ statement_tokens (statement_map f (statement_of z)))
+    (is ∙ ap (λ l. get_or l i s) same))
+
+-- a statement without blocks
+pub action_added : (f : Class → ℕ → Name) (a : Action) (s : Stmt) (old new : List Token) → s ≡ Do a
+    → new ≡ old ++ action_tokens (action_map f (action_of a))
+    → new ≡ old ++ statement_tokens (statement_map f (statement_of s))
+action_added f a s old new same e =
+    e ∙ ap (λ z. old ++ statement_tokens (statement_map f z)) (sym (ap statement_of same ∙ does_of-Do a))
 
 -- a block whose statements are all added
 pub block_added : (f : Class → ℕ → Name) (ss : List Stmt) (i : ℕ) (old mid new : List Token) → length ss ≤ i

@@ -2,8 +2,11 @@
 use Rattle.std.proofs.Common.{◌≡◌, ◌<◌, ◌≤◌, nat_lt, arith, ℕ, suc, List, [], ◌∷◌, ◌++◌, length, drop, Bool, true}
 use Rattle.std.proofs.Common.{false, Option, Some, None, is_some, option_map, ◌+◌, refl, ap, sym, ◌∙◌, ◌||◌}
 use Rattle.std.proofs.Common.{append_assoc}
+use Rattle.std.proofs.Common.{Result, Ok, Err, leb, length-append}
+use Rattle.std.proofs.lemmas.Bool.{leb-false}
 use Rattle.std.proofs.lemmas.Bool.Decides.{nat_tests}
 use Rattle.std.proofs.lemmas.List.{append-nil}
+use Rattle.std.specs.Prelude.{OnOk, OnErr}
 use Rattle.program_tree.specs.Faults.{Scope, is_full}
 use Rattle.program_reader.specs.Head.{class_of_kind, with_names, IsNew, IsListed, IsValued}
 use Rattle.program_tree.specs.InScope.{Names, with_new, is_in_scope, is_a}
@@ -183,3 +186,33 @@ pub ctimer_added : (s : Scope) (k : Kind) (x : Name) (es cs xs : List Name) → 
 ctimer_added s k x es cs xs is all e =
     timer_added s k x (es ++ xs) (ap class_of_kind is) (ap (λ z. es ++ z) e ∙ sym (append_assoc es cs (x ∷ []))
     ∙ ap (λ z. z ++ x ∷ []) (sym all))
+
+-- how many names there are after a declaration, whether or not it had the memory for one more
+
+one_more : {T E : Type 0} (r : Result T E) (x : Name) (xs ys : List Name) → OnOk r (ys ≡ xs ++ x ∷ [])
+    → OnErr r (ys ≡ xs) → length ys ≤ length xs + 1
+one_more (Ok v) x xs ys ok err = omega (arith, ap length ok, length-append xs (x ∷ []))
+one_more (Err v) x xs ys ok err = omega (arith, ap length err)
+
+-- there is room for a name of this kind
+pub room : (n : Names) (k k' : Kind) → k ≡ k' → is_full n (class_of_kind k) ≡ false
+    → is_full n (class_of_kind k') ≡ false
+room n k k' is h = rw (← is) h
+
+-- so there are never more than may be
+
+pub few_more : {T E : Type 0} (r : Result T E) (most : ℕ) (x : Name) (xs ys : List Name) → leb most (length xs) ≡ false
+    → OnOk r (ys ≡ xs ++ x ∷ []) → OnErr r (ys ≡ xs) → length ys ≤ most
+few_more r most x xs ys h ok err = omega (arith, leb-false most (length xs) h, one_more r x xs ys ok err)
+
+pub few_etimers : {T E : Type 0} (r : Result T E) (first : ℕ) (x : Name) (xs ys cs : List Name)
+    → leb 64 (first + length (xs ++ cs)) ≡ false → OnOk r (ys ≡ xs ++ x ∷ []) → OnErr r (ys ≡ xs)
+    → first + length ys + length cs ≤ 64
+few_etimers r first x xs ys cs h ok err =
+    omega (arith, leb-false 64 (first + length (xs ++ cs)) h, length-append xs cs, one_more r x xs ys ok err)
+
+pub few_ctimers : {T E : Type 0} (r : Result T E) (first : ℕ) (x : Name) (es xs ys : List Name)
+    → leb 64 (first + length (es ++ xs)) ≡ false → OnOk r (ys ≡ xs ++ x ∷ []) → OnErr r (ys ≡ xs)
+    → first + length es + length ys ≤ 64
+few_ctimers r first x es xs ys h ok err =
+    omega (arith, leb-false 64 (first + length (es ++ xs)) h, length-append es xs, one_more r x xs ys ok err)

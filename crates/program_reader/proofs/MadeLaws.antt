@@ -1,6 +1,6 @@
 -- The text of a process from what was read of its code.
 use Rattle.std.proofs.Common.{◌≡◌, ℕ, ◌+◌, List, [], ◌∷◌, ◌++◌, length, map, Option, Some, None, option_map, refl, ap}
-use Rattle.std.proofs.Common.{sym, subst, ◌∙◌}
+use Rattle.std.proofs.Common.{sym, subst, ◌∙◌, ◌≤◌, arith}
 use Rattle.std.proofs.lemmas.List.{length-append, length-map}
 use Rattle.std.specs.List.{zip}
 use Rattle.program_tree.specs.Code.{Code}
@@ -208,9 +208,6 @@ code_read x k code es cs starts callbacks thread_bodies on_poll on_exit body s s
           ∙ ap (λ z. tell z (codes_form xs f) new) (sym left);
     }
 
-pub all_timers_long : (es cs : List Name) → length (es ++ cs) ≡ length es + length cs
-all_timers_long es cs = length-append es cs
-
 pub paired : (xs : List Name) (ys : List ℕ) (items : List (Name × ℕ)) → xs ≡ named_of items → ys ≡ values_of items
     → length ys ≡ length xs
 paired xs ys items e f = ap length f ∙ length-map items (λ p. p.1) ∙ sym (length-map items (λ p. p.0))
@@ -221,6 +218,31 @@ pub blocks_paired : (xs : List Name) (ys : List (Body ℕ)) (items : List (Name 
 blocks_paired xs ys items e f = ap length f ∙ length-map items (λ p. p.1) ∙ sym (length-map items (λ p. p.0))
     ∙ sym (ap length e)
 
-pub ruleset leave_steps = (all_timers_long)
+-- once a code's names are out of scope, there are no more of any kind than may be
+
+pub few_none : (most : ℕ) (xs : List Name) → xs ≡ [] → length xs ≤ most
+few_none most xs e = omega (arith, ap length e)
+
+pub few_timers_left : (first e c : ℕ) (es cs es' cs' ees ccs : List Name) → first + length es + length cs ≤ 64
+    → ees ≡ es → ccs ≡ cs → e ≡ length ees → c ≡ length ccs → es' ≡ [] → cs' ≡ []
+    → first + e + c + length es' + length cs' ≤ 64
+few_timers_left first e c es cs es' cs' ees ccs h i j k l m n =
+    omega (arith, h, ap length i, ap length j, k, l, ap length m, ap length n)
+
+-- the scope outside the code
+pub scope_left : (s : Scope) (e c : ℕ) (vs ts es cs es' cs' ees ccs : List Name) → s.names.timers ≡ es ++ cs
+    → ees ≡ es → ccs ≡ cs → e ≡ length ees → c ≡ length ccs → vs ≡ [] → es' ≡ [] → cs' ≡ [] → ts ≡ []
+    → record s {
+      names = record s.names {
+        variables = vs;
+        first_timer = s.names.first_timer + e + c;
+        timers = es' ++ cs';
+        threads = ts;
+      };
+    } ≡ with_names s (outside s.names)
+scope_left s e c vs ts es cs es' cs' ees ccs all i j k l v m n t =
+    let first : s.names.first_timer + e + c ≡ s.names.first_timer + length s.names.timers =
+    omega (arith, ap length all, length-append es cs, ap length i, ap length j, k, l) in
+    rw (first, v, m, n, t) refl
 
 pub ruleset code_steps = (paired, blocks_paired)

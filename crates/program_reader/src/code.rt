@@ -108,7 +108,6 @@ struct Own {
 
 impl Scope {
     /// Takes the names of a code out of scope.
-    #[tactic(auto, using(crate::proofs::MadeLaws::leave_steps))]
     fn leave(&mut self, alloc: Global) -> Own
         ensures variables { result.variables ≡ self.old.variables }
         ensures first_timer { result.first_timer ≡ self.old.first_timer }

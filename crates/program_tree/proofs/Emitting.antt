@@ -271,6 +271,13 @@ entry_none ss k place after past = ap (λ b. entry_of b place after) (drop_end s
 pub long_first : (b later : Body ℕ) (after : ℕ) (old new : List Instruction) → EmitsFirst b later after old new → length new + size later ≡ length old + size b
 long_first b later after old new p = omega (arith, ap length p.extends, length-append old p.more, p.counts)
 
+pub long_emitted : (b : Body ℕ) (after : ℕ) (old new : List Instruction) → Emits b after old new
+    → length new ≡ length old + size b
+long_emitted b after old new p = omega (arith, ap length p.extends, length-append old p.more, p.counts)
+
+pub long_pushed : (old new : List Instruction) (i : Instruction) → new ≡ old ++ i ∷ [] → length new ≡ length old + 1
+long_pushed old new i e = omega (arith, ap length e, length-append old (i ∷ []))
+
 pub on_ok : {T E P Q : Type 0} (r : Result T E) → (P → Q) → OnOk r P → OnOk r Q
 on_ok (Ok x) f h = f h
 on_ok (Err e) f h = tt

@@ -1,4 +1,10 @@
 -- What is spawned in a block, and in the rests of its flat code.
+use Rattle.std.proofs.Common.{◌<◌, ◌≤◌}
+use Rattle.std.specs.List.{All}
+use Rattle.std.proofs.lemmas.Bool.{ltb-false}
+use Rattle.std.proofs.lemmas.List.{length-map}
+use Rattle.std.proofs.lemmas.List.Elements.{All-get_or}
+use Rattle.std.proofs.lemmas.Option.{slice_get_past}
 use Rattle.std.proofs.Common.{◌≡◌, ℕ, zero, suc, ◌+◌, Bool, true, false, ◌&&◌, List, [], ◌∷◌, ◌++◌, length, map, Option, None, Some, option_map, refl, ap, sym, ◌∙◌, subst, arith, zero-add}
 use Rattle.std.specs.Prelude.{slice_get, IsTrue, IfSome}
 use Rattle.std.proofs.lemmas.Option.{slice_get-map, slice_get_read}
@@ -101,3 +107,21 @@ pub found_earlier : {R X : Type 0} (now : R → X) (tree : X → Body ℕ) (xs :
 found_earlier now tree xs i None f is = tt
 found_earlier now tree xs i (Some b) f is =
     spawns_earlier (map tree xs) i (tree (now b)) f (slice_get-map tree xs i ∙ ap (option_map tree) (slice_get_read xs (length xs) i (now b) refl is.3.0 is.1))
+
+-- the block itself, that there are at most seven, and that it is within the limits
+pub found_block : {R X : Type 0} (now : R → X) (tree : X → Body ℕ) (xs : List X) (i : ℕ) (o : Option R)
+    → ItemBy now xs i i o → option_map (λ b. tree (now b)) o ≡ slice_get (map tree xs) i
+found_block now tree xs i None is =
+    sym (slice_get_past (map tree xs) i (omega (arith, length-map xs tree, ltb-false i (length xs) (sym is.0))))
+found_block now tree xs i (Some b) is =
+    sym (slice_get-map tree xs i ∙ ap (option_map tree) (slice_get_read xs (length xs) i (now b) refl is.3.0 is.1))
+
+pub found_few : {R X : Type 0} (now : R → X) (xs : List X) (i most : ℕ) (o : Option R) → length xs ≤ most
+    → ItemBy now xs i i o → IfSome o (λ b. i < most)
+found_few now xs i most None few is = tt
+found_few now xs i most (Some b) few is = omega (arith, is.3.0, few)
+
+pub found_within : {R X : Type 0} (now : R → X) (P : X → Type 0) (xs : List X) (i : ℕ) (o : Option R) → All P xs
+    → ItemBy now xs i i o → IfSome o (λ b. P (now b))
+found_within now P xs i None all is = tt
+found_within now P xs i (Some b) all is = subst P (sym is.1) (All-get_or P xs i (now b) is.3.0 all)

@@ -1,14 +1,15 @@
 -- Blocks as lists of statements, and what the variants of a statement stand for.
 use Rattle.std.proofs.Common.{◌≡◌, ℕ, List, [], ◌∷◌, map, Option, Some, None, refl, ap, sym, ◌∙◌}
+use Rattle.program_tree.specs.Tree.{size, statement_size, other_size}
 use Rattle.program_tree.specs.Tree.{Statement, Body, end, next, nothing, otherwise, does, branch, while, listed, body_of, action_of, expression_of, otherwise_of, statement_layer, block_layer, statement_of, block_of}
 use Rattle.program_tree.specs.declared.tree.Action.{Action}
 use Rattle.program_tree.specs.declared.tree.Expr.{Expr}
-use Rattle.program_tree.specs.declared.tree.Stmt.{Do, If, While}
+use Rattle.program_tree.specs.declared.tree.Stmt.{Stmt, Do, If, While}
 use Rattle.program_tree.specs.declared.tree.Block.{Block}
 use Rattle.program_tree.specs.declared.tree.Stmt.TheOpen as open_stmt
 use Rattle.program_tree.specs.declared.tree.Stmt.TheViews.{rolls-Do, rolls-If, rolls-While}
 use Rattle.program_tree.specs.declared.tree.Stmt.TheFolds.{fold-Block, fold-roll-Stmt, fold_out-Block}
-use Rattle.std.proofs.Common.{option_map}
+use Rattle.std.proofs.Common.{option_map, suc, ◌+◌}
 
 pub listed-body_of : {N : Type 0} (ss : List (Statement N)) → listed (body_of ss) ≡ ss
 listed-body_of [] = refl
@@ -40,3 +41,12 @@ while_of-While e a =
 
 pub does_of-Do : (a : Action) → statement_of (Do a) ≡ does (action_of a)
 does_of-Do a = ap statement_of (sym (rolls-Do a)) ∙ fold-roll-Stmt (Statement ℕ) (Body ℕ) statement_layer block_layer (open_stmt.Do a)
+
+-- how many statements there are in each
+pub size_of-If : (s : Stmt) (e : Expr) (a : Block) (b : Option Block) → s ≡ If e a b
+    → statement_size (statement_of s) ≡ suc (size (block_of a) + other_size (otherwise_of (option_map block_of b)))
+size_of-If s e a b is = ap statement_size (ap statement_of is ∙ branch_of-If e a b)
+
+pub size_of-While : (s : Stmt) (e : Expr) (a : Block) → s ≡ While e a
+    → statement_size (statement_of s) ≡ suc (size (block_of a))
+size_of-While s e a is = ap statement_size (ap statement_of is ∙ while_of-While e a)

@@ -3,8 +3,9 @@ use Rattle.program_tree.specs.declared.tree.Stmt.{the_lemmas as stmt_lemmas}
 use Rattle.program_tree.specs.declared.tree.Block.{the_lemmas as block_lemmas}
 use Rattle.program_tree.specs.Tree.{Statement, Body, Otherwise, block_of, statement_of, otherwise_of, expression_of, body_of, size, statement_size}
 use Rattle.program_tree.specs.Emits.{EmitsStatement, EmitsOther, EmitsFirst, entry_of, other_entry_of}
-use Rattle.program_tree.proofs.TreeLaws.{branch_of-If, while_of-While}
+use Rattle.program_tree.proofs.TreeLaws.{branch_of-If, while_of-While, does_of-Do, size_of-If, size_of-While}
 use Rattle.program_tree.proofs.Emitting.{on_ok, emits_nothing, emits_branch, emits_while, first_none, first_more, first_all, long_first, drop_here, drop_end, size_here, entry_some, entry_none}
+use Rattle.program_tree.proofs.Emitting.{emits_action, long_emitted, long_pushed}
 use Rattle.program_tree.proofs.flattening.+flatten.Goals as goal
 use Rattle.program_tree.proofs.flattening.+flatten.Goals.{add_block-then-i-statements, add_block-else-i-statements}
 
@@ -96,3 +97,94 @@ add_statement-returns-in_ok-push-in-While t c =
     (emits_while (expression_of c.in-While.test) c.in_ok-clone_in-in-While.field-0 (block_of c.in-While.body) c.args.after c.len-place.result c.entry-holds-in-While.result old c.push-in-While.new.self.items new
     c.in_ok-clone_in-in-While.ensures long holds c.in_ok-push-in-While.ensures.items inner))
     c.add_block-in-While.ensures
+
+pub add_statement-overflow_cast-place : goal.add_statement-overflow_cast-place
+add_statement-overflow_cast-place t c = omega (arith, c.requires, c.len-place.ensures, c.args.code.now.ok.0)
+
+pub add_statement-overflow_add-place : goal.add_statement-overflow_add-place
+add_statement-overflow_add-place t c =
+    omega (
+      arith,
+      c.requires,
+      c.len-place.ensures,
+      c.args.code.now.ok.0,
+      size_of-If c.args.statement.now c.in-If.test c.in-If.then c.in-If.other c.in-If.is,
+    )
+
+pub add_statement-overflow_add-place-in-If : goal.add_statement-overflow_add-place-in-If
+add_statement-overflow_add-place-in-If t c =
+    omega (
+      arith,
+      c.requires,
+      c.len-place.ensures,
+      c.args.code.now.ok.0,
+      size_of-If c.args.statement.now c.in-If.test c.in-If.then c.in-If.other c.in-If.is,
+    )
+
+pub add_statement-count-requires : goal.add_statement-count-requires
+add_statement-count-requires t c =
+    omega (arith, c.requires, size_of-If c.args.statement.now c.in-If.test c.in-If.then c.in-If.other c.in-If.is)
+
+pub add_statement-overflow_add-place-in-If-2 : goal.add_statement-overflow_add-place-in-If-2
+add_statement-overflow_add-place-in-If-2 t c =
+    omega (
+      arith,
+      c.requires,
+      c.len-place.ensures,
+      c.args.code.now.ok.0,
+      c.count.ensures,
+      size_of-If c.args.statement.now c.in-If.test c.in-If.then c.in-If.other c.in-If.is,
+    )
+
+pub add_statement-add_block-requires : goal.add_statement-add_block-requires
+add_statement-add_block-requires t c = (
+  search (rules, stmt_lemmas, block_lemmas),
+  omega (
+    arith,
+    c.requires,
+    long_pushed _ _ _ c.in_ok-push-in-If.ensures.items,
+    size_of-If c.args.statement.now c.in-If.test c.in-If.then c.in-If.other c.in-If.is,
+  ),
+)
+
+pub add_statement-add_other-requires : goal.add_statement-add_other-requires
+add_statement-add_other-requires t c = (
+  search (rules, stmt_lemmas, block_lemmas),
+  omega (
+    arith,
+    c.requires,
+    long_pushed _ _ _ c.in_ok-push-in-If.ensures.items,
+    long_emitted _ _ _ _ c.in_ok-add_block-in-If.ensures,
+    size_of-If c.args.statement.now c.in-If.test c.in-If.then c.in-If.other c.in-If.is,
+  ),
+)
+
+pub add_statement-overflow_add-place-in-While : goal.add_statement-overflow_add-place-in-While
+add_statement-overflow_add-place-in-While t c =
+    omega (
+      arith,
+      c.requires,
+      c.len-place.ensures,
+      c.args.code.now.ok.0,
+      size_of-While c.args.statement.now c.in-While.test c.in-While.body c.in-While.is,
+    )
+
+pub add_statement-add_block-requires-in-While : goal.add_statement-add_block-requires-in-While
+add_statement-add_block-requires-in-While t c = (
+  search (rules, stmt_lemmas, block_lemmas),
+  omega (
+    arith,
+    c.requires,
+    long_pushed _ _ _ c.in_ok-push-in-While.ensures.items,
+    size_of-While c.args.statement.now c.in-While.test c.in-While.body c.in-While.is,
+  ),
+)
+
+pub add_statement-returns-in_ok-push-in-Do : goal.add_statement-returns-in_ok-push-in-Do
+add_statement-returns-in_ok-push-in-Do t c =
+    let old = c.args.code.now.items in
+    let new = c.push.new.self.items in
+    let P : Statement ℕ → Type 0 = λ s. EmitsStatement s c.args.after old new in
+    subst P (sym (ap statement_of c.in-Do.is ∙ does_of-Do c.in-Do.action))
+    (emits_action c.in-Do.action c.in_ok-clone_in-in-Do.field-0 c.args.after old new c.in_ok-clone_in-in-Do.ensures
+    c.in_ok-push-in-Do.ensures.items)
