@@ -1,6 +1,7 @@
 -- The tables among some items, one item at a time.
 use Rattle.std.proofs.Common.{◌≡◌, ◌+◌, ◌<◌, ℕ, List, [], ◌∷◌, ◌++◌, map, codes, ap, sym, Option, length, get_or, drop}
-use Rattle.std.proofs.Common.{Some, None, refl}
+use Rattle.std.proofs.Common.{Some, None, refl, ◌≤◌, ◌∙◌, append_assoc}
+use Rattle.std.proofs.lemmas.List.{append-nil, drop_all}
 use Rattle.std.specs.Option.{option_or, option_map_or, option_to_list}
 use Rattle.toml.specs.Data.{Members, as_table}
 use Rattle.toml.specs.View.{view, items_view}
@@ -68,6 +69,56 @@ tables_after_item vs i d h = rw (items_view-drop vs i d h)
 pub or_none : {Y : Type 0} (o p : Option Y) → option_or o p ≡ None → (o ≡ None) × (p ≡ None)
 or_none None p h = (refl, h)
 or_none (Some x) p h = cc
+
+-- neither the item at i nor those after it have a fault
+pub none_from : {Y : Type 0} (f : Members → Option Y) (vs : List Value) (i : ℕ) (d : Value) → i < length vs
+    → d ≡ get_or vs i d → first_some f (tables_in (items_view (drop i vs))) ≡ None
+    → (option_map_or f (as_table (view d)) None ≡ None)
+    × (first_some f (tables_in (items_view (drop (i + 1) vs))) ≡ None)
+none_from f vs i d within is h =
+    let here = or_none _ _ (sym (after_item f vs i d within) ∙ h) in
+    (ap (λ v. option_map_or f (as_table (view v)) None) is ∙ here.0, here.1)
+
+-- the table of the item at i has no fault
+pub none_at : {Y : Type 0} (f : Members → Option Y) (vs : List Value) (i : ℕ) (d : Value) (ms : Members)
+    → i < length vs → d ≡ get_or vs i d → first_some f (tables_in (items_view (drop i vs))) ≡ None
+    → Some ms ≡ as_table (view d) → f ms ≡ None
+none_at f vs i d ms within is h table =
+    ap (λ o. option_map_or f o None) table ∙ (none_from f vs i d within is h).0
+
+-- the tables from i on, by the table of the item at i
+tables_from : (vs : List Value) (i : ℕ) (d : Value) (o : Option Members) → i < length vs → d ≡ get_or vs i d
+    → o ≡ as_table (view d)
+    → tables_in (items_view (drop i vs)) ≡ option_to_list o ++ tables_in (items_view (drop (i + 1) vs))
+tables_from vs i d o within is table = tables_after_item vs i d within
+    ∙ ap (λ t. option_to_list t ++ tables_in (items_view (drop (i + 1) vs)))
+    (sym (table ∙ ap (λ v. as_table (view v)) is))
+
+-- what the tables give, after the item at i: a table, which gave b
+pub map_table : {B : Type 0} (g : Members → B) (vs : List Value) (i : ℕ) (d : Value) (ms : Members) (b : B)
+    (all before after : List B) → i < length vs → d ≡ get_or vs i d → Some ms ≡ as_table (view d) → b ≡ g ms
+    → after ≡ before ++ (b ∷ []) → all ≡ before ++ map g (tables_in (items_view (drop i vs)))
+    → all ≡ after ++ map g (tables_in (items_view (drop (i + 1) vs)))
+map_table g vs i d ms b all before after within is table gave pushed h =
+    let rest = map g (tables_in (items_view (drop (i + 1) vs))) in
+    h ∙ ap (λ ts. before ++ map g ts) (tables_from vs i d (Some ms) within is table)
+    ∙ sym (append_assoc before (g ms ∷ []) rest)
+    ∙ ap (λ bs. bs ++ rest) (sym (pushed ∙ ap (λ x. before ++ (x ∷ [])) gave))
+
+-- the same, where it is no table
+pub map_no_table : {B : Type 0} (g : Members → B) (vs : List Value) (i : ℕ) (d : Value) (all before after : List B)
+    → i < length vs → d ≡ get_or vs i d → None ≡ as_table (view d) → after ≡ before
+    → all ≡ before ++ map g (tables_in (items_view (drop i vs)))
+    → all ≡ after ++ map g (tables_in (items_view (drop (i + 1) vs)))
+map_no_table g vs i d all before after within is table kept h =
+    h ∙ ap (λ ts. before ++ map g ts) (tables_from vs i d None within is table)
+    ∙ ap (λ bs. bs ++ map g (tables_in (items_view (drop (i + 1) vs)))) (sym kept)
+
+-- the same, where no item is left
+pub map_all : {B : Type 0} (g : Members → B) (vs : List Value) (i : ℕ) (all bs : List B) → length vs ≤ i
+    → all ≡ bs ++ map g (tables_in (items_view (drop i vs))) → bs ≡ all
+map_all g vs i all bs past h =
+    sym (h ∙ ap (λ ws. bs ++ map g (tables_in (items_view ws))) (drop_all i vs past) ∙ append-nil bs)
 
 -- no table of the document has a fault, and each name is that of a program
 pub record Faultless (document : Members) : Type 0 where

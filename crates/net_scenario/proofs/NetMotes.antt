@@ -1,9 +1,10 @@
 -- The motes of a net by their tables.
 use Rattle.std.proofs.Common.{◌≡◌, ◌<◌, ◌≤◌, ◌&&◌, le-leb, lt-ltb, ℕ, suc, List, [], ◌∷◌, map, length, refl, ap, arith}
 use Rattle.std.proofs.Common.{Some, None, cond, ◌∙◌, Bool, true, false, codes, IsTrue, IsSome, is_none, ◌+◌, find}
-use Rattle.std.proofs.Common.{rules}
-use Rattle.std.specs.List.{position_from}
+use Rattle.std.proofs.Common.{rules, ◌++◌}
+use Rattle.std.specs.List.{list_all, position_from}
 use Rattle.std.specs.Str.{bytes_eq}
+use Rattle.std.proofs.lemmas.List.Folds.{list_all-append}
 use Rattle.std.proofs.lemmas.Slice.Eq.{bytes_eq-Decides}
 use Rattle.toml.specs.Data.{Members}
 use Rattle.net_scenario.specs.Document.{text_at}
@@ -108,3 +109,8 @@ pub is_mote : (n i q : ℕ) → i < n → shortest_queue ≤ q → q ≤ longest
     → IsTrue (is_mote_of n (record { program = i; queue = q }))
 is_mote n i q a b c = both_true _ _ (lt-ltb i n a)
     (both_true _ _ (le-leb shortest_queue q b) (le-leb q longest_queue c))
+
+-- all the elements of a list pass with one more that passes
+pub all_push : {X : Type 0} (p : X → Bool) (xs : List X) (x : X) → IsTrue (list_all p xs) → IsTrue (p x)
+    → IsTrue (list_all p (xs ++ (x ∷ [])))
+all_push p xs x all this = list_all-append p xs (x ∷ []) ∙ both_true _ _ all (both_true _ _ this refl)

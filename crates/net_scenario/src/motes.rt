@@ -45,7 +45,6 @@ fn mote_of_table(programs: &[NamedProgram], queue: Option<&Table>, table: &Table
 }
 
 /// The motes of the tables among the items, in order.
-#[tactic(auto, using(crate::proofs::Each::after_item, crate::proofs::Each::tables_after_item))]
 pub fn motes_of(
     alloc: Global,
     programs: &[NamedProgram],

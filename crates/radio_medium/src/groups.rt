@@ -48,7 +48,6 @@ impl Group {
     }
 
     /// Whether a mote of the group may be within the range of a place. Most groups are too far by one axis alone.
-    #[tactic(auto, using(crate::proofs::Beyond::beyond_x, crate::proofs::Beyond::beyond_y))]
     pub(crate) fn is_near(self, range: u32, from: Place) -> bool
         ensures { result ≡ false → IsBeyond self range from }
     {

@@ -1,5 +1,6 @@
 pub mod Counts
 pub mod Crossed
 pub mod CrossesTo
+pub mod Cuts
 pub mod Owners
 pub mod Windows

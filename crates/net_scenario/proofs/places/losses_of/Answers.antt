@@ -1,0 +1,37 @@
+use Rattle.std.proofs.Common.{List, map, ◌++◌, Vec, Global, ap, sym, ◌∙◌}
+use Rattle.radio_medium.specs.declared.losses.Loss.{Loss}
+use Rattle.toml.specs.View.{items_view}
+use Rattle.net_scenario.specs.Document.{tables_in}
+use Rattle.net_scenario.specs.Rules.{keys_fault, loss_rules}
+use Rattle.net_scenario.specs.Net.{loss_of}
+use Rattle.net_scenario.proofs.Each.{none_at, none_from, map_table, map_no_table, map_all}
+use Rattle.net_scenario.proofs.places.losses_of.Goals as goal
+use Rattle.net_scenario.proofs.places.losses_of.Goals.{in-Some+in_ok-push, in_default}
+
+pub loss_of-requires : goal.loss_of-requires
+loss_of-requires c = none_at (keys_fault loss_rules) _ _ _ _ c.loop-item-test.true c.item-item.is
+    c.loop-item.invariant.ruled c.in-Some.ensures
+
+pub loop-item-init : goal.loop-item-init
+loop-item-init c = record {
+  ruled = c.requires;
+  value = ap (λ (ls : List Loss). ls ++ map loss_of (tables_in (items_view c.args.items.now)))
+      (sym c.new-losses.ensures.items);
+}
+
+pub loop-item-preserved : goal.loop-item-preserved
+loop-item-preserved c = record {
+  ruled = (none_from (keys_fault loss_rules) _ _ _ c.loop-item-test.true c.item-item.is
+      c.loop-item.invariant.ruled).1;
+  value = elim c.match-as_table.branch [
+    | in-Some+in_ok-push w ↦ map_table loss_of _ _ _ _ _ _ _ _ c.loop-item-test.true c.item-item.is
+        w.in-Some.ensures w.loss_of.ensures
+        (ap (λ (v : Vec Loss Global). v.items) w.losses-is ∙ w.in_ok-push.ensures.items)
+        c.loop-item.invariant.value
+    | in_default w ↦ map_no_table loss_of _ _ _ _ _ _ c.loop-item-test.true c.item-item.is
+        w.in_default.ensures (ap (λ (v : Vec Loss Global). v.items) w.losses-is) c.loop-item.invariant.value
+  ];
+}
+
+pub returns : goal.returns
+returns c = map_all loss_of _ _ _ _ c.loop-item-test.false c.loop-item.invariant.value
