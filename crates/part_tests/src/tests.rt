@@ -1,6 +1,7 @@
 //! Parts of motes and of nets, from the bottom up. Most tests write all that a part answered into one text, and
 //! compare that once, in a function that they share: so a test owns nothing where it can end early, which would cost
-//! its proof most.
+//! its proof most. For the same reason no test ends where a write to its text fails: the text then lacks something, and
+//! the comparison fails.
 
 mod canonical;
 mod inbox;
@@ -19,7 +20,7 @@ mod writers;
 ghost use Rattle.std.specs.Prelude.{◌≡◌};
 ghost use Rattle.copy_inbox.specs.Handles.{AllGathered, NoMarkLeft};
 
-use copy_inbox::{Inbox, InboxError, Taker};
+use copy_inbox::{Inbox, Taker};
 use std::sync::Wait;
 use test_helpers::write_copies;
 
@@ -27,18 +28,13 @@ use test_helpers::write_copies;
 const PRINT_THEN_YIELD: &str =
     "process a; autostart a; code a { body { print 1; yield; print 2; } }";
 
-/// Ends an inbox, and writes down the copies that are left.
-fn write_rest<R: Wait>(
-    rt: &R,
-    text: &mut String,
-    inbox: Inbox,
-    taker: Taker,
-) -> Result<(), InboxError>
+/// Ends an inbox, and writes down the copies that are left. If an allocation fails, nothing is written.
+fn write_rest<R: Wait>(rt: &R, text: &mut String, inbox: Inbox, taker: Taker)
     requires inbox { taker.inbox ≡ inbox }
     requires gathered { AllGathered taker.state }
     requires packets { NoMarkLeft taker.state }
 {
-    let rest = inbox.close(rt, taker)?;
-    write_copies(text, rest.as_slice())?;
-    Ok(())
+    if let Ok(rest) = inbox.close(rt, taker) {
+        let _ = write_copies(text, rest.as_slice());
+    }
 }

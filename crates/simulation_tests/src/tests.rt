@@ -1,6 +1,6 @@
 //! What no scenario and no command line shows: streams that fail, gates, and calls with options that the words can't
 //! ask for. Most tests write what came of some runs into a text, and compare it in a function that they share.
-//! Those of `simulate` have one reader, one writer and one gate, so that what they call is compiled for these alone.
+//! All runs have one reader, one writer and one gate, so that what they call is compiled for these alone.
 
 mod fault_lines;
 mod input;
@@ -8,11 +8,14 @@ mod streams;
 mod words;
 mod workers;
 
-use simulation::{Gate, Options, SimError, simulate};
+use simulation::{
+    Asked, CutKind, Gate, Options, SimError, SyncKind, simulate, simulate_asked, simulate_serial,
+};
 use std::alloc::{AllocError, Global};
 use std::io;
 use std::io::{Read, Write};
 use std::random::RandomSource;
+use std::rt::Files;
 use std::sync::Wait;
 use std::sync::atomic::AtomicU64;
 use std::sync::atomic::Ordering::SeqCst;
@@ -65,31 +68,20 @@ impl Read for Source<'_> {
     }
 }
 
-/// A writer that takes at most `most` bytes a call; after `calls` calls it fails, or takes nothing.
+/// A writer of ASCII that takes at most `most` bytes a call; after `calls` calls it fails, or takes nothing.
 #[derive(Drop)]
 struct Sink {
-    bytes: Vec<u8>,
+    text: String,
     most: usize,
     calls: usize,
     fails: bool,
 }
 
 impl Sink {
-    /// A writer that takes all bytes.
-    fn new(alloc: Global) -> Sink {
+    fn new(alloc: Global, most: usize, calls: usize, fails: bool) -> Sink {
         Sink {
-            bytes: Vec::new(alloc),
-            most: usize::MAX,
-            calls: usize::MAX,
-            fails: true,
-        }
-    }
-
-    /// A writer that takes a byte a call.
-    fn narrow(alloc: Global, calls: usize, fails: bool) -> Sink {
-        Sink {
-            bytes: Vec::new(alloc),
-            most: 1,
+            text: String::new(alloc),
+            most,
             calls,
             fails,
         }
@@ -107,7 +99,9 @@ impl Write for Sink {
         }
         self.calls -= 1;
         let n = buf.len().min(self.most);
-        self.bytes.extend_from_slice(&buf[..n])?;
+        for byte in &buf[..n] {
+            self.text.push(char::from(*byte))?;
+        }
         Ok(n)
     }
 
@@ -128,18 +122,6 @@ struct Watch<'a> {
     others: AtomicU64,
 }
 
-impl Watch<'_> {
-    fn new(of: &[u16], shut: Option<u16>) -> Watch<'_> {
-        Watch {
-            of,
-            shut,
-            starts: AtomicU64::new(0),
-            own: AtomicU64::new(0),
-            others: AtomicU64::new(0),
-        }
-    }
-}
-
 impl Gate for Watch<'_> {
     fn inside(&self, worker: u16, _moment: u64, mote: u16) {
         if self.of.get(usize::from(mote)) == Some(&worker) {
@@ -155,34 +137,70 @@ impl Gate for Watch<'_> {
     }
 }
 
+/// By which call a scenario is simulated.
+#[derive(Clone, Copy)]
+enum Way<'a> {
+    Serial,
+    With(Options),
+    Asked(&'a Asked<'a>),
+}
+
+/// Simulates in this way what the reader gives.
+fn simulate_by<T>(
+    rt: &T,
+    way: Way,
+    reader: &mut Source,
+    writer: &mut Sink,
+    gate: &Watch,
+) -> Result<(), SimError>
+where
+    T: AllocGlobal + Files + Threads + Wait + RandomSource + Sync,
+{
+    match way {
+        Way::Serial => simulate_serial(rt.alloc(), reader, writer),
+        Way::With(options) => simulate(rt, rt.alloc(), reader, writer, &options, gate),
+        Way::Asked(asked) => simulate_asked(rt, asked, reader, writer, gate),
+    }
+}
+
 /// A simulation to be tried.
 #[derive(Clone, Copy)]
 struct Trial<'a> {
     told: Told<'a>,
-    options: Options,
+    /// What is read in place of the scenario.
+    instead: Option<&'a [u8]>,
     /// The worker of each mote.
     of: &'a [u16],
     /// The worker that gets no thread.
     shut: Option<u16>,
-    /// After how many calls the reader fails; it gives 16 bytes a call.
+    /// How many bytes the reader gives a call, and after how many calls it fails.
+    gives: usize,
     reads: usize,
-    /// After how many calls the writer fails; it takes a byte a call.
+    /// How many bytes the writer takes a call, and after how many calls it fails, or takes nothing.
+    takes: usize,
     writes: usize,
+    fails: bool,
 }
 
-impl Trial<'_> {
-    /// One in which nothing fails.
-    fn new<'a>(told: Told<'a>, options: Options, of: &'a [u16]) -> Trial<'a> {
-        Trial {
-            told,
-            options,
-            of,
-            shut: None,
-            reads: usize::MAX,
-            writes: usize::MAX,
-        }
-    }
-}
+/// One mote with one turn. The reader gives 16 bytes a call, the writer takes a byte a call, and nothing fails.
+const PRINTING: Trial<'static> = Trial {
+    told: PRINT_THEN_YIELD,
+    instead: None,
+    of: &[0],
+    shut: None,
+    gives: 16,
+    reads: usize::MAX,
+    takes: 1,
+    writes: usize::MAX,
+    fails: true,
+};
+
+/// The same with three motes, each with a worker of its own.
+const SENDING: Trial<'static> = Trial {
+    told: TWO_SENDERS,
+    of: &[0, 1, 2],
+    ..PRINTING
+};
 
 /// How many bytes these are, or `None` if they aren't a prefix of the report.
 fn front_of(report: &[u8], bytes: &[u8]) -> Option<usize> {
@@ -211,43 +229,81 @@ fn write_answer(
     text.push('|')
 }
 
-/// Writes down what comes of a trial, with these bytes in place of its scenario.
-fn write_trial<T>(
-    rt: &T,
-    text: &mut String,
-    trial: Trial,
-    scenario: &[u8],
-) -> Result<(), AllocError>
+/// Writes down what comes of a trial in this way.
+fn write_trial<T>(rt: &T, text: &mut String, trial: Trial, way: Way) -> Result<(), AllocError>
 where
-    T: AllocGlobal + Threads + Wait + RandomSource + Sync,
+    T: AllocGlobal + Files + Threads + Wait + RandomSource + Sync,
 {
     let mut reader = Source {
-        rest: scenario,
-        most: 16,
+        rest: trial.instead.unwrap_or(trial.told.scenario.as_bytes()),
+        most: trial.gives,
         calls: trial.reads,
     };
-    let mut writer = Sink::narrow(rt.alloc(), trial.writes, true);
-    let gate = Watch::new(trial.of, trial.shut);
-    let options = trial.options;
-    let answer = simulate(rt, rt.alloc(), &mut reader, &mut writer, &options, &gate);
-    let front = front_of(trial.told.report, &writer.bytes);
+    let mut writer = Sink::new(rt.alloc(), trial.takes, trial.writes, trial.fails);
+    let gate = Watch {
+        of: trial.of,
+        shut: trial.shut,
+        starts: AtomicU64::new(0),
+        own: AtomicU64::new(0),
+        others: AtomicU64::new(0),
+    };
+    let answer = simulate_by(rt, way, &mut reader, &mut writer, &gate);
+    let front = front_of(trial.told.report, writer.text.as_bytes());
     write_answer(text, &answer, front, &gate)
 }
 
-/// Fails unless `want` is written down of that.
-fn bytes_tell<T>(rt: &T, trial: Trial, scenario: &[u8], want: &str) -> Result<(), Fail>
+/// Fails unless `want` is written down of a trial in this way.
+fn tells<T>(rt: &T, trial: Trial, way: Way, want: &str) -> Result<(), Fail>
 where
-    T: AllocGlobal + Threads + Wait + RandomSource + Sync,
+    T: AllocGlobal + Files + Threads + Wait + RandomSource + Sync,
 {
     let mut text = String::new(rt.alloc());
-    write_trial(rt, &mut text, trial, scenario)?;
+    write_trial(rt, &mut text, trial, way)?;
     same_text(text.as_str(), want)
 }
 
-/// Fails unless `want` is written down of a simulation.
-fn tells<T>(rt: &T, trial: Trial, want: &str) -> Result<(), Fail>
+const CUTS: &[CutKind] = &[CutKind::Block, CutKind::Stripe];
+
+const SYNCS: &[SyncKind] = &[SyncKind::Joins, SyncKind::Marks];
+
+/// One trial by each of these numbers of workers, cuts and kinds of synchronization, and what is written down of each.
+#[derive(Clone, Copy)]
+struct Trials<'a> {
+    trial: Trial<'a>,
+    workers: &'a [u16],
+    cuts: &'a [CutKind],
+    syncs: &'a [SyncKind],
+    want: &'a str,
+}
+
+/// Fails unless what is wanted is written down of a trial by each of its options.
+fn each_tells<T>(rt: &T, trials: &Trials) -> Result<(), Fail>
 where
-    T: AllocGlobal + Threads + Wait + RandomSource + Sync,
+    T: AllocGlobal + Files + Threads + Wait + RandomSource + Sync,
 {
-    bytes_tell(rt, trial, trial.told.scenario.as_bytes(), want)
+    for workers in trials.workers {
+        for cut in trials.cuts {
+            for sync in trials.syncs {
+                let options = Options {
+                    workers: Some(*workers),
+                    cut: *cut,
+                    sync: *sync,
+                };
+                tells(rt, trials.trial, Way::With(options), trials.want)?;
+            }
+        }
+    }
+    Ok(())
+}
+
+/// Fails unless what is wanted is written down of all these trials. The tables of trials are statics, since a function
+/// makes a constant anew where it names it.
+fn all_tell<T>(rt: &T, table: &[Trials]) -> Result<(), Fail>
+where
+    T: AllocGlobal + Files + Threads + Wait + RandomSource + Sync,
+{
+    for trials in table {
+        each_tells(rt, trials)?;
+    }
+    Ok(())
 }

@@ -11,12 +11,18 @@ mod residents;
 mod runs;
 mod shares;
 
-use net_scenario::Net;
+use held_back::write_ahead;
+use inboxes::write_inboxes;
+use net_scenario::{Net, read_scenario};
+use overlaps::write_meetings;
+use runs::write_starts;
 use std::alloc::{AllocError, AllocGlobal, Global};
 use std::random::RandomSource;
 use std::sync::Wait;
+use std::test::Fail;
 use std::thread::Threads;
-use window_workers::{Cut, Gate, Report, RunError, SyncKind, run_serial, run_workers};
+use test_helpers::same_text;
+use window_workers::{Cut, Gate, NoGate, Report, RunError, SyncKind, run_serial, run_workers};
 
 /// A mote that sends at 2 to one beside it, which gets the packet at 5.
 const PACKET_AFTER_TIMER: &str = "\
@@ -104,85 +110,139 @@ const BUSY_TRIO: &str = "\
     y = 0\n\
     program = \"p\"\n";
 
-/// Both kinds of synchronization.
-const SYNCS: [SyncKind; 2] = [SyncKind::Joins, SyncKind::Marks];
-
-/// A run: how many workers there are, the worker of each mote, and how long windows are at most.
+/// What runs share: a net, the text of its report by one thread, and a kind of synchronization.
 #[derive(Clone, Copy)]
-struct Run<'a> {
-    workers: u16,
-    of: &'a [u16],
-    longest: u32,
-}
-
-/// The run by `workers` workers, with the worker of each mote, and windows of at most `longest` moments; 0 asks for no
-/// such limit.
-fn by(workers: u16, of: &[u16], longest: u32) -> Run<'_> {
-    Run {
-        workers,
-        of,
-        longest,
-    }
-}
-
-/// The cut of a run.
-fn cut_of(alloc: Global, run: &Run<'_>) -> Result<Cut, AllocError> {
-    Ok(Cut {
-        of: run.of.to_vec(alloc)?,
-        longest: run.longest,
-    })
-}
-
-/// What comes of a run.
-#[derive(Clone, Copy, Debug)]
-enum Outcome {
-    /// The report of one thread, in which this many copies are left.
-    Same(u64),
-    /// Another report.
-    Other,
-    /// No report.
-    Fault(RunError),
-}
-
-/// Whether two reports have the same text.
-fn are_same(alloc: Global, first: &Report, second: &Report) -> Result<bool, AllocError> {
-    let first = format!(in alloc; "{first:?}")?;
-    let second = format!(in alloc; "{second:?}")?;
-    Ok(first.as_str() == second.as_str())
-}
-
-/// Whether a report is that of one thread.
-fn is_of_one_thread(alloc: Global, net: &Net, report: &Report) -> bool {
-    match run_serial(alloc, net) {
-        Ok(one) => are_same(alloc, report, &one).unwrap_or(false),
-        Err(_) => false,
-    }
-}
-
-/// A report compared with that of one thread.
-fn compare(alloc: Global, net: &Net, report: &Report) -> Outcome {
-    if is_of_one_thread(alloc, net, report) {
-        Outcome::Same(report.left)
-    } else {
-        Outcome::Other
-    }
-}
-
-/// What comes of a run by workers with this kind of synchronization and this gate.
-fn run_by_workers<R, G>(
-    rt: &R,
-    net: &Net,
+struct Scene<'a> {
+    net: &'a Net,
+    one: &'a str,
     sync: SyncKind,
-    run: &Run<'_>,
+}
+
+/// What is watched in a run.
+#[derive(Clone, Copy)]
+enum Watch {
+    /// How many starts are asked for, and how many turns the motes' own workers take. This worker isn't allowed to
+    /// start.
+    Starts(Option<u16>),
+    /// Whether worker 0 gets ahead of worker 1.
+    Ahead,
+    /// How many workers meet inside their turns.
+    Meetings { over_inboxes: bool },
+    /// What lies in the inboxes at the end.
+    Inboxes,
+}
+
+/// A run in which all workers are allowed to start.
+const STARTS: Watch = Watch::Starts(None);
+
+/// A run: what is watched, how many workers there are, the worker of each mote, and how long windows are at most; 0
+/// asks for no such limit.
+type Case<'a> = (Watch, u16, &'a [u16], u32);
+
+/// Writes down whether a report is that of one thread, and how many copies are left in it.
+fn write_report(
+    alloc: Global,
+    one: &str,
+    report: &Report,
+    text: &mut String,
+) -> Result<(), AllocError> {
+    let told = format!(in alloc; "{report:?}")?;
+    if told.as_str() == one {
+        write!(text, "Same({})", report.left)
+    } else {
+        text.push_str("Other")
+    }
+}
+
+/// Writes down what comes of a run: a report or a fault.
+fn write_told(
+    alloc: Global,
+    one: &str,
+    told: Result<Report, RunError>,
+    text: &mut String,
+) -> Result<(), AllocError> {
+    match told {
+        Ok(report) => write_report(alloc, one, &report, text),
+        Err(error) => write!(text, "Fault({error:?})"),
+    }
+}
+
+/// Writes down what comes of a run with this gate.
+fn write_run<R, G>(
+    rt: &R,
+    scene: Scene<'_>,
+    workers: u16,
+    cut: &Cut,
     gate: &G,
-) -> Result<Outcome, AllocError>
+    text: &mut String,
+) -> Result<(), AllocError>
 where
     R: Threads + Wait + Sync + RandomSource + AllocGlobal,
     G: Gate + Sync,
 {
-    let cut = cut_of(rt.alloc(), run)?;
-    match run_workers(rt, rt.alloc(), net, run.workers, &cut, sync, gate) {
-        Ok(report) => Ok(compare(rt.alloc(), net, &report)),
-        Err(error) => Ok(Outcome::Fault(error)),
+    let told = run_workers(rt, rt.alloc(), scene.net, workers, cut, scene.sync, gate);
+    write_told(rt.alloc(), scene.one, told, text)
+}
+
+/// Writes down what is watched in a run.
+fn write_case<R>(rt: &R, scene: Scene<'_>, case: &Case<'_>, text: &mut String) -> Result<(), Fail>
+where
+    R: Threads + Wait + Sync + RandomSource + AllocGlobal,
+{
+    let (watch, workers, of, longest) = *case;
+    let of = of.to_vec(rt.alloc())?;
+    let cut = Cut { of, longest };
+    match watch {
+        Watch::Starts(shut) => write_starts(rt, scene, workers, &cut, shut, text)?,
+        Watch::Ahead => write_ahead(rt, scene, workers, &cut, text)?,
+        Watch::Meetings { over_inboxes } => {
+            write_meetings(rt, scene, workers, &cut, over_inboxes, text)?
+        }
+        Watch::Inboxes => write_inboxes(rt, scene, workers, &cut, &NoGate, text)?,
     }
+    Ok(())
+}
+
+/// Fails unless `want` is written of these runs.
+fn tells_by<R>(rt: &R, scene: Scene<'_>, cases: &[Case<'_>], want: &str) -> Result<(), Fail>
+where
+    R: Threads + Wait + Sync + RandomSource + AllocGlobal,
+{
+    let mut text = String::new(rt.alloc());
+    for case in cases {
+        write_case(rt, scene, case, &mut text)?;
+    }
+    same_text(text.as_str(), want)
+}
+
+/// The text of the report of one thread.
+fn told_by_one_thread(alloc: Global, net: &Net) -> Result<String, Fail> {
+    let report = run_serial(alloc, net)?;
+    Ok(format!(in alloc; "{report:?}")?)
+}
+
+/// Fails unless `joins` is written of these runs of a scenario with joins, and `marks` of those with marks.
+fn tells<R>(
+    rt: &R,
+    scenario: &str,
+    cases: &[Case<'_>],
+    joins: &str,
+    marks: &str,
+) -> Result<(), Fail>
+where
+    R: Threads + Wait + Sync + RandomSource + AllocGlobal,
+{
+    let net = read_scenario(rt.alloc(), scenario)?;
+    let one = told_by_one_thread(rt.alloc(), &net)?;
+    let scene = Scene {
+        net: &net,
+        one: one.as_str(),
+        sync: SyncKind::Joins,
+    };
+    tells_by(rt, scene, cases, joins)?;
+    let scene = Scene {
+        sync: SyncKind::Marks,
+        ..scene
+    };
+    tells_by(rt, scene, cases, marks)
 }

@@ -137,17 +137,20 @@ code a {
 }
 ";
 
+/// Texts, and the canonical texts of their programs.
+const CASES: &[(&str, &str)] = &[
+    (PRINT_THEN_YIELD, PRINT_THEN_YIELD_PRINTED),
+    (
+        DECLARATIONS_AND_EMPTY_PARTS,
+        DECLARATIONS_AND_EMPTY_PARTS_PRINTED,
+    ),
+    (STATEMENTS, STATEMENTS_PRINTED),
+    (BRANCHES_AND_EXPRESSIONS, BRANCHES_AND_EXPRESSIONS_PRINTED),
+];
+
 #[test]
 fn canonical_texts(rt: HostRuntime) -> Result<(), Fail> {
-    for (text, want) in [
-        (PRINT_THEN_YIELD, PRINT_THEN_YIELD_PRINTED),
-        (
-            DECLARATIONS_AND_EMPTY_PARTS,
-            DECLARATIONS_AND_EMPTY_PARTS_PRINTED,
-        ),
-        (STATEMENTS, STATEMENTS_PRINTED),
-        (BRANCHES_AND_EXPRESSIONS, BRANCHES_AND_EXPRESSIONS_PRINTED),
-    ] {
+    for (text, want) in CASES {
         prints(rt.alloc(), text, want)?;
     }
     Ok(())

@@ -1,13 +1,12 @@
 //! Runs of an inbox, in one thread and in several.
 
-ghost use Rattle.std.specs.Prelude.{◌≡◌, false, [], IfOk, OnOk};
-ghost use Rattle.copy_inbox.specs.Handles.{AllGathered};
+ghost use Rattle.std.specs.Prelude.{◌≡◌, false, [], IfOk};
 ghost use Rattle.copy_inbox.specs.Views.{make_taker_state, make_sender_state};
 
 use super::write_rest;
 use copy_inbox::{Inbox, InboxError, Sender, Taker};
 use radio_packet::RadioCopy;
-use std::alloc::{AllocError, Global};
+use std::alloc::Global;
 use std::sync::Wait;
 use std::test::*;
 use std::thread;
@@ -71,91 +70,50 @@ pub(crate) fn push<R: Wait>(rt: &R, inbox: &Inbox, sender: &mut Sender, copied: 
     let _ = inbox.push_copy(rt, sender, copied);
 }
 
-// Pushes each copy, by the sender that it names.
+// Pushes each copy, given by its sender and number.
 fn push_each<R: Wait>(
     rt: &R,
     inbox: &Inbox,
     mut first: Sender,
     mut second: Sender,
-    copies: &[RadioCopy],
+    copies: &[(u16, u64)],
 ) -> (Sender, Sender)
     requires { (first.inbox ≡ inbox.now) × (second.inbox ≡ inbox.now) }
     ensures first { (result.0.inbox ≡ inbox.now) × (result.0.state.number ≡ first.state.number) }
     ensures second { (result.1.inbox ≡ inbox.now) × (result.1.state.number ≡ second.state.number) }
 {
-    for copied in copies {
-        if copied.sender == 0 {
-            push(rt, inbox, &mut first, *copied);
+    for (sender, number) in copies {
+        let copied = copy(*sender, *number);
+        if *sender == 0 {
+            push(rt, inbox, &mut first, copied);
         } else {
-            push(rt, inbox, &mut second, *copied);
+            push(rt, inbox, &mut second, copied);
         }
     }
     (first, second)
 }
 
-pub(crate) fn write_known(text: &mut String, inbox: &Inbox, taker: &Taker) -> Result<(), AllocError>
+// Writes down how many items are known.
+pub(crate) fn write_known(text: &mut String, inbox: &Inbox, taker: &Taker)
     requires { taker.now.inbox ≡ inbox.now }
 {
     let known = inbox.known(taker);
-    write!(text, "known {known}|")
-}
-
-// Takes `most` copies, or all known ones if those are fewer.
-fn drain<R: Wait>(
-    rt: &R,
-    inbox: &Inbox,
-    taker: &mut Taker,
-    most: u64,
-) -> Result<Vec<RadioCopy>, InboxError>
-    requires { (taker.old.inbox ≡ inbox.now) × (taker.old.state.marked ≡ false) }
-    ensures { (taker.new.inbox ≡ inbox.now) × (taker.new.state.marked ≡ false)
-        × (taker.new.state.made ≡ taker.old.state.made) × (taker.new.state.gathered ≡ taker.old.state.gathered) }
-{
-    let known = inbox.known(taker);
-    inbox.drain(rt, taker, most.min(known))
+    let _ = write!(text, "known {known}|");
 }
 
 // Takes `most` copies, or all known ones if those are fewer. Writes them down, between the numbers of known copies
-// before and after.
-fn write_taken<R: Wait>(
-    rt: &R,
-    text: &mut String,
-    inbox: &Inbox,
-    taker: &mut Taker,
-    most: u64,
-) -> Result<(), InboxError>
+// before and after. If an allocation fails, none is taken.
+fn write_taken<R: Wait>(rt: &R, text: &mut String, inbox: &Inbox, taker: &mut Taker, most: u64)
     requires { (taker.old.inbox ≡ inbox.now) × (taker.old.state.marked ≡ false) }
     ensures { (taker.new.inbox ≡ inbox.now) × (taker.new.state.marked ≡ false)
         × (taker.new.state.made ≡ taker.old.state.made) × (taker.new.state.gathered ≡ taker.old.state.gathered) }
 {
-    write_known(text, inbox, taker)?;
-    let taken = drain(rt, inbox, taker, most)?;
-    write_copies(text, taken.as_slice())?;
-    write_known(text, inbox, taker)?;
-    Ok(())
-}
-
-// Gathers both senders, and takes some copies after each.
-fn write_both_gathered<R: Wait>(
-    rt: &R,
-    text: &mut String,
-    inbox: &Inbox,
-    taker: &mut Taker,
-    senders: (Sender, Sender),
-    most: (u64, u64),
-) -> Result<(), InboxError>
-    requires taker { (taker.old.inbox ≡ inbox.now) × (taker.old.state ≡ make_taker_state false 2 [] []) }
-    requires first { (senders.0.inbox ≡ inbox.now) × (senders.0.state.number ≡ 0) }
-    requires second { (senders.1.inbox ≡ inbox.now) × (senders.1.state.number ≡ 1) }
-    ensures taker { OnOk result ((taker.new.inbox ≡ inbox.now) × (taker.new.state.marked ≡ false)) }
-    ensures gathered { OnOk result (AllGathered taker.new.state) }
-{
-    write_known(text, inbox, taker)?;
-    let (first, second) = senders;
-    inbox.gather(rt, taker, first);
-    write_taken(rt, text, inbox, taker, most.0)?;
-    inbox.gather(rt, taker, second);
-    write_taken(rt, text, inbox, taker, most.1)
+    write_known(text, inbox, taker);
+    let known = inbox.known(taker);
+    if let Ok(taken) = inbox.drain(rt, taker, most.min(known)) {
+        let _ = write_copies(text, taken.as_slice());
+    }
+    write_known(text, inbox, taker);
 }
 
 // Two senders push these copies. Writes down what is taken after each is gathered, and what is left at the end.
@@ -163,59 +121,54 @@ fn write_of_two<R: Wait>(
     rt: &R,
     alloc: Global,
     text: &mut String,
-    copies: &[RadioCopy],
+    copies: &[(u16, u64)],
     most: (u64, u64),
 ) -> Result<(), InboxError> {
     let (inbox, mut taker, first, second) = with_two(alloc, false)?;
-    let senders = push_each(rt, &inbox, first, second, copies);
-    write_both_gathered(rt, text, &inbox, &mut taker, senders, most)?;
-    write_rest(rt, text, inbox, taker)
-}
-
-// A sender pushes and is gathered, and then another one. Writes down what is known and taken.
-fn write_one_behind_the_other<R: Wait>(
-    rt: &R,
-    text: &mut String,
-    inbox: &Inbox,
-    taker: &mut Taker,
-) -> Result<(), InboxError>
-    requires { (taker.old.inbox ≡ inbox.now) × (taker.old.state ≡ make_taker_state false 0 [] []) }
-    ensures taker { OnOk result ((taker.new.inbox ≡ inbox.now) × (taker.new.state.marked ≡ false)) }
-    ensures gathered { OnOk result (AllGathered taker.new.state) }
-{
-    let mut first = inbox.sender(taker)?;
-    push(rt, inbox, &mut first, copy(0, 7));
-    inbox.gather(rt, taker, first);
-    let mut second = inbox.sender(taker)?;
-    push(rt, inbox, &mut second, copy(1, 8));
-    write_taken(rt, text, inbox, taker, 1)?;
-    inbox.gather(rt, taker, second);
-    write_known(text, inbox, taker)?;
+    let (first, second) = push_each(rt, &inbox, first, second, copies);
+    write_known(text, &inbox, &taker);
+    inbox.gather(rt, &mut taker, first);
+    write_taken(rt, text, &inbox, &mut taker, most.0);
+    inbox.gather(rt, &mut taker, second);
+    write_taken(rt, text, &inbox, &mut taker, most.1);
+    write_rest(rt, text, inbox, taker);
     Ok(())
 }
 
-// A sender that is made after another was gathered pushes after it.
+// A sender that is made after another was gathered pushes after it. Writes down what is known and taken.
 fn write_late_sender<R: Wait>(rt: &R, alloc: Global, text: &mut String) -> Result<(), InboxError> {
-    let (inbox, mut taker) = Inbox::make(alloc)?;
-    write_one_behind_the_other(rt, text, &inbox, &mut taker)?;
-    write_rest(rt, text, inbox, taker)
+    let (inbox, mut taker, mut first) = with_one(alloc, false)?;
+    push(rt, &inbox, &mut first, copy(0, 7));
+    inbox.gather(rt, &mut taker, first);
+    let mut second = inbox.sender(&mut taker)?;
+    push(rt, &inbox, &mut second, copy(1, 8));
+    write_taken(rt, text, &inbox, &mut taker, 1);
+    inbox.gather(rt, &mut taker, second);
+    write_known(text, &inbox, &taker);
+    write_rest(rt, text, inbox, taker);
+    Ok(())
 }
+
+// Copies that two senders push, by their senders and numbers, and how many are taken at most after each is gathered.
+const OF_TWO: &[(&str, &[(u16, u64)], (u64, u64))] = &[
+    // Two copies of each sender: three are drained, and closing the inbox gives the last.
+    ("", &[(0, 0), (1, 0), (1, 1), (0, 1)], (0, 3)),
+    // A copy lies in the inbox before its sender is gathered: the taker takes it, though only the other sender's copy
+    // is known.
+    ("of both|", &[(1, 8), (0, 7)], (1, 0)),
+    ("of nobody|", &[], (0, 0)),
+];
 
 fn write_in_one_thread<R: Wait>(
     rt: &R,
     alloc: Global,
     text: &mut String,
 ) -> Result<(), InboxError> {
-    // Two copies of each sender: three are drained, and closing the inbox gives the last.
-    let four = [copy(0, 0), copy(1, 0), copy(1, 1), copy(0, 1)];
-    write_of_two(rt, alloc, text, &four, (0, 3))?;
-    // A copy lies in the inbox before its sender is gathered: the taker takes it, though only the other sender's copy
-    // is known.
-    text.push_str("of both|")?;
-    write_of_two(rt, alloc, text, &[copy(1, 8), copy(0, 7)], (1, 0))?;
-    text.push_str("of nobody|")?;
-    write_of_two(rt, alloc, text, &[], (0, 0))?;
-    text.push_str("one behind the other|")?;
+    for (name, copies, most) in OF_TWO {
+        let _ = text.push_str(name);
+        write_of_two(rt, alloc, text, copies, *most)?;
+    }
+    let _ = text.push_str("one behind the other|");
     write_late_sender(rt, alloc, text)
 }
 
@@ -273,21 +226,8 @@ fn push_both<R: Threads + Wait + Sync>(
     )
 }
 
-// What the inbox gives when it is closed, once two threads have pushed copies.
-fn from_two<R: Threads + Wait + Sync>(
-    rt: &R,
-    alloc: Global,
-    count: u64,
-) -> Result<Vec<RadioCopy>, InboxError> {
-    let (inbox, mut taker, first, second) = with_two(alloc, false)?;
-    let (first, second) = push_both(rt, &inbox, first, second, count);
-    inbox.gather(rt, &mut taker, second);
-    inbox.gather(rt, &mut taker, first);
-    inbox.close(rt, taker)
-}
-
-// Whether these are `count` copies of each of two senders, each sender's in order.
-fn are_in_order(copies: &[RadioCopy], count: u64) -> bool {
+// Whether these are so many copies of each of two senders, each sender's in order.
+fn are_in_order(copies: &[RadioCopy], counts: [u64; 2]) -> bool {
     let mut next = [0u64; 2];
     for copied in copies {
         let mote = usize::from(copied.sender);
@@ -296,7 +236,21 @@ fn are_in_order(copies: &[RadioCopy], count: u64) -> bool {
         }
         next[mote] = next[mote].wrapping_add(1);
     }
-    next == [count; 2]
+    next == counts
+}
+
+// Two threads push `count` copies each: all come out when the inbox is closed, each sender's in order.
+fn two_come_out<R: Threads + Wait + Sync>(
+    rt: &R,
+    alloc: Global,
+    count: u64,
+) -> Result<bool, InboxError> {
+    let (inbox, mut taker, first, second) = with_two(alloc, false)?;
+    let (first, second) = push_both(rt, &inbox, first, second, count);
+    inbox.gather(rt, &mut taker, second);
+    inbox.gather(rt, &mut taker, first);
+    let copies = inbox.close(rt, taker)?;
+    Ok(are_in_order(copies.as_slice(), [count; 2]))
 }
 
 // Takes all known copies. Whether they are `count` copies of sender 0, in order.
@@ -305,7 +259,7 @@ fn takes_known<R: Wait>(rt: &R, inbox: &Inbox, mut taker: Taker, count: u64) -> 
 {
     let known = inbox.known(&taker);
     match inbox.drain(rt, &mut taker, known) {
-        Ok(copies) => are_of(copies.as_slice(), 0, count),
+        Ok(copies) => are_in_order(copies.as_slice(), [count, 0]),
         Err(_) => false,
     }
 }
@@ -330,28 +284,6 @@ fn takes_beside<R: Threads + Wait + Sync>(
         { takes_known(rt, inbox, taker, count) },
     );
     taken
-}
-
-// Whether these are `count` copies of one sender, in order.
-fn are_of(copies: &[RadioCopy], mote: u16, count: u64) -> bool {
-    let mut number = 0u64;
-    for copied in copies {
-        if *copied != copy(mote, number) {
-            return false;
-        }
-        number = number.wrapping_add(1);
-    }
-    number == count
-}
-
-// Two threads push `count` copies each: all come out, each sender's in order.
-fn two_come_out<R: Threads + Wait + Sync>(
-    rt: &R,
-    alloc: Global,
-    count: u64,
-) -> Result<bool, InboxError> {
-    let copies = from_two(rt, alloc, count)?;
-    Ok(are_in_order(copies.as_slice(), count))
 }
 
 // The taker takes the known copies of one sender while another sender pushes more.

@@ -17,23 +17,6 @@ const RUNAWAY: &str =
 const RECEIVER: &str = "process r; autostart r; receiver r; code r { body { while 1 { yield; \
      if is(packet) { print from; print data; } } } }";
 
-/// The kernel of mote 7 with its program, and what it wrote.
-struct Bench {
-    program: Program,
-    kernel: Kernel,
-    out: Out,
-}
-
-impl Drop for Bench {
-    fn drop(self) {
-        let Bench {
-            program: _,
-            kernel: _,
-            out: _,
-        } = self;
-    }
-}
-
 /// What is done to a kernel.
 #[derive(Clone, Copy)]
 enum Act {
@@ -49,115 +32,99 @@ enum Act {
     RunOut(u16),
 }
 
-fn new_bench(alloc: Global, text: &str) -> Result<Bench, Fail> {
-    let program = read(alloc, text)?;
-    let kernel = Kernel::new(alloc, &program, 7, 32)?;
-    let out = Out {
+/// The last answer of at most 64 runs at this moment.
+fn run_out(
+    program: &Program,
+    kernel: &mut Kernel,
+    now: u16,
+    out: &mut Out,
+) -> Result<Ran, KernelError> {
+    for _ in 0..64u8 {
+        let ran = kernel.run(program, u64::from(now), out)?;
+        if ran == Ran::Left(0) || ran == Ran::Halted {
+            return Ok(ran);
+        }
+    }
+    kernel.run(program, u64::from(now), out)
+}
+
+/// How many of `count` packets the ring takes.
+fn packets_taken(kernel: &mut Kernel, count: u16) -> u32 {
+    let mut taken = 0u32;
+    for number in 0..count {
+        let packet = Arrival {
+            sender: 3,
+            number: u64::from(number),
+            value: number,
+        };
+        taken = taken.wrapping_add(u32::from(kernel.accept_packet(packet)));
+    }
+    taken
+}
+
+fn write_look(text: &mut String, kernel: &Kernel) {
+    let number = kernel.number();
+    let booted = kernel.is_booted();
+    let halted = kernel.is_halted();
+    let pending = kernel.pending();
+    let next = kernel.next_expiration();
+    let _ = write!(text, "{number} {booted} {halted} {pending} {next:?}|");
+}
+
+fn write_ran(text: &mut String, ran: Result<Ran, KernelError>) {
+    let _ = match ran {
+        Ok(ran) => write!(text, "{ran:?}|"),
+        Err(error) => write!(text, "{error:?}|"),
+    };
+}
+
+/// Does it, and writes down what is answered.
+fn write_act(text: &mut String, program: &Program, kernel: &mut Kernel, out: &mut Out, act: Act) {
+    match act {
+        Act::Look => write_look(text, kernel),
+        Act::Boot => write_ran(text, kernel.boot(program, 0, out)),
+        Act::Packets(count) => {
+            let taken = packets_taken(kernel, count);
+            let _ = write!(text, "{taken} taken|");
+        }
+        Act::Poll(process) => kernel.poll(process),
+        Act::RunOut(now) => write_ran(text, run_out(program, kernel, now, out)),
+    }
+}
+
+/// Writes down the lines and packets since this was last done.
+fn write_out(text: &mut String, out: &mut Out) {
+    let _ = write_lines(text, &out.lines);
+    let _ = write_sends(text, &out.sends);
+    out.lines.clear();
+    out.sends.clear();
+}
+
+/// Does all this to a new kernel of mote 7, and writes down the answer to each and its lines and packets.
+fn write_acts(alloc: Global, text: &mut String, program: &Program, acts: &[Act]) {
+    let Ok(mut kernel) = Kernel::new(alloc, program, 7, 32) else {
+        return;
+    };
+    let mut out = Out {
         lines: Vec::new(alloc),
         sends: Vec::new(alloc),
     };
-    Ok(Bench {
-        program,
-        kernel,
-        out,
-    })
-}
-
-impl Bench {
-    fn boot(&mut self) -> Result<Ran, KernelError> {
-        self.kernel.boot(&self.program, 0, &mut self.out)
-    }
-
-    fn run(&mut self, now: u16) -> Result<Ran, KernelError> {
-        self.kernel
-            .run(&self.program, u64::from(now), &mut self.out)
-    }
-
-    /// The last answer of at most 64 runs at this moment.
-    fn run_out(&mut self, now: u16) -> Result<Ran, KernelError> {
-        for _ in 0..64u8 {
-            let ran = self.run(now)?;
-            if ran == Ran::Left(0) || ran == Ran::Halted {
-                return Ok(ran);
-            }
-        }
-        self.run(now)
-    }
-
-    /// How many of `count` packets the ring takes.
-    fn packets_taken(&mut self, count: u16) -> u32 {
-        let mut taken = 0u32;
-        for number in 0..count {
-            let packet = Arrival {
-                sender: 3,
-                number: u64::from(number),
-                value: number,
-            };
-            taken = taken.wrapping_add(u32::from(self.kernel.accept_packet(packet)));
-        }
-        taken
-    }
-
-    fn write_look(&self, text: &mut String) -> Result<(), Fail> {
-        let number = self.kernel.number();
-        let booted = self.kernel.is_booted();
-        let halted = self.kernel.is_halted();
-        let pending = self.kernel.pending();
-        let next = self.kernel.next_expiration();
-        write!(text, "{number} {booted} {halted} {pending} {next:?}|")?;
-        Ok(())
-    }
-
-    /// Does it, and writes down what is answered.
-    fn write_act(&mut self, text: &mut String, act: Act) -> Result<(), Fail> {
-        match act {
-            Act::Look => self.write_look(text)?,
-            Act::Boot => {
-                let ran = self.boot()?;
-                write!(text, "{ran:?}|")?;
-            }
-            Act::Packets(count) => {
-                let taken = self.packets_taken(count);
-                write!(text, "{taken} taken|")?;
-            }
-            Act::Poll(process) => self.kernel.poll(process),
-            Act::RunOut(now) => {
-                let ran = self.run_out(now)?;
-                write!(text, "{ran:?}|")?;
-            }
-        }
-        Ok(())
-    }
-
-    /// Writes down the lines and packets since this was last done.
-    fn write_out(&mut self, text: &mut String) -> Result<(), Fail> {
-        write_lines(text, &self.out.lines)?;
-        write_sends(text, &self.out.sends)?;
-        self.out.lines.clear();
-        self.out.sends.clear();
-        Ok(())
-    }
-}
-
-/// Does all this to a new kernel, and writes down the answer to each and its lines and packets.
-fn write_acts(alloc: Global, text: &mut String, program: &str, acts: &[Act]) -> Result<(), Fail> {
-    let mut bench = new_bench(alloc, program)?;
     for act in acts {
-        bench.write_act(text, *act)?;
-        bench.write_out(text)?;
+        write_act(text, program, &mut kernel, &mut out, *act);
+        write_out(text, &mut out);
     }
-    Ok(())
 }
 
 /// Fails unless `want` is written of that.
 fn tells(alloc: Global, program: &str, acts: &[Act], want: &str) -> Result<(), Fail> {
+    let program = read(alloc, program)?;
     let mut text = String::new(alloc);
-    write_acts(alloc, &mut text, program, acts)?;
+    write_acts(alloc, &mut text, &program, acts);
     same_text(text.as_str(), want)
 }
 
 /// Programs, what is done to their kernels, and what is written of that.
-const CASES: [(&str, &[Act], &str); 4] = [
+const CASES: &[(&str, &[Act], &str)] = &[
     (
         SENDER,
         &[Act::Look, Act::Boot, Act::Look],

@@ -1,11 +1,11 @@
 //! Inboxes with marks, in one thread and in two.
 
-ghost use Rattle.std.specs.Prelude.{◌≡◌, true, []};
+ghost use Rattle.std.specs.Prelude.{◌≡◌, true};
 
 use super::inbox::{copy, push, with_one, with_two, write_known};
 use super::write_rest;
 use copy_inbox::{Carried, Inbox, InboxError, Item, Sender, Taker};
-use std::alloc::{AllocError, Global};
+use std::alloc::Global;
 use std::sync::Wait;
 use std::test::*;
 use std::thread;
@@ -23,103 +23,45 @@ fn push_mark<R: Wait>(rt: &R, inbox: &Inbox, sender: &mut Sender, window: u64)
 }
 
 // Writes down what was taken, with its sender's number.
-fn write_item(text: &mut String, item: Option<Item>) -> Result<(), AllocError> {
-    let Some(item) = item else {
-        return text.push_str("none|");
-    };
-    write!(text, "of {} ", item.sender)?;
-    match item.what {
+fn write_item(text: &mut String, item: Item) {
+    let _ = write!(text, "of {} ", item.sender);
+    let _ = match item.what {
         Carried::Packet(copied) => write_copies(text, &[copied]),
         Carried::Mark(window) => write!(text, "mark {window}|"),
-    }
+    };
 }
 
 // Takes the next item `count` times, and writes down what came.
-fn write_nexts<R: Wait>(
-    rt: &R,
-    text: &mut String,
-    inbox: &Inbox,
-    taker: &mut Taker,
-    count: u8,
-) -> Result<(), AllocError>
+fn write_nexts<R: Wait>(rt: &R, text: &mut String, inbox: &Inbox, taker: &mut Taker, count: u8)
     requires { taker.old.inbox ≡ inbox.now }
     ensures { (taker.new.inbox ≡ inbox.now) × (taker.new.state.made ≡ taker.old.state.made)
         × (taker.new.state.gathered ≡ taker.old.state.gathered) }
 {
     for _ in 0..count {
-        write_item(text, inbox.take_next(rt, taker))?;
+        match inbox.take_next(rt, taker) {
+            None => {
+                let _ = text.push_str("none|");
+            }
+            Some(item) => write_item(text, item),
+        }
     }
-    Ok(())
-}
-
-// Gathers both senders, and writes down what the inbox gives when it ends.
-#[tactic(auto, using(copy_inbox::proofs::Counts::none_left))]
-fn write_end<R: Wait>(
-    rt: &R,
-    text: &mut String,
-    inbox: Inbox,
-    mut taker: Taker,
-    first: Sender,
-    second: Sender,
-) -> Result<(), InboxError>
-    requires inbox { (taker.inbox ≡ inbox) × (first.inbox ≡ inbox) × (second.inbox ≡ inbox) }
-    requires taker { (taker.state.made ≡ 2) × (taker.state.gathered ≡ []) }
-    requires numbers { (first.state.number ≡ 0) × (second.state.number ≡ 1) }
-{
-    inbox.gather(rt, &mut taker, first);
-    inbox.gather(rt, &mut taker, second);
-    if inbox.known(&taker) != 0 {
-        return Ok(text.push_str("some are known|")?);
-    }
-    write_rest(rt, text, inbox, taker)
-}
-
-// Two senders push marks, the first one after a copy. Writes down what is taken.
-fn write_pushed_marks<R: Wait>(
-    rt: &R,
-    text: &mut String,
-    inbox: &Inbox,
-    taker: &mut Taker,
-    first: &mut Sender,
-    second: &mut Sender,
-) -> Result<(), AllocError>
-    requires inbox { (taker.old.inbox ≡ inbox.now) × (first.old.inbox ≡ inbox.now) × (second.old.inbox ≡ inbox.now) }
-    requires marked { (first.old.state.marked ≡ true) × (second.old.state.marked ≡ true) }
-    ensures taker { (taker.new.inbox ≡ inbox.now) × (taker.new.state.made ≡ taker.old.state.made)
-        × (taker.new.state.gathered ≡ taker.old.state.gathered) }
-    ensures first { (first.new.inbox ≡ inbox.now) × (first.new.state.number ≡ first.old.state.number) }
-    ensures second { (second.new.inbox ≡ inbox.now) × (second.new.state.number ≡ second.old.state.number) }
-{
-    push(rt, inbox, first, copy(0, 7));
-    push_mark(rt, inbox, first, 0);
-    push_mark(rt, inbox, second, 0);
-    write_nexts(rt, text, inbox, taker, 4)
 }
 
 // What two senders pushed is taken in order, each item with its sender's number, though none is known; then the inbox
 // is empty, and nothing is left at the end.
+#[tactic(auto, using(copy_inbox::proofs::Counts::none_left))]
 fn write_marked<R: Wait>(rt: &R, alloc: Global, text: &mut String) -> Result<(), InboxError> {
     let (inbox, mut taker, mut first, mut second) = with_two(alloc, true)?;
-    write_pushed_marks(rt, text, &inbox, &mut taker, &mut first, &mut second)?;
-    write_end(rt, text, inbox, taker, first, second)
-}
-
-// Gathers a sender, and takes what it pushed. Writes down each time how many items are known.
-fn write_gathered<R: Wait>(
-    rt: &R,
-    text: &mut String,
-    inbox: &Inbox,
-    taker: &mut Taker,
-    only: Sender,
-) -> Result<(), AllocError>
-    requires { (taker.old.inbox ≡ inbox.now) × (only.inbox ≡ inbox.now) }
-{
-    let known = inbox.known(taker);
-    inbox.gather(rt, taker, only);
-    write!(text, "known {known}|")?;
-    for count in [0, 1, 3] {
-        write_nexts(rt, text, inbox, taker, count)?;
-        write_known(text, inbox, taker)?;
+    push(rt, &inbox, &mut first, copy(0, 7));
+    push_mark(rt, &inbox, &mut first, 0);
+    push_mark(rt, &inbox, &mut second, 0);
+    write_nexts(rt, text, &inbox, &mut taker, 4);
+    inbox.gather(rt, &mut taker, first);
+    inbox.gather(rt, &mut taker, second);
+    if inbox.known(&taker) == 0 {
+        write_rest(rt, text, inbox, taker);
+    } else {
+        let _ = text.push_str("some are known|");
     }
     Ok(())
 }
@@ -130,37 +72,31 @@ fn write_known_marks<R: Wait>(rt: &R, alloc: Global, text: &mut String) -> Resul
     push_mark(rt, &inbox, &mut only, 0);
     push(rt, &inbox, &mut only, copy(0, 0));
     push_mark(rt, &inbox, &mut only, 1);
-    Ok(write_gathered(rt, text, &inbox, &mut taker, only)?)
-}
-
-// Two senders push a copy each. Writes down what is taken before and after.
-fn write_pushed<R: Wait>(
-    rt: &R,
-    text: &mut String,
-    inbox: &Inbox,
-    taker: &mut Taker,
-    first: &mut Sender,
-    second: &mut Sender,
-) -> Result<(), AllocError>
-    requires { (taker.old.inbox ≡ inbox.now) × (first.old.inbox ≡ inbox.now) × (second.old.inbox ≡ inbox.now) }
-{
-    write_nexts(rt, text, inbox, taker, 1)?;
-    push(rt, inbox, second, copy(1, 0));
-    push(rt, inbox, first, copy(0, 0));
-    write_nexts(rt, text, inbox, taker, 3)
+    write_known(text, &inbox, &taker);
+    inbox.gather(rt, &mut taker, only);
+    write_known(text, &inbox, &taker);
+    write_nexts(rt, text, &inbox, &mut taker, 1);
+    write_known(text, &inbox, &taker);
+    write_nexts(rt, text, &inbox, &mut taker, 3);
+    write_known(text, &inbox, &taker);
+    Ok(())
 }
 
 // An inbox without marks gives its copies one by one too.
 fn write_one_by_one<R: Wait>(rt: &R, alloc: Global, text: &mut String) -> Result<(), InboxError> {
     let (inbox, mut taker, mut first, mut second) = with_two(alloc, false)?;
-    Ok(write_pushed(rt, text, &inbox, &mut taker, &mut first, &mut second)?)
+    write_nexts(rt, text, &inbox, &mut taker, 1);
+    push(rt, &inbox, &mut second, copy(1, 0));
+    push(rt, &inbox, &mut first, copy(0, 0));
+    write_nexts(rt, text, &inbox, &mut taker, 3);
+    Ok(())
 }
 
 fn write_items<R: Wait>(rt: &R, alloc: Global, text: &mut String) -> Result<(), InboxError> {
     write_marked(rt, alloc, text)?;
-    text.push_str("known marks|")?;
+    let _ = text.push_str("known marks|");
     write_known_marks(rt, alloc, text)?;
-    text.push_str("no marks|")?;
+    let _ = text.push_str("no marks|");
     write_one_by_one(rt, alloc, text)
 }
 
@@ -176,25 +112,16 @@ fn items_one_by_one(rt: HostRuntime) -> Result<(), Fail> {
     )
 }
 
-// Pushes three copies and the mark of a window.
-fn push_window<R: Wait>(rt: &R, inbox: &Inbox, sender: &mut Sender, window: u64)
-    requires inbox { sender.old.inbox ≡ inbox.now }
-    requires marked { sender.old.state.marked ≡ true }
-    ensures { (sender.new.inbox ≡ inbox.now) × (sender.new.state.marked ≡ true) }
-{
-    for number in 0..3u64 {
-        push(rt, inbox, sender, copy(0, number));
-    }
-    push_mark(rt, inbox, sender, window);
-}
-
-// Pushes the copies and the mark of each window.
+// Pushes three copies and the mark of each window.
 fn push_windows<R: Wait>(rt: &R, inbox: &Inbox, mut sender: Sender, windows: u64)
     requires inbox { sender.inbox ≡ inbox.now }
     requires marked { sender.state.marked ≡ true }
 {
     for window in 0..windows {
-        push_window(rt, inbox, &mut sender, window);
+        push(rt, inbox, &mut sender, copy(0, 0));
+        push(rt, inbox, &mut sender, copy(0, 1));
+        push(rt, inbox, &mut sender, copy(0, 2));
+        push_mark(rt, inbox, &mut sender, window);
     }
 }
 
@@ -228,8 +155,8 @@ fn after(heard: Heard, what: Carried) -> Heard {
 
 // Takes items until the mark of the last window has come, and yields the processor while the inbox is empty. Returns
 // in how many windows three copies came before the mark.
-fn take_windows<R: Wait>(rt: &R, inbox: &Inbox, taker: &mut Taker, windows: u64) -> u64
-    requires { taker.old.inbox ≡ inbox.now }
+fn take_windows<R: Wait>(rt: &R, inbox: &Inbox, mut taker: Taker, windows: u64) -> u64
+    requires { taker.inbox ≡ inbox.now }
 {
     let mut heard = Heard {
         full: 0,
@@ -240,19 +167,12 @@ fn take_windows<R: Wait>(rt: &R, inbox: &Inbox, taker: &mut Taker, windows: u64)
         if heard.marks == windows {
             return heard.full;
         }
-        match inbox.take_next(rt, taker) {
+        match inbox.take_next(rt, &mut taker) {
             None => thread::yield_now(),
             Some(item) => heard = after(heard, item.what),
         }
     }
     unreachable!()
-}
-
-// The same with a taker that it owns.
-fn take_all<R: Wait>(rt: &R, inbox: &Inbox, mut taker: Taker, windows: u64) -> u64
-    requires { taker.inbox ≡ inbox.now }
-{
-    take_windows(rt, inbox, &mut taker, windows)
 }
 
 fn both<R: Threads + Wait + Sync>(rt: &R, alloc: Global, windows: u64) -> Result<u64, InboxError> {
@@ -265,7 +185,7 @@ fn both<R: Threads + Wait + Sync>(rt: &R, alloc: Global, windows: u64) -> Result
         { push_windows(rt, shared, sender, windows) },
         move ||
             requires { taker.inbox ≡ shared.now }
-        { take_all(rt, shared, taker, windows) },
+        { take_windows(rt, shared, taker, windows) },
     );
     Ok(full)
 }

@@ -1,6 +1,7 @@
 //! Reports with their texts, worked by hand.
 
-ghost use Rattle.std.specs.Prelude.{◌≡◌, IfOk, vec_len};
+ghost use Rattle.std.specs.Prelude.{◌≡◌, IfOk, length, vec_len};
+ghost use Rattle.mote_net.specs.Net.{net_of};
 
 use net_report::{LogLine, Report};
 use net_scenario::{Net, read_scenario};
@@ -11,7 +12,7 @@ use std::alloc::{AllocError, Global};
 use std::str;
 use std::test::Fail;
 use test_helpers::same_text;
-use trace_printer::write_report;
+use trace_printer::{PrintError, write_report};
 
 /// One mote, whose program has two events and two processes.
 const TWO_PROCESSES: &str =
@@ -76,16 +77,15 @@ fn write_trace(
     net: &Net,
     happens: &[(u64, What)],
     output: &mut Vec<u8>,
-) -> Result<(), Fail> {
-    if net.motes() != 1 {
-        return Err(Fail::new(format_args!("not one mote")));
-    }
+) -> Result<(), PrintError>
+    requires { length (net_of net.now).motes ≡ 1 }
+{
     let report = report_of(alloc, happens)?;
-    Ok(write_report(alloc, net, &report, output)?)
+    write_report(alloc, net, &report, output)
 }
 
 /// What happens at which moment, by its kind.
-const KINDS: [&[(u64, What)]; 4] = [
+const KINDS: &[&[(u64, What)]] = &[
     // Lines of processes.
     &[
         (0, What::Start(A)),
@@ -127,9 +127,12 @@ const KINDS: [&[(u64, What)]; 4] = [
 ];
 
 /// Writes a report for each kind of lines, of a net of one mote.
-fn write_kinds(alloc: Global, net: &Net, output: &mut Vec<u8>) -> Result<(), Fail> {
-    for happens in KINDS {
-        write_trace(alloc, net, happens, output)?;
+fn write_of_one_mote(alloc: Global, output: &mut Vec<u8>) -> Result<(), Fail> {
+    let net = read_scenario(alloc, TWO_PROCESSES)?;
+    if net.motes() == 1 {
+        for happens in KINDS {
+            write_trace(alloc, &net, happens, output)?;
+        }
     }
     Ok(())
 }
@@ -195,22 +198,19 @@ fn report_of_two(alloc: Global) -> Result<Report, AllocError>
 }
 
 /// Writes that report, of a net of two motes.
-fn write_two(alloc: Global, net: &Net, output: &mut Vec<u8>) -> Result<(), Fail> {
-    if net.motes() != 2 {
-        return Err(Fail::new(format_args!("not two motes")));
-    }
+fn write_two(alloc: Global, net: &Net, output: &mut Vec<u8>) -> Result<(), PrintError>
+    requires { length (net_of net.now).motes ≡ 2 }
+{
     let report = report_of_two(alloc)?;
-    Ok(write_report(alloc, net, &report, output)?)
-}
-
-fn write_of_one_mote(alloc: Global, output: &mut Vec<u8>) -> Result<(), Fail> {
-    let net = read_scenario(alloc, TWO_PROCESSES)?;
-    write_kinds(alloc, &net, output)
+    write_report(alloc, net, &report, output)
 }
 
 fn write_of_two_motes(alloc: Global, output: &mut Vec<u8>) -> Result<(), Fail> {
     let net = read_scenario(alloc, TWO_MOTES)?;
-    write_two(alloc, &net, output)
+    if net.motes() == 2 {
+        write_two(alloc, &net, output)?;
+    }
+    Ok(())
 }
 
 fn write_reports(alloc: Global, output: &mut Vec<u8>) -> Result<(), Fail> {

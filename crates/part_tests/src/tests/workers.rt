@@ -3,7 +3,7 @@
 ghost use Rattle.std.specs.Prelude.{◌≡◌, ◌+◌, ◌^◌, ◌%◌};
 
 use fork_join::{Refused, Work, fork_join};
-use std::alloc::{AllocError, Global};
+use std::alloc::Global;
 use std::sync::Wait;
 use std::sync::atomic::AtomicU64;
 use std::sync::atomic::Ordering::SeqCst;
@@ -103,16 +103,6 @@ impl Work<u64> for AddTen {
     }
 }
 
-fn run_all<R: Threads + Wait + Sync>(
-    rt: &R,
-    alloc: Global,
-    work: &AddTen,
-    workers: &[u64],
-) -> Result<Vec<u64>, Refused> {
-    let workers = Vec::from_slice(alloc, workers)?;
-    fork_join(rt, alloc, workers, work)
-}
-
 /// Runs these workers, and writes down what they answer, how many were asked for, and how often the work was told to
 /// give up.
 fn write_joined<R: Threads + Wait + Sync>(
@@ -121,20 +111,18 @@ fn write_joined<R: Threads + Wait + Sync>(
     text: &mut String,
     work: AddTen,
     workers: &[u64],
-) -> Result<(), AllocError> {
-    let done = run_all(rt, alloc, &work, workers);
-    let asked = work.asked.load(SeqCst);
-    let given_up = work.given_up.load(SeqCst);
-    write!(text, "{done:?} {asked} {given_up}|")
+) {
+    if let Ok(workers) = Vec::from_slice(alloc, workers) {
+        let done = fork_join(rt, alloc, workers, &work);
+        let asked = work.asked.load(SeqCst);
+        let given_up = work.given_up.load(SeqCst);
+        let _ = write!(text, "{done:?} {asked} {given_up}|");
+    }
 }
 
 /// Of the workers that give up, the first one that didn't stop because of another has its error reported, and all were
 /// started.
-fn write_giving_up<R: Threads + Wait + Sync>(
-    rt: &R,
-    alloc: Global,
-    text: &mut String,
-) -> Result<(), AllocError> {
+fn write_giving_up<R: Threads + Wait + Sync>(rt: &R, alloc: Global, text: &mut String) {
     for workers in [
         [1, 2, 3],
         [1, 3, 2],
@@ -145,44 +133,34 @@ fn write_giving_up<R: Threads + Wait + Sync>(
         [4, 1, 3],
         [1, 4, 1],
     ] {
-        write_joined(rt, alloc, text, add_ten(2, 3, 4, 0, false), &workers)?;
+        write_joined(rt, alloc, text, add_ten(2, 3, 4, 0, false), &workers);
     }
-    Ok(())
 }
 
 /// Whichever start is refused, the workers that were started give up before they are joined.
-fn write_waiting<R: Threads + Wait + Sync>(
-    rt: &R,
-    alloc: Global,
-    text: &mut String,
-) -> Result<(), AllocError> {
+fn write_waiting<R: Threads + Wait + Sync>(rt: &R, alloc: Global, text: &mut String) {
     for shut_out in 0..4 {
         let work = add_ten(9, 9, 9, shut_out, true);
-        write_joined(rt, alloc, text, work, &[0, 1, 2, 3])?;
+        write_joined(rt, alloc, text, work, &[0, 1, 2, 3]);
     }
-    Ok(())
 }
 
-fn write_workers<R: Threads + Wait + Sync>(
-    rt: &R,
-    alloc: Global,
-    text: &mut String,
-) -> Result<(), AllocError> {
-    write_joined(rt, alloc, text, add_ten(0, 0, 0, 0, false), &[3, 1, 2])?;
-    write_giving_up(rt, alloc, text)?;
+fn write_workers<R: Threads + Wait + Sync>(rt: &R, alloc: Global, text: &mut String) {
+    write_joined(rt, alloc, text, add_ten(0, 0, 0, 0, false), &[3, 1, 2]);
+    write_giving_up(rt, alloc, text);
     // A worker that isn't allowed to start is reported as one whose thread couldn't be started, and the next one isn't
     // asked for.
-    write_joined(rt, alloc, text, add_ten(0, 0, 0, 2, false), &[1, 2, 3])?;
+    write_joined(rt, alloc, text, add_ten(0, 0, 0, 2, false), &[1, 2, 3]);
     // The error of a worker that was started takes precedence over a refused start, unless that worker only stopped.
-    write_joined(rt, alloc, text, add_ten(1, 0, 4, 2, false), &[1, 2, 3])?;
-    write_joined(rt, alloc, text, add_ten(1, 0, 4, 2, false), &[4, 2, 3])?;
-    write_waiting(rt, alloc, text)
+    write_joined(rt, alloc, text, add_ten(1, 0, 4, 2, false), &[1, 2, 3]);
+    write_joined(rt, alloc, text, add_ten(1, 0, 4, 2, false), &[4, 2, 3]);
+    write_waiting(rt, alloc, text);
 }
 
 #[test]
 fn workers_by_hand(rt: HostRuntime) -> Result<(), Fail> {
     let mut text = String::new(rt.alloc());
-    write_workers(&rt, rt.alloc(), &mut text)?;
+    write_workers(&rt, rt.alloc(), &mut text);
     same_text(
         text.as_str(),
         "Ok([13, 11, 12]) 3 0|Err(Memory) 3 0|Err(Thread) 3 0|Err(Thread) 3 0|Err(Thread) 3 0|Err(Memory) 3 0|\

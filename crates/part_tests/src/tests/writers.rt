@@ -139,7 +139,10 @@ fn few_lines(alloc: Global, net: &Net) -> Result<bool, AllocError>
     Ok(gets_byte_by_byte(alloc, net, &report) && takes_nothing(alloc, net, &report))
 }
 
-fn sends(alloc: Global) -> Result<Vec<Line>, AllocError> {
+/// The report of one mote that sends `LINES` packets.
+fn report_of_sends(alloc: Global) -> Result<Report, AllocError>
+    ensures { IfOk result (λ r. vec_len r.traces ≡ 1) }
+{
     let mut trace = Vec::new(alloc);
     for number in 0..LINES {
         trace.push(Line {
@@ -147,57 +150,41 @@ fn sends(alloc: Global) -> Result<Vec<Line>, AllocError> {
             what: What::Send(number, 65535),
         })?;
     }
-    Ok(trace)
-}
-
-/// The report of one mote that sends `LINES` packets.
-fn report_of_sends(alloc: Global) -> Result<Report, AllocError>
-    ensures { IfOk result (λ r. vec_len r.traces ≡ 1) }
-{
-    let trace = sends(alloc)?;
     report_of_trace(alloc, trace)
 }
 
 /// Writes the text of that report.
-fn write_wanted(text: &mut String) -> Result<(), AllocError> {
-    text.push_str("mote 0 p\n")?;
+fn write_wanted(text: &mut String) {
+    let _ = text.push_str("mote 0 p\n");
     for number in 0..LINES {
         let at = number / 2;
-        write!(text, "{at} send {number} 65535\n")?;
+        let _ = write!(text, "{at} send {number} 65535\n");
     }
-    text.push_str("medium\nleft 0\n")
+    let _ = text.push_str("medium\nleft 0\n");
 }
 
 /// By how many bytes the room falls short for the report of many lines.
 const LACKS: [usize; 5] = [0, 1, 2, 65_536, 200_000];
 
 /// Whether a writer that takes 1,000 bytes a call gets as much of this report as it has room for.
-fn many_lines(alloc: Global, net: &Net, wanted: &str) -> Result<bool, AllocError>
+fn many_lines(alloc: Global, net: &Net) -> Result<bool, AllocError>
     requires { length (net_of net.now).motes ≡ 1 }
 {
     let report = report_of_sends(alloc)?;
+    let mut wanted = String::new(alloc);
+    write_wanted(&mut wanted);
     Ok(gets_each(alloc, net, &report, wanted.as_bytes(), 1_000, &LACKS))
 }
 
-/// Fails unless a net has one mote, and all this is so for its reports of few lines and of many.
-fn few_and_many(alloc: Global, net: &Net, wanted: &str) -> Result<(), Fail> {
-    if net.motes() == 1 && few_lines(alloc, net)? && many_lines(alloc, net, wanted)? {
-        return Ok(());
-    }
-    Err(Fail::new(format_args!("otherwise")))
-}
-
-/// The same, with the wanted text of the many lines made first.
-fn gets_written(alloc: Global, net: &Net) -> Result<(), Fail> {
-    let mut text = String::new(alloc);
-    write_wanted(&mut text)?;
-    few_and_many(alloc, net, text.as_str())
+/// Whether a net has one mote, and writers get both reports as they should.
+fn few_and_many(alloc: Global, net: &Net) -> Result<bool, AllocError> {
+    Ok(net.motes() == 1 && few_lines(alloc, net)? && many_lines(alloc, net)?)
 }
 
 #[test]
 fn writers_with_little_room(rt: HostRuntime) -> Result<(), Fail> {
     let numbers = [PrintError::Write.number(), PrintError::Memory.number()];
-    assert!(rt; numbers == [1, 2]);
     let net = read_scenario(rt.alloc(), PRINT_THEN_YIELD)?;
-    gets_written(rt.alloc(), &net)
+    assert!(rt; numbers == [1, 2] && few_and_many(rt.alloc(), &net)?);
+    Ok(())
 }

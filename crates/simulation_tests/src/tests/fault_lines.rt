@@ -2,7 +2,7 @@
 
 use super::{PRINT_THEN_YIELD, Sink, Source, front_of};
 use simulation::{RunError, SimError, run_command, status_of};
-use std::alloc::{AllocError, Global};
+use std::alloc::AllocError;
 use std::random::RandomSource;
 use std::rt::Files;
 use std::sync::Wait;
@@ -10,24 +10,8 @@ use std::test::Fail;
 use std::thread::Threads;
 use test_helpers::same_text;
 
-/// Writes down ASCII bytes.
-fn write_bytes(text: &mut String, bytes: &[u8]) -> Result<(), AllocError> {
-    for byte in bytes {
-        text.push(char::from(*byte))?;
-    }
-    Ok(())
-}
-
-/// Writes down the status and the line of a fault of a run.
-fn write_fault(alloc: Global, text: &mut String, fault: RunError) -> Result<(), AllocError> {
-    let mut errors = Sink::new(alloc);
-    let status = status_of(Err(SimError::Run(fault)), &mut errors);
-    write!(text, "{status} ")?;
-    write_bytes(text, &errors.bytes)
-}
-
 /// The faults of a run.
-const FAULTS: [RunError; 6] = [
+static FAULTS: [RunError; 6] = [
     RunError::Workers,
     RunError::CutLength,
     RunError::CutWorker,
@@ -39,8 +23,10 @@ const FAULTS: [RunError; 6] = [
 #[test]
 fn faults_of_the_run(rt: HostRuntime) -> Result<(), Fail> {
     let mut text = String::new(rt.alloc());
-    for fault in FAULTS {
-        write_fault(rt.alloc(), &mut text, fault)?;
+    for fault in FAULTS.as_slice() {
+        let mut errors = Sink::new(rt.alloc(), usize::MAX, usize::MAX, true);
+        let status = status_of(Err(SimError::Run(*fault)), &mut errors);
+        write!(text, "{status} {}", errors.text)?;
     }
     same_text(
         text.as_str(),
@@ -71,25 +57,11 @@ where
         most: 16,
         calls: streams.reads,
     };
-    let mut output = Sink::narrow(rt.alloc(), streams.writes, streams.fails);
-    let mut errors = Sink::narrow(rt.alloc(), streams.lines, streams.fails);
+    let mut output = Sink::new(rt.alloc(), 1, streams.writes, streams.fails);
+    let mut errors = Sink::new(rt.alloc(), 1, streams.lines, streams.fails);
     let status = run_command(rt, &["motesim"], &mut input, &mut output, &mut errors);
-    let front = front_of(PRINT_THEN_YIELD.report, &output.bytes);
-    write!(text, "{status} {front:?} ")?;
-    write_bytes(text, &errors.bytes)?;
-    text.push('|')
-}
-
-/// Fails unless `want` is written down of some runs of the program.
-fn commands_tell<T>(rt: &T, runs: &[Streams], want: &str) -> Result<(), Fail>
-where
-    T: AllocGlobal + Files + Threads + Wait + RandomSource + Sync,
-{
-    let mut text = String::new(rt.alloc());
-    for streams in runs {
-        write_command(rt, &mut text, *streams)?;
-    }
-    same_text(text.as_str(), want)
+    let front = front_of(PRINT_THEN_YIELD.report, output.text.as_bytes());
+    write!(text, "{status} {front:?} {}|", errors.text)
 }
 
 /// Streams that never fail.
@@ -115,7 +87,7 @@ const EMPTY: Streams<'static> = Streams {
 
 /// The input fails; the output fails, or takes nothing; a fault's line can't be written, as a whole or from some place
 /// on.
-const FAILING: [Streams<'static>; 6] = [
+static FAILING: [Streams<'static>; 6] = [
     WHOLE,
     Streams { reads: 3, ..WHOLE },
     Streams { writes: 7, ..WHOLE },
@@ -129,9 +101,12 @@ const FAILING: [Streams<'static>; 6] = [
 
 #[test]
 fn failing_streams(rt: HostRuntime) -> Result<(), Fail> {
-    commands_tell(
-        &rt,
-        &FAILING,
+    let mut text = String::new(rt.alloc());
+    for streams in FAILING.as_slice() {
+        write_command(&rt, &mut text, *streams)?;
+    }
+    same_text(
+        text.as_str(),
         "\
             0 Some(89) |1 Some(0) motesim: read fault\n|1 Some(7) motesim: write fault\n\
             |1 Some(7) motesim: write fault\n|1 Some(0) |1 Some(0) motesim|",

@@ -1,7 +1,7 @@
 //! What the words of the command line ask for.
 
-use super::{Sink, Source, TWO_SENDERS, Watch, front_of, write_answer};
-use simulation::{asked_by, simulate_asked};
+use super::{SENDING, Trial, Way, write_trial};
+use simulation::asked_by;
 use std::alloc::{AllocError, Global};
 use std::random::RandomSource;
 use std::rt::Files;
@@ -24,7 +24,7 @@ fn write_asked(alloc: Global, text: &mut String, words: &[&str]) -> Result<(), A
 }
 
 /// Command lines.
-const ASKED: [&[&str]; 10] = [
+static ASKED: [&[&str]; 10] = [
     &["motesim"],
     &["motesim", "--workers", "2"],
     &["motesim", "--cut", "block"],
@@ -40,7 +40,7 @@ const ASKED: [&[&str]; 10] = [
 #[test]
 fn what_the_words_ask_for(rt: HostRuntime) -> Result<(), Fail> {
     let mut text = String::new(rt.alloc());
-    for words in ASKED {
+    for words in ASKED.as_slice() {
         write_asked(rt.alloc(), &mut text, words)?;
     }
     same_text(
@@ -52,6 +52,13 @@ fn what_the_words_ask_for(rt: HostRuntime) -> Result<(), Fail> {
     )
 }
 
+/// Streams that give and take all bytes in one call.
+const WIDE: Trial<'static> = Trial {
+    gives: usize::MAX,
+    takes: usize::MAX,
+    ..SENDING
+};
+
 /// Writes down the number of workers that these words ask for, and what comes of a run by them.
 fn write_run<T>(rt: &T, text: &mut String, words: &[&str]) -> Result<(), AllocError>
 where
@@ -61,32 +68,11 @@ where
         return text.push_str("a fault|");
     };
     write!(text, "{:?} ", asked.options.workers)?;
-    let mut input = Source {
-        rest: TWO_SENDERS.scenario.as_bytes(),
-        most: usize::MAX,
-        calls: usize::MAX,
-    };
-    let mut output = Sink::new(rt.alloc());
-    let gate = Watch::new(&[0, 1, 2], None);
-    let answer = simulate_asked(rt, &asked, &mut input, &mut output, &gate);
-    let front = front_of(TWO_SENDERS.report, &output.bytes);
-    write_answer(text, &answer, front, &gate)
-}
-
-/// Fails unless `want` is written down of these command lines.
-fn runs_tell<T>(rt: &T, lines: &[&[&str]], want: &str) -> Result<(), Fail>
-where
-    T: AllocGlobal + Files + Threads + Wait + RandomSource + Sync,
-{
-    let mut text = String::new(rt.alloc());
-    for words in lines {
-        write_run(rt, &mut text, words)?;
-    }
-    same_text(text.as_str(), want)
+    write_trial(rt, text, WIDE, Way::Asked(&asked))
 }
 
 /// Command lines without workers, then with joins, then with marks.
-const RUNS: [&[&str]; 9] = [
+static RUNS: [&[&str]; 9] = [
     &["motesim"],
     &["motesim", "--cut", "stripe"],
     &["motesim", "--sync", "marks"],
@@ -109,9 +95,12 @@ const RUNS: [&[&str]; 9] = [
 /// motes to 0, 5 and 10, and stripes to 0, 1 and 2; of three or four workers either cut gives them to 0, 1 and 2.
 #[test]
 fn runs_by_the_words(rt: HostRuntime) -> Result<(), Fail> {
-    runs_tell(
-        &rt,
-        &RUNS,
+    let mut text = String::new(rt.alloc());
+    for words in RUNS.as_slice() {
+        write_run(&rt, &mut text, words)?;
+    }
+    same_text(
+        text.as_str(),
         "\
             None Ok(()) Some(405) 0 0 0|None Ok(()) Some(405) 0 0 0|None Ok(()) Some(405) 0 0 0|\
             Some(1) Ok(()) Some(405) 2 1 3|Some(3) Ok(()) Some(405) 6 4 0|Some(16) Ok(()) Some(405) 32 1 3|\

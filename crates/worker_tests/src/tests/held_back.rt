@@ -1,8 +1,7 @@
 //! That no window is longer than was asked for, by workers of either kind: no worker comes to its next window while
 //! another is in this one.
 
-use super::{BUSY_PAIR, SYNCS, by, run_by_workers};
-use net_scenario::{Net, read_scenario};
+use super::{BUSY_PAIR, Case, Scene, Watch, tells, write_run};
 use std::alloc::{AllocError, AllocGlobal};
 use std::random::RandomSource;
 use std::sync::Wait;
@@ -10,8 +9,7 @@ use std::sync::atomic::AtomicU64;
 use std::sync::atomic::Ordering::SeqCst;
 use std::test::Fail;
 use std::thread::Threads;
-use test_helpers::same_text;
-use window_workers::{Gate, SyncKind};
+use window_workers::{Cut, Gate};
 
 /// Worker 1 waits inside its turn at 0, for a while, until worker 0 comes to its turn at 1.
 #[derive(Drop)]
@@ -38,8 +36,14 @@ impl Gate for Ahead {
     }
 }
 
-/// Writes down what comes of a run by windows of one moment, and whether worker 0 got ahead.
-fn write_run<R>(rt: &R, net: &Net, sync: SyncKind, text: &mut String) -> Result<(), AllocError>
+/// Writes down what comes of a run, and whether worker 0 got ahead.
+pub(super) fn write_ahead<R>(
+    rt: &R,
+    scene: Scene<'_>,
+    workers: u16,
+    cut: &Cut,
+    text: &mut String,
+) -> Result<(), AllocError>
 where
     R: Threads + Wait + Sync + RandomSource + AllocGlobal,
 {
@@ -47,25 +51,15 @@ where
         came: AtomicU64::new(0),
         seen: AtomicU64::new(0),
     };
-    let told = run_by_workers(rt, net, sync, &by(2, &[0, 1], 1), &gate)?;
-    write!(text, "{told:?} {}|", gate.seen.load(SeqCst))
+    write_run(rt, scene, workers, cut, &gate, text)?;
+    write!(text, " {}|", gate.seen.load(SeqCst))
 }
 
-/// Fails if worker 0 gets ahead, with joins or with marks.
-fn holds_back<R>(rt: &R, net: &Net) -> Result<(), Fail>
-where
-    R: Threads + Wait + Sync + RandomSource + AllocGlobal,
-{
-    let mut text = String::new(rt.alloc());
-    for sync in SYNCS {
-        write_run(rt, net, sync, &mut text)?;
-    }
-    same_text(text.as_str(), "Same(0) 0|Same(0) 0|")
-}
+/// A run by windows of one moment.
+const AHEAD: [Case<'static>; 1] = [(Watch::Ahead, 2, &[0, 1], 1)];
 
 /// The motes don't hear one another, so one window would do for all; windows of one moment are asked for.
 #[test]
 fn windows_hold_the_faster_back(rt: HostRuntime) -> Result<(), Fail> {
-    let net = read_scenario(rt.alloc(), BUSY_PAIR)?;
-    holds_back(&rt, &net)
+    tells(&rt, BUSY_PAIR, &AHEAD, "Same(0) 0|", "Same(0) 0|")
 }

@@ -82,6 +82,14 @@ fn push_window<R: Wait>(
     Ok(())
 }
 
+/// Writes down the copies of a window whose marks have come.
+fn write_copies(text: &mut String, copies: &[RadioCopy]) -> Result<(), AllocError> {
+    for copy in copies {
+        write!(text, "{} {}, ", copy.at, copy.number)?;
+    }
+    text.push_str("marks|")
+}
+
 /// Takes a window, and writes down the copies, or why there are none. Returns whether it was taken.
 fn write_window<R: Wait>(
     rt: &R,
@@ -106,10 +114,7 @@ fn write_window<R: Wait>(
     };
     match worker_2.take_window(rt, alloc, inbox, stop, &standing, window) {
         Ok(copies) => {
-            for copy in copies.as_slice() {
-                write!(text, "{} {}, ", copy.at, copy.number)?;
-            }
-            text.push_str("marks|")?;
+            write_copies(text, copies.as_slice())?;
             Ok(true)
         }
         Err(error) => {
@@ -129,51 +134,44 @@ fn write_windows<R: Wait>(
     worker_2: &mut MarkEndpoint,
     first: &mut Sender,
     second: &mut Sender,
+    stop: &AtomicBool,
 ) -> Result<(), InboxError>
     requires inbox { (worker_2.old.base.taker.inbox ≡ inbox.now) × (first.old.inbox ≡ inbox.now)
         × (second.old.inbox ≡ inbox.now) }
     requires marked { (first.old.state.marked ≡ true) × (second.old.state.marked ≡ true) }
     requires counts { Counts worker_2.old.marks.items worker_2.old.base.taker.state }
 {
-    // The flag is looked at only while a mark is missing.
-    let stop = AtomicBool::new(true);
     push_window(rt, inbox, first, Some(copy(5, 0)), 0)?;
     push_window(rt, inbox, first, Some(copy(9, 1)), 1)?;
     push_window(rt, inbox, second, None, 0)?;
-    if !write_window(rt, alloc, text, inbox, worker_2, &stop, 5, 0)? {
+    if !write_window(rt, alloc, text, inbox, worker_2, stop, 5, 0)? {
         return Ok(());
     }
     push_window(rt, inbox, second, None, 1)?;
-    if !write_window(rt, alloc, text, inbox, worker_2, &stop, 9, 1)? {
+    if !write_window(rt, alloc, text, inbox, worker_2, stop, 9, 1)? {
         return Ok(());
     }
     push_window(rt, inbox, first, Some(copy(9, 2)), 2)?;
-    write_window(rt, alloc, text, inbox, worker_2, &stop, 10, 2)?;
+    write_window(rt, alloc, text, inbox, worker_2, stop, 10, 2)?;
     Ok(())
 }
 
-/// What is written of these windows.
-fn write_taken<R: Wait>(rt: &R, alloc: Global, text: &mut String) -> Result<(), InboxError> {
-    let (inbox, taker, mut first, mut second) = make(alloc)?;
-    let mut worker_2 = make_worker_2(alloc, taker)?;
-    write_windows(
-        rt,
-        alloc,
-        text,
-        &inbox,
-        &mut worker_2,
-        &mut first,
-        &mut second,
-    )
-}
-
 /// What is written where the mark of worker 1 is missing, and the flag is set.
-fn write_stopped<R: Wait>(rt: &R, alloc: Global, text: &mut String) -> Result<(), InboxError> {
-    let (inbox, taker, mut first, _second) = make(alloc)?;
-    let mut worker_2 = make_worker_2(alloc, taker)?;
-    push_window(rt, &inbox, &mut first, None, 0)?;
-    let stop = AtomicBool::new(true);
-    write_window(rt, alloc, text, &inbox, &mut worker_2, &stop, 5, 0)?;
+fn write_stopped<R: Wait>(
+    rt: &R,
+    alloc: Global,
+    text: &mut String,
+    inbox: &Inbox,
+    worker_2: &mut MarkEndpoint,
+    first: &mut Sender,
+    stop: &AtomicBool,
+) -> Result<(), InboxError>
+    requires inbox { (worker_2.old.base.taker.inbox ≡ inbox.now) × (first.old.inbox ≡ inbox.now) }
+    requires marked { first.old.state.marked ≡ true }
+    requires counts { Counts worker_2.old.marks.items worker_2.old.base.taker.state }
+{
+    push_window(rt, inbox, first, None, 0)?;
+    write_window(rt, alloc, text, inbox, worker_2, stop, 5, 0)?;
     Ok(())
 }
 
@@ -183,36 +181,72 @@ fn set_late<R: Clock>(rt: &R, stop: &AtomicBool) {
     stop.store(true, Ordering::SeqCst);
 }
 
-/// What is written where the mark of worker 1 is missing, and the flag is set while the worker sleeps.
+/// The same, and the flag is set while the worker sleeps.
 fn write_woken<R: Threads + Wait + Clock + Sync>(
     rt: &R,
     alloc: Global,
     text: &mut String,
-) -> Result<(), InboxError> {
-    let (inbox, taker, mut first, _second) = make(alloc)?;
-    let mut worker_2 = make_worker_2(alloc, taker)?;
-    push_window(rt, &inbox, &mut first, None, 0)?;
-    let stop = AtomicBool::new(false);
-    let (_, took) = thread::join(
+    inbox: &Inbox,
+    worker_2: &mut MarkEndpoint,
+    first: &mut Sender,
+    stop: &AtomicBool,
+) -> Result<(), InboxError>
+    requires inbox { (worker_2.old.base.taker.inbox ≡ inbox.now) × (first.old.inbox ≡ inbox.now) }
+    requires marked { first.old.state.marked ≡ true }
+    requires counts { Counts worker_2.old.marks.items worker_2.old.base.taker.state }
+{
+    let (_, stopped) = thread::join(
         rt,
-        || set_late(rt, &stop),
-        || write_window(rt, alloc, text, &inbox, &mut worker_2, &stop, 5, 0),
+        || set_late(rt, stop),
+        || write_stopped(rt, alloc, text, inbox, worker_2, first, stop),
     );
-    took?;
-    Ok(())
+    stopped
 }
 
-#[test]
-fn a_sleeping_worker_sees_the_flag(rt: HostRuntime) -> Result<(), Fail> {
-    let mut text = String::new(rt.alloc());
-    write_woken(&rt, rt.alloc(), &mut text)?;
-    same_text(text.as_str(), "Stopped|")
+/// What the workers do.
+#[derive(Clone, Copy)]
+enum Scene {
+    Windows,
+    Stopped,
+    Woken,
+}
+
+/// What is written of a scene, whose flag is set at its begin unless a worker is to be woken.
+fn write_scene<R: Threads + Wait + Clock + Sync>(
+    rt: &R,
+    alloc: Global,
+    text: &mut String,
+    scene: Scene,
+    stop: &AtomicBool,
+) -> Result<(), InboxError> {
+    let (inbox, taker, mut first, mut second) = make(alloc)?;
+    let mut worker_2 = make_worker_2(alloc, taker)?;
+    let (one, other) = (&mut first, &mut second);
+    match scene {
+        Scene::Windows => write_windows(rt, alloc, text, &inbox, &mut worker_2, one, other, stop),
+        Scene::Stopped => write_stopped(rt, alloc, text, &inbox, &mut worker_2, one, stop),
+        Scene::Woken => write_woken(rt, alloc, text, &inbox, &mut worker_2, one, stop),
+    }
+}
+
+/// The windows that come, one whose mark is missing, and that with a worker that sleeps when the flag is set.
+fn write_scenes<R: Threads + Wait + Clock + Sync>(
+    rt: &R,
+    alloc: Global,
+    text: &mut String,
+) -> Result<(), InboxError> {
+    // The flag is looked at only while a mark is missing.
+    write_scene(rt, alloc, text, Scene::Windows, &AtomicBool::new(true))?;
+    write_scene(rt, alloc, text, Scene::Stopped, &AtomicBool::new(true))?;
+    write_scene(rt, alloc, text, Scene::Woken, &AtomicBool::new(false))
 }
 
 #[test]
 fn windows_by_hand(rt: HostRuntime) -> Result<(), Fail> {
     let mut text = String::new(rt.alloc());
-    write_taken(&rt, rt.alloc(), &mut text)?;
-    write_stopped(&rt, rt.alloc(), &mut text)?;
-    same_text(text.as_str(), "5 0, 9 1, marks|marks|Unexpected|Stopped|")
+    write_scenes(&rt, rt.alloc(), &mut text)?;
+    same_text(
+        text.as_str(),
+        "5 0, 9 1, marks|marks|Unexpected|Stopped|Stopped|",
+    )
 }

@@ -82,17 +82,19 @@ fn write_net(text: &mut String, net: &Net) -> Result<(), AllocError> {
     Ok(())
 }
 
-/// Fails unless `want` is written of a net.
-fn net_tells(alloc: Global, net: &Net, want: &str) -> Result<(), Fail> {
-    let mut text = String::new(alloc);
-    write_net(&mut text, net)?;
-    same_text(text.as_str(), want)
+/// Writes down all values of a scenario's net, or of a refused text the number of bytes, and that of the first fault.
+fn write_scenario(alloc: Global, scenario: &str, text: &mut String) -> Result<(), AllocError> {
+    match read_scenario(alloc, scenario) {
+        Ok(net) => write_net(text, &net),
+        Err(error) => write!(text, "{} {}|", scenario.len(), error.number()),
+    }
 }
 
-/// Fails unless `want` is written of a scenario's net.
+/// Fails unless `want` is written of a scenario.
 fn tells(alloc: Global, scenario: &str, want: &str) -> Result<(), Fail> {
-    let net = read_scenario(alloc, scenario)?;
-    net_tells(alloc, &net, want)
+    let mut text = String::new(alloc);
+    write_scenario(alloc, scenario, &mut text)?;
+    same_text(text.as_str(), want)
 }
 
 #[test]
@@ -114,18 +116,9 @@ fn long_comment(alloc: Global) -> Result<String, AllocError> {
     Ok(text)
 }
 
-/// The number of a text's first fault, or 0 if the text describes a net.
-fn fault_number(alloc: Global, text: &str) -> u8 {
-    match read_scenario(alloc, text) {
-        Ok(_) => 0,
-        Err(error) => error.number(),
-    }
-}
-
 /// A text that is one byte too long is refused for that, before anything that it lacks.
 #[test]
 fn text_too_long(rt: HostRuntime) -> Result<(), Fail> {
     let text = long_comment(rt.alloc())?;
-    assert!(rt; text.len() == 1_048_577 && fault_number(rt.alloc(), text.as_str()) == 5);
-    Ok(())
+    tells(rt.alloc(), text.as_str(), "1048577 5|")
 }

@@ -45,70 +45,22 @@ fn write_poll(
     }
 }
 
-/// A program, and a task that polls the window of its mote.
-struct Bench {
-    task: MockTask,
-    program: Program,
-}
-
-impl Drop for Bench {
-    fn drop(self) {
-        let Bench {
-            task: _,
-            program: _,
-        } = self;
-    }
-}
-
-fn new_bench<R: RandomSource + AllocGlobal>(rt: &R, text: &str) -> Result<Bench, Fail> {
-    let program = read(rt.alloc(), text)?;
-    let task = MockTask::new(rt)?;
-    Ok(Bench { task, program })
-}
-
 /// Polls a mote's window up to 6 three times, and writes down what it answers.
 fn write_three_polls(
     text: &mut String,
     alloc: Global,
-    bench: &Bench,
+    task: &MockTask,
+    program: &Program,
     mote: Mote,
     copies: Vec<RadioCopy>,
 ) -> Result<(), AllocError>
     requires { is_rising copies.items ≡ true }
 {
-    let mut window = MoteWindow::new(alloc, mote, &bench.program, copies, 6, 0, &NoGate);
+    let mut window = MoteWindow::new(alloc, mote, program, copies, 6, 0, &NoGate);
     for _ in 0..3u8 {
-        write_poll(text, &bench.task, &mut window)?;
+        write_poll(text, task, &mut window)?;
     }
     Ok(())
-}
-
-/// Fails unless `want` is written of that.
-fn gives(
-    alloc: Global,
-    bench: &Bench,
-    mote: Mote,
-    copies: Vec<RadioCopy>,
-    want: &str,
-) -> Result<(), Fail>
-    requires { is_rising copies.items ≡ true }
-{
-    let mut text = String::new(alloc);
-    write_three_polls(&mut text, alloc, bench, mote, copies)?;
-    same_text(text.as_str(), want)
-}
-
-/// The same for a new mote to which no copy comes.
-fn new_mote_gives(alloc: Global, bench: &Bench, want: &str) -> Result<(), Fail> {
-    let mote = Mote::new(alloc, 0, &bench.program, 32)?;
-    gives(alloc, bench, mote, Vec::new(alloc), want)
-}
-
-/// A mote that had a turn at 5.
-fn turned_mote(alloc: Global, program: &Program) -> Result<Mote, MoteError> {
-    let mut mote = Mote::new(alloc, 0, program, 32)?;
-    let _out = mote.turn(program, 5, &[])?;
-    Ok(mote)
 }
 
 /// A copy that comes at 3.
@@ -125,32 +77,46 @@ fn one_copy(alloc: Global) -> Result<Vec<RadioCopy>, AllocError>
     Ok(vec![in alloc; copy]?)
 }
 
-/// Fails unless three polls give `want` for a mote to which a copy comes before its last turn.
-fn late_copy_gives(alloc: Global, bench: &Bench, want: &str) -> Result<(), Fail> {
-    let mote = turned_mote(alloc, &bench.program)?;
+/// Writes down what three polls give of the window of a new mote to which no copy comes, or of a mote that had a turn
+/// at 5 and to which a copy comes too late.
+fn write_mote(
+    text: &mut String,
+    alloc: Global,
+    task: &MockTask,
+    program: &Program,
+    is_late: bool,
+) -> Result<(), MoteError> {
+    let mut mote = Mote::new(alloc, 0, program, 32)?;
+    if !is_late {
+        write_three_polls(text, alloc, task, program, mote, Vec::new(alloc))?;
+        return Ok(());
+    }
+    let _out = mote.turn(program, 5, &[])?;
     let copies = one_copy(alloc)?;
-    gives(alloc, bench, mote, copies, want)
+    write_three_polls(text, alloc, task, program, mote, copies)?;
+    Ok(())
 }
 
-/// Fails unless `want` is written of a new mote of this program.
-fn tells<R: RandomSource + AllocGlobal>(rt: &R, program: &str, want: &str) -> Result<(), Fail> {
-    let bench = new_bench(rt, program)?;
-    new_mote_gives(rt.alloc(), &bench, want)
+/// Fails unless `want` is written of a mote of this program.
+fn tells<R>(rt: &R, program: &str, is_late: bool, want: &str) -> Result<(), Fail>
+where
+    R: RandomSource + AllocGlobal,
+{
+    let program = read(rt.alloc(), program)?;
+    let task = MockTask::new(rt)?;
+    let mut text = String::new(rt.alloc());
+    write_mote(&mut text, rt.alloc(), &task, &program, is_late)?;
+    same_text(text.as_str(), want)
 }
 
 /// What three polls give of the window of a mote that has one turn: pending, then ready; polled again it fails.
 const ONE_TURN_TOLD: &str =
     "pending|0 Start(Etimer)|0 Start(Ctimer)|0 Start(Radio)|0 Start(Own(0))|0 Print(Own(0), 1)|Failed|";
 
+/// The copy that comes before a mote's last turn is too late, so the turn is refused, and the window is given up.
 #[test]
 fn windows_of_one_mote(rt: HostRuntime) -> Result<(), Fail> {
-    tells(&rt, PRINT_THEN_YIELD, ONE_TURN_TOLD)?;
-    tells(&rt, THREE_TIMERS, THREE_TIMERS_TOLD)
-}
-
-/// A copy comes before the mote's last turn, so the turn is refused, and the window is given up.
-#[test]
-fn a_copy_that_comes_too_late(rt: HostRuntime) -> Result<(), Fail> {
-    let bench = new_bench(&rt, PRINT_THEN_YIELD)?;
-    late_copy_gives(rt.alloc(), &bench, "Past|Failed|Failed|")
+    tells(&rt, PRINT_THEN_YIELD, false, ONE_TURN_TOLD)?;
+    tells(&rt, THREE_TIMERS, false, THREE_TIMERS_TOLD)?;
+    tells(&rt, PRINT_THEN_YIELD, true, "Past|Failed|Failed|")
 }

@@ -1,6 +1,9 @@
 //! Runs by any cut: what comes of them, how often threads are started, and who takes the turns.
 
-use super::{BUSY_PAIR, BUSY_TRIO, COPY_PAST_THE_END, PACKET_AFTER_TIMER, Run, by, run_by_workers};
+use super::{
+    BUSY_PAIR, BUSY_TRIO, COPY_PAST_THE_END, Case, PACKET_AFTER_TIMER, STARTS, Scene, Watch, tells,
+    write_case, write_run,
+};
 use net_scenario::{Net, read_scenario};
 use std::alloc::{AllocError, AllocGlobal, Global};
 use std::random::RandomSource;
@@ -15,15 +18,15 @@ use window_workers::{Cut, Gate, SyncKind};
 /// A gate that lets no thread of one worker start. It counts the starts that it is asked for, and the turns that a
 /// mote's own worker takes.
 #[derive(Drop)]
-struct Watch<'a> {
+struct Starts<'a> {
     /// The worker of each mote.
     of: &'a [u16],
     shut: Option<u16>,
-    starts: AtomicU64,
+    asked: AtomicU64,
     own: AtomicU64,
 }
 
-impl Gate for Watch<'_> {
+impl Gate for Starts<'_> {
     fn inside(&self, worker: u16, _moment: u64, mote: u16) {
         if self.of.get(usize::from(mote)) == Some(&worker) {
             self.own.fetch_add(1, SeqCst);
@@ -31,127 +34,96 @@ impl Gate for Watch<'_> {
     }
 
     fn start(&self, worker: u16) -> bool {
-        self.starts.fetch_add(1, SeqCst);
+        self.asked.fetch_add(1, SeqCst);
         self.shut != Some(worker)
     }
 }
 
 /// Writes down what comes of a run in which this worker isn't allowed to start, how many starts were asked for, and
 /// how many turns the motes' own workers took.
-fn write_run<R>(
+pub(super) fn write_starts<R>(
     rt: &R,
-    net: &Net,
-    sync: SyncKind,
-    run: &Run<'_>,
+    scene: Scene<'_>,
+    workers: u16,
+    cut: &Cut,
     shut: Option<u16>,
     text: &mut String,
 ) -> Result<(), AllocError>
 where
     R: Threads + Wait + Sync + RandomSource + AllocGlobal,
 {
-    let gate = Watch {
-        of: run.of,
+    let gate = Starts {
+        of: cut.of.as_slice(),
         shut,
-        starts: AtomicU64::new(0),
+        asked: AtomicU64::new(0),
         own: AtomicU64::new(0),
     };
-    let told = run_by_workers(rt, net, sync, run, &gate)?;
-    let asked = gate.starts.load(SeqCst);
+    write_run(rt, scene, workers, cut, &gate, text)?;
+    let asked = gate.asked.load(SeqCst);
     let turns = gate.own.load(SeqCst);
-    write!(text, "{told:?} {asked} {turns}|")
+    write!(text, " {asked} {turns}|")
 }
 
-/// A run, and the worker that isn't allowed to start.
-type Start<'a> = (Run<'a>, Option<u16>);
-
-/// Fails unless `want` is written of these runs.
-fn tells_by<R>(
-    rt: &R,
-    net: &Net,
-    sync: SyncKind,
-    runs: &[Start<'_>],
-    want: &str,
-) -> Result<(), Fail>
-where
-    R: Threads + Wait + Sync + RandomSource + AllocGlobal,
-{
-    let mut text = String::new(rt.alloc());
-    for (run, shut) in runs {
-        write_run(rt, net, sync, run, *shut, &mut text)?;
-    }
-    same_text(text.as_str(), want)
-}
-
-/// Fails unless `joins` comes of these runs of a scenario with joins, and `marks` of those with marks.
-fn tells<R>(
-    rt: &R,
-    scenario: &str,
-    runs: &[Start<'_>],
-    joins: &str,
-    marks: &str,
-) -> Result<(), Fail>
-where
-    R: Threads + Wait + Sync + RandomSource + AllocGlobal,
-{
-    let net = read_scenario(rt.alloc(), scenario)?;
-    tells_by(rt, &net, SyncKind::Joins, runs, joins)?;
-    tells_by(rt, &net, SyncKind::Marks, runs, marks)
-}
+/// Cuts of three motes that fit.
+const CUTS: [Case<'static>; 8] = [
+    (STARTS, 1, &[0, 0, 0], 0),
+    (STARTS, 2, &[0, 0, 1], 0),
+    (STARTS, 2, &[0, 1, 0], 0),
+    (STARTS, 2, &[1, 1, 0], 0),
+    (STARTS, 3, &[0, 1, 2], 0),
+    (STARTS, 3, &[2, 1, 0], 0),
+    (STARTS, 4, &[0, 1, 2], 1),
+    (STARTS, 16, &[0, 5, 10], 0),
+];
 
 /// Each of these cuts gives the report of one thread: in blocks and in stripes, with workers that have no mote, and
 /// with the motes the other way round. With joins each worker is started in each of two windows, with marks once.
 #[test]
 fn cuts_of_two_senders(rt: HostRuntime) -> Result<(), Fail> {
-    let runs = [
-        (by(1, &[0, 0, 0], 0), None),
-        (by(2, &[0, 0, 1], 0), None),
-        (by(2, &[0, 1, 0], 0), None),
-        (by(2, &[1, 1, 0], 0), None),
-        (by(3, &[0, 1, 2], 0), None),
-        (by(3, &[2, 1, 0], 0), None),
-        (by(4, &[0, 1, 2], 1), None),
-        (by(16, &[0, 5, 10], 0), None),
-    ];
     let joins = "\
             Same(0) 2 4|Same(0) 4 4|Same(0) 4 4|Same(0) 4 4|Same(0) 6 4|Same(0) 6 4|Same(0) 8 4|Same(0) 32 4|";
     let marks = "\
             Same(0) 1 4|Same(0) 2 4|Same(0) 2 4|Same(0) 2 4|Same(0) 3 4|Same(0) 3 4|Same(0) 4 4|Same(0) 16 4|";
-    tells(&rt, TWO_SENDERS, &runs, joins, marks)
+    tells(&rt, TWO_SENDERS, &CUTS, joins, marks)
 }
+
+/// Cuts of three motes, of which only the last fits.
+const REFUSED: [Case<'static>; 8] = [
+    (STARTS, 0, &[0, 0, 0], 0),
+    (STARTS, 2, &[0, 1], 0),
+    (STARTS, 16, &[0, 16, 0], 0),
+    (STARTS, 17, &[0, 0, 0], 0),
+    (STARTS, 2, &[0, 1, 0, 1], 0),
+    (STARTS, 17, &[0, 17], 0),
+    (STARTS, 2, &[0, 2], 0),
+    (STARTS, 16, &[0, 15, 0], 0),
+];
 
 /// Of several faults the first is reported, in the order of the first three here, before anything is started.
 #[test]
 fn refused_workers_and_cuts(rt: HostRuntime) -> Result<(), Fail> {
-    let runs = [
-        (by(0, &[0, 0, 0], 0), None),
-        (by(2, &[0, 1], 0), None),
-        (by(16, &[0, 16, 0], 0), None),
-        (by(17, &[0, 0, 0], 0), None),
-        (by(2, &[0, 1, 0, 1], 0), None),
-        (by(17, &[0, 17], 0), None),
-        (by(2, &[0, 2], 0), None),
-        (by(16, &[0, 15, 0], 0), None),
-    ];
     let want = "\
             Fault(Workers) 0 0|Fault(CutLength) 0 0|Fault(CutWorker) 0 0|Fault(Workers) 0 0|Fault(CutLength) 0 0|\
             Fault(Workers) 0 0|Fault(CutLength) 0 0|Same(0) 16 9|";
-    tells(&rt, BUSY_TRIO, &runs, want, want)
+    tells(&rt, BUSY_TRIO, &REFUSED, want, want)
 }
+
+/// Runs in which a worker isn't allowed to start.
+const SHUT: [Case<'static>; 5] = [
+    (Watch::Starts(Some(0)), 1, &[0, 0, 0], 0),
+    (Watch::Starts(Some(0)), 2, &[0, 0, 1], 0),
+    (Watch::Starts(Some(1)), 2, &[0, 0, 1], 0),
+    (Watch::Starts(Some(1)), 3, &[0, 1, 2], 0),
+    (Watch::Starts(Some(2)), 3, &[0, 1, 2], 0),
+];
 
 /// The worker that isn't allowed to start is reported, and no worker after it is asked for. With marks the workers
 /// before it wait for it in vain, and still end.
 #[test]
 fn a_start_that_is_refused(rt: HostRuntime) -> Result<(), Fail> {
-    let runs = [
-        (by(1, &[0, 0, 0], 0), Some(0)),
-        (by(2, &[0, 0, 1], 0), Some(0)),
-        (by(2, &[0, 0, 1], 0), Some(1)),
-        (by(3, &[0, 1, 2], 0), Some(1)),
-        (by(3, &[0, 1, 2], 0), Some(2)),
-    ];
     let want =
         "Fault(Thread) 1 0|Fault(Thread) 1 0|Fault(Thread) 2 2|Fault(Thread) 2 1|Fault(Thread) 3 2|";
-    tells(&rt, TWO_SENDERS, &runs, want, want)
+    tells(&rt, TWO_SENDERS, &SHUT, want, want)
 }
 
 /// Fails if an error is reported that is neither the refused start of worker 1 nor a failed allocation.
@@ -160,7 +132,14 @@ where
     R: Threads + Wait + Sync + RandomSource + AllocGlobal,
 {
     let mut text = String::new(rt.alloc());
-    write_run(rt, net, sync, &by(2, &[0, 1], 0), Some(1), &mut text)?;
+    // No report is compared.
+    let scene = Scene { net, one: "", sync };
+    write_case(
+        rt,
+        scene,
+        &(Watch::Starts(Some(1)), 2, &[0, 1], 0),
+        &mut text,
+    )?;
     if text.as_str().starts_with("Fault(Memory)") {
         return Ok(());
     }
@@ -177,72 +156,68 @@ fn the_lowest_workers_error(rt: HostRuntime) -> Result<(), Fail> {
     lowest_error(&rt, &net, SyncKind::Marks)
 }
 
+/// Windows of any length, and of at most 1, 2 and 3 moments.
+const LENGTHS: [Case<'static>; 5] = [
+    (STARTS, 2, &[0, 1], 0),
+    (STARTS, 2, &[0, 1], 1),
+    (STARTS, 2, &[0, 1], 2),
+    (STARTS, 2, &[0, 1], 3),
+    (STARTS, 3, &[2, 0], 2),
+];
+
 /// With joins each window starts all workers: turns at 0, 2 and 5 are in two windows of three moments, or in three
 /// shorter ones. With marks each worker is started once.
 #[test]
 fn starts_are_counted(rt: HostRuntime) -> Result<(), Fail> {
-    let runs = [
-        (by(2, &[0, 1], 0), None),
-        (by(2, &[0, 1], 1), None),
-        (by(2, &[0, 1], 2), None),
-        (by(2, &[0, 1], 3), None),
-        (by(3, &[2, 0], 2), None),
-    ];
     let joins = "Same(0) 4 4|Same(0) 6 4|Same(0) 6 4|Same(0) 4 4|Same(0) 9 4|";
     let marks = "Same(0) 2 4|Same(0) 2 4|Same(0) 2 4|Same(0) 2 4|Same(0) 3 4|";
-    tells(&rt, PACKET_AFTER_TIMER, &runs, joins, marks)
+    tells(&rt, PACKET_AFTER_TIMER, &LENGTHS, joins, marks)
 }
 
 /// The same if the end comes before the packet, which is left: turns at 0 and 2 are in one window, or in two.
 #[test]
 fn longest_windows(rt: HostRuntime) -> Result<(), Fail> {
-    let runs = [
-        (by(2, &[0, 1], 0), None),
-        (by(2, &[0, 1], 1), None),
-        (by(2, &[0, 1], 2), None),
-        (by(2, &[0, 1], 3), None),
-        (by(3, &[2, 0], 2), None),
-    ];
     let joins = "Same(1) 2 3|Same(1) 4 3|Same(1) 4 3|Same(1) 2 3|Same(1) 6 3|";
     let marks = "Same(1) 2 3|Same(1) 2 3|Same(1) 2 3|Same(1) 2 3|Same(1) 3 3|";
-    tells(&rt, COPY_PAST_THE_END, &runs, joins, marks)
+    tells(&rt, COPY_PAST_THE_END, &LENGTHS, joins, marks)
 }
+
+/// Sixteen workers, of whom three have a mote.
+const SPARSE: [Case<'static>; 2] = [(STARTS, 16, &[0, 5, 10], 1), (STARTS, 16, &[0, 5, 10], 0)];
 
 /// Each of 16 workers is started, also the 13 that have no mote: with joins in each of three windows of one moment, or
 /// in the only window, and with marks once.
 #[test]
 fn workers_without_motes_are_started(rt: HostRuntime) -> Result<(), Fail> {
-    let runs = [
-        (by(16, &[0, 5, 10], 1), None),
-        (by(16, &[0, 5, 10], 0), None),
-    ];
     let joins = "Same(0) 48 9|Same(0) 16 9|";
-    tells(&rt, BUSY_TRIO, &runs, joins, "Same(0) 16 9|Same(0) 16 9|")
+    tells(&rt, BUSY_TRIO, &SPARSE, joins, "Same(0) 16 9|Same(0) 16 9|")
 }
+
+/// The first of these runs, ten times.
+const REPEATED: [Case<'static>; 10] = [(STARTS, 16, &[0, 5, 10], 1); 10];
 
 /// Repeated runs by many workers, most of which have no mote: with marks none of them stops because another has ended.
 #[test]
 fn no_run_is_stopped(rt: HostRuntime) -> Result<(), Fail> {
-    let runs = [(by(16, &[0, 5, 10], 1), None); 10];
     let joins = "\
             Same(0) 48 9|Same(0) 48 9|Same(0) 48 9|Same(0) 48 9|Same(0) 48 9|Same(0) 48 9|Same(0) 48 9|\
             Same(0) 48 9|Same(0) 48 9|Same(0) 48 9|";
     let marks = "\
             Same(0) 16 9|Same(0) 16 9|Same(0) 16 9|Same(0) 16 9|Same(0) 16 9|Same(0) 16 9|Same(0) 16 9|\
             Same(0) 16 9|Same(0) 16 9|Same(0) 16 9|";
-    tells(&rt, BUSY_TRIO, &runs, joins, marks)
+    tells(&rt, BUSY_TRIO, &REPEATED, joins, marks)
 }
 
 /// Writes down the worker of each mote, and how long windows are at most.
-fn write_cut(text: &mut String, cut: &Cut) -> Result<(), AllocError> {
+fn write_cut(text: &mut String, cut: Cut) -> Result<(), AllocError> {
     write!(text, "{:?} {}|", cut.of, cut.longest)
 }
 
 /// Writes down both cuts of five motes among two workers, and one of three motes among 16, most of which have none.
 fn write_cuts(alloc: Global, text: &mut String) -> Result<(), AllocError> {
-    write_cut(text, &Cut::block(alloc, 5, 2)?)?;
-    write_cut(text, &Cut::stripe(alloc, 5, 2)?)?;
-    write_cut(text, &Cut::block(alloc, 3, 16)?)
+    write_cut(text, Cut::block(alloc, 5, 2)?)?;
+    write_cut(text, Cut::stripe(alloc, 5, 2)?)?;
+    write_cut(text, Cut::block(alloc, 3, 16)?)
 }
 
 #[test]

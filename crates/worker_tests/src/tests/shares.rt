@@ -31,17 +31,12 @@ fn left_of_three(alloc: Global, net: &Net) -> Result<u64, AllocError>
     Ok(share.end()?.left)
 }
 
-/// Fails unless they are three, in a net of two motes.
-fn leaves_three(alloc: Global, net: &Net) -> Result<(), Fail> {
-    if net.motes() == 2 && left_of_three(alloc, net)? == 3 {
-        return Ok(());
-    }
-    Err(Fail::new(format_args!("otherwise")))
-}
-
 /// All copies that a share takes in are pending.
 #[test]
 fn copies_taken_in(rt: HostRuntime) -> Result<(), Fail> {
     let net = read_scenario(rt.alloc(), COPY_PAST_THE_END)?;
-    leaves_three(rt.alloc(), &net)
+    if net.motes() == 2 && left_of_three(rt.alloc(), &net)? == 3 {
+        return Ok(());
+    }
+    Err(Fail::new(format_args!("otherwise")))
 }
