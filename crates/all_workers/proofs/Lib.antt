@@ -1,9 +1,7 @@
 pub mod Choose
 pub mod Held
 pub mod Lookups
-pub mod NetCrossing
 pub mod Numbered
-pub mod ProgramCrossing
 pub mod Same
 pub mod Sent
 pub mod Starts

@@ -12,7 +12,7 @@ use Rattle.window_laws.specs.Windows.{NoneBefore, copies_by}
 use Rattle.net_agenda.specs.NetSystem.{system_of}
 use Rattle.worker_window.specs.declared.share.Share.{Share}
 use Rattle.worker_cut.specs.Crossed.{is_own, copies_seen}
-use Rattle.window_run.specs.Window.{number_of}
+use Rattle.worker_window.specs.MoteWindow.{number_of}
 use Rattle.worker_window.specs.Share.{Motes, Keeps, is_to_come, wake_from}
 
 module _ (n : NetTold) (of : List ℕ) (worker : ℕ) (a b : Motes) (same : (k : ℕ) → is_own of worker k ≡ true → a k ≡ b k) where

@@ -1,5 +1,4 @@
 pub mod Held
-pub mod Refusals
 pub mod Start
 pub mod WindowWidth
 pub mod Worker

@@ -3,13 +3,11 @@
 #![tactic(auto)]
 
 pub mod laws;
-mod refusal;
 mod senders;
 mod windows;
 mod worker;
 mod workers;
 
-pub use refusal::refusal_of;
 pub use senders::make_endpoints;
 pub use windows::{lookahead_of, window_end, window_width};
 pub use worker::{Worker, split_workers, workers_of};

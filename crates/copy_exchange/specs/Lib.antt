@@ -1,4 +1,9 @@
+pub mod Delivers
 pub mod Endpoints
+pub mod Expected
 pub mod Inboxes
+pub mod Laws
+pub mod Marks
+pub mod Pushes
 pub mod Steps
 pub mod Takers

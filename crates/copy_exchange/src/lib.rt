@@ -1,11 +1,21 @@
-//! The inboxes of all workers, window by window. No copy that one worker delivers to another is lost, doubled or made
-//! up, and each mote's copies stay in order.
+//! What workers exchange through their inboxes, window by window: the copies of a window, and in a run with marks a
+//! mark after them. No copy that one worker delivers to another is lost, doubled or made up, each mote's copies stay in
+//! order, and with marks a worker takes items until the marks of a window have come. That it begins no window before
+//! the marks of the previous one have come is up to `marked_workers`.
 #![tactic(auto)]
 
 mod endpoint;
+mod heard;
 mod inboxes;
+pub mod laws;
+mod mark_endpoint;
+mod take;
+mod wait;
 mod window;
 
 pub use endpoint::Endpoint;
 pub use inboxes::{known, make_inboxes, pair_inboxes, split_pairs};
+pub use mark_endpoint::MarkEndpoint;
+pub use take::{MarkError, Standing};
+pub use wait::Waiting;
 pub use window::{endpoints, gather_back, gather_window};

@@ -4,7 +4,7 @@ use denote.Param.SendFields.{declared_sync}
 use denote.Ref.{NamedLft}
 use denote.RattleType.{RattleType}
 use Rattle.copy_inbox.proofs.inbox.Inbox.TheSendSync as inbox
-use Rattle.all_workers.proofs.NetCrossing.{net_sync}
+use Rattle.mote_net.proofs.NetCrossing.{net_sync}
 use Rattle.joined_workers.specs.contracts.worker.Runner as Runner
 use Rattle.joined_workers.specs.contracts.worker.WorkersWindow as WorkersWindow
 

@@ -19,7 +19,7 @@ use std::alloc::{AllocGlobal, Global};
 use std::random::RandomSource;
 use std::sync::Wait;
 use std::thread::Threads;
-use window_run::Gate;
+use worker_window::Gate;
 
 /// Where the next window begins: at the moment of the first pending event, or after the end, if nothing is pending up
 /// to the end.

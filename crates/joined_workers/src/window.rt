@@ -23,7 +23,7 @@ use std::alloc::{AllocGlobal, Global};
 use std::random::RandomSource;
 use std::sync::Wait;
 use std::thread::Threads;
-use window_run::Gate;
+use worker_window::Gate;
 
 /// After a window: each worker's taker, which has gathered what was delivered to it. The only error is out of memory.
 fn gather_endpoints<R: Wait>(

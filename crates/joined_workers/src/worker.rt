@@ -8,14 +8,14 @@ ghost use Rattle.window_laws.specs.Windows.{NoneBefore};
 ghost use Rattle.joined_workers.specs.Worker.{IsReady, RunsWorker, IsFirstOf};
 ghost use Rattle.all_workers.specs.Workers.{IsNotBefore};
 
-use all_workers::{Worker, refusal_of};
+use all_workers::Worker;
 use copy_inbox::Inbox;
 use fork_join::{Refused, Work};
 use mote_net::Net;
 use radio_packet::RadioCopy;
 use std::random::RandomSource;
 use std::sync::Wait;
-use window_run::Gate;
+use worker_window::Gate;
 
 /// What all workers of a window have in common.
 #[derive(Clone, Copy)]
@@ -95,11 +95,7 @@ fn run_worker<R: Wait + RandomSource + AllocGlobal, G: Gate>(
     let Ok(arrived) = endpoint.collect(rt, window.inboxes) else {
         return Err(Refused::Memory);
     };
-    let ran = share.run_window(rt, window.net, window.of, arrived, window.until, gate);
-    let outgoing = match ran {
-        Ok(outgoing) => outgoing,
-        Err(error) => return Err(refusal_of(error)),
-    };
+    let outgoing = share.run_window(rt, window.net, window.of, arrived, window.until, gate)?;
     let first_out = first_of(&outgoing);
     let Ok(()) = endpoint.deliver(rt, window.inboxes, window.of, outgoing) else {
         return Err(Refused::Memory);

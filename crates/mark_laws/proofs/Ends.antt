@@ -2,7 +2,7 @@
 use Rattle.std.proofs.Common.{◌≡◌, ℕ, zero, suc, ◌+◌, ◌<◌, ◌≤◌, min, List, [], ◌∷◌, ◌++◌, length, refl, sym, ap, ◌∙◌, inl, inr, arith, length-append, eq-eqb}
 use Rattle.std.proofs.lemmas.Bool.{cases_eq, ne_eqb}
 use Rattle.copy_inbox.specs.declared.items.Carried.{Carried}
-use Rattle.mark_exchange.specs.Pushes.{pushes}
+use Rattle.copy_exchange.specs.Pushes.{pushes}
 use Rattle.mark_laws.specs.State.{Plan, State, IsPair, start, set_at, set_pair, sum_below}
 use Rattle.mark_laws.specs.Steps.{Event, MayHappen, after, Run, IsAtEnd, items_for, steps_of}
 use Rattle.mark_laws.specs.Steps.Event.{Push, Take, GoOn}

@@ -3,8 +3,8 @@ use Rattle.std.proofs.Common.{◌≡◌, ℕ, suc, ◌<◌, ◌≤◌, ◌⊎◌
 use Rattle.std.proofs.lemmas.Bool.{cases_eq, cases_lt}
 use Rattle.copy_inbox.specs.declared.items.Carried.{Carried}
 use Rattle.copy_inbox.specs.Items.{BeginsWith}
-use Rattle.mark_exchange.specs.Pushes.{marks_in, pushes}
-use Rattle.mark_exchange.proofs.Whole.{marks_pushes, all_is_taken}
+use Rattle.copy_exchange.specs.Pushes.{marks_in, pushes}
+use Rattle.copy_exchange.proofs.Whole.{marks_pushes, all_is_taken}
 use Rattle.mark_laws.specs.State.{Plan, State, IsPair}
 use Rattle.mark_laws.specs.Steps.{Event, HasPushed, Waits, MayPush, MayTake, MayGoOn, MayHappen, IsStuck, IsAtEnd}
 use Rattle.mark_laws.specs.Steps.Event.{Push, Take, GoOn}

@@ -6,8 +6,8 @@ use Rattle.std.proofs.lemmas.List.Elements.{All-contains, All-from_recursion, re
 use Rattle.radio_packet.specs.declared.copy.RadioCopy.{RadioCopy}
 use Rattle.copy_inbox.specs.declared.items.Carried.{Carried}
 use Rattle.copy_inbox.specs.declared.items.Carried.TheVariants.{Packet, Mark}
-use Rattle.mark_exchange.specs.Pushes.{marks_in, pushes}
-use Rattle.mark_exchange.proofs.Whole.{marks_pushes}
+use Rattle.copy_exchange.specs.Pushes.{marks_in, pushes}
+use Rattle.copy_exchange.proofs.Whole.{marks_pushes}
 use Rattle.mark_laws.specs.Laws.{EachTakenPasses, IsOfWindow, TakenIsOfWindow, NoCopyIsTooSoon}
 use Rattle.mark_laws.proofs.Begins.{begins_trans}
 use Rattle.mark_laws.proofs.Stands.{all_stand, one_window_ahead}

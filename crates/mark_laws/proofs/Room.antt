@@ -5,8 +5,8 @@ use Rattle.radio_packet.specs.declared.copy.RadioCopy.{RadioCopy}
 use Rattle.copy_inbox.specs.declared.items.Carried.{Carried}
 use Rattle.copy_inbox.specs.declared.items.Carried.TheVariants.{Packet, Mark}
 use Rattle.copy_inbox.specs.Items.{BeginsWith}
-use Rattle.mark_exchange.specs.Pushes.{marks_in, pushes}
-use Rattle.mark_exchange.proofs.Whole.{all_is_taken}
+use Rattle.copy_exchange.specs.Pushes.{marks_in, pushes}
+use Rattle.copy_exchange.proofs.Whole.{all_is_taken}
 use Rattle.mark_laws.specs.Laws.{TwoWindowsLieThere}
 use Rattle.mark_laws.proofs.Begins.{begins_trans, begins_length, pushes_grow}
 use Rattle.mark_laws.proofs.Stands.{all_stand, one_window_ahead}

@@ -3,8 +3,8 @@ use Rattle.std.proofs.Common.{◌≡◌, ℕ, suc, ◌<◌, ◌≤◌, min, List
 use Rattle.std.proofs.lemmas.Bool.{cases_eq}
 use Rattle.copy_inbox.specs.declared.items.Carried.{Carried}
 use Rattle.copy_inbox.specs.Items.{BeginsWith}
-use Rattle.mark_exchange.specs.Pushes.{pushes}
-use Rattle.mark_exchange.proofs.Whole.{marks_pushes}
+use Rattle.copy_exchange.specs.Pushes.{pushes}
+use Rattle.copy_exchange.proofs.Whole.{marks_pushes}
 use Rattle.mark_laws.specs.State.{Plan, State, IsPair, start, set_at}
 use Rattle.mark_laws.specs.Steps.{Event, MayPush, MayTake, MayGoOn, MayHappen, after, Run}
 use Rattle.mark_laws.specs.Steps.Event.{Push, Take, GoOn}

@@ -3,7 +3,7 @@ use Rattle.std.proofs.Common.{◌≡◌, ◌≢◌, ℕ, suc, ◌<◌, ◌≤◌
 use Rattle.copy_inbox.specs.declared.items.Carried.{Carried}
 use Rattle.copy_inbox.specs.declared.items.Item.{Item}
 use Rattle.copy_inbox.specs.Items.{BeginsWith}
-use Rattle.mark_exchange.specs.Pushes.{marks_in, pushes}
+use Rattle.copy_exchange.specs.Pushes.{marks_in, pushes}
 use Rattle.mark_laws.specs.State.{Plan, State}
 use Rattle.mark_laws.specs.Steps.{Event, worker_of, HasPushed, Waits, MayPush, MayTake, MayGoOn, after}
 use Rattle.mark_laws.specs.Steps.Event.{Push, Take, GoOn}

@@ -4,7 +4,7 @@ use Rattle.std.specs.List.{AllByRecursion as Each}
 use Rattle.radio_packet.specs.declared.copy.RadioCopy.{RadioCopy}
 use Rattle.copy_inbox.specs.declared.items.Carried.{Carried}
 use Rattle.copy_inbox.specs.declared.items.Carried.TheVariants.{Packet, Mark}
-use Rattle.mark_exchange.specs.Pushes.{marks_in}
+use Rattle.copy_exchange.specs.Pushes.{marks_in}
 use Rattle.mark_laws.specs.State.{Plan, State, IsPair, start}
 use Rattle.mark_laws.specs.Steps.{Event, worker_of, MayHappen, MayTake, after, Run, IsStuck, IsAtEnd, steps_of}
 use Rattle.mark_laws.specs.Failures.{Turn, Flagged, start_flagged, RunTurns, steps_in, IsStuckFlagged}

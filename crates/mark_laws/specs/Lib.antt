@@ -1,6 +1,8 @@
 pub mod Failures
 pub mod Laws
+pub mod Plan
 pub mod Queues
+pub mod RunLaws
 pub mod Stand
 pub mod State
 pub mod Steps

@@ -2,7 +2,7 @@
 use Rattle.std.specs.Prelude.{◌≡◌, ℕ, suc, ◌+◌, ◌==◌, ◌<◌, ◌≤◌, List, [], ◌∷◌, ◌++◌, length, if◌then◌else◌}
 use Rattle.copy_inbox.specs.declared.items.Carried.{Carried}
 use Rattle.copy_inbox.specs.Items.{BeginsWith}
-use Rattle.mark_exchange.specs.Pushes.{marks_in, pushes}
+use Rattle.copy_exchange.specs.Pushes.{marks_in, pushes}
 use Rattle.mark_laws.specs.State.{Plan, State, IsPair, set_at, set_pair, sum_below}
 
 -- one step of one worker, which is named first: it pushes an item to another, it takes an item of another, or it is

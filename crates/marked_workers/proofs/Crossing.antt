@@ -6,7 +6,7 @@ use denote.RattleType.{RattleType}
 use Rattle.std.proofs.sync.atomic.AtomicU64.TheSendSync as word
 use Rattle.std.specs.contracts.sync.atomic.AtomicBool as AtomicBool
 use Rattle.copy_inbox.proofs.inbox.Inbox.TheSendSync as inbox
-use Rattle.all_workers.proofs.NetCrossing.{net_sync}
+use Rattle.mote_net.proofs.NetCrossing.{net_sync}
 use Rattle.marked_workers.specs.contracts.thread.MarkRunner as MarkRunner
 use Rattle.marked_workers.specs.contracts.worker.WorkersRun as WorkersRun
 

@@ -17,7 +17,7 @@ use Rattle.copy_exchange.specs.Inboxes.{IsSettled}
 use Rattle.copy_exchange.proofs.Gathers.{OneOf, with_joined, gather_is}
 use Rattle.copy_exchange.proofs.AfterWindow.{zip_each}
 use Rattle.copy_exchange.proofs.Parts.{from}
-use Rattle.mark_exchange.proofs.Early.{copies_pushes}
+use Rattle.copy_exchange.proofs.Early.{copies_pushes}
 use Rattle.worker_window.specs.declared.share.Share.{Share}
 use Rattle.worker_window.specs.Share.{Motes, Keeps}
 use Rattle.all_workers.specs.declared.workers.Workers.{Workers}

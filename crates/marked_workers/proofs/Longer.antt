@@ -11,7 +11,7 @@ use Rattle.copy_inbox.specs.declared.items.Carried.{Carried}
 use Rattle.copy_inbox.specs.declared.items.Carried.TheVariants.{Packet, Mark}
 use Rattle.copy_inbox.specs.declared.items.Item.{Item}
 use Rattle.copy_inbox.specs.Items.{copies_of, part, OfMade}
-use Rattle.mark_exchange.specs.Pushes.{marks_in, pushes}
+use Rattle.copy_exchange.specs.Pushes.{marks_in, pushes}
 use Rattle.worker_window.specs.Share.{Motes}
 use Rattle.marked_workers.specs.Bounds.{bound}
 use Rattle.marked_workers.specs.WorkerHistory.{WorkerHistory, RunsMotes, WorkerRunsWindows}

@@ -13,8 +13,8 @@ use Rattle.copy_inbox.specs.Items.{copies_of, part, BeginsWith}
 use Rattle.copy_inbox.specs.Handles.{SenderView}
 use Rattle.copy_exchange.specs.Takers.{copies_in}
 use Rattle.copy_exchange.proofs.Parts.{from, from-append, copies_in-append, of_one_sender}
-use Rattle.mark_exchange.specs.Pushes.{pushes}
-use Rattle.mark_exchange.proofs.Early.{copies_pushes}
+use Rattle.copy_exchange.specs.Pushes.{pushes}
+use Rattle.copy_exchange.proofs.Early.{copies_pushes}
 use Rattle.worker_window.specs.Window.{IsOutgoing}
 use Rattle.all_workers.proofs.Lookups.{there, inside, read, mapped, same_found, each_at}
 use Rattle.copy_exchange.specs.Endpoints.{pushed_list}

@@ -13,7 +13,7 @@ use Rattle.copy_inbox.specs.declared.rule.TakerState.{TakerState}
 use Rattle.copy_inbox.specs.Items.{copies_of, part, OfMade}
 use Rattle.copy_inbox.specs.Views.{make_taker_state}
 use Rattle.copy_exchange.proofs.Parts.{copies-append}
-use Rattle.mark_exchange.specs.Pushes.{marks_in}
+use Rattle.copy_exchange.specs.Pushes.{marks_in}
 use Rattle.worker_window.specs.declared.share.Share.{Share}
 use Rattle.worker_window.specs.Share.{Keeps}
 use Rattle.worker_window.specs.Window.{RunsWindow, IsOutgoing}

@@ -11,8 +11,8 @@ use Rattle.worker_cut.specs.Crossed.{is_own, is_to}
 use Rattle.copy_inbox.specs.Items.{copies_of, part}
 use Rattle.copy_exchange.proofs.Parts.{from}
 use Rattle.copy_exchange.specs.Takers.{copies_in}
-use Rattle.mark_exchange.specs.Pushes.{sent_before}
-use Rattle.mark_exchange.proofs.Early.{early_is_unseen}
+use Rattle.copy_exchange.specs.Pushes.{sent_before}
+use Rattle.copy_exchange.proofs.Early.{early_is_unseen}
 use Rattle.all_workers.specs.Workers.{IsCut}
 use Rattle.all_workers.proofs.Lookups.{each_at}
 use Rattle.all_workers.proofs.Step.{own_by}

@@ -17,9 +17,9 @@ use Rattle.copy_exchange.specs.Endpoints.{AreOpen, pushed_list}
 use Rattle.copy_exchange.specs.Takers.{copies_gathered, copies_in, IsOrderly}
 use Rattle.copy_exchange.proofs.Gathers.{OneOf, copies_by, as_gathered, joined, with_joined, all_gathered, orderly_then}
 use Rattle.copy_exchange.proofs.Parts.{from}
-use Rattle.mark_exchange.specs.Pushes.{pushes, marks_in}
-use Rattle.mark_exchange.proofs.Early.{copies_pushes}
-use Rattle.mark_exchange.proofs.Whole.{all_is_taken}
+use Rattle.copy_exchange.specs.Pushes.{pushes, marks_in}
+use Rattle.copy_exchange.proofs.Early.{copies_pushes}
+use Rattle.copy_exchange.proofs.Whole.{all_is_taken}
 use Rattle.all_workers.specs.Workers.{IsCut}
 use Rattle.all_workers.proofs.Lookups.{each_at, each_from}
 use Rattle.marked_workers.specs.Senders.{AreSenders}

@@ -12,7 +12,7 @@ use Rattle.worker_cut.specs.Crossed.{is_own, is_to, copies_seen, is_for_others}
 use Rattle.worker_cut.specs.Laws.{GatheredCopies}
 use Rattle.copy_inbox.specs.Items.{copies_of}
 use Rattle.copy_exchange.proofs.Parts.{from, from-append}
-use Rattle.mark_exchange.specs.Pushes.{sent_before}
+use Rattle.copy_exchange.specs.Pushes.{sent_before}
 use Rattle.worker_window.specs.Share.{Motes}
 use Rattle.worker_window.specs.Window.{RunsOwnMote, outgoing_by}
 use Rattle.all_workers.specs.Workers.{IsCut}

@@ -18,10 +18,10 @@ use Rattle.copy_exchange.specs.Endpoints.{IsOnInboxes, Reaches, Stays, pushed_li
 use Rattle.copy_exchange.proofs.Delivered.{stays_on}
 use Rattle.copy_exchange.proofs.Marked.{marks_stay, stays_same}
 use Rattle.copy_exchange.specs.declared.endpoint.Endpoint.{Endpoint}
-use Rattle.mark_exchange.specs.declared.endpoint.MarkEndpoint.{MarkEndpoint}
-use Rattle.mark_exchange.specs.Marks.{Counts}
-use Rattle.mark_exchange.specs.Pushes.{marks_in}
-use Rattle.mark_exchange.proofs.Delivered.{takes_stays, takes_on_inboxes}
+use Rattle.copy_exchange.specs.declared.mark_endpoint.MarkEndpoint.{MarkEndpoint}
+use Rattle.copy_exchange.specs.Marks.{Counts}
+use Rattle.copy_exchange.specs.Pushes.{marks_in}
+use Rattle.copy_exchange.proofs.MarksDelivered.{takes_stays, takes_on_inboxes}
 use Rattle.worker_window.specs.Share.{Keeps}
 use Rattle.worker_window.specs.Window.{CanRun, IsOutgoing, RunsWindow}
 use Rattle.all_workers.specs.Workers.{IsCut}

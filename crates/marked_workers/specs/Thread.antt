@@ -7,9 +7,9 @@ use Rattle.window_laws.specs.Windows.{first_mote}
 use Rattle.net_agenda.specs.NetSystem.{system_of}
 use Rattle.copy_inbox.specs.Handles.{InboxId}
 use Rattle.copy_exchange.specs.Endpoints.{HasMarks, HasPushedNothing, IsOnInboxes, Stays, pushed_to}
-use Rattle.mark_exchange.specs.Delivers.{PushesWindow}
-use Rattle.mark_exchange.specs.Expected.{TakesExpected, position}
-use Rattle.mark_exchange.specs.Marks.{AllPast, Counts}
+use Rattle.copy_exchange.specs.Delivers.{PushesWindow}
+use Rattle.copy_exchange.specs.Expected.{TakesExpected, position}
+use Rattle.copy_exchange.specs.Marks.{AllPast, Counts}
 use Rattle.worker_window.specs.Share.{Keeps, Motes}
 use Rattle.worker_window.specs.Window.{IsOutgoing, RunsWindow, TakesIn}
 use Rattle.all_workers.specs.Workers.{IsCut}

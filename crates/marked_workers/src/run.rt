@@ -31,7 +31,7 @@ use std::random::RandomSource;
 use std::sync::Wait;
 use std::sync::atomic::AtomicBool;
 use std::thread::Threads;
-use window_run::Gate;
+use worker_window::Gate;
 
 /// At the end: each worker's taker, which has gathered the senders on its inbox. The only error is out of memory.
 fn gather_endpoints<R: Wait>(

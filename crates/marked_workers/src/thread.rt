@@ -5,7 +5,7 @@ ghost use Rattle.fork_join.specs.declared.work.Refused.TheVariants.{Memory, Stop
 ghost use Rattle.mote_net.specs.Net.{net_of};
 ghost use Rattle.net_agenda.specs.NetSystem.{system_of};
 ghost use Rattle.copy_exchange.specs.Endpoints.{HasMarks, IsOnInboxes};
-ghost use Rattle.mark_exchange.specs.Marks.{Counts};
+ghost use Rattle.copy_exchange.specs.Marks.{Counts};
 ghost use Rattle.worker_window.specs.Window.{CanRun};
 ghost use Rattle.all_workers.specs.Workers.{IsCut};
 ghost use Rattle.marked_workers.specs.Bounds.{bound, windows_of};
@@ -15,14 +15,14 @@ ghost use Rattle.marked_workers.specs.Thread.{IsFirst, IsStarted, IsSame, HasRun
 ghost use Rattle.marked_workers.specs.Thread.{SendsWindow, TakesWindow};
 
 use crate::worker::{MarkWorker, WorkersRun};
-use all_workers::{Worker, refusal_of, window_end};
+use all_workers::{Worker, window_end};
+use copy_exchange::{MarkEndpoint, MarkError, Standing};
 use fork_join::{Refused, Work};
-use mark_exchange::{MarkEndpoint, MarkError, Standing};
 use std::alloc::{AllocGlobal, Global};
 use std::random::RandomSource;
 use std::sync::Wait;
 use std::sync::atomic::Ordering;
-use window_run::Gate;
+use worker_window::Gate;
 
 /// What each thread needs besides its worker: the runtime, the gate into its turns, and the run.
 pub struct MarkRunner<'a, R, G> {
@@ -61,13 +61,9 @@ fn send_window<R: Wait + RandomSource + AllocGlobal, G: Gate>(
     ensures refused { IfErr result (λ reason. reason ≢ Stopped) }
 {
     let none = Vec::new(rt.alloc());
-    let ran = worker
+    let outgoing = worker
         .share
-        .run_window(rt, run.net, run.of, none, until, gate);
-    let outgoing = match ran {
-        Ok(outgoing) => outgoing,
-        Err(error) => return Err(refusal_of(error)),
-    };
+        .run_window(rt, run.net, run.of, none, until, gate)?;
     let Ok(()) = worker
         .endpoint
         .deliver_window(rt, run.inboxes, run.of, &outgoing, window)

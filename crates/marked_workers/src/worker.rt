@@ -1,7 +1,7 @@
 //! A worker that lives for the whole run.
 
+use copy_exchange::MarkEndpoint;
 use copy_inbox::Inbox;
-use mark_exchange::MarkEndpoint;
 use mote_net::Net;
 use std::sync::atomic::AtomicBool;
 use worker_window::Share;

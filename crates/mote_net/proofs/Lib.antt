@@ -1,1 +1,3 @@
 pub mod NetMotes
+pub mod NetCrossing
+pub mod ProgramCrossing

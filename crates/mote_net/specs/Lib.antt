@@ -3,3 +3,4 @@ pub mod Limits
 pub mod Motes
 pub mod Net
 pub mod Programs
+pub mod Report

@@ -1,12 +1,15 @@
-//! A net as it is simulated: the last moment, the medium with the places of the motes, and for each mote its program
-//! and the length of its queue. It knows no text: `net_scenario` reads one into a net, and the crates that run a net
-//! depend on this one, so that they wait for no reader.
+//! A net as it is simulated, and the report of its run: the last moment, the medium with the places of the motes, and
+//! for each mote its program and the length of its queue; its traces, and what became of each packet. It knows no text:
+//! `net_scenario` reads one into a net, `trace_printer` writes one of a report, and the crates that run a net depend on
+//! this one, so that they wait for neither.
 #![tactic(auto)]
 
 mod net;
 mod program_name;
 mod programs;
+mod report;
 
 pub use net::{MoteSetup, Net};
 pub use program_name::ProgramName;
 pub use programs::NamedProgram;
+pub use report::{LogLine, Report};

@@ -1,10 +1,16 @@
-//! Programs of motes: their notation, the trees of their texts, and the names that they share with the kernel. This is
-//! the public face of the crates below.
+//! Programs of motes: their notation, the trees of their texts, and the names that they share with the kernel. The
+//! canonical text of a program is made here, and so is the law that what it names is declared; reader and trees are
+//! those of the crates below.
 #![tactic(auto)]
 
-pub use program_printer::print_program;
-pub use program_reader::read;
-pub use program_text_laws::laws;
+pub mod name_laws;
+mod printer;
+mod spelling;
+mod unread;
+mod unread_code;
+
+pub use printer::print_program;
+pub use program_reader::{laws, read};
 pub use program_tree::{
     Action, AnyEvent, Block, CastEvent, DeclaredEvent, Event, Expr, FlatBlock, Names, Operator,
     Proc, ProcessText, Program, ReadError, ReadErrorKind, SentEvent, Stmt, SystemEvent, Target,

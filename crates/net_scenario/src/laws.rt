@@ -1,7 +1,7 @@
 //! Laws of what a text describes, each as the contract of a function that only cites the laws of programs' texts.
 ghost use Rattle.net_scenario.specs.Laws.{OneNet, OneFault, NeverBoth, NetOrFault};
 
-use program_text_laws::laws::{
+use program_reader::laws::{
     at_most_one_fault as at_most_one_program_fault, at_most_one_tree, tree_or_fault,
 };
 

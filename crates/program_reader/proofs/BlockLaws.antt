@@ -11,10 +11,10 @@ use Rattle.program_tree.specs.Grammar.{Context, Mark, tokens, at_simple, at_thre
 use Rattle.program_tree.specs.Grammar.{thread_marks}
 use Rattle.program_reader.specs.Head.{with_names, with_all, IsNew}
 use Rattle.program_tree.specs.InScope.{Names, with_new}
-use Rattle.program_text_laws.specs.Machine as machine
-use Rattle.program_text_laws.specs.Machine.{Symbol, Pending, Verdict, tell, fault, fault_or, first, unfit_at, new_name}
-use Rattle.program_text_laws.specs.Machine.{new_thread, from_ctimers, from_threads, from_on_poll, from_on_exit}
-use Rattle.program_text_laws.specs.Machine.{from_body}
+use Rattle.program_reader.specs.Machine as machine
+use Rattle.program_reader.specs.Machine.{Symbol, Pending, Verdict, tell, fault, fault_or, first, unfit_at, new_name}
+use Rattle.program_reader.specs.Machine.{new_thread, from_ctimers, from_threads, from_on_poll, from_on_exit}
+use Rattle.program_reader.specs.Machine.{from_body}
 use Rattle.program_tree.specs.Names.{place_of}
 use Rattle.program_tree.specs.Numbers.{named_of}
 use Rattle.program_tree.specs.Scope.{Within, block_fits, threads_fit, earlier_threads}

@@ -6,7 +6,7 @@ use Rattle.program_tree.specs.Faults.{Scope}
 use Rattle.program_tree.specs.Grammar.{Context, inner, Mark, begins_with, key, sign, opening, tokens, statement_marks}
 use Rattle.program_tree.specs.Grammar.{items_marks, else_marks, block_marks}
 use Rattle.program_tree.specs.InScope.{Names, name_in, number_in}
-use Rattle.program_text_laws.specs.Machine.{Pending, Verdict, tell, fault, first, expression, block, items, items_else}
+use Rattle.program_reader.specs.Machine.{Pending, Verdict, tell, fault, first, expression, block, items, items_else}
 use Rattle.program_tree.specs.Scope.{Within, statement_fits, block_fits}
 use Rattle.program_tree.specs.Shapes.{Name}
 use Rattle.program_reader.specs.Steps.{Extends, Covers, Reads, ReadsStatement, ReadsElse, Begins, Numbered, Fits}

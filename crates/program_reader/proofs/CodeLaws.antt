@@ -5,8 +5,8 @@ use Rattle.program_reader.specs.CodeParts.{ReadsOpening}
 use Rattle.program_tree.specs.Faults.{Scope}
 use Rattle.program_reader.specs.Head.{with_names}
 use Rattle.program_tree.specs.InScope.{outside}
-use Rattle.program_text_laws.specs.Machine.{Pending, Verdict, tell, fault, first, unfit_at, codes, codes_form}
-use Rattle.program_text_laws.specs.Machine.{this_name, open_brace, from_variables, last_brace}
+use Rattle.program_reader.specs.Machine.{Pending, Verdict, tell, fault, first, unfit_at, codes, codes_form}
+use Rattle.program_reader.specs.Machine.{this_name, open_brace, from_variables, last_brace}
 use Rattle.program_tree.specs.Shapes.{Name}
 use Rattle.program_reader.specs.Steps.{ReadsSign}
 use Rattle.program_tree.specs.Tokens as token

@@ -9,7 +9,7 @@ use Rattle.program_reader.specs.Codes.{behind, HasCodes, all_timers}
 use Rattle.program_tree.specs.Faults.{Scope}
 use Rattle.program_tree.specs.Grammar.{Mark, tokens, code_marks, codes_marks}
 use Rattle.program_tree.specs.InScope.{Names, outside}
-use Rattle.program_text_laws.specs.Machine.{Pending, Verdict, tell, codes, codes_form}
+use Rattle.program_reader.specs.Machine.{Pending, Verdict, tell, codes, codes_form}
 use Rattle.program_tree.specs.Program.{code_of}
 use Rattle.program_tree.specs.Numbers.{named_of, values_of, inside, code_in, codes_in, timer_of, timers_from}
 use Rattle.program_tree.specs.ShapeOf.{code_shape}

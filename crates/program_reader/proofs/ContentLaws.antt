@@ -9,8 +9,8 @@ use Rattle.program_tree.specs.Grammar.{at_body, key, variable_marks, etimer_mark
 use Rattle.program_tree.specs.Grammar.{handler_marks, block_marks}
 use Rattle.program_reader.specs.Head.{with_all, itself, ReadsNames, ReadsValues}
 use Rattle.program_tree.specs.InScope.{Names}
-use Rattle.program_text_laws.specs.Machine.{Pending, Verdict, tell, from_variables, from_etimers, from_ctimers}
-use Rattle.program_text_laws.specs.Machine.{from_threads, from_on_poll, from_on_exit, from_body}
+use Rattle.program_reader.specs.Machine.{Pending, Verdict, tell, from_variables, from_etimers, from_ctimers}
+use Rattle.program_reader.specs.Machine.{from_threads, from_on_poll, from_on_exit, from_body}
 use Rattle.program_tree.specs.Numbers.{named_of}
 use Rattle.program_tree.specs.Shapes.{Name}
 use Rattle.program_reader.specs.Steps.{Extends}

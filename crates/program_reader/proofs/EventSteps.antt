@@ -4,7 +4,7 @@ use Rattle.program_tree.specs.Faults.{Scope}
 use Rattle.program_tree.specs.Forms as form
 use Rattle.program_tree.specs.Forms.{Operand}
 use Rattle.program_tree.specs.Grammar.{Context, key}
-use Rattle.program_text_laws.specs.Machine.{Symbol, Pending, step, take, tell, first, operand}
+use Rattle.program_reader.specs.Machine.{Symbol, Pending, step, take, tell, first, operand}
 use Rattle.program_tree.specs.Shapes.{Name}
 use Rattle.program_reader.specs.Steps.{Reads}
 use Rattle.program_tree.specs.Tokens as token

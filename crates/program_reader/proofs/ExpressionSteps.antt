@@ -6,8 +6,8 @@ use Rattle.program_tree.specs.Faults.{Scope}
 use Rattle.program_tree.specs.Forms as form
 use Rattle.program_tree.specs.Forms.{Operand, word_of, tells_of, alone}
 use Rattle.program_tree.specs.Grammar.{Context, inner, key, sign, valued, opening, operand_mark}
-use Rattle.program_text_laws.specs.Machine.{Pending, tell, fault, first, first_broken, word_step, expression, operand}
-use Rattle.program_text_laws.specs.Machine.{operator, open_sign, close}
+use Rattle.program_reader.specs.Machine.{Pending, tell, fault, first, first_broken, word_step, expression, operand}
+use Rattle.program_reader.specs.Machine.{operator, open_sign, close}
 use Rattle.program_tree.specs.InScope.{Names}
 use Rattle.program_tree.specs.Shapes.{Name, OperandShape}
 use Rattle.program_reader.specs.Steps.{ReadsSign, Reads}

@@ -7,7 +7,7 @@ use Rattle.std.specs.List.{position, position_or_len, prefix_len, starts_with}
 use Rattle.std.proofs.lemmas.Bool.{ltb-false}
 use Rattle.std.proofs.lemmas.List.Sums.{prefix_len-le-length}
 use Rattle.program_tree.specs.declared.token.Token.{Token as TokenRead}
-use Rattle.program_text_laws.specs.Front.{entry_of}
+use Rattle.program_reader.specs.Front.{entry_of}
 use Rattle.program_tree.specs.Tokens.{token_of}
 use Rattle.program_tree.specs.Words.{lookup}
 

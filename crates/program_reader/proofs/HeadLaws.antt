@@ -10,8 +10,8 @@ use Rattle.std.specs.Prelude.{OnOk, OnErr}
 use Rattle.program_tree.specs.Faults.{Scope, is_full}
 use Rattle.program_reader.specs.Head.{class_of_kind, with_names, IsNew, IsListed, IsValued}
 use Rattle.program_tree.specs.InScope.{Names, with_new, is_in_scope, is_a}
-use Rattle.program_text_laws.specs.Machine as machine
-use Rattle.program_text_laws.specs.Machine.{Pending, tell, fault, fault_or, first, first_broken, new_name}
+use Rattle.program_reader.specs.Machine as machine
+use Rattle.program_reader.specs.Machine.{Pending, tell, fault, fault_or, first, first_broken, new_name}
 use Rattle.program_tree.specs.Names.{place_of}
 use Rattle.program_tree.specs.Shapes.{Name}
 use Rattle.program_reader.specs.Steps.{ReadsSign}

@@ -8,11 +8,13 @@ pub mod ExpressionSteps
 pub mod ExtendLaws
 pub mod FindLaws
 pub mod HeadLaws
+pub mod Language
 pub mod LexLaws
 pub mod LineLaws
 pub mod ListLaws
 pub mod MadeLaws
 pub mod NameSteps
+pub mod PieceLaws
 pub mod PlaceLaws
 pub mod PlainLaws
 pub mod ProgramLaws
@@ -21,4 +23,9 @@ pub mod ScopeLaws
 pub mod Stages
 pub mod StartLaws
 pub mod StatementSteps
+pub mod TextLaws
+pub mod Texts
+pub mod Told
+pub mod Turns
 pub mod ValueLaws
+pub mod WordLaws

@@ -6,9 +6,9 @@ use Rattle.program_tree.specs.Faults.{Scope}
 use Rattle.program_tree.specs.Grammar.{tokens}
 use Rattle.program_reader.specs.Head.{with_names, IsNew, line_marks, HasProcesses, ReadsProcesses}
 use Rattle.program_tree.specs.InScope.{with_new}
-use Rattle.program_text_laws.specs.Machine.{Pending, Verdict, tell, fault, fault_or, first, unfit_at, new_name}
-use Rattle.program_text_laws.specs.Machine.{from_semaphores, first_process, from_comma, more_process, from_autostart}
-use Rattle.program_text_laws.specs.Machine.{semicolon}
+use Rattle.program_reader.specs.Machine.{Pending, Verdict, tell, fault, fault_or, first, unfit_at, new_name}
+use Rattle.program_reader.specs.Machine.{from_semaphores, first_process, from_comma, more_process, from_autostart}
+use Rattle.program_reader.specs.Machine.{semicolon}
 use Rattle.program_tree.specs.Shapes.{Name}
 use Rattle.program_reader.specs.Steps.{ReadsSign}
 use Rattle.program_tree.specs.Tokens as token

@@ -7,9 +7,9 @@ use Rattle.program_tree.specs.Grammar.{Mark, tokens, event_marks, semaphore_mark
 use Rattle.program_reader.specs.Head.{with_all, HasDeclared, Declares, itself, HasNames, ReadsNames, HasValues}
 use Rattle.program_reader.specs.Head.{ReadsValues, IsListed, IsValued}
 use Rattle.program_tree.specs.InScope.{Names, with_new}
-use Rattle.program_text_laws.specs.Machine as machine
-use Rattle.program_text_laws.specs.Machine.{Symbol, Pending, Verdict, tell, first, new_name, from_events}
-use Rattle.program_text_laws.specs.Machine.{from_semaphores, from_variables, from_etimers, from_ctimers}
+use Rattle.program_reader.specs.Machine as machine
+use Rattle.program_reader.specs.Machine.{Symbol, Pending, Verdict, tell, first, new_name, from_events}
+use Rattle.program_reader.specs.Machine.{from_semaphores, from_variables, from_etimers, from_ctimers}
 use Rattle.program_tree.specs.Shapes.{Name}
 use Rattle.program_tree.specs.Tokens as token
 use Rattle.program_tree.specs.Tokens.{Token}

@@ -10,7 +10,7 @@ use Rattle.program_tree.specs.Faults.{Scope}
 use Rattle.program_tree.specs.Grammar.{leaving}
 use Rattle.program_reader.specs.Head.{with_names}
 use Rattle.program_tree.specs.InScope.{Names, outside}
-use Rattle.program_text_laws.specs.Machine.{Pending, tell, codes_form, last_brace}
+use Rattle.program_reader.specs.Machine.{Pending, tell, codes_form, last_brace}
 use Rattle.program_tree.specs.Numbers.{named_of, values_of, block_in, inside, code_in}
 use Rattle.program_tree.specs.ShapeOf.{code_shape}
 use Rattle.program_tree.specs.Shapes.{Name, Valued, Named, CodeShape}

@@ -5,8 +5,8 @@ use Rattle.program_tree.specs.Faults.{Scope, scope_after, is_other, is_own}
 use Rattle.program_tree.specs.Forms as form
 use Rattle.program_tree.specs.Grammar.{Context, Mark, named, uses, spawns, used, operand_mark}
 use Rattle.program_tree.specs.InScope.{Names, is_a, is_in_scope, number_in, name_in}
-use Rattle.program_text_laws.specs.Machine.{Symbol, Pending, step, take, unfit, tell, fault, end_kind, first}
-use Rattle.program_text_laws.specs.Machine.{first_broken, unfit_at, operand}
+use Rattle.program_reader.specs.Machine.{Symbol, Pending, step, take, unfit, tell, fault, end_kind, first}
+use Rattle.program_reader.specs.Machine.{first_broken, unfit_at, operand}
 use Rattle.program_tree.specs.Shapes.{Name}
 use Rattle.program_reader.specs.Steps.{look, Finds, IsNamed, IsFound, Numbered, Fits, Reads}
 use Rattle.program_tree.specs.Tokens as token

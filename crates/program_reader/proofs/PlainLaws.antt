@@ -5,7 +5,7 @@ use Rattle.program_tree.specs.Forms as form
 use Rattle.program_tree.specs.Forms.{Beginning, no_statement, action, branches, loops, goes_on, beginning}
 use Rattle.program_tree.specs.Grammar.{Context, begins_with, sign, operand_mark, expression_marks, action_marks}
 use Rattle.program_tree.specs.InScope.{Names, name_in, number_in}
-use Rattle.program_text_laws.specs.Machine.{Pending, begin_step, unfit, tell, fault, first, items}
+use Rattle.program_reader.specs.Machine.{Pending, begin_step, unfit, tell, fault, first, items}
 use Rattle.program_reader.specs.Plain.{IsNoAction, bare_keyword, bare_action, valued_keyword, valued_action}
 use Rattle.program_reader.specs.Plain.{about_keyword, about_class, about_action}
 use Rattle.program_tree.specs.Scope.{expression_fits, action_fits}

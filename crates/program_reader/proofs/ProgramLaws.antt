@@ -13,7 +13,7 @@ use Rattle.program_tree.specs.Grammar.{Mark, tokens, key, named, event_marks, se
 use Rattle.program_tree.specs.Grammar.{autostart_marks, receiver_marks, codes_marks, program_marks}
 use Rattle.program_reader.specs.Head.{with_all, line_marks, itself}
 use Rattle.program_tree.specs.InScope.{Names, no_names, with_new, number_in, name_in}
-use Rattle.program_text_laws.specs.Machine.{whole, tell, from_events, codes_form}
+use Rattle.program_reader.specs.Machine.{whole, tell, from_events, codes_form}
 use Rattle.program_tree.specs.Numbers.{named_of, values_of, codes_in, timers_from, timer_of, program_names}
 use Rattle.program_tree.specs.Numbers.{tree_of_shape}
 use Rattle.program_tree.specs.Made.{AreLexed, WasRead, IsMade}
@@ -29,7 +29,7 @@ use Rattle.program_reader.proofs.CodesLaws.{behind_processes, behind_events, beh
 use Rattle.program_reader.proofs.CodesLaws.{timers_of_all}
 use Rattle.program_tree.proofs.CountLaws.{length-codes_in}
 use Rattle.program_reader.proofs.MadeLaws.{zipped}
-use Rattle.program_text_laws.proofs.Told.{Judged, judged}
+use Rattle.program_reader.proofs.Told.{Judged, judged}
 
 -- The names that the head declares.
 

@@ -5,7 +5,7 @@ use Rattle.program_tree.specs.Faults.{Scope}
 use Rattle.program_tree.specs.Forms.{Form, action, beginning}
 use Rattle.program_tree.specs.Grammar.{Context, Mark, begins_with, target, tokens, sign}
 use Rattle.program_tree.specs.InScope.{Names, name_in}
-use Rattle.program_text_laws.specs.Machine.{Symbol, Pending, tell, items, symbols_of, equals, expression, semicolon}
+use Rattle.program_reader.specs.Machine.{Symbol, Pending, tell, items, symbols_of, equals, expression, semicolon}
 use Rattle.program_reader.specs.Steps.{Extends, Reads, ReadsSign, ReadsStatement, Begins, IsTarget, pending_of, Fixed}
 use Rattle.program_reader.specs.Steps.{fixed, scope_of, Numbered, Fits, Covers}
 use Rattle.program_tree.specs.Scope.{Within}

@@ -1,9 +1,9 @@
 -- A stage that is absent is passed over.
 use Rattle.std.proofs.Common.{◌≡◌, List, [], ◌∷◌, Some, refl}
 use Rattle.program_tree.specs.Faults.{Scope}
-use Rattle.program_text_laws.specs.Machine.{Pending, tell, first, from_events, from_semaphores, from_variables}
-use Rattle.program_text_laws.specs.Machine.{from_etimers, from_ctimers, from_threads, from_on_poll, from_on_exit}
-use Rattle.program_text_laws.specs.Machine.{from_body, from_autostart, from_receiver, codes}
+use Rattle.program_reader.specs.Machine.{Pending, tell, first, from_events, from_semaphores, from_variables}
+use Rattle.program_reader.specs.Machine.{from_etimers, from_ctimers, from_threads, from_on_poll, from_on_exit}
+use Rattle.program_reader.specs.Machine.{from_body, from_autostart, from_receiver, codes}
 use Rattle.program_tree.specs.Shapes.{Name}
 use Rattle.program_tree.specs.Tokens as token
 use Rattle.program_tree.specs.Tokens.{Token}

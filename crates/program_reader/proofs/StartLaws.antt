@@ -10,8 +10,8 @@ use Rattle.program_tree.specs.Forms as form
 use Rattle.program_tree.specs.Grammar.{tokens, sign, named, starts, at_body, operand_mark, starting_marks}
 use Rattle.program_reader.specs.Head.{with_starting, CanStart, IsStarting, HasStarting, ReadsAutostart, ReadsReceiver}
 use Rattle.program_tree.specs.InScope.{Names, names_of, is_in_scope, or_zero, number_in, name_in}
-use Rattle.program_text_laws.specs.Machine.{Pending, Verdict, tell, fault, first, first_broken, starting}
-use Rattle.program_text_laws.specs.Machine.{more_starting, from_autostart, from_receiver, codes, semicolon, operand}
+use Rattle.program_reader.specs.Machine.{Pending, Verdict, tell, fault, first, first_broken, starting}
+use Rattle.program_reader.specs.Machine.{more_starting, from_autostart, from_receiver, codes, semicolon, operand}
 use Rattle.program_tree.specs.Names.{place_of}
 use Rattle.program_tree.specs.Scope.{Within}
 use Rattle.program_tree.specs.Shapes.{Name}

@@ -7,8 +7,8 @@ use Rattle.program_tree.specs.Forms as form
 use Rattle.program_tree.specs.Forms.{Beginning, no_statement, action, branches, loops, goes_on, beginning, waits}
 use Rattle.program_tree.specs.Grammar.{Context, target, begins_with, into_marks, key, sign, operand_mark}
 use Rattle.program_tree.specs.InScope.{Names, is_a, is_in_scope, name_in, number_in}
-use Rattle.program_text_laws.specs.Machine.{Pending, step, take, tell, fault, first, first_broken, begin_step, items}
-use Rattle.program_text_laws.specs.Machine.{expression, equals, semicolon, into_end, operand}
+use Rattle.program_reader.specs.Machine.{Pending, step, take, tell, fault, first, first_broken, begin_step, items}
+use Rattle.program_reader.specs.Machine.{expression, equals, semicolon, into_end, operand}
 use Rattle.program_tree.specs.Shapes.{Name}
 use Rattle.program_reader.specs.Steps.{Finds, IsFound, Numbered, Fits, pending_of, IsStatement, Begins, IsTarget}
 use Rattle.program_reader.specs.Steps.{Reads, ReadsSign}

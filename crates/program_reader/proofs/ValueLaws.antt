@@ -5,7 +5,7 @@ use Rattle.program_tree.specs.Forms as form
 use Rattle.program_tree.specs.Forms.{alone, no_value, word_of}
 use Rattle.program_tree.specs.Grammar.{Context, inner, key, sign, operand_mark, expression_marks}
 use Rattle.program_tree.specs.InScope.{Names, name_in, number_in}
-use Rattle.program_text_laws.specs.Machine.{Pending, word_step, unfit, tell, fault, first, expression, operator, close}
+use Rattle.program_reader.specs.Machine.{Pending, word_step, unfit, tell, fault, first, expression, operator, close}
 use Rattle.program_tree.specs.Scope.{expression_fits}
 use Rattle.program_tree.specs.Shapes.{Name}
 use Rattle.program_reader.specs.Steps.{ReadsSign, Reads, Numbered, Fits}

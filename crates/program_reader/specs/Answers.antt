@@ -8,7 +8,7 @@ use Rattle.program_tree.specs.Tree.{inner_height, inner_size}
 use Rattle.program_tree.specs.declared.tree.Action.{Action}
 use Rattle.program_tree.specs.declared.tree.Expr.{Expr}
 use Rattle.program_tree.specs.declared.tree.Stmt.{Stmt}
-use Rattle.program_text_laws.specs.Machine.{expression, items}
+use Rattle.program_reader.specs.Machine.{expression, items}
 use Rattle.program_reader.specs.Steps.{scope_of, context_of, fixed, Reads, ReadsStatement, Numbered, Fits, Fails}
 use Rattle.program_reader.specs.declared.fault.Refusal.{Refusal}
 use Rattle.program_reader.specs.declared.reader.Reader.{Reader}

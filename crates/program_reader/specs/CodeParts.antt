@@ -6,8 +6,8 @@ use Rattle.program_tree.specs.Grammar.{Context, at_body, Mark, tokens, key, vari
 use Rattle.program_tree.specs.Grammar.{thread_marks, handler_marks, block_marks, code_marks}
 use Rattle.program_reader.specs.Head.{with_all}
 use Rattle.program_tree.specs.InScope.{Names, with_new, outside, name_in, number_in}
-use Rattle.program_text_laws.specs.Machine as machine
-use Rattle.program_text_laws.specs.Machine.{Symbol, Pending, tell, codes_form}
+use Rattle.program_reader.specs.Machine as machine
+use Rattle.program_reader.specs.Machine.{Symbol, Pending, tell, codes_form}
 use Rattle.program_tree.specs.Numbers.{named_of, values_of, inside, code_in}
 use Rattle.program_tree.specs.ShapeOf.{code_shape}
 use Rattle.program_tree.specs.Shapes.{Name, Valued, Named, CodeShape}

@@ -5,7 +5,7 @@ use Rattle.program_tree.specs.Faults.{Scope}
 use Rattle.program_tree.specs.Grammar.{Mark, tokens, codes_marks, event_marks, semaphore_marks}
 use Rattle.program_reader.specs.Head.{ReadsNames, ReadsValues, ReadsProcesses, ReadsAutostart, ReadsReceiver}
 use Rattle.program_tree.specs.InScope.{Names, outside}
-use Rattle.program_text_laws.specs.Machine.{Pending, tell, codes_form, from_events, from_semaphores}
+use Rattle.program_reader.specs.Machine.{Pending, tell, codes_form, from_events, from_semaphores}
 use Rattle.program_tree.specs.Numbers.{named_of, values_of, inside, codes_in, timer_of}
 use Rattle.program_tree.specs.ProcessText.{code_of}
 use Rattle.program_tree.specs.ShapeOf.{code_shape}

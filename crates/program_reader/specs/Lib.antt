@@ -1,8 +1,10 @@
 pub mod Answers
 pub mod CodeParts
 pub mod Codes
+pub mod Front
 pub mod Head
 pub mod Kept
+pub mod Machine
 pub mod Plain
 pub mod Steps
 pub mod Values

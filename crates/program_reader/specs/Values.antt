@@ -3,7 +3,7 @@ use Rattle.std.specs.Prelude.{◌≡◌, ℕ, List, ◌∷◌}
 use Rattle.program_tree.specs.Faults.{Scope}
 use Rattle.program_tree.specs.Grammar.{Context, Mark, tokens, sign, expression_marks}
 use Rattle.program_tree.specs.InScope.{Names, name_in}
-use Rattle.program_text_laws.specs.Machine.{Pending, tell, expression, operator, close}
+use Rattle.program_reader.specs.Machine.{Pending, tell, expression, operator, close}
 use Rattle.program_reader.specs.Steps.{Extends}
 use Rattle.program_tree.specs.Tokens as token
 use Rattle.program_tree.specs.Tokens.{Token}

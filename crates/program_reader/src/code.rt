@@ -7,8 +7,8 @@ ghost use Rattle.program_reader.specs.CodeParts.{ReadsOpening, ReadsContent, Rea
 ghost use Rattle.program_tree.specs.Faults as faults;
 ghost use Rattle.program_reader.specs.Head.{with_names, FailsIn};
 ghost use Rattle.program_tree.specs.InScope.{outside};
-ghost use Rattle.program_text_laws.specs.Machine as machine;
-ghost use Rattle.program_text_laws.specs.Machine.{last_brace, tell, fault};
+ghost use Rattle.program_reader.specs.Machine as machine;
+ghost use Rattle.program_reader.specs.Machine.{last_brace, tell, fault};
 ghost use Rattle.program_tree.specs.Program.{code_of};
 ghost use Rattle.program_tree.specs.Scope.{threads_fit, earlier_threads};
 ghost use Rattle.program_tree.specs.Shapes.{Name};

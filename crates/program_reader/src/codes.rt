@@ -2,7 +2,7 @@
 ghost use Rattle.std.specs.Prelude.{◌≡◌, ◌<◌, ◌++◌, ◌∷◌, [], map, replicate, IfOk, OnOk};
 ghost use Rattle.program_reader.specs.Codes.{HasCodes, ReadsHead, all_timers, tree_with};
 ghost use Rattle.program_reader.specs.Head.{FailsIn};
-ghost use Rattle.program_text_laws.specs.Machine as machine;
+ghost use Rattle.program_reader.specs.Machine as machine;
 ghost use Rattle.program_tree.specs.Faults.{nothing_yet, Scope};
 ghost use Rattle.program_tree.specs.Program.{code_of, tree_of};
 ghost use Rattle.program_tree.specs.Made.{AreLexed, IsMade};

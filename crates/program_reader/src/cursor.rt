@@ -3,7 +3,7 @@ ghost use Rattle.std.specs.Prelude.{◌≡◌, ◌≤◌, false, Some, drop, len
 ghost use Rattle.std.specs.Bool.{OnTrue};
 ghost use Rattle.program_tree.specs.Tokens as token;
 ghost use Rattle.program_tree.specs.Tokens.{token_of};
-ghost use Rattle.program_text_laws.specs.Machine.{first, unfit_at};
+ghost use Rattle.program_reader.specs.Machine.{first, unfit_at};
 ghost use Rattle.program_reader.specs.Steps.{ReadsSign, FailsSign, symbol_of, token_of_sign};
 
 use crate::fault::{Fault, Refusal};

@@ -3,8 +3,8 @@ ghost use Rattle.std.specs.Prelude.{◌≡◌, ◌≢◌, ◌≤◌, false, ◌�
 ghost use Rattle.program_tree.specs.Faults.{is_full};
 ghost use Rattle.program_reader.specs.Head.{class_of_kind, with_names, IsNew, IsListed, IsValued, FailsIn};
 ghost use Rattle.program_tree.specs.InScope.{is_a, with_new};
-ghost use Rattle.program_text_laws.specs.Machine as machine;
-ghost use Rattle.program_text_laws.specs.Machine.{new_name};
+ghost use Rattle.program_reader.specs.Machine as machine;
+ghost use Rattle.program_reader.specs.Machine.{new_name};
 ghost use Rattle.program_reader.specs.Steps.{scope_of, ReadsSign, FailsSign};
 ghost use Rattle.program_tree.specs.Tokens as token;
 

@@ -3,7 +3,7 @@ ghost use Rattle.std.specs.Prelude.{◌≡◌, ◌∷◌, [], ◌≤◌, Some, l
 ghost use Rattle.program_reader.specs.Answers.{AnswersExpression};
 ghost use Rattle.program_reader.specs.Head.{FailsIn};
 ghost use Rattle.program_tree.specs.InScope.{name_in, number_in};
-ghost use Rattle.program_text_laws.specs.Machine.{first, expression, operator, close};
+ghost use Rattle.program_reader.specs.Machine.{first, expression, operator, close};
 ghost use Rattle.program_tree.specs.Scope.{expression_fits};
 ghost use Rattle.program_reader.specs.Steps.{scope_of, context_of, ReadsSign, FailsSign, Numbered, Fits};
 ghost use Rattle.program_tree.specs.Tokens as token;

@@ -3,8 +3,8 @@ ghost use Rattle.std.specs.Prelude.{List, ◌≡◌, ◌≤◌, Some, None, ◌�
 ghost use Rattle.program_tree.specs.Grammar.{named, starts};
 ghost use Rattle.program_reader.specs.Head.{FailsIn, ReadsProcesses, CanStart, IsStarting, ReadsAutostart};
 ghost use Rattle.program_reader.specs.Head.{ReadsReceiver, with_starting};
-ghost use Rattle.program_text_laws.specs.Machine as machine;
-ghost use Rattle.program_text_laws.specs.Machine.{first, first_broken};
+ghost use Rattle.program_reader.specs.Machine as machine;
+ghost use Rattle.program_reader.specs.Machine.{first, first_broken};
 ghost use Rattle.program_tree.specs.Names.{place_of};
 ghost use Rattle.program_tree.specs.Shapes.{Name};
 ghost use Rattle.program_reader.specs.Steps.{scope_of};

@@ -5,7 +5,7 @@ ghost use Rattle.std.specs.List.{prefix_len, starts_with};
 ghost use Rattle.program_tree.specs.Tokens.{token_of};
 ghost use Rattle.program_tree.specs.Words.{is_word_byte};
 ghost use Rattle.program_tree.specs.Text.{IsLexed, is_feed, is_blank};
-ghost use Rattle.program_text_laws.specs.Front.{BeginsWith, BeginsOther, entry_of};
+ghost use Rattle.program_reader.specs.Front.{BeginsWith, BeginsOther, entry_of};
 
 use crate::words::{self, Entry};
 use program_tree::token::Token;

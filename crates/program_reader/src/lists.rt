@@ -2,8 +2,8 @@
 ghost use Rattle.std.specs.Prelude.{◌≡◌, ◌≤◌, Some, ◌∷◌, [], length, IfOk, OnOk};
 ghost use Rattle.program_tree.specs.Grammar.{event_marks, semaphore_marks, variable_marks, etimer_marks};
 ghost use Rattle.program_reader.specs.Head.{FailsIn, ReadsNames, ReadsValues};
-ghost use Rattle.program_text_laws.specs.Machine.{first, from_events, from_semaphores, from_variables, from_etimers};
-ghost use Rattle.program_text_laws.specs.Machine.{from_ctimers};
+ghost use Rattle.program_reader.specs.Machine.{first, from_events, from_semaphores, from_variables, from_etimers};
+ghost use Rattle.program_reader.specs.Machine.{from_ctimers};
 ghost use Rattle.program_reader.specs.Kept.{KeepsTimers};
 ghost use Rattle.program_reader.specs.Steps.{scope_of};
 ghost use Rattle.program_tree.specs.Tokens as token;

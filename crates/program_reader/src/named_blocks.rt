@@ -6,8 +6,8 @@ ghost use Rattle.program_reader.specs.CodeParts.{IsNamedBlock, ReadsBlocks, Read
 ghost use Rattle.program_tree.specs.Grammar.{at_simple, at_thread, block_marks, ctimer_marks, thread_marks};
 ghost use Rattle.program_tree.specs.InScope.{name_in, number_in};
 ghost use Rattle.program_reader.specs.Head.{FailsIn};
-ghost use Rattle.program_text_laws.specs.Machine as machine;
-ghost use Rattle.program_text_laws.specs.Machine.{new_name};
+ghost use Rattle.program_reader.specs.Machine as machine;
+ghost use Rattle.program_reader.specs.Machine.{new_name};
 ghost use Rattle.program_tree.specs.Scope.{block_fits, threads_fit, earlier_threads};
 ghost use Rattle.program_reader.specs.Kept.{KeepsTimers};
 ghost use Rattle.program_reader.specs.Steps.{scope_of, context_of, fixed, Reads, Fails, Numbered, Fits};

@@ -4,7 +4,7 @@ ghost use Rattle.program_tree.specs.EventNames.{cast_of, sent_of, any_of, cast_m
 ghost use Rattle.program_tree.specs.Forms.{name, cast, sent, any};
 ghost use Rattle.program_tree.specs.Grammar.{operand_mark};
 ghost use Rattle.program_tree.specs.InScope.{name_in, number_in};
-ghost use Rattle.program_text_laws.specs.Machine.{operand};
+ghost use Rattle.program_reader.specs.Machine.{operand};
 ghost use Rattle.program_tree.specs.Scope.{cast_fits, sent_fits, any_fits};
 ghost use Rattle.program_reader.specs.Steps.{scope_of, context_of, class_of, most_of, IsNamed, Reads, Fails, Numbered};
 ghost use Rattle.program_reader.specs.Steps.{Fits};

@@ -5,7 +5,7 @@ ghost use Rattle.program_reader.specs.Answers.{AnswersAction, AnswersStatement};
 ghost use Rattle.program_tree.specs.Forms.{beginning, waits};
 ghost use Rattle.program_tree.specs.Grammar.{into_marks, else_marks, block_marks};
 ghost use Rattle.program_tree.specs.InScope.{name_in, number_in};
-ghost use Rattle.program_text_laws.specs.Machine.{first, into_end, items, items_else, block};
+ghost use Rattle.program_reader.specs.Machine.{first, into_end, items, items_else, block};
 ghost use Rattle.program_reader.specs.Plain.{BeginsPlain, bare_keyword, valued_keyword, about_keyword};
 ghost use Rattle.program_tree.specs.Scope.{into_fits, other_fits, block_fits};
 ghost use Rattle.program_reader.specs.Steps.{scope_of, context_of, fixed, IsStatement, IsPlain, IsInside, Begins};

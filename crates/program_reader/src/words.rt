@@ -4,7 +4,7 @@ ghost use Rattle.std.specs.Char.{is_ascii_digit, is_ascii_lowercase};
 ghost use Rattle.std.specs.List.{list_all};
 ghost use Rattle.std.specs.Str.Parse.{digits_value};
 ghost use Rattle.program_tree.specs.Tokens.{token_of, Name, Bad};
-ghost use Rattle.program_text_laws.specs.Front.{entry_of};
+ghost use Rattle.program_reader.specs.Front.{entry_of};
 ghost use Rattle.program_tree.specs.Words as spec;
 
 use program_tree::keyword::Keyword;

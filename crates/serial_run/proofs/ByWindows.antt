@@ -16,7 +16,7 @@ use Rattle.window_laws.proofs.Commute.{log_is_in_order, run_is_there, windows_re
 use Rattle.window_laws.proofs.Lists.{every_weaker}
 use Rattle.window_laws.proofs.Order.{sorted_permutes}
 use Rattle.net_agenda.specs.NetSystem.{system_of}
-use Rattle.net_report.specs.Report.{Packet, ReportTold}
+use Rattle.mote_net.specs.Report.{Packet, ReportTold}
 use Rattle.serial_run.specs.NetRun.{packet_with_fates, told_at}
 use Rattle.serial_run.specs.Laws.{NetsRunForward, ReportIsThere, WindowsCommuteInNets}
 use Rattle.serial_run.specs.Stamps.{sent_by}

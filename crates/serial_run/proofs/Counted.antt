@@ -16,7 +16,7 @@ use Rattle.window_laws.specs.System.{System}
 use Rattle.window_laws.specs.Agenda.{Item, Wake, Packet, moment_of, comes_at, is_left, packets, wake_items, up_to}
 use Rattle.window_laws.proofs.Agenda.{packets_append, packets_map, packets_wakes}
 use Rattle.net_agenda.specs.NetSystem.{system_of}
-use Rattle.net_report.specs.Report.{ReportTold}
+use Rattle.mote_net.specs.Report.{ReportTold}
 use Rattle.serial_run.specs.NetRun.{packet_with_fates, IsReportOf}
 use Rattle.window_laws.specs.NetStep.{NetState, Run, Done, Turn, sends_of, turned_at, turn_at, boot}
 use Rattle.serial_run.specs.Counted.{is_after, is_late, LateCopiesStay, LeftIsCounted, FatesTellLeft}

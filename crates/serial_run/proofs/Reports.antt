@@ -7,8 +7,8 @@ use Rattle.std.proofs.Math.Seq.{take-suc, take-length}
 use Rattle.std.proofs.lemmas.List.{map-append}
 use Rattle.trace_lines.specs.declared.line.Line.{Line}
 use Rattle.mote_net.specs.Net.{NetTold}
-use Rattle.net_report.specs.declared.Report.{Report}
-use Rattle.net_report.specs.Report.{Packet, ReportTold, lines_in, told_line, report_of}
+use Rattle.mote_net.specs.declared.report.Report.{Report}
+use Rattle.mote_net.specs.Report.{Packet, ReportTold, lines_in, told_line, report_of}
 use Rattle.serial_run.specs.declared.engine.Engine.{Engine}
 use Rattle.window_laws.specs.Agenda.{packets, up_to}
 use Rattle.serial_run.specs.NetRun.{packet_with_fates, told_at, IsReportOf}

@@ -19,7 +19,7 @@ use Rattle.mote_net.specs.Net.{NetTold}
 use Rattle.window_laws.specs.System.{Turned, IsLater}
 use Rattle.window_laws.specs.Agenda.{Item, Packet, moment_of, mote_of, comes_at, is_left, is_from, wake_items, IsLeast, up_to}
 use Rattle.net_agenda.specs.NetSystem.{system_of, mote_at}
-use Rattle.net_report.specs.Report.{ReportTold, Packet as OfReport}
+use Rattle.mote_net.specs.Report.{ReportTold, Packet as OfReport}
 use Rattle.serial_run.specs.NetRun.{packet_with_fates}
 use Rattle.window_laws.specs.NetStep.{NetState, Run, Done, Turn, boot, put, stamped, turned_at, turn_at}
 use Rattle.serial_run.specs.Stamps.{TracesNeverGoBack, sent_by, LogCountsUp}

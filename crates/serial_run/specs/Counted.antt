@@ -12,7 +12,7 @@ use Rattle.window_laws.specs.System.{System}
 use Rattle.window_laws.specs.Order.{in_order}
 use Rattle.window_laws.specs.Agenda.{comes_at, packets}
 use Rattle.window_laws.specs.NetStep.{NetState, Run, Done, Turn}
-use Rattle.net_report.specs.Report.{ReportTold}
+use Rattle.mote_net.specs.Report.{ReportTold}
 use Rattle.serial_run.specs.NetRun.{IsReportOf}
 
 abbrev pub is_after : (end : ℕ) → RadioCopy → Bool

@@ -17,7 +17,7 @@ use Rattle.window_laws.specs.Windows.{LoneMote, first_mote, IsJoined, IsLeft, Wi
 use Rattle.net_agenda.specs.Buckets.{Buckets, Holds}
 use Rattle.net_agenda.specs.Items.{AreSameItems, WakesDiffer, items_of}
 use Rattle.net_agenda.specs.NetSystem.{system_of}
-use Rattle.net_report.specs.Report.{ReportTold}
+use Rattle.mote_net.specs.Report.{ReportTold}
 use Rattle.serial_run.specs.NetRun.{packet_with_fates, IsReportOf}
 
 -- a net has at most one report

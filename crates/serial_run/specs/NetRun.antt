@@ -8,7 +8,7 @@ use Rattle.mote_net.specs.Net.{NetTold}
 use Rattle.window_laws.specs.Agenda.{packets, up_to}
 use Rattle.window_laws.specs.NetStep.{NetState, Run, boot}
 use Rattle.net_agenda.specs.NetSystem.{system_of}
-use Rattle.net_report.specs.Report.{Packet, ReportTold}
+use Rattle.mote_net.specs.Report.{Packet, ReportTold}
 
 abbrev pub packet_with_fates : Radio → Sent → Packet
 packet_with_fates radio sent = record { sent = sent; fates = fates radio sent }

@@ -5,7 +5,7 @@ use Rattle.radio_packet.specs.declared.sent.Sent.{Sent}
 use Rattle.kernel_laws.specs.Stamps.{AreNumberedFrom}
 use Rattle.mote_laws.specs.Stamps.{NeverGoBack}
 use Rattle.mote_net.specs.Net.{NetTold}
-use Rattle.net_report.specs.Report.{ReportTold}
+use Rattle.mote_net.specs.Report.{ReportTold}
 use Rattle.window_laws.specs.System.{System}
 use Rattle.window_laws.specs.NetStep.{NetState, Run, Done, Turn, sends_of, turned_at}
 use Rattle.serial_run.specs.NetRun.{IsReportOf}

@@ -11,10 +11,9 @@ ghost use Rattle.window_laws.specs.NetStep.{boot};
 ghost use Rattle.serial_run.specs.Stands.{StandsAt, IsWhole, TurnLeads, CanTurnAt, IsWakeAt, OneTakesTurn};
 
 use crate::sends::send_all;
-use mote_net::Net;
+use mote_net::{LogLine, Net};
 use mote_node::{Mote, MoteError};
 use net_agenda::{Agenda, add_lines, new_mote};
-use net_report::LogLine;
 use process_kernel::{Line, Out};
 use program_tree::Program;
 use radio_packet::Arrival;

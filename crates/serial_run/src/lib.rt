@@ -8,5 +8,5 @@ mod sends;
 mod serial;
 
 pub use error::RunError;
-pub use net_report::{LogLine, Report};
+pub use mote_net::{LogLine, Report};
 pub use serial::run_serial;

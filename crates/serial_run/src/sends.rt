@@ -5,12 +5,12 @@ ghost use Rattle.std.specs.List.{flat_map};
 ghost use Rattle.radio_medium.specs.Medium.{copies};
 ghost use Rattle.window_laws.specs.Agenda.{Packet};
 ghost use Rattle.net_agenda.specs.Changes.{Adds};
-ghost use Rattle.net_report.specs.Report.{told_line};
+ghost use Rattle.mote_net.specs.Report.{told_line};
 ghost use Rattle.serial_run.specs.NetRun.{packet_with_fates};
 ghost use Rattle.window_laws.specs.NetStep.{stamped};
 
+use mote_net::LogLine;
 use net_agenda::Agenda;
-use net_report::LogLine;
 use radio_medium::Medium;
 use radio_packet::Sent;
 use std::alloc::AllocError;

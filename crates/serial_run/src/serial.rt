@@ -4,7 +4,7 @@ ghost use Rattle.std.specs.Prelude.{◌≡◌, ◌<◌, length, vec_len, All, If
 ghost use Rattle.kernel_laws.specs.Going.{IsInOrder};
 ghost use Rattle.mote_net.specs.Net.{net_of};
 ghost use Rattle.net_agenda.specs.NetSystem.{system_of};
-ghost use Rattle.net_report.specs.Report.{report_of};
+ghost use Rattle.mote_net.specs.Report.{report_of};
 ghost use Rattle.serial_run.specs.NetRun.{IsReportOf};
 ghost use Rattle.window_laws.specs.NetStep.{boot};
 ghost use Rattle.serial_run.specs.Stands.{StandsAt, IsWhole};
@@ -12,8 +12,7 @@ ghost use Rattle.serial_run.specs.Ended.{HasEnded};
 
 use crate::engine::Engine;
 use crate::error::RunError;
-use mote_net::Net;
-use net_report::Report;
+use mote_net::{Net, Report};
 use std::alloc::{AllocError, Global};
 
 /// Takes turns until no event is pending at or before the end.

@@ -5,7 +5,7 @@ use Rattle.mote_net.specs.Net.{NetTold}
 use Rattle.net_scenario.specs.Reading.{TellsNet, Answers}
 use Rattle.net_scenario.specs.declared.error.ScenarioError.{ScenarioError}
 use Rattle.net_scenario.specs.declared.error.ScenarioError.TheVariants as scenario
-use Rattle.net_report.specs.Report.{ReportTold}
+use Rattle.mote_net.specs.Report.{ReportTold}
 use Rattle.trace_printer.specs.ReportText.{report_text}
 use Rattle.serial_run.specs.Laws.{ReportIsOne}
 use Rattle.serial_run.specs.NetRun.{IsReportOf}

@@ -1,6 +1,6 @@
 -- Laws of whole simulations.
 use Rattle.std.specs.Prelude.{◌≡◌, ℕ, List, Some, Ok}
-use Rattle.net_report.specs.Report.{ReportTold}
+use Rattle.mote_net.specs.Report.{ReportTold}
 use Rattle.mote_net.specs.Net.{NetTold}
 use Rattle.net_scenario.specs.Reading.{TellsNet}
 use Rattle.serial_run.specs.NetRun.{IsReportOf}

@@ -5,8 +5,8 @@ use Rattle.mote_net.specs.Net.{NetTold}
 use Rattle.net_scenario.specs.Reading.{TellsNet, TellsFault}
 use Rattle.net_scenario.specs.declared.error.ScenarioError.{ScenarioError}
 use Rattle.net_scenario.specs.declared.error.ScenarioError.TheVariants as scenario
-use Rattle.net_report.specs.Report.{ReportTold, report_of}
-use Rattle.net_report.specs.declared.Report.{Report}
+use Rattle.mote_net.specs.Report.{ReportTold, report_of}
+use Rattle.mote_net.specs.declared.report.Report.{Report}
 use Rattle.trace_printer.specs.Output.{AppendsFront}
 use Rattle.trace_printer.specs.ReportText.{report_text}
 use Rattle.serial_run.specs.NetRun.{IsReportOf}

@@ -6,8 +6,7 @@ ghost use Rattle.simulation.specs.Cuts.{of_kind};
 ghost use Rattle.simulation.specs.Simulation.{MayWork, RunsWith};
 
 use crate::options::CutKind;
-use mote_net::Net;
-use net_report::Report;
+use mote_net::{Net, Report};
 use std::alloc::{AllocError, Global};
 use std::random::RandomSource;
 use std::sync::Wait;

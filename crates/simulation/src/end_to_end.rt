@@ -8,13 +8,12 @@ use crate::error::SimError;
 use crate::input::read_text;
 use crate::options::Options;
 use net_scenario::read_scenario;
-use report_workers::write_report_by;
 use std::alloc::Global;
 use std::io::{Read, Write};
 use std::random::RandomSource;
 use std::sync::Wait;
 use std::thread::Threads;
-use trace_printer::write_report;
+use trace_printer::{write_report, write_report_by};
 use window_workers::{Gate, run_serial};
 
 /// Simulates the scenario of this text on one thread, and writes the report.

@@ -4,7 +4,7 @@ use Rattle.std.specs.List.{flat_map}
 use Rattle.program_tree.specs.Code.{Tree}
 use Rattle.trace_lines.specs.declared.line.Line.{Line}
 use Rattle.mote_net.specs.Net.{MoteSetup}
-use Rattle.net_report.specs.Report.{lines_in}
+use Rattle.mote_net.specs.Report.{lines_in}
 use Rattle.trace_printer.specs.ReportText.{line_text, mote_text, motes_text}
 use Rattle.trace_printer.specs.Words.{line_of}
 

@@ -1,5 +1,6 @@
 pub mod Output
 pub mod Page
+pub mod Parts
 pub mod PrintErrors
 pub mod ReportText
 pub mod TraceLines

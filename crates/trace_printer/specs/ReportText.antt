@@ -5,7 +5,7 @@ use Rattle.std.specs.List.{flat_map}
 use Rattle.program_tree.specs.Code.{Tree}
 use Rattle.trace_lines.specs.declared.line.Line.{Line}
 use Rattle.mote_net.specs.Net.{MoteSetup, NetTold}
-use Rattle.net_report.specs.Report.{Packet, ReportTold}
+use Rattle.mote_net.specs.Report.{Packet, ReportTold}
 use Rattle.trace_printer.specs.Words.{line_of, words_of, fate_word}
 
 -- a line of a trace: the moment, and the words of what happened in a mote with this program

@@ -1,6 +1,7 @@
-//! The report of a net's run as text.
+//! The report of a net's run as text, written by one thread or by workers.
 #![tactic(auto)]
 
+mod by_workers;
 mod error;
 mod lines;
 mod names;
@@ -8,9 +9,12 @@ mod output;
 mod page;
 mod part;
 mod report;
+mod round;
 mod short;
 mod words;
+mod work;
 
+pub use by_workers::write_report_by;
 pub use error::PrintError;
 pub use output::WriteFault;
 pub use page::Page;

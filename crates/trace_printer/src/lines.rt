@@ -2,14 +2,14 @@
 ghost use Rattle.std.specs.Prelude.{◌≡◌, [], ◌++◌, ◌∷◌, map, codes, decimal, OnOk};
 ghost use Rattle.std.specs.List.{flat_map};
 ghost use Rattle.program_tree.specs.Program.{tree_of};
-ghost use Rattle.net_report.specs.Report.{told_line};
+ghost use Rattle.mote_net.specs.Report.{told_line};
 ghost use Rattle.trace_printer.specs.ReportText.{left_text, line_text, packet_text};
 ghost use Rattle.trace_printer.specs.Words.{fate_word, line_of};
 
 use crate::names::{event_word, process_word, target_word};
 use crate::page::{Page, make_room};
 use crate::words::{put_arrival, put_byte, put_number, put_spaced, put_spaced_number, put_text};
-use net_report::LogLine;
+use mote_net::LogLine;
 use program_tree::Program;
 use radio_packet::{Fate, Sent};
 use std::alloc::AllocError;

@@ -3,7 +3,7 @@ ghost use Rattle.std.specs.Prelude.{◌≡◌, [], ◌∷◌, ◌++◌, length, 
 ghost use Rattle.std.specs.List.{flat_map};
 ghost use Rattle.program_tree.specs.Program.{tree_of};
 ghost use Rattle.mote_net.specs.Net.{NetTold, net_of};
-ghost use Rattle.net_report.specs.Report.{lines_in};
+ghost use Rattle.mote_net.specs.Report.{lines_in};
 ghost use Rattle.trace_printer.specs.ReportText.{line_text};
 ghost use Rattle.trace_printer.specs.TraceLines.{part_text, lines_of};
 ghost use Rattle.trace_printer.specs.Words.{line_of};

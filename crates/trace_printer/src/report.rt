@@ -3,7 +3,7 @@ ghost use Rattle.std.specs.Prelude.{◌≡◌, ◌++◌, ◌∷◌, [], length, 
 ghost use Rattle.std.specs.List.{flat_map};
 ghost use Rattle.program_tree.specs.Program.{tree_of};
 ghost use Rattle.mote_net.specs.Net.{net_of};
-ghost use Rattle.net_report.specs.Report.{lines_in, told_line, report_of};
+ghost use Rattle.mote_net.specs.Report.{lines_in, told_line, report_of};
 ghost use Rattle.trace_printer.specs.Output.{Writes};
 ghost use Rattle.trace_printer.specs.Page.{Prints};
 ghost use Rattle.trace_printer.specs.ReportText.{line_text, motes_text, packet_text, medium_text, left_text};
@@ -14,8 +14,7 @@ use crate::error::PrintError;
 use crate::lines::{put_head, put_left, put_medium, put_packet, put_trace_line};
 use crate::output::WriteFault;
 use crate::page::Page;
-use mote_net::Net;
-use net_report::{LogLine, Report};
+use mote_net::{LogLine, Net, Report};
 use program_tree::Program;
 use std::alloc::Global;
 use std::io::Write;

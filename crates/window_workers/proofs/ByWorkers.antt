@@ -26,8 +26,8 @@ use Rattle.worker_window.specs.declared.share.Ended.{Ended}
 use Rattle.all_workers.specs.declared.workers.Workers.{Workers}
 use Rattle.all_workers.specs.Workers.{IsAt, IsWorkerAt}
 use Rattle.all_workers.proofs.Lookups.{there, read, zip_inside, zip_long}
-use Rattle.net_report.specs.declared.Report.{Report}
-use Rattle.net_report.specs.Report.{Packet, ReportTold, lines_in, told_line, report_of}
+use Rattle.mote_net.specs.declared.report.Report.{Report}
+use Rattle.mote_net.specs.Report.{Packet, ReportTold, lines_in, told_line, report_of}
 use Rattle.window_workers.specs.Crossed.{Pair, packets_told, CrossedTo, AllCrossed}
 use Rattle.serial_run.specs.NetRun.{packet_with_fates, IsReportOf}
 use Rattle.window_workers.specs.Over.{TellsWhatItKept, logs_of, IsLogOf, AreTracesOf}

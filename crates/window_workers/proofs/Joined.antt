@@ -29,7 +29,7 @@ use Rattle.all_workers.specs.declared.workers.Workers.{Workers}
 use Rattle.all_workers.specs.Workers.{IsAt, IsWorkerAt}
 use Rattle.all_workers.proofs.Lookups.{there, inside, read, beside, as_long, none_of, one_of}
 use Rattle.all_workers.proofs.Step.{own_by, some_worker}
-use Rattle.net_report.specs.Report.{lines_in}
+use Rattle.mote_net.specs.Report.{lines_in}
 use Rattle.window_workers.specs.Crossed.{Pair}
 use Rattle.worker_window.specs.Log.{HaveFates, packets_in}
 use Rattle.window_workers.specs.Over.{TellsWhatItKept, lines_of, logs_of, AreTracesOf}

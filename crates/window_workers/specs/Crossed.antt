@@ -7,7 +7,7 @@ use Rattle.mote_net.specs.Net.{NetTold}
 use Rattle.copy_inbox.specs.Handles.{InboxId, TakerView}
 use Rattle.copy_exchange.specs.Takers.{taken_by, gathered_by}
 use Rattle.worker_cut.specs.CrossesTo.{AreThoseTo}
-use Rattle.net_report.specs.Report.{ReportTold}
+use Rattle.mote_net.specs.Report.{ReportTold}
 use Rattle.serial_run.specs.Counted.{is_by}
 
 -- an inbox with its taker, as contracts see them

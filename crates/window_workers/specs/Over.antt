@@ -13,8 +13,8 @@ use Rattle.worker_window.specs.declared.share.Ended.{Ended}
 use Rattle.worker_window.specs.Share.{Motes, Keeps}
 use Rattle.worker_window.specs.Ended.{TellsAtEnd}
 use Rattle.worker_window.specs.Log.{packets_in}
-use Rattle.net_report.specs.declared.LogLine.{LogLine}
-use Rattle.net_report.specs.Report.{Packet}
+use Rattle.mote_net.specs.declared.report.LogLine.{LogLine}
+use Rattle.mote_net.specs.Report.{Packet}
 use Rattle.serial_run.specs.NetRun.{packet_with_fates}
 
 -- a share that is taken apart yields what it kept

@@ -10,9 +10,9 @@ mod traces;
 mod workers;
 
 pub use fits::MOST_WORKERS;
-pub use net_report::{LogLine, Report};
+pub use mote_net::{LogLine, Report};
 pub use serial_run::{RunError, laws, run_serial};
 pub use sync::SyncKind;
-pub use window_run::{Gate, MoteWindow, NoGate, WindowOut};
 pub use worker_cut::Cut;
+pub use worker_window::{Gate, MoteWindow, NoGate, WindowOut};
 pub use workers::{run_inboxes, run_workers};

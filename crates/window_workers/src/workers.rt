@@ -9,7 +9,7 @@ ghost use Rattle.copy_exchange.specs.Inboxes.{IsFresh, IsSettled};
 ghost use Rattle.all_workers.specs.Workers.{IsAt};
 ghost use Rattle.all_workers.specs.Start.{AreFirst};
 ghost use Rattle.all_workers.specs.Workers.{IsCut};
-ghost use Rattle.net_report.specs.Report.{report_of};
+ghost use Rattle.mote_net.specs.Report.{report_of};
 ghost use Rattle.window_workers.specs.Crossed.{AllCrossed};
 ghost use Rattle.window_workers.specs.Fits.{cut_fault, IsAnswerTo};
 ghost use Rattle.serial_run.specs.NetRun.{IsReportOf};
@@ -27,15 +27,14 @@ use copy_exchange::{make_inboxes, pair_inboxes, split_pairs};
 use copy_inbox::{Inbox, Taker};
 use joined_workers::run_group;
 use marked_workers::run_marked;
-use mote_net::Net;
-use net_report::Report;
+use mote_net::{Net, Report};
 use serial_run::RunError;
 use std::alloc::{AllocGlobal, Global};
 use std::random::RandomSource;
 use std::sync::Wait;
 use std::thread::Threads;
-use window_run::Gate;
 use worker_cut::Cut;
+use worker_window::Gate;
 
 /// The workers' report at the end, and their inboxes. `of` is the worker of each mote.
 fn make_report(

@@ -7,8 +7,8 @@ use Rattle.mote_node.specs.Node.{new_node}
 use Rattle.mote_node.specs.Public.{node_in}
 use Rattle.radio_packet.specs.declared.copy.RadioCopy.{RadioCopy}
 use Rattle.mote_net.specs.Net.{MoteSetup}
-use Rattle.window_run.specs.Window.{opened}
-use Rattle.window_run.specs.Turns.{CanGoOn}
+use Rattle.worker_window.specs.MoteWindow.{opened}
+use Rattle.worker_window.specs.Turns.{CanGoOn}
 
 pub new_goes_on : (o : Option MoteSetup) (t : Tree) (until number queue : ℕ) (copies : List RadioCopy) (mote : Mote) → option_map (λ (m : MoteSetup). m.tree) o ≡ Some t → node_in t mote ≡ Some (new_node t number queue)
     → IfSome o (λ m. CanGoOn (opened m.tree until copies (node_in m.tree mote)))

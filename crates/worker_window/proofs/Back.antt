@@ -19,13 +19,13 @@ use Rattle.window_laws.specs.NetStep.{put}
 use Rattle.window_laws.specs.Windows.{LoneMote, NoneBefore, copies_by, is_from_sender, is_sent_by}
 use Rattle.window_laws.proofs.Agenda.{packets_append, packets_map, packets_wake, no_wake_in_packets, own_wake, other_wake}
 use Rattle.window_laws.proofs.Lists.{filter_none, filter_every, filter_stronger, every_filter, every_passes, every_weaker}
-use Rattle.window_run.specs.declared.out.WindowOut.{WindowOut}
+use Rattle.worker_window.specs.declared.out.WindowOut.{WindowOut}
 use Rattle.net_agenda.specs.Buckets.{Holds}
 use Rattle.net_agenda.specs.Changes.{without_wakes}
 use Rattle.net_agenda.specs.NetSystem.{tree_at, system_of}
 use Rattle.worker_window.specs.declared.share.Share.{Share}
 use Rattle.worker_cut.specs.Crossed.{is_own, copies_seen, is_for_others}
-use Rattle.window_run.specs.Window.{number_of}
+use Rattle.worker_window.specs.MoteWindow.{number_of}
 use Rattle.worker_window.specs.Share.{Motes, IsShare, HasToCome, node_at, mote_here, is_to_come, wake_from}
 use Rattle.worker_window.specs.Window.{outgoing_by}
 use Rattle.worker_window.specs.Lending.{is_one_of, MoteReturns}

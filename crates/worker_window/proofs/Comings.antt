@@ -9,8 +9,8 @@ use Rattle.radio_medium.proofs.Copies.{copies_later}
 use Rattle.mote_net.specs.Net.{NetTold}
 use Rattle.window_laws.specs.Windows.{Alone, is_at, is_within, is_from_sender}
 use Rattle.window_laws.proofs.Lists.{every_append, every_weaker, every_filter, every_flat_map}
-use Rattle.window_run.specs.declared.out.WindowOut.{WindowOut}
-use Rattle.window_run.specs.declared.share.Resident.{Resident}
+use Rattle.worker_window.specs.declared.out.WindowOut.{WindowOut}
+use Rattle.worker_window.specs.declared.resident.Resident.{Resident}
 use Rattle.net_agenda.specs.NetSystem.{tree_at, system_of}
 use Rattle.worker_window.specs.declared.share.Share.{Share}
 use Rattle.worker_cut.specs.Crossed.{is_own, copies_seen, is_for_others}

@@ -9,9 +9,9 @@ use Rattle.mote_net.specs.Net.{NetTold}
 use Rattle.window_laws.specs.Agenda.{Item, Packet, mote_of}
 use Rattle.window_laws.specs.Windows.{NoneBefore}
 use Rattle.window_laws.proofs.Lists.{every_weaker, every_append, every_map}
-use Rattle.window_run.specs.declared.out.WindowOut.{WindowOut}
-use Rattle.window_run.specs.declared.share.Resident.{Resident}
-use Rattle.window_run.specs.Shares.{ResidentGives, GivesList, AreInNet}
+use Rattle.worker_window.specs.declared.out.WindowOut.{WindowOut}
+use Rattle.worker_window.specs.declared.resident.Resident.{Resident}
+use Rattle.worker_window.specs.Shares.{ResidentGives, GivesList, AreInNet}
 use Rattle.net_agenda.specs.NetSystem.{tree_at}
 use Rattle.worker_window.specs.declared.share.Share.{Share}
 use Rattle.worker_window.specs.Calls.{CalledMotes, copies_for, TakesEventsBefore}

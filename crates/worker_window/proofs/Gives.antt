@@ -18,12 +18,12 @@ use Rattle.window_laws.specs.System.{IsLater}
 use Rattle.window_laws.specs.NetStep.{stamped}
 use Rattle.window_laws.specs.Windows.{LoneMote, NoneBefore, lone_turn, IsQuiet, Alone}
 use Rattle.window_laws.proofs.Lists.{every_append, every_weaker, every_flat_map}
-use Rattle.window_run.specs.declared.out.WindowOut.{WindowOut}
-use Rattle.window_run.specs.declared.share.Resident.{Resident}
-use Rattle.window_run.specs.Window.{lone_node, number_of}
-use Rattle.window_run.specs.Out.{Gives}
-use Rattle.window_run.specs.Laws.{IsAhead}
-use Rattle.window_run.specs.Shares.{ResidentGives, ResidentGoesOn}
+use Rattle.worker_window.specs.declared.out.WindowOut.{WindowOut}
+use Rattle.worker_window.specs.declared.resident.Resident.{Resident}
+use Rattle.worker_window.specs.MoteWindow.{lone_node, number_of}
+use Rattle.worker_window.specs.Out.{Gives}
+use Rattle.worker_window.specs.Laws.{IsAhead}
+use Rattle.worker_window.specs.Shares.{ResidentGives, ResidentGoesOn}
 use Rattle.net_agenda.specs.Buckets.{arrival_of}
 use Rattle.net_agenda.specs.NetSystem.{mote_at, no_mote, tree_at, system_of, node_turn}
 use Rattle.net_agenda.proofs.Systems.{turn_wakes}

@@ -5,7 +5,7 @@ use Rattle.std.proofs.lemmas.Bool.{cases_Bool, cases_eq, eq-eqb, ne_eqb, eqb-tru
 use Rattle.std.proofs.lemmas.List.{map-append, length-set}
 use Rattle.mote_node.specs.declared.mote.Mote.{Mote}
 use Rattle.window_laws.proofs.Lists.{every_append}
-use Rattle.window_run.specs.declared.share.Resident.{Resident}
+use Rattle.worker_window.specs.declared.resident.Resident.{Resident}
 use Rattle.worker_window.specs.Calls.{CalledMotes, copies_for}
 use Rattle.worker_window.specs.Share.{mote_here}
 use Rattle.worker_window.specs.Lending.{is_one_of, are_different, numbers_of, IsCalled, IsWakeOf, MotesAreLent}

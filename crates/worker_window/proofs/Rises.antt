@@ -7,7 +7,7 @@ use Rattle.radio_packet.specs.declared.copy.RadioCopy.{RadioCopy}
 use Rattle.window_laws.specs.Order.{is_before, insert_by, sorted_by, in_order}
 use Rattle.window_laws.proofs.Lists.{every_append, every_weaker, every_both}
 use Rattle.net_agenda.specs.Buckets.{arrival_of}
-use Rattle.window_run.specs.Window.{comes_before, is_rising}
+use Rattle.worker_window.specs.MoteWindow.{comes_before, is_rising}
 use Rattle.net_agenda.specs.Items.{copy_at}
 
 -- `is_before` over plain numbers

@@ -9,10 +9,10 @@ use Rattle.mote_net.specs.Net.{NetTold}
 use Rattle.window_laws.specs.Agenda.{Item, moment_of, mote_of}
 use Rattle.window_laws.specs.Windows.{is_sent_by, NoneBefore, IsQuiet}
 use Rattle.window_laws.proofs.Lists.{any_every, every_weaker}
-use Rattle.window_run.specs.declared.out.WindowOut.{WindowOut}
-use Rattle.window_run.specs.declared.share.Resident.{Resident}
-use Rattle.window_run.specs.Shares.{ResidentGives, ResidentGoesOn, GivesList, AreGoingOn}
-use Rattle.window_run.proofs.Ends.{not_before}
+use Rattle.worker_window.specs.declared.out.WindowOut.{WindowOut}
+use Rattle.worker_window.specs.declared.resident.Resident.{Resident}
+use Rattle.worker_window.specs.Shares.{ResidentGives, ResidentGoesOn, GivesList, AreGoingOn}
+use Rattle.worker_window.proofs.Ends.{not_before}
 use Rattle.net_agenda.specs.Buckets.{Holds}
 use Rattle.net_agenda.specs.NetSystem.{tree_at, system_of}
 use Rattle.worker_window.specs.declared.share.Share.{Share}

@@ -7,7 +7,7 @@ use Rattle.radio_packet.specs.declared.copy.RadioCopy.{RadioCopy}
 use Rattle.window_laws.specs.Order.{in_order}
 use Rattle.window_laws.specs.Agenda.{Item, moment_of, mote_of, comes_at, packets}
 use Rattle.window_laws.specs.Windows.{is_at}
-use Rattle.window_run.specs.Window.{is_rising}
+use Rattle.worker_window.specs.MoteWindow.{is_rising}
 use Rattle.net_agenda.specs.Buckets.{Buckets, Holds}
 
 -- a place for each mote, by number

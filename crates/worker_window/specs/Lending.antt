@@ -11,15 +11,15 @@ use Rattle.mote_node.specs.Public.{node_in, wake_in}
 use Rattle.radio_packet.specs.declared.copy.RadioCopy.{RadioCopy}
 use Rattle.radio_medium.specs.Medium.{Radio, copies}
 use Rattle.window_laws.specs.Agenda.{Item, Packet, is_wake_of, wake_items}
-use Rattle.window_run.specs.declared.out.WindowOut.{WindowOut}
-use Rattle.window_run.specs.declared.share.Resident.{Resident}
+use Rattle.worker_window.specs.declared.out.WindowOut.{WindowOut}
+use Rattle.worker_window.specs.declared.resident.Resident.{Resident}
 use Rattle.net_agenda.specs.Buckets.{Holds}
 use Rattle.net_agenda.specs.Changes.{without_wakes}
 use Rattle.worker_window.specs.declared.share.Share.{Share}
 use Rattle.worker_window.specs.Calls.{CalledMotes, copies_for}
 use Rattle.worker_window.specs.Log.{packets_in, HaveFates}
 use Rattle.worker_cut.specs.Crossed.{is_own, is_for_others}
-use Rattle.window_run.specs.Window.{number_of}
+use Rattle.worker_window.specs.MoteWindow.{number_of}
 use Rattle.worker_window.specs.Share.{mote_here, wake_from}
 
 abbrev pub is_one_of : (number : ℕ) → List ℕ → Bool

@@ -1,8 +1,15 @@
 pub mod Calls
 pub mod Ended
+pub mod Laws
 pub mod Lending
 pub mod Log
+pub mod MoteWindow
 pub mod Next
+pub mod Out
+pub mod Own
 pub mod Sending
 pub mod Share
+pub mod Shares
+pub mod Slots
+pub mod Turns
 pub mod Window

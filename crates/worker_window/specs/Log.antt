@@ -3,7 +3,7 @@ use Rattle.std.specs.Prelude.{◌≡◌, List, map}
 use Rattle.std.specs.List.{AllByRecursion as Each}
 use Rattle.radio_packet.specs.declared.sent.Sent.{Sent}
 use Rattle.radio_medium.specs.Medium as medium
-use Rattle.net_report.specs.declared.LogLine.{LogLine}
+use Rattle.mote_net.specs.declared.report.LogLine.{LogLine}
 
 abbrev pub packets_in : List LogLine → List Sent
 packets_in lines = map (λ line. line.sent) lines

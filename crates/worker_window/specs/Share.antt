@@ -16,7 +16,7 @@ use Rattle.window_laws.specs.Windows.{LoneMote, NoneBefore, is_from_sender, is_s
 use Rattle.net_agenda.specs.Buckets.{Buckets, Holds}
 use Rattle.net_agenda.specs.NetSystem.{tree_at, system_of}
 use Rattle.worker_cut.specs.Crossed.{is_own, copies_seen}
-use Rattle.window_run.specs.Window.{number_of}
+use Rattle.worker_window.specs.MoteWindow.{number_of}
 use Rattle.worker_window.specs.declared.share.Share.{Share}
 use Rattle.worker_window.specs.Log.{packets_in, HaveFates}
 

@@ -8,7 +8,7 @@ ghost use Rattle.window_laws.specs.Agenda.{Item};
 ghost use Rattle.net_agenda.specs.Items.{copy_at};
 ghost use Rattle.worker_window.specs.Calls.{copies_for, is_not_before, TakesEventsBefore, HasItems, TakesCall};
 
-use crate::rooms::Rooms;
+use crate::scratch::Rooms;
 use net_agenda::Agenda;
 use radio_packet::{Arrival, RadioCopy};
 use std::alloc::{AllocError, Global};

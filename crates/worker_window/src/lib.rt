@@ -1,9 +1,27 @@
-//! What one worker of a net has, and its run through one window of time.
+//! Windows of time. A mote's window: what a mote does alone up to a bound, as a relation; the state of such a window,
+//! and a future that takes one turn of it per poll; a worker's own future over the windows of its motes. And what one
+//! worker of a net has, and its run through one window.
 #![tactic(auto)]
 
 mod calls;
-mod rooms;
+mod gate;
+pub mod laws;
+mod mote_window;
+mod out;
+mod own;
+mod resident;
+mod room;
+mod scratch;
 mod share;
+mod slot;
 mod window;
+mod worker;
 
+pub use gate::{Gate, NoGate};
+pub use mote_window::MoteWindow;
+pub use out::WindowOut;
+pub use own::OwnWindow;
+pub use resident::{Resident, Residents};
+pub use room::{TurnRoom, WindowRoom, copies_in};
 pub use share::{Ended, Share};
+pub use worker::{ShareWindow, run_share};

@@ -12,11 +12,10 @@ ghost use Rattle.worker_window.specs.Next.{TellsNext};
 ghost use Rattle.worker_window.specs.Share.{Motes, Keeps, node_at};
 ghost use Rattle.worker_window.specs.Ended.{TellsAtEnd};
 
-use crate::rooms::Rooms;
-use mote_net::Net;
+use crate::scratch::Rooms;
+use mote_net::{LogLine, Net};
 use mote_node::Mote;
 use net_agenda::{Agenda, new_mote};
-use net_report::LogLine;
 use process_kernel::Line;
 use std::alloc::{AllocError, Global};
 use worker_cut::is_own;

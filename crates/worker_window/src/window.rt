@@ -1,11 +1,12 @@
 //! A worker's motes in a window: those that have a turn are lent out of the share, run, and come back.
 
 ghost use Rattle.std.specs.Prelude.{◌≡◌, ◌<◌, ◌≤◌, ◌^◌, ◌++◌, ◌∷◌, ◌==◌, ℕ, true, [], length};
-ghost use Rattle.std.specs.Prelude.{map, List, Some, None, IfOk, OnOk, IsSome, slice_set};
+ghost use Rattle.std.specs.Prelude.{◌≢◌, map, List, Some, None, IfErr, IfOk, OnOk, IsSome, slice_set};
 ghost use Rattle.std.specs.List.{filter, flat_map, list_all, AllByRecursion};
+ghost use Rattle.fork_join.specs.declared.work.Refused.TheVariants.{Stopped};
 ghost use Rattle.radio_medium.specs.Medium.{copies};
 ghost use Rattle.window_laws.specs.Agenda.{Packet};
-ghost use Rattle.window_run.specs.Window.{is_rising};
+ghost use Rattle.worker_window.specs.MoteWindow.{is_rising};
 ghost use Rattle.net_agenda.specs.Changes.{Adds};
 ghost use Rattle.worker_window.specs.Calls.{copies_for};
 ghost use Rattle.mote_net.specs.Net.{net_of};
@@ -17,19 +18,23 @@ ghost use Rattle.worker_window.specs.Sending.{outgoing_copies, own_items};
 ghost use Rattle.worker_window.specs.Lending.{MotesAreLent, HasNumber, IsOutOfMote, MoteReturns};
 
 use crate::calls::{CalledMotes, take_events_before};
-use crate::rooms::Rooms;
+use crate::gate::Gate;
+use crate::out::WindowOut;
+use crate::resident::{Resident, Residents};
+use crate::room::WindowRoom;
+use crate::scratch::Rooms;
 use crate::share::Share;
-use mote_net::Net;
+use crate::worker::run_share;
+use fork_join::Refused;
+use mote_net::{LogLine, Net};
 use mote_node::Mote;
 use net_agenda::{Agenda, add_lines};
-use net_report::LogLine;
 use radio_medium::Medium;
 use radio_packet::{Fate, RadioCopy, Sent};
 use std::alloc::{AllocError, AllocGlobal, Global};
 use std::random::RandomSource;
 use std::slice::from_ref;
 use std::sync::Wait;
-use window_run::{Gate, Resident, ShareError, WindowOut, WindowRoom, run_share};
 use worker_cut::is_own;
 
 /// The wake, unless it is before a moment.
@@ -272,7 +277,7 @@ impl Share {
         arrived: Vec<RadioCopy>,
         until: u64,
         gate: &G,
-    ) -> Result<Vec<RadioCopy>, ShareError>
+    ) -> Result<Vec<RadioCopy>, Refused>
     where
         R: Wait + RandomSource + AllocGlobal,
         G: Gate,
@@ -284,12 +289,13 @@ impl Share {
             (λ outgoing. RunsThrough n of.now until arrived.items self.old self.new outgoing.items) }
         ensures out { let n = net_of net.now in IfOk result
             (λ outgoing. AllByRecursion (IsOutgoing n of.now self.old.worker) outgoing.items) }
+        ensures refused { IfErr result (λ reason. reason ≢ Stopped) }
     {
         self.agenda.put_copies(&arrived)?;
         let calls = take_events_before(self.alloc, &mut self.agenda, until, &mut self.rooms)?;
         let mut wakes = Vec::new(self.alloc);
         let residents = lend(&mut self.motes, &mut wakes, until, calls, &mut self.rooms)?;
-        let called = window_run::Residents {
+        let called = Residents {
             worker: self.worker,
             residents,
         };

@@ -3,7 +3,7 @@
 ghost use Rattle.std.specs.Prelude.{◌≡◌, IfOk, length, vec_len};
 ghost use Rattle.mote_net.specs.Net.{net_of};
 
-use net_report::{LogLine, Report};
+use mote_net::{LogLine, Report};
 use net_scenario::{Net, read_scenario};
 use process_kernel::{Line, What};
 use program_tree::{Proc, Target};

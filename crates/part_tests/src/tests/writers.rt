@@ -4,7 +4,7 @@ ghost use Rattle.std.specs.Prelude.{◌≡◌, IfOk, length, vec_len};
 ghost use Rattle.mote_net.specs.Net.{net_of};
 
 use super::reports::{report_of, report_of_trace};
-use net_report::Report;
+use mote_net::Report;
 use net_scenario::{Net, read_scenario};
 use process_kernel::{Line, What};
 use program_tree::Proc;

@@ -3,11 +3,10 @@
 
 ghost use Rattle.std.specs.Prelude.{◌≡◌, true, [], IfOk, IsTrue, OnOk};
 ghost use Rattle.copy_inbox.specs.Views.{make_taker_state};
-ghost use Rattle.mark_exchange.specs.Marks.{Counts};
+ghost use Rattle.copy_exchange.specs.Marks.{Counts};
 
-use copy_exchange::Endpoint;
+use copy_exchange::{Endpoint, MarkEndpoint, Standing};
 use copy_inbox::{Inbox, InboxError, Sender, Taker};
-use mark_exchange::{MarkEndpoint, Standing};
 use radio_packet::RadioCopy;
 use std::alloc::{AllocError, Global};
 use std::sync::Wait;

@@ -1,7 +1,7 @@
 //! Windows of motes polled by hand.
 
 ghost use Rattle.std.specs.Prelude.{◌≡◌, true, IfOk};
-ghost use Rattle.window_run.specs.Window.{is_rising};
+ghost use Rattle.worker_window.specs.MoteWindow.{is_rising};
 
 use futures::Future;
 use futures::task::Poll;
@@ -14,7 +14,7 @@ use std::alloc::{AllocError, Global};
 use std::random::RandomSource;
 use std::test::Fail;
 use test_helpers::{same_text, write_lines};
-use window_run::{MoteWindow, NoGate};
+use worker_window::{MoteWindow, NoGate};
 
 /// A process that prints, and yields for ever.
 const PRINT_THEN_YIELD: &str =

@@ -2,10 +2,11 @@
 
 ghost use Rattle.std.specs.Prelude.{◌≡◌, ◌≤◌, ◌<◌, ℕ, true, length, IfOk};
 ghost use Rattle.mote_net.specs.Net.{net_of};
-ghost use Rattle.window_run.specs.Shares.{AreGoingOn, AreInNet, ResidentGoesOn};
-ghost use Rattle.window_run.specs.Window.{is_rising};
+ghost use Rattle.worker_window.specs.Shares.{AreGoingOn, AreInNet, ResidentGoesOn};
+ghost use Rattle.worker_window.specs.MoteWindow.{is_rising};
 
 use super::BUSY_PAIR;
+use fork_join::Refused;
 use mote_node::Mote;
 use net_scenario::{Net, read_scenario};
 use radio_packet::RadioCopy;
@@ -16,7 +17,7 @@ use std::sync::atomic::AtomicU64;
 use std::sync::atomic::Ordering::SeqCst;
 use std::test::Fail;
 use test_helpers::{TWO_SENDERS, same_text, write_lines, write_sends};
-use window_run::{Gate, NoGate, Resident, Residents, ShareError, WindowOut, WindowRoom, run_share};
+use worker_window::{Gate, NoGate, Resident, Residents, WindowOut, WindowRoom, run_share};
 
 /// A new mote of a net, with the copies that come to it.
 fn resident(
@@ -24,14 +25,14 @@ fn resident(
     net: &Net,
     number: u16,
     copies: Vec<RadioCopy>,
-) -> Result<Resident, ShareError>
+) -> Result<Resident, Refused>
     requires there { number < length (net_of net.now).motes }
     requires rising { is_rising copies.items ≡ true }
     ensures number { IfOk result (λ resident. resident.number ≡ number) }
     ensures goes_on { IfOk result (λ resident. (until : ℕ) → ResidentGoesOn (net_of net.now) until resident) }
 {
     let Ok(mote) = Mote::new(alloc, number, net.program(number), 32) else {
-        return Err(ShareError::Memory);
+        return Err(Refused::Memory);
     };
     Ok(Resident {
         number,
@@ -42,7 +43,7 @@ fn resident(
 }
 
 /// One worker with motes 0 and 1 of a net, and the copies that come to mote 1.
-fn share_of_two(alloc: Global, net: &Net, copies: Vec<RadioCopy>) -> Result<Residents, ShareError>
+fn share_of_two(alloc: Global, net: &Net, copies: Vec<RadioCopy>) -> Result<Residents, Refused>
     requires there { 2 ≤ length (net_of net.now).motes }
     requires rising { is_rising copies.items ≡ true }
     ensures there { IfOk result (λ share. AreInNet (net_of net.now) share.residents.items) }
@@ -75,7 +76,7 @@ fn one_copy(alloc: Global) -> Result<Vec<RadioCopy>, AllocError>
 fn outs_with_a_copy<R: Wait + RandomSource + AllocGlobal>(
     rt: &R,
     net: &Net,
-) -> Result<Vec<WindowOut>, ShareError>
+) -> Result<Vec<WindowOut>, Refused>
     requires { 2 ≤ length (net_of net.now).motes }
 {
     let copies = one_copy(rt.alloc())?;
@@ -140,7 +141,7 @@ impl Gate for Diary {
 fn order_of_turns<R: Wait + RandomSource + AllocGlobal>(
     rt: &R,
     net: &Net,
-) -> Result<(u64, usize), ShareError>
+) -> Result<(u64, usize), Refused>
     requires { 2 ≤ length (net_of net.now).motes }
 {
     let share = share_of_two(rt.alloc(), net, Vec::new(rt.alloc()))?;

@@ -3,7 +3,7 @@ use Rattle.std.specs.List.{prefix_len}
 use Rattle.program_tree.specs.Text.{is_feed}
 use Rattle.std.proofs.lemmas.List.{take_rest}
 use Rattle.program_tree.specs.Words.{is_word_byte}
-use Rattle.program_text_laws.proofs.PieceLaws.{blank_front, word_front, comment_front, front_passes}
+use Rattle.program_reader.proofs.PieceLaws.{blank_front, word_front, comment_front, front_passes}
 use Rattle.program_reader.proofs.lexer.first_piece.Goals as goal
 
 pub word_token-requires : goal.word_token-requires

@@ -3,7 +3,7 @@ use Rattle.std.specs.Prelude.{find}
 use Rattle.std.specs.List.{starts_with}
 use Rattle.std.proofs.lemmas.Iterator.{YieldsList-from_slice}
 use Rattle.std.proofs.lemmas.Iterator.Search.{find_from_yields_List}
-use Rattle.program_text_laws.specs.Front.{entry_of}
+use Rattle.program_reader.specs.Front.{entry_of}
 use Rattle.program_reader.proofs.FindLaws.{sign_found}
 use Rattle.program_reader.proofs.lexer.first_sign.Goals as goal
 

@@ -1,6 +1,6 @@
 use Rattle.std.proofs.Common.{sym}
 use Rattle.program_tree.specs.Text.{signs}
-use Rattle.program_text_laws.proofs.PieceLaws.{sign_front, other_front, found_sign}
+use Rattle.program_reader.proofs.PieceLaws.{sign_front, other_front, found_sign}
 use Rattle.program_reader.proofs.lexer.sign_or_bad.Goals as goal
 
 pub returns-in-Some-clause-piece : goal.returns-in-Some-clause-piece

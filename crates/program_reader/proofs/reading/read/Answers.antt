@@ -3,7 +3,7 @@ use Rattle.std.proofs.Common.{refl, get_or}
 use Rattle.std.specs.Prelude.{slice_get}
 use Rattle.std.proofs.lemmas.Option.{slice_get_read}
 use Rattle.program_tree.specs.Faults.{nothing_yet}
-use Rattle.program_text_laws.specs.Machine.{tell, from_events, fault}
+use Rattle.program_reader.specs.Machine.{tell, from_events, fault}
 use Rattle.program_tree.specs.Program.{tree_of}
 use Rattle.program_tree.specs.Reading.{IsToldOf}
 use Rattle.program_tree.specs.Reading.{IsTreeOfTokens}
@@ -13,8 +13,8 @@ use Rattle.program_tree.specs.declared.error.ReadError.{ReadError}
 use Rattle.program_reader.specs.declared.fault.Refusal.{Refusal}
 use Rattle.program_reader.specs.declared.fault.Refusal.TheVariants as refusal
 use Rattle.program_tree.specs.declared.program.Program.{Program}
-use Rattle.program_text_laws.proofs.Texts.{one_tree, tree_read, told_within, line_within, told_read, told_no_memory}
-use Rattle.program_text_laws.proofs.Texts.{never_both}
+use Rattle.program_reader.proofs.Texts.{one_tree, tree_read, told_within, line_within, told_read, told_no_memory}
+use Rattle.program_reader.proofs.Texts.{never_both}
 use Rattle.program_reader.proofs.reading.read.Goals as goal
 
 pub program-requires : goal.program-requires

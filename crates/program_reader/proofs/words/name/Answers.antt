@@ -1,4 +1,4 @@
-use Rattle.program_text_laws.proofs.WordLaws.{word-IsUtf8}
+use Rattle.program_reader.proofs.WordLaws.{word-IsUtf8}
 use Rattle.program_reader.proofs.words.name.Goals as goal
 
 pub returns-in-Err : goal.returns-in-Err

@@ -1,4 +1,4 @@
-use Rattle.program_text_laws.proofs.WordLaws.{digit_step}
+use Rattle.program_reader.proofs.WordLaws.{digit_step}
 use Rattle.program_reader.proofs.words.number_value.Goals as goal
 
 pub loop-digit-preserved : goal.loop-digit-preserved

@@ -1,5 +1,5 @@
 use Rattle.std.proofs.Common.{sym}
-use Rattle.program_text_laws.proofs.WordLaws.{number_token, table_token, other_token}
+use Rattle.program_reader.proofs.WordLaws.{number_token, table_token, other_token}
 use Rattle.program_reader.proofs.words.word_token.Goals as goal
 
 pub returns-then-is_number : goal.returns-then-is_number

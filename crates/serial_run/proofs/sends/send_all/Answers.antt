@@ -2,7 +2,7 @@ use Rattle.std.proofs.Common.{subst, map}
 use Rattle.radio_medium.specs.Medium.{copies}
 use Rattle.window_laws.specs.Agenda.{Packet}
 use Rattle.net_agenda.specs.Buckets.{Holds}
-use Rattle.net_report.specs.Report.{told_line}
+use Rattle.mote_net.specs.Report.{told_line}
 use Rattle.serial_run.specs.NetRun.{packet_with_fates}
 use Rattle.window_laws.specs.NetStep.{stamped}
 use Rattle.serial_run.proofs.SentOut.{sends_more, log_step}

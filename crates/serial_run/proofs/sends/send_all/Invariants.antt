@@ -3,7 +3,7 @@ use Rattle.std.specs.List.{flat_map}
 use Rattle.radio_medium.specs.Medium.{copies}
 use Rattle.window_laws.specs.Agenda.{Item, Packet}
 use Rattle.net_agenda.specs.Buckets.{Holds}
-use Rattle.net_report.specs.Report.{told_line}
+use Rattle.mote_net.specs.Report.{told_line}
 use Rattle.serial_run.specs.NetRun.{packet_with_fates}
 use Rattle.window_laws.specs.NetStep.{stamped}
 use Rattle.serial_run.proofs.sends.send_all.Given as goal

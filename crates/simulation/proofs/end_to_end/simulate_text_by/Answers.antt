@@ -1,7 +1,7 @@
 use Rattle.std.proofs.lemmas.Result.{err_from_is_err_and}
 use Rattle.std.specs.Io.KnownBytes.{Appends}
 use Rattle.mote_net.specs.Net.{net_of}
-use Rattle.net_report.specs.Report.{report_of}
+use Rattle.mote_net.specs.Report.{report_of}
 use Rattle.trace_printer.specs.Output.{AppendsFront}
 use Rattle.simulation.proofs.Printed.{scenario_of, reported, refused}
 use Rattle.simulation.proofs.end_to_end.simulate_text_by.Goals as goal

@@ -2,7 +2,7 @@ use Rattle.std.proofs.Common.{◌≡◌, ◌∷◌, [], ◌+◌, List, ℕ, leng
 use Rattle.std.proofs.lemmas.List.{length-map}
 use Rattle.program_tree.specs.Program.{tree_of}
 use Rattle.mote_net.specs.Net.{net_of}
-use Rattle.net_report.specs.Report.{lines_in}
+use Rattle.mote_net.specs.Report.{lines_in}
 use Rattle.trace_printer.specs.ReportText.{line_text}
 use Rattle.trace_printer.specs.TraceLines.{lines_from}
 use Rattle.trace_printer.specs.Words.{line_of}

@@ -2,7 +2,7 @@ use Rattle.std.proofs.Common.{map, ◌∙◌, ◌++◌, ap, subst, arith, append
 use Rattle.std.proofs.lemmas.Result.{err_from_is_err_and}
 use Rattle.program_tree.specs.Program.{tree_of}
 use Rattle.mote_net.specs.Net.{net_of}
-use Rattle.net_report.specs.Report.{lines_in}
+use Rattle.mote_net.specs.Report.{lines_in}
 use Rattle.trace_printer.specs.Page.{Written}
 use Rattle.trace_printer.specs.ReportText.{motes_text}
 use Rattle.trace_printer.proofs.Written.{printed_next, stopped_next}

@@ -1,6 +1,6 @@
 use Rattle.std.proofs.Common.{◌++◌, drop, map}
 use Rattle.mote_net.specs.Net.{net_of}
-use Rattle.net_report.specs.Report.{lines_in}
+use Rattle.mote_net.specs.Report.{lines_in}
 use Rattle.trace_printer.specs.Page.{Written}
 use Rattle.trace_printer.specs.ReportText.{motes_text}
 use Rattle.trace_printer.proofs.report.print_motes.Given as goal

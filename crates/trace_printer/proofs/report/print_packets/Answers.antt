@@ -1,7 +1,7 @@
 use Rattle.std.proofs.Common.{◌∙◌, ◌++◌, ap, arith}
 use Rattle.std.proofs.lemmas.Result.{err_from_is_err_and}
-use Rattle.net_report.specs.Report.{told_line}
-use Rattle.net_report.specs.declared.LogLine.{LogLine}
+use Rattle.mote_net.specs.Report.{told_line}
+use Rattle.mote_net.specs.declared.report.LogLine.{LogLine}
 use Rattle.trace_printer.specs.ReportText.{packet_text}
 use Rattle.trace_printer.proofs.Pieces.{mapped-drop}
 use Rattle.trace_printer.proofs.Written.{put_printed, put_stopped, printed_next, stopped_next}

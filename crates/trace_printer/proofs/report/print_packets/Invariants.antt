@@ -1,6 +1,6 @@
 use Rattle.std.proofs.Common.{◌++◌, drop, map}
 use Rattle.std.specs.List.{flat_map}
-use Rattle.net_report.specs.Report.{told_line}
+use Rattle.mote_net.specs.Report.{told_line}
 use Rattle.trace_printer.specs.Page.{Written}
 use Rattle.trace_printer.specs.ReportText.{packet_text}
 use Rattle.trace_printer.proofs.report.print_packets.Given as goal

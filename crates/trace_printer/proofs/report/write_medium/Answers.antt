@@ -1,8 +1,8 @@
 use Rattle.std.proofs.Common.{◌≡◌, ◌++◌, ap, sym, List, map}
 use Rattle.std.proofs.lemmas.Result.{err_from_is_err_and}
-use Rattle.net_report.specs.Report.{told_line, report_of}
-use Rattle.net_report.specs.declared.LogLine.{LogLine}
-use Rattle.net_report.specs.declared.Report.{Report}
+use Rattle.mote_net.specs.Report.{told_line, report_of}
+use Rattle.mote_net.specs.declared.report.LogLine.{LogLine}
+use Rattle.mote_net.specs.declared.report.Report.{Report}
 use Rattle.trace_printer.specs.ReportText.{medium_text, left_text}
 use Rattle.trace_printer.proofs.Written.{written_none, written_then, printed_next, stopped_before}
 use Rattle.trace_printer.proofs.report.write_medium.Goals as goal

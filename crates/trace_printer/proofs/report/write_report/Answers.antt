@@ -2,8 +2,8 @@ use Rattle.std.proofs.Common.{◌≡◌, ◌++◌, ap, sym, List, map, Vec, Glob
 use Rattle.std.proofs.lemmas.Result.{err_from_is_err_and}
 use Rattle.trace_lines.specs.declared.line.Line.{Line}
 use Rattle.mote_net.specs.Net.{NetTold, net_of}
-use Rattle.net_report.specs.Report.{lines_in, report_of}
-use Rattle.net_report.specs.declared.Report.{Report}
+use Rattle.mote_net.specs.Report.{lines_in, report_of}
+use Rattle.mote_net.specs.declared.report.Report.{Report}
 use Rattle.trace_printer.specs.ReportText.{motes_text, medium_text, left_text, report_text}
 use Rattle.trace_printer.proofs.Written.{written_none, written_start, written_front, written_then, printed_next, stopped_before}
 use Rattle.trace_printer.proofs.report.write_report.Goals as goal

@@ -6,8 +6,8 @@ use Rattle.radio_medium.specs.Medium.{Radio, medium_fault}
 use Rattle.copy_exchange.specs.Takers.{taken_by, gathered_by}
 use Rattle.copy_exchange.specs.Inboxes.{IsSettled}
 use Rattle.worker_window.specs.declared.share.Ended.{Ended}
-use Rattle.net_report.specs.declared.Report.{Report}
-use Rattle.net_report.specs.Report.{report_of}
+use Rattle.mote_net.specs.declared.report.Report.{Report}
+use Rattle.mote_net.specs.Report.{report_of}
 use Rattle.window_workers.specs.Crossed.{Pair, AllCrossed}
 use Rattle.window_workers.proofs.ByWorkers.{told_is, all_crossed}
 use Rattle.window_workers.proofs.Joined.{all_fates, all_places, workers_there}

@@ -11,8 +11,8 @@ use Rattle.copy_inbox.specs.Handles.{InboxId, TakerView}
 use Rattle.copy_exchange.specs.Inboxes.{IsFresh}
 use Rattle.all_workers.specs.Start.{AreFirst}
 use Rattle.all_workers.specs.Workers.{IsCut}
-use Rattle.net_report.specs.declared.Report.{Report}
-use Rattle.net_report.specs.Report.{report_of}
+use Rattle.mote_net.specs.declared.report.Report.{Report}
+use Rattle.mote_net.specs.Report.{report_of}
 use Rattle.window_workers.specs.Crossed.{Pair, AllCrossed}
 use Rattle.window_workers.specs.Fits.{cut_fault}
 use Rattle.serial_run.specs.NetRun.{IsReportOf}

@@ -7,7 +7,7 @@ use Rattle.radio_medium.specs.Medium.{copies, copy_of}
 use Rattle.window_laws.specs.Agenda.{Packet}
 use Rattle.window_laws.proofs.Lists.{every_append}
 use Rattle.net_agenda.specs.Buckets.{Holds}
-use Rattle.net_report.specs.declared.LogLine.{LogLine}
+use Rattle.mote_net.specs.declared.report.LogLine.{LogLine}
 use Rattle.worker_cut.specs.Crossed.{is_own, is_for_others}
 use Rattle.worker_window.specs.Log.{HaveFates, packets_in}
 use Rattle.worker_window.proofs.Sends.{more_sends, more_sent_own, more_sent_away}

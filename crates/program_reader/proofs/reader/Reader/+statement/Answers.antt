@@ -1,7 +1,7 @@
 use Rattle.std.proofs.Common.{◌≡◌, ◌∙◌, ◌+◌, ◌<◌, ◌≤◌, ap, sym, subst, refl, arith, Some, option_map, rules}
 use Rattle.program_tree.specs.Grammar.{statement_marks}
 use Rattle.program_tree.specs.InScope.{name_in, number_in}
-use Rattle.program_text_laws.specs.Machine.{first}
+use Rattle.program_reader.specs.Machine.{first}
 use Rattle.program_tree.specs.Scope.{statement_fits}
 use Rattle.program_reader.specs.Steps.{scope_of, context_of, ReadsStatement, Fits}
 use Rattle.program_tree.specs.Tokens as token

@@ -2,7 +2,7 @@ use Rattle.std.proofs.Common.{◌≡◌, ◌∙◌, Err, Result, ap, sym, rules}
 use Rattle.std.proofs.lemmas.Result.{err_from_is_err_and}
 use Rattle.program_tree.specs.EventNames.{sent}
 use Rattle.program_tree.specs.Forms as form
-use Rattle.program_text_laws.specs.Machine.{first}
+use Rattle.program_reader.specs.Machine.{first}
 use Rattle.program_tree.specs.declared.event_name.SentEvent.{SentEvent}
 use Rattle.program_reader.specs.declared.fault.Refusal.{Refusal}
 use Rattle.program_reader.specs.declared.fault.Refusal.TheVariants as refusal

@@ -1,7 +1,7 @@
 use Rattle.std.proofs.Common.{◌≡◌, ◌∙◌, Result, Err, sym, ap, map}
 use Rattle.std.proofs.lemmas.List.{length-map}
 use Rattle.std.proofs.lemmas.Result.{err_from_is_err_and}
-use Rattle.program_text_laws.specs.Machine.{codes_form}
+use Rattle.program_reader.specs.Machine.{codes_form}
 use Rattle.program_reader.specs.Steps.{scope_of}
 use Rattle.program_tree.specs.FlatBlock.{tree_in}
 use Rattle.program_reader.specs.declared.code.Content.{Content}

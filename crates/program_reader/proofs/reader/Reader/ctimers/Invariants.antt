@@ -2,7 +2,7 @@ use Rattle.std.proofs.Common.{◌≡◌, ◌≤◌, length, map}
 use Rattle.std.specs.List.{All}
 use Rattle.program_reader.specs.CodeParts.{HasBlocks}
 use Rattle.program_tree.specs.Grammar.{ctimer_marks}
-use Rattle.program_text_laws.specs.Machine.{from_ctimers}
+use Rattle.program_reader.specs.Machine.{from_ctimers}
 use Rattle.program_reader.specs.Steps.{scope_of}
 use Rattle.program_tree.specs.FlatBlock.{tree_in}
 use Rattle.program_tree.specs.Tree.{a_timer, IsWithinLimits}

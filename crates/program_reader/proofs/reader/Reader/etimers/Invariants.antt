@@ -1,7 +1,7 @@
 use Rattle.std.proofs.Common.{length, ◌≤◌, ◌≡◌, []}
 use Rattle.program_tree.specs.Grammar.{etimer_marks}
 use Rattle.program_reader.specs.Head.{HasNames}
-use Rattle.program_text_laws.specs.Machine.{from_etimers}
+use Rattle.program_reader.specs.Machine.{from_etimers}
 use Rattle.program_reader.specs.Steps.{scope_of}
 use Rattle.program_tree.specs.Tree.{a_timer}
 use Rattle.program_reader.proofs.reader.Reader.etimers.Given as goal

@@ -1,7 +1,7 @@
 use Rattle.std.proofs.Common.{length, ◌≤◌}
 use Rattle.program_tree.specs.Grammar.{event_marks}
 use Rattle.program_reader.specs.Head.{HasNames}
-use Rattle.program_text_laws.specs.Machine.{from_events}
+use Rattle.program_reader.specs.Machine.{from_events}
 use Rattle.program_reader.specs.Steps.{scope_of}
 use Rattle.program_tree.specs.Tree.{an_event}
 use Rattle.program_reader.proofs.reader.Reader.events.Given as goal

@@ -3,7 +3,7 @@ use Rattle.program_tree.specs.Grammar.{block_marks}
 use Rattle.program_tree.specs.InScope.{name_in, number_in}
 use Rattle.program_tree.specs.Scope.{block_fits}
 use Rattle.program_tree.specs.Tree.{Body, body_map, IsWithinLimits}
-use Rattle.program_text_laws.specs.Machine as machine
+use Rattle.program_reader.specs.Machine as machine
 use Rattle.program_reader.specs.Steps.{scope_of, context_of, Reads, Numbered, Fits}
 use Rattle.program_reader.proofs.BlockLaws.{within_limits}
 use Rattle.program_reader.proofs.reader.Reader.flat_block.Goals as goal

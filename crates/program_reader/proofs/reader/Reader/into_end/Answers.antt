@@ -1,5 +1,5 @@
 use Rattle.std.proofs.Common.{◌≡◌, ◌∙◌, ap, sym, Some, option_map}
-use Rattle.program_text_laws.specs.Machine.{first}
+use Rattle.program_reader.specs.Machine.{first}
 use Rattle.program_tree.specs.Tokens as token
 use Rattle.program_tree.specs.Tokens.{token_of}
 use Rattle.program_tree.specs.declared.keyword.Keyword.TheVariants as word

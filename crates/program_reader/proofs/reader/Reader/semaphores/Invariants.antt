@@ -1,7 +1,7 @@
 use Rattle.std.proofs.Common.{length, ◌≤◌}
 use Rattle.program_tree.specs.Grammar.{semaphore_marks}
 use Rattle.program_reader.specs.Head.{HasValues}
-use Rattle.program_text_laws.specs.Machine.{from_semaphores}
+use Rattle.program_reader.specs.Machine.{from_semaphores}
 use Rattle.program_reader.specs.Steps.{scope_of}
 use Rattle.program_tree.specs.Tree.{a_semaphore}
 use Rattle.program_reader.proofs.reader.Reader.semaphores.Given as goal

@@ -2,7 +2,7 @@ use Rattle.std.proofs.Common.{◌≡◌, ◌≤◌, length, map, true}
 use Rattle.std.specs.List.{All}
 use Rattle.program_reader.specs.CodeParts.{HasBlocks}
 use Rattle.program_tree.specs.Grammar.{thread_marks}
-use Rattle.program_text_laws.specs.Machine.{from_threads}
+use Rattle.program_reader.specs.Machine.{from_threads}
 use Rattle.program_tree.specs.Scope.{threads_fit, earlier_threads}
 use Rattle.program_reader.specs.Steps.{scope_of}
 use Rattle.program_tree.specs.FlatBlock.{tree_in}

@@ -1,6 +1,6 @@
 use Rattle.std.proofs.Common.{◌≡◌, ◌∙◌, ◌∷◌, refl, Result, Err, sym, ap, arith}
 use Rattle.std.proofs.lemmas.Result.{err_from_is_err_and}
-use Rattle.program_text_laws.specs.Machine.{from_variables}
+use Rattle.program_reader.specs.Machine.{from_variables}
 use Rattle.program_reader.specs.declared.fault.Refusal.{Refusal}
 use Rattle.program_reader.specs.declared.fault.Refusal.TheVariants as refusal
 use Rattle.program_reader.proofs.ListLaws.{variables_more, all_variables, variables_fail}

@@ -1,7 +1,7 @@
 use Rattle.std.proofs.Common.{length, ◌≤◌, ◌≡◌}
 use Rattle.program_tree.specs.Grammar.{variable_marks}
 use Rattle.program_reader.specs.Head.{HasValues}
-use Rattle.program_text_laws.specs.Machine.{from_variables}
+use Rattle.program_reader.specs.Machine.{from_variables}
 use Rattle.program_reader.specs.Steps.{scope_of}
 use Rattle.program_tree.specs.Tree.{a_variable}
 use Rattle.program_reader.proofs.reader.Reader.variables.Given as goal

@@ -7,7 +7,7 @@ use Rattle.window_laws.specs.Agenda.{Wake, up_to}
 use Rattle.net_agenda.specs.Buckets.{Holds}
 use Rattle.net_agenda.specs.NetSystem.{system_of, first_node_in, tree_at}
 use Rattle.net_agenda.proofs.Boots.{pushed, wakes_more}
-use Rattle.net_report.specs.Report.{told_line}
+use Rattle.mote_net.specs.Report.{told_line}
 use Rattle.serial_run.proofs.engine.Engine.boot.Goals as goal
 
 pub loop-number-preserved : goal.loop-number-preserved

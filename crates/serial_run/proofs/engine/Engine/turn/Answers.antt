@@ -9,7 +9,7 @@ use Rattle.radio_medium.specs.Medium.{Radio, copies}
 use Rattle.radio_packet.specs.declared.sent.Sent.{Sent}
 use Rattle.window_laws.specs.Agenda.{Item, Packet, comes_at, is_wake_of, wake_items}
 use Rattle.net_agenda.specs.Buckets.{Holds}
-use Rattle.net_report.specs.Report.{told_line}
+use Rattle.mote_net.specs.Report.{told_line}
 use Rattle.serial_run.specs.NetRun.{packet_with_fates}
 use Rattle.window_laws.specs.NetStep.{stamped}
 use Rattle.net_agenda.proofs.Systems.{tree_is}

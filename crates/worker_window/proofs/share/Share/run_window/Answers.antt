@@ -10,7 +10,7 @@ use Rattle.net_agenda.proofs.Gathered.{zero_from}
 use Rattle.worker_window.specs.declared.share.Share.{Share}
 use Rattle.worker_cut.specs.Crossed.{is_own, is_for_others}
 use Rattle.worker_window.specs.Window.{IsOutgoing}
-use Rattle.window_run.specs.Shares.{ResidentGives}
+use Rattle.worker_window.specs.Shares.{ResidentGives}
 use Rattle.worker_window.specs.Lending.{HasNumber, IsWakeOf, MoteReturns}
 use Rattle.worker_window.proofs.Parts.{window_copies, window_copies_are}
 use Rattle.worker_window.proofs.Lent.{zip_length}

@@ -1,0 +1,38 @@
+-- The endpoint of a worker for a whole run, window by window.
+use Rattle.std.proofs.Common.{◌≡◌, ◌==◌, ℕ, List, [], ◌∷◌, ◌++◌, map, filter, ap, ◌∙◌, append_assoc}
+use Rattle.radio_packet.specs.declared.copy.RadioCopy.{RadioCopy}
+use Rattle.worker_cut.specs.Crossed.{is_to}
+use Rattle.copy_inbox.specs.declared.items.Carried.TheVariants.{Packet, Mark}
+use Rattle.copy_inbox.specs.Handles.{InboxId, TakerView}
+use Rattle.copy_exchange.specs.declared.endpoint.Endpoint.{Endpoint}
+use Rattle.copy_exchange.specs.Endpoints.{IsOnInboxes, Stays, PushesOut, PushesMarks, pushed_to, identity_of}
+use Rattle.copy_exchange.proofs.Delivered.{stays_on}
+use Rattle.copy_exchange.proofs.Marked.{on_inboxes_stays}
+use Rattle.copy_exchange.specs.Delivers.{PushesWindow}
+use Rattle.copy_exchange.specs.Expected.{TakesExpected, position}
+
+-- first the copies, and then the mark
+pub pushes_window : (of : List ℕ) (workers window : ℕ) (a b c : Endpoint) (copies : List RadioCopy) → PushesOut of a b copies → PushesMarks workers window b c → PushesWindow of workers window a c copies
+pushes_window of workers window a b c copies out marks = record {
+  stays = stays_on a b c out.stays marks.stays;
+  taker = marks.taker ∙ out.taker;
+  pushes = λ v lt other.
+      marks.pushes v lt (ap (λ w. v == w) out.stays.worker ∙ other)
+      ∙ (ap (λ l. l ++ Mark window ∷ []) (out.pushes v other) ∙ append_assoc (pushed_to a v) (map Packet (filter (is_to of v) copies)) (Mark window ∷ []));
+}
+
+-- taking items changes the identity of no sender
+pub takes_stays : (of : List ℕ) (from : ℕ) (old new : Endpoint) (copies : List RadioCopy) → TakesExpected (position of old.worker from) old.taker new.taker copies → new.worker ≡ old.worker → new.senders ≡ old.senders → Stays old new
+takes_stays of from old new copies took worker senders = record {
+  worker = worker;
+  inbox = ap (λ (t : TakerView). t.inbox) took.taker;
+  marked = ap (λ (t : TakerView). t.state.marked) took.taker;
+  made = ap (λ (t : TakerView). t.state.made) took.taker;
+  gathered = ap (λ (t : TakerView). t.state.gathered) took.taker;
+  identities = ap (λ s. map identity_of s.items) senders;
+}
+
+pub takes_on_inboxes : (inboxes : List InboxId) (of : List ℕ) (from : ℕ) (old new : Endpoint) (copies : List RadioCopy) → TakesExpected (position of old.worker from) old.taker new.taker copies → new.worker ≡ old.worker → new.senders ≡ old.senders
+    → IsOnInboxes inboxes old → IsOnInboxes inboxes new
+takes_on_inboxes inboxes of from old new copies took worker senders on_inboxes =
+    on_inboxes_stays inboxes old new (takes_stays of from old new copies took worker senders) on_inboxes

@@ -1,0 +1,43 @@
+//! How many marks have come from each sender.
+
+ghost use Rattle.std.specs.Prelude.{◌≡◌, ℕ, ◌+◌, ◌<◌, ◌≤◌, ◌^◌, ◌↔◌, length, slice_index_or, slice_set, IfOk, IsTrue};
+ghost use Rattle.copy_exchange.specs.Marks.{AllPast, AreNone};
+
+use std::alloc::{AllocError, Global};
+
+/// A count of 0 for each of the senders.
+pub fn no_marks(alloc: Global, senders: usize) -> Result<Vec<u64>, AllocError>
+    ensures count { IfOk result (λ marks. length marks.items ≡ senders) }
+    ensures none { IfOk result (λ marks. AreNone marks.items) }
+{
+    let mut marks = Vec::with_capacity(alloc, senders)?;
+    for _ in 0..senders {
+        marks.push_reserved(0);
+    }
+    Ok(marks)
+}
+
+/// Whether the mark of window number `window` (from 0) has come from each sender: whether more marks than `window`
+/// have, those of the windows up to this one.
+pub fn all_past(marks: &[u64], window: u64) -> bool
+    ensures { IsTrue result ↔ AllPast window marks.now }
+{
+    for sender in 0..marks.len() {
+        if marks[sender] <= window {
+            return false;
+        }
+    }
+    true
+}
+
+/// How many marks will have been pushed once each sender that lacks the window's mark has pushed it.
+pub fn marks_wanted(marks: &[u64], window: u64) -> u64 {
+    let mut wanted: u64 = 0;
+    for count in marks {
+        wanted = wanted.wrapping_add(*count);
+        if *count <= window {
+            wanted = wanted.wrapping_add(1);
+        }
+    }
+    wanted
+}

@@ -1,0 +1,14 @@
+//! Laws of marks. Each is a theorem, stated as the contract of an empty function.
+
+ghost use Rattle.copy_exchange.specs.Laws.{AllIsTaken, EarlyIsUnseen};
+
+/// Once every mark of a sender has been taken, all that it pushed has been taken.
+pub fn all_is_taken()
+    ensures { AllIsTaken }
+{}
+
+/// Copies that are taken early do no harm if a window can't see them. What was taken of a sender, once it has the mark
+/// of each window before this one, shows the window the copies that were sent before it, and no others.
+pub fn early_is_unseen()
+    ensures { EarlyIsUnseen }
+{}

@@ -1,0 +1,114 @@
+//! The endpoint of a worker with marks, for the whole run.
+
+ghost use Rattle.std.specs.Prelude.{◌≡◌, [], length, IfErr, IfOk, OnOk};
+ghost use Rattle.std.specs.List.{AllByRecursion as Each};
+ghost use Rattle.copy_exchange.specs.Endpoints.{HasMarks, IsOnInboxes, Reaches};
+ghost use Rattle.copy_exchange.specs.Delivers.{PushesWindow};
+ghost use Rattle.copy_exchange.specs.declared.take.MarkError.TheVariants.{Unexpected};
+ghost use Rattle.copy_exchange.specs.Expected.{TakesExpected, TakesUnexpected, position_of};
+ghost use Rattle.copy_exchange.specs.Marks.{Counts, AllPast};
+
+use crate::endpoint::Endpoint;
+use crate::heard::no_marks;
+use crate::take::{MarkError, Standing, take_marks};
+use crate::wait::Waiting;
+use copy_inbox::{Inbox, InboxError};
+use radio_packet::RadioCopy;
+use std::alloc::Global;
+use std::sync::Wait;
+use std::sync::atomic::AtomicBool;
+
+/// The endpoint of a worker for the whole run, and how many marks it took of each sender on its inbox.
+#[derive(Drop)]
+pub struct MarkEndpoint {
+    pub base: Endpoint,
+    /// By the senders' numbers.
+    pub marks: Vec<u64>,
+    /// How it waits for marks.
+    pub waiting: Waiting,
+}
+
+impl MarkEndpoint {
+    /// The endpoint of a worker that has taken nothing yet, and on whose inbox this many senders were made.
+    pub fn new(alloc: Global, base: Endpoint, senders: usize) -> Result<MarkEndpoint, InboxError>
+        requires made { base.taker.state.made ≡ senders }
+        requires taken { base.taker.state.taken ≡ [] }
+        ensures base { IfOk result (λ made. made.base ≡ base) }
+        ensures counts { IfOk result (λ made. Counts made.marks.items base.taker.state) }
+    {
+        let marks = no_marks(alloc, senders)?;
+        Ok(MarkEndpoint {
+            base,
+            marks,
+            waiting: Waiting::new(),
+        })
+    }
+
+    /// Pushes the copies of a window, each to the worker of its receiver, and then the window's mark to each other
+    /// worker; `of` is the worker of each mote. If a push fails, the error is [`InboxError::Memory`]; what was pushed
+    /// before it stays.
+    pub fn deliver_window<R: Wait>(
+        &mut self,
+        rt: &R,
+        inboxes: &[Inbox],
+        of: &[u16],
+        copies: &[RadioCopy],
+        window: u64,
+    ) -> Result<(), InboxError>
+        requires on_inboxes { IsOnInboxes inboxes.now self.old.base }
+        requires marked { HasMarks self.old.base }
+        requires reaches { Each (Reaches of.now (length inboxes.now)) copies.now }
+        ensures pushes { OnOk result
+            (PushesWindow of.now (length inboxes.now) window self.old.base self.new.base copies.now) }
+        ensures on_inboxes { OnOk result (IsOnInboxes inboxes.now self.new.base) }
+        ensures counts { OnOk result (self.new.marks ≡ self.old.marks) }
+    {
+        self.base.push_copies(rt, inboxes, of, copies)?;
+        self.base.push_marks(rt, inboxes, window)
+    }
+
+    /// Takes items until the mark of the window has come from each sender, and returns their copies; items of a later
+    /// window that come sooner are taken too. `stop` is the flag that a failing worker sets.
+    ///
+    /// # Errors
+    /// `Memory`; `Stopped` if the flag was seen set while a mark was missing; `Unexpected` if a copy came that isn't
+    /// for a mote of this worker from a mote of another, or that arrives before this worker's next window.
+    pub fn take_window<R: Wait>(
+        &mut self,
+        rt: &R,
+        alloc: Global,
+        inbox: &Inbox,
+        stop: &AtomicBool,
+        standing: &Standing<'_>,
+        window: u64,
+    ) -> Result<Vec<RadioCopy>, MarkError>
+        requires inbox { self.old.base.taker.inbox ≡ inbox.now }
+        requires counts { Counts self.old.marks.items self.old.base.taker.state }
+        ensures took { IfOk result
+            (λ copies. TakesExpected (position_of standing.now) self.old.base.taker self.new.base.taker copies.items) }
+        ensures counts { OnOk result (Counts self.new.marks.items self.new.base.taker.state) }
+        ensures marked { OnOk result (AllPast window self.new.marks.items) }
+        ensures worker { self.new.base.worker ≡ self.old.base.worker }
+        ensures senders { self.new.base.senders ≡ self.old.base.senders }
+        ensures unexpected { IfErr result
+            (λ error. error ≡ Unexpected → TakesUnexpected (position_of standing.now) self.old.base.taker
+            self.new.base.taker) }
+    {
+        let MarkEndpoint {
+            base,
+            marks,
+            waiting,
+        } = self;
+        take_marks(
+            rt,
+            alloc,
+            inbox,
+            stop,
+            standing,
+            &mut base.taker,
+            marks,
+            window,
+            waiting,
+        )
+    }
+}

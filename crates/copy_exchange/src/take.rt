@@ -1,0 +1,167 @@
+//! Taking until the marks of a window have come.
+
+ghost use Rattle.std.specs.Prelude.{◌≡◌, ◌↔◌, IfOk, IfErr, OnOk, OnErr, IsTrue};
+ghost use Rattle.copy_inbox.specs.declared.rule.TakerState.{TakerState};
+ghost use Rattle.copy_inbox.specs.Handles.{IsNextTaken, state_with};
+ghost use Rattle.copy_exchange.specs.declared.take.MarkError.TheVariants.{Stopped, Unexpected};
+ghost use Rattle.copy_exchange.specs.Expected.{AddsCopy, IsExpectedAt, Refuses, TakesExpected, TakesUnexpected};
+ghost use Rattle.copy_exchange.specs.Expected.{position_of};
+ghost use Rattle.copy_exchange.specs.Marks.{Counts, AllPast};
+
+use crate::heard::all_past;
+use crate::wait::{Waiting, wait};
+use copy_inbox::{Carried, Inbox, Item, Taker};
+use radio_packet::RadioCopy;
+use std::alloc::{AllocError, AllocFailed, Global};
+use std::sync::Wait;
+use std::sync::atomic::AtomicBool;
+use worker_cut::is_own;
+
+/// Why a worker stopped taking items.
+#[derive(Clone, Copy, Debug, PartialEq, Eq)]
+pub enum MarkError {
+    /// Out of memory: an allocation failed.
+    Memory = 1,
+    /// The flag was set: another worker failed, or wasn't started.
+    Stopped = 2,
+    /// A copy came that isn't expected. None comes in a run in which all workers keep to the protocol.
+    Unexpected = 3,
+}
+
+impl From<AllocError> for MarkError {
+    ghost use Rattle.copy_exchange.specs.declared.take.MarkError.{MarkError};
+
+    ghost from_gives = { λ _ e. e ≡ MarkError.Memory };
+
+    fn from(_error: AllocError) -> Self {
+        MarkError::Memory
+    }
+}
+
+impl<T: Drop> From<AllocFailed<T>> for MarkError {
+    ghost use Rattle.copy_exchange.specs.declared.take.MarkError.{MarkError};
+
+    ghost from_gives = { λ _ e. e ≡ MarkError.Memory };
+
+    fn from(_error: AllocFailed<T>) -> Self {
+        MarkError::Memory
+    }
+}
+
+/// The position of a worker between two windows; `Position` in definitions.
+#[derive(Clone, Copy)]
+pub struct Standing<'a> {
+    pub worker: u16,
+    /// The worker of each mote.
+    pub of: &'a [u16],
+    /// The moment at which its next window begins.
+    pub from: u64,
+}
+
+/// Whether the copy is for a mote of the worker, isn't from one of its motes, and arrives no sooner than the worker's
+/// next window begins.
+fn is_expected(standing: &Standing<'_>, copy: RadioCopy) -> bool
+    ensures { IsTrue result ↔ IsExpectedAt (position_of standing.now) copy }
+{
+    if !is_own(standing.of, standing.worker, copy.to) {
+        return false;
+    }
+    if is_own(standing.of, standing.worker, copy.sender) {
+        return false;
+    }
+    standing.from <= copy.at
+}
+
+/// Receives an item that was taken: counts a mark; appends a copy to those that arrived, if it is expected.
+fn hear(
+    standing: &Standing<'_>,
+    marks: &mut Vec<u64>,
+    arrived: &mut Vec<RadioCopy>,
+    item: Item,
+) -> Result<(), MarkError>
+    requires { (d : TakerState) × Counts marks.old.items d × IsNextTaken d item }
+    ensures counts { OnOk result
+        ((d : TakerState) → Counts marks.old.items d → IsNextTaken d item
+        → Counts marks.new.items (state_with d item)) }
+    ensures arrived { OnOk result
+        (AddsCopy (position_of standing.now) item arrived.old.items arrived.new.items) }
+    ensures refused { IfErr result (Refuses (position_of standing.now) item) }
+{
+    match item.what {
+        Carried::Packet(copy) => {
+            if !is_expected(standing, copy) {
+                return Err(MarkError::Unexpected);
+            }
+            arrived.push(copy)?;
+        }
+        Carried::Mark(_) => marks[item.sender as usize] += 1,
+    }
+    Ok(())
+}
+
+/// As [`take_marks`]; `waiting` records whether the flag was seen set.
+fn take_waiting<R: Wait>(
+    rt: &R,
+    alloc: Global,
+    inbox: &Inbox,
+    stop: &AtomicBool,
+    standing: &Standing<'_>,
+    taker: &mut Taker,
+    marks: &mut Vec<u64>,
+    window: u64,
+    waiting: &mut Waiting,
+) -> Result<Vec<RadioCopy>, MarkError>
+    requires inbox { taker.old.inbox ≡ inbox.now }
+    requires counts { Counts marks.old.items taker.old.state }
+    ensures took { IfOk result
+        (λ copies. TakesExpected (position_of standing.now) taker.old taker.new copies.items) }
+    ensures counts { OnOk result (Counts marks.new.items taker.new.state) }
+    ensures marked { OnOk result (AllPast window marks.new.items) }
+    ensures stopped { IfErr result (λ error. error ≡ Stopped → IsTrue waiting.new.stopped) }
+    ensures unexpected { IfErr result
+        (λ error. error ≡ Unexpected → TakesUnexpected (position_of standing.now) taker.old taker.new) }
+{
+    let mut arrived = Vec::new(alloc);
+    for _ in rt.forever() {
+        if all_past(marks, window) {
+            return Ok(arrived);
+        }
+        match inbox.take_next(rt, taker) {
+            Some(item) => hear(standing, marks, &mut arrived, item)?,
+            None => wait(rt, inbox, stop, marks, window, waiting)?,
+        }
+    }
+    unreachable!()
+}
+
+/// Takes items until the mark of window number `window` (from 0) has come from each sender, that is, until more marks
+/// than `window` have; returns the copies taken on the way.
+///
+/// # Errors
+/// `Memory`; `Stopped` if the flag was seen set while a mark was missing; `Unexpected` if a copy came that isn't
+/// expected.
+pub fn take_marks<R: Wait>(
+    rt: &R,
+    alloc: Global,
+    inbox: &Inbox,
+    stop: &AtomicBool,
+    standing: &Standing<'_>,
+    taker: &mut Taker,
+    marks: &mut Vec<u64>,
+    window: u64,
+    waiting: &mut Waiting,
+) -> Result<Vec<RadioCopy>, MarkError>
+    requires inbox { taker.old.inbox ≡ inbox.now }
+    requires counts { Counts marks.old.items taker.old.state }
+    ensures took { IfOk result
+        (λ copies. TakesExpected (position_of standing.now) taker.old taker.new copies.items) }
+    ensures counts { OnOk result (Counts marks.new.items taker.new.state) }
+    ensures marked { OnOk result (AllPast window marks.new.items) }
+    ensures unexpected { IfErr result
+        (λ error. error ≡ Unexpected → TakesUnexpected (position_of standing.now) taker.old taker.new) }
+{
+    waiting.begin();
+    take_waiting(
+        rt, alloc, inbox, stop, standing, taker, marks, window, waiting,
+    )
+}

@@ -1,0 +1,78 @@
+//! A worker's wait for the marks of a window.
+
+ghost use Rattle.std.specs.Prelude.{◌≡◌, IfErr, IsTrue, OnErr};
+ghost use Rattle.copy_exchange.specs.declared.take.MarkError.TheVariants.{Stopped};
+
+use crate::heard::marks_wanted;
+use crate::take::MarkError;
+use copy_inbox::Inbox;
+use std::sync::Wait;
+use std::sync::atomic::{AtomicBool, Ordering};
+use std::time::Duration;
+
+// Bounds of the spin budget: fruitless looks per window before the worker sleeps.
+const LEAST_LOOKS: u32 = 32;
+
+const MOST_LOOKS: u32 = 1024;
+
+// The longest that it sleeps before it reads the flag again.
+const NAP_MILLIS: u64 = 10;
+
+/// How a worker waits for its next item.
+#[derive(Clone, Copy)]
+pub struct Waiting {
+    /// Whether it saw the flag set.
+    pub stopped: bool,
+    /// How often it may look in vain in this window before it sleeps.
+    looks: u32,
+    /// How many of these looks are left.
+    left: u32,
+}
+
+impl Waiting {
+    pub fn new() -> Waiting {
+        Waiting {
+            stopped: false,
+            looks: MOST_LOOKS,
+            left: MOST_LOOKS,
+        }
+    }
+
+    /// Begins the wait of a window. The worker may look twice as often as in the previous window if some looks were
+    /// left there, and else half as often.
+    pub fn begin(&mut self) {
+        self.stopped = false;
+        self.looks = if self.left > 0 {
+            self.looks.saturating_mul(2).min(MOST_LOOKS)
+        } else {
+            (self.looks / 2).max(LEAST_LOOKS)
+        };
+        self.left = self.looks;
+    }
+}
+
+/// After a look that found nothing: gives up if the flag is set, and else lets some time pass.
+pub fn wait<R: Wait>(
+    rt: &R,
+    inbox: &Inbox,
+    stop: &AtomicBool,
+    marks: &[u64],
+    window: u64,
+    waiting: &mut Waiting,
+) -> Result<(), MarkError>
+    ensures seen { OnErr result (IsTrue waiting.new.stopped) }
+    ensures stopped { IfErr result (λ error. error ≡ Stopped) }
+{
+    waiting.stopped = stop.load(Ordering::SeqCst);
+    if waiting.stopped {
+        return Err(MarkError::Stopped);
+    }
+    if waiting.left > 0 {
+        waiting.left -= 1;
+        std::hint::spin_loop();
+    } else {
+        let nap = Duration::from_millis(NAP_MILLIS);
+        inbox.wait_for_marks(rt, marks_wanted(marks, window), nap);
+    }
+    Ok(())
+}

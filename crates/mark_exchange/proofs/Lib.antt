@@ -1,4 +1,0 @@
-pub mod Counted
-pub mod Delivered
-pub mod Early
-pub mod Whole

@@ -1,5 +1,0 @@
-use Rattle.mark_exchange.proofs.Early.{early_is_unseen}
-use Rattle.mark_exchange.proofs.laws.early_is_unseen.Goals as goal
-
-pub returns : goal.returns
-returns c = early_is_unseen

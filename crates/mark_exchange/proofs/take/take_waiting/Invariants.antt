@@ -1,9 +1,0 @@
-use Rattle.mark_exchange.specs.Expected.{TakesExpected, position_of}
-use Rattle.mark_exchange.specs.Marks.{Counts}
-use Rattle.mark_exchange.proofs.take.take_waiting.Given as goal
-
-abbrev pub invariant-loop : goal.invariant-loop
-invariant-loop g l = record {
-  took : TakesExpected (position_of l.standing) l.fn.taker l.taker l.arrived.items;
-  counts : Counts l.marks.items l.taker.state;
-}

@@ -1,0 +1,29 @@
+//! The laws. Each is a theorem, stated as the contract of an empty function.
+
+ghost use Rattle.mark_laws.specs.RunLaws.{EachRunHasAll, RunsEndAtEnd, MarksLeadOn, SendersAreApart};
+ghost use Rattle.mark_laws.specs.RunLaws.{NoCopyIsUnexpected};
+
+/// If `run_marked` returns Ok, all threads together did what [`ends_at_the_end`] compares with the protocol.
+pub fn each_run_has_all()
+    ensures { EachRunHasAll }
+{}
+
+/// The plan of the protocol is what the workers sent one another, window by window. Then what they have pushed and
+/// taken at the end of their threads is the end of the protocol, at which nothing is left to do; and each went on from
+/// a window to the next as the protocol lets it, with the marks of all others.
+pub fn ends_at_the_end()
+    ensures end { RunsEndAtEnd }
+    ensures marks { MarksLeadOn }
+{}
+
+/// No two senders on an inbox have the same number.
+pub fn senders_are_apart()
+    ensures { SendersAreApart }
+{}
+
+/// Wherever the protocol has led, each copy that a worker may take is expected: it is for a mote of this worker, from
+/// a mote of another, and arrives no sooner than the worker's next window. So no thread finds a copy that isn't
+/// expected, as long as each other one ran its motes in each window that it has begun.
+pub fn no_copy_is_unexpected()
+    ensures { NoCopyIsUnexpected }
+{}

@@ -1,5 +1,0 @@
-use Rattle.mark_run_laws.proofs.Binds.{each_run_has_all}
-use Rattle.mark_run_laws.proofs.laws.each_run_has_all.Goals as goal
-
-pub returns : goal.returns
-returns c = each_run_has_all

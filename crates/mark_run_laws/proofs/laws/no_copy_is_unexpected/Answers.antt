@@ -1,5 +1,0 @@
-use Rattle.mark_run_laws.proofs.Expected.{no_copy_is_unexpected}
-use Rattle.mark_run_laws.proofs.laws.no_copy_is_unexpected.Goals as goal
-
-pub returns : goal.returns
-returns c = no_copy_is_unexpected

@@ -1,0 +1,199 @@
+-- Each name in a block stands for one of its class, if the marks of the block keep the rules.
+use Rattle.std.proofs.Common.{◌≡◌, ℕ, ◌+◌, List, [], ◌∷◌, ◌++◌, refl, ap, true, false, Option, Some, None, is_some}
+use Rattle.std.proofs.Common.{option_map}
+use Rattle.std.specs.List.{All}
+use Rattle.std.proofs.lemmas.List.Elements.{All-nil, All-cons, All-append}
+use Rattle.program_tree.specs.EventNames as event
+use Rattle.program_tree.specs.EventNames.{CastEvent, SentEvent, AnyEvent}
+use Rattle.program_tree.specs.Grammar.{Context, inner, Mark, sign, opening, cast_mark, sent_mark, any_mark, into_marks}
+use Rattle.program_tree.specs.Grammar.{expression_marks, action_marks, statement_marks, items_marks, else_marks}
+use Rattle.program_tree.specs.Grammar.{block_marks}
+use Rattle.program_tree.specs.InScope.{Names, is_a}
+use Rattle.program_tree.specs.Names.{place_of}
+use Rattle.program_tree.specs.Shapes.{Name}
+use Rattle.program_reader.specs.Steps.{look, Finds, is_own_thread}
+use Rattle.program_tree.specs.Tokens as token
+use Rattle.program_tree.specs.Tree as tree
+use Rattle.program_tree.specs.Tree.{Class, an_event, a_semaphore, a_process, a_variable, a_timer, a_thread, Expression}
+use Rattle.program_tree.specs.Tree.{number, variable, sender, moment, mote, is, fired, expired, gone, running, count}
+use Rattle.program_tree.specs.Tree.{negation, binary, Action, assign, print, send, wait_until, wait_while, yield}
+use Rattle.program_tree.specs.Tree.{yield_until, spawn, restart, exit, pause, acquire, signal, post, broadcast, synch}
+use Rattle.program_tree.specs.Tree.{poll, start, kill, set, reset, restart_timer, stop, Statement, does, branch, while}
+use Rattle.program_tree.specs.Tree.{Body, end, next, Otherwise, nothing, otherwise}
+use Rattle.mote_program.specs.Named.{named_by_cast, named_by_sent, named_by_any, named_by_expression}
+use Rattle.mote_program.specs.Named.{named_by_into, named_by_action, named_by_statement, named_by_block}
+use Rattle.mote_program.specs.Named.{named_by_otherwise}
+use Rattle.mote_program.proofs.Marks.{AreSound}
+
+-- a name that stands for one of its class, but not for the thread that is being read
+abbrev pub Stands : Names → Option Name → Class × Name → Type 0
+Stands n own m = (i : ℕ) × Finds n own m.0 m.1 i
+
+-- each of these names does, and the marks after them keep the rules
+abbrev pub Stand : Names → Option Name → List (Class × Name) → List Mark → Type 0
+Stand n own ns after = All (Stands n own) ns × AreSound n after
+
+some_place : (o : Option ℕ) → is_some o ≡ true → (i : ℕ) × (o ≡ Some i)
+some_place None e = absurd cc
+some_place (Some i) e = (i, refl)
+
+placed : (n : Names) (k : Class) (x : Name) → is_a n k x ≡ true → (i : ℕ) × (look n k x ≡ Some i)
+placed n an_event x e = some_place _ e
+placed n a_semaphore x e = some_place _ e
+placed n a_process x e = some_place _ e
+placed n a_variable x e = some_place _ e
+placed n a_timer x e = let q = some_place (place_of n.timers x) e in (_, ap (option_map (λ i. n.first_timer + i)) q.1)
+placed n a_thread x e = some_place _ e
+
+pub stands : (n : Names) (own : Option Name) (k : Class) (x : Name) → is_a n k x ≡ true → is_own_thread own k x ≡ false
+    → Stands n own (k, x)
+stands n own k x e h = let q = placed n k x e in (q.0, record { found = q.1; other = h })
+
+module _ (n : Names) where
+  none : (own : Option Name) → All (Stands n own) []
+  none own = All-nil (Stands n own)
+
+  one : (own : Option Name) (k : Class) (x : Name) → is_a n k x ≡ true → is_own_thread own k x ≡ false
+      → All (Stands n own) ((k, x) ∷ [])
+  one own k x e h = All-cons (Stands n own) (k, x) [] (stands n own k x e h) (none own)
+
+  more : (own : Option Name) (k : Class) (x : Name) (ns : List (Class × Name)) → is_a n k x ≡ true
+      → is_own_thread own k x ≡ false → All (Stands n own) ns → All (Stands n own) ((k, x) ∷ ns)
+  more own k x ns e h rest = All-cons (Stands n own) (k, x) ns (stands n own k x e h) rest
+
+  both : (own : Option Name) (ns ms : List (Class × Name)) → All (Stands n own) ns → All (Stands n own) ms
+      → All (Stands n own) (ns ++ ms)
+  both own ns ms h k = All-append (Stands n own) ns ms h k
+
+  cast_stands : (own : Option Name) (e : CastEvent Name) (after : List Mark) → AreSound n (cast_mark e ∷ after)
+      → Stand n own (named_by_cast e) after
+  cast_stands own event.continue after h = (none own, h.1)
+  cast_stands own event.msg after h = (none own, h.1)
+  cast_stands own event.«com» after h = (none own, h.1)
+  cast_stands own event.packet after h = (none own, h.1)
+  cast_stands own (event.declared x) after h = (one own an_event x h.0 refl, h.1)
+
+  sent_stands : (own : Option Name) (e : SentEvent Name) (after : List Mark) → AreSound n (sent_mark e ∷ after)
+      → Stand n own (named_by_sent e) after
+  sent_stands own (event.cast e) after h = cast_stands own e after h
+  sent_stands own event.exit after h = (none own, h.1)
+
+  any_stands : (own : Option Name) (e : AnyEvent Name) (after : List Mark) → AreSound n (any_mark e ∷ after)
+      → Stand n own (named_by_any e) after
+  any_stands own (event.sent e) after h = sent_stands own e after h
+  any_stands own event.init after h = (none own, h.1)
+  any_stands own event.poll after h = (none own, h.1)
+  any_stands own event.exited after h = (none own, h.1)
+  any_stands own event.timer after h = (none own, h.1)
+
+  expression_stands : (c : Context) (e : Expression Name) (after : List Mark) → AreSound n (expression_marks c e after)
+      → Stand n c.thread (named_by_expression e) after
+  expression_stands c (number v) after h = (none c.thread, h.1)
+  expression_stands c (variable x) after h = (one c.thread a_variable x h.0 refl, h.1)
+  expression_stands c tree.word after h = (none c.thread, h.1)
+  expression_stands c sender after h = (none c.thread, h.1)
+  expression_stands c moment after h = (none c.thread, h.1)
+  expression_stands c mote after h = (none c.thread, h.1)
+  expression_stands c (is e) after h = let q = any_stands c.thread e (sign token.Close ∷ after) h.1.1 in (q.0, q.1.1)
+  expression_stands c (fired t) after h = (one c.thread a_timer t h.1.1.0 refl, h.1.1.1.1)
+  expression_stands c (expired t) after h = (one c.thread a_timer t h.1.1.0 refl, h.1.1.1.1)
+  expression_stands c (gone p) after h = (one c.thread a_process p h.1.1.0 refl, h.1.1.1.1)
+  expression_stands c (running p) after h = (one c.thread a_process p h.1.1.0 refl, h.1.1.1.1)
+  expression_stands c (count s) after h = (one c.thread a_semaphore s h.1.1.0 refl, h.1.1.1.1)
+  expression_stands c (negation e) after h = expression_stands (inner c) e after h.1
+  expression_stands c (binary o a b) after h =
+      let left = expression_stands (inner c) a (sign (token.Op o) ∷ expression_marks (inner c) b
+      (sign token.Close ∷ after)) h.1 in
+      let right = expression_stands (inner c) b (sign token.Close ∷ after) left.1.1 in
+      (both c.thread (named_by_expression a) (named_by_expression b) left.0 right.0, right.1.1)
+
+  into_stands : (own : Option Name) (i : Option Name) (after : List Mark) → AreSound n (into_marks i after)
+      → Stand n own (named_by_into i) after
+  into_stands own None after h = (none own, h.1)
+  into_stands own (Some x) after h = (one own a_variable x h.1.0 refl, h.1.1.1)
+
+  -- an expression and `;`
+  last_stands : (c : Context) (e : Expression Name) (after : List Mark)
+      → AreSound n (expression_marks c e (sign token.Semicolon ∷ after))
+      → Stand n c.thread (named_by_expression e) after
+  last_stands c e after h = let q = expression_stands c e (sign token.Semicolon ∷ after) h in (q.0, q.1.1)
+
+  -- an expression, and perhaps `into`
+  told_stands : (c : Context) (e : Expression Name) (i : Option Name) (after : List Mark)
+      → AreSound n (expression_marks c e (into_marks i after))
+      → Stand n c.thread (named_by_expression e ++ named_by_into i) after
+  told_stands c e i after h =
+      let q = expression_stands c e (into_marks i after) h in
+      let r = into_stands c.thread i after q.1 in
+      (both c.thread (named_by_expression e) (named_by_into i) q.0 r.0, r.1)
+
+  action_stands : (c : Context) (a : Action Name) (after : List Mark) → AreSound n (action_marks c a after)
+      → Stand n c.thread (named_by_action a) after
+  action_stands c (assign x e) after h = let q = last_stands c e after h.1.1 in
+      (more c.thread a_variable x _ h.0 refl q.0, q.1)
+  action_stands c (print e) after h = last_stands c e after h.1
+  action_stands c (send e) after h = last_stands c e after h.1
+  action_stands c (wait_until e) after h = last_stands c e after h.1
+  action_stands c (wait_while e) after h = last_stands c e after h.1
+  action_stands c yield after h = (none c.thread, h.1.1)
+  action_stands c (yield_until e) after h = last_stands c e after h.1
+  action_stands c (spawn t) after h = (one c.thread a_thread t h.1.0.0 h.1.0.1, h.1.1.1)
+  action_stands c restart after h = (none c.thread, h.1.1)
+  action_stands c exit after h = (none c.thread, h.1.1)
+  action_stands c pause after h = (none c.thread, h.1.1)
+  action_stands c (acquire s) after h = (one c.thread a_semaphore s h.1.0 refl, h.1.1.1)
+  action_stands c (signal s) after h = (one c.thread a_semaphore s h.1.0 refl, h.1.1.1)
+  action_stands c (post p e w i) after h =
+      let q = sent_stands c.thread e (expression_marks c w (into_marks i after)) h.1.1 in
+      let r = told_stands c w i after q.1 in
+      (more c.thread a_process p _ h.1.0 refl (both c.thread (named_by_sent e) _ q.0 r.0), r.1)
+  action_stands c (broadcast e w i) after h =
+      let q = cast_stands c.thread e (expression_marks c w (into_marks i after)) h.1 in
+      let r = told_stands c w i after q.1 in
+      (both c.thread (named_by_cast e) _ q.0 r.0, r.1)
+  action_stands c (synch p e w) after h =
+      let q = sent_stands c.thread e (expression_marks c w (sign token.Semicolon ∷ after)) h.1.1 in
+      let r = last_stands c w after q.1 in
+      (more c.thread a_process p _ h.1.0 refl (both c.thread (named_by_sent e) _ q.0 r.0), r.1)
+  action_stands c (poll p) after h = (one c.thread a_process p h.1.0 refl, h.1.1.1)
+  action_stands c (start p) after h = (one c.thread a_process p h.1.0 refl, h.1.1.1)
+  action_stands c (kill p) after h = (one c.thread a_process p h.1.0 refl, h.1.1.1)
+  action_stands c (set t e) after h = let q = last_stands c e after h.1.1 in
+      (more c.thread a_timer t _ h.1.0 refl q.0, q.1)
+  action_stands c (reset t) after h = (one c.thread a_timer t h.1.0 refl, h.1.1.1)
+  action_stands c (restart_timer t) after h = (one c.thread a_timer t h.1.0 refl, h.1.1.1)
+  action_stands c (stop t) after h = (one c.thread a_timer t h.1.0 refl, h.1.1.1)
+
+  mutual
+    statement_stands : (c : Context) (s : Statement Name) (after : List Mark) → AreSound n (statement_marks c s after)
+        → Stand n c.thread (named_by_statement s) after
+    statement_stands c (does a) after h = action_stands c a after h
+    statement_stands c (branch e a o) after h =
+        let q = expression_stands c e (opening token.OpenBrace (c.level + 1) ∷ items_marks (inner c) a
+        (else_marks c o after)) h.1 in
+        let r = items_stand (inner c) a (else_marks c o after) q.1.1 in
+        let s = else_stands c o after r.1 in (
+          both c.thread (named_by_expression e) _ q.0 (both c.thread (named_by_block a) (named_by_otherwise o) r.0 s.0),
+          s.1,
+        )
+    statement_stands c (while e a) after h =
+        let q = expression_stands c e (opening token.OpenBrace (c.level + 1) ∷ items_marks (inner c) a after) h.1 in
+        let r = items_stand (inner c) a after q.1.1 in
+        (both c.thread (named_by_expression e) (named_by_block a) q.0 r.0, r.1)
+
+    items_stand : (c : Context) (b : Body Name) (after : List Mark) → AreSound n (items_marks c b after)
+        → Stand n c.thread (named_by_block b) after
+    items_stand c end after h = (none c.thread, h.1)
+    items_stand c (next s b) after h =
+        let q = statement_stands c s (items_marks c b after) h in
+        let r = items_stand c b after q.1 in
+        (both c.thread (named_by_statement s) (named_by_block b) q.0 r.0, r.1)
+
+    else_stands : (c : Context) (o : Otherwise Name) (after : List Mark) → AreSound n (else_marks c o after)
+        → Stand n c.thread (named_by_otherwise o) after
+    else_stands c nothing after h = (none c.thread, h)
+    else_stands c (otherwise b) after h = items_stand (inner c) b after h.1.1
+
+  pub block_stands : (c : Context) (b : Body Name) (after : List Mark) → AreSound n (block_marks c b after)
+      → Stand n c.thread (named_by_block b) after
+  block_stands c b after h = items_stand (inner c) b after h.1

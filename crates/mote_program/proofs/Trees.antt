@@ -1,0 +1,138 @@
+-- The small trees.
+use Rattle.std.proofs.Common.{◌≡◌, ℕ, zero, suc, ◌+◌, ◌<◌, ◌≤◌, nat_le, [], ◌∷◌, slice_get, refl, subst, arith, Some}
+use Rattle.std.proofs.Common.{true}
+use Rattle.std.specs.List.{AllByRecursion}
+use Rattle.std.proofs.lemmas.List.Elements.{All-from_recursion}
+use Rattle.program_tree.specs.Code.{Code}
+use Rattle.program_tree.specs.Tree.{Body, end, a_variable, Class, variable, print, reset}
+use Rattle.program_tree.specs.declared.timer.Timer.{Timer}
+use Rattle.mote_program.specs.Complete.{IsCompleteIn}
+use Rattle.mote_program.specs.Declared.{Declarations, IsOneOf, NamesDeclared, of_process, at_callback, at_thread}
+use Rattle.mote_program.specs.Declared.{IsDeclaredIn, IsDeclared}
+use Rattle.mote_program.specs.Named.{named_by_block}
+use Rattle.mote_program.specs.Trees.{only, first_code, second_code, second_there, tree_with, names_what_is_there}
+use Rattle.mote_program.specs.Trees.{TreesThatDeclare, TreesThatDoNot, TreesThatLack}
+
+-- for the second process
+second : (callback thread body : Body ℕ) → IsDeclared (tree_with callback thread body)
+    → IsDeclaredIn (tree_with callback thread body) (second_code callback thread body)
+second callback thread body h = h.each 1 (second_code callback thread body) refl
+
+any : Class × ℕ
+any = (a_variable, 0)
+
+pub undeclared : TreesThatDoNot
+undeclared = record {
+  variables = λ h. let e : 1 < 1 = (second _ _ _ h).body 0 any (omega arith) in omega (arith, e);
+  told = λ h. let e : 1 < 1 = (second _ _ _ h).body 1 any (omega arith) in omega (arith, e);
+  processes = λ h. let e : 2 < 2 = (second _ _ _ h).body 0 any (omega arith) in omega (arith, e);
+  semaphores = λ h. let e : 1 < 1 = (second _ _ _ h).body 0 any (omega arith) in omega (arith, e);
+  events = λ h. let e : 1 < 1 = (second _ _ _ h).body 0 any (omega arith) in omega (arith, e);
+  timers = λ h. let e : 3 < 1 + (1 + 1) = ((second _ _ _ h).body 0 any (omega arith)).1 in omega (arith, e);
+  own_timers = λ h. let e : 1 ≤ 0 = ((second _ _ _ h).body 0 any (omega arith)).0 in omega (arith, e);
+  threads = λ h. let e : 1 < 1 = (second _ _ _ h).body 0 any (omega arith) in omega (arith, e);
+  earlier_threads = λ h. let e : 0 < 0 = (second _ _ _ h).threads 0 _ refl 0 any (omega arith) in omega (arith, e);
+  callbacks = λ h. let e : 0 < 0 = (second _ _ _ h).callbacks 0 _ refl 0 any (omega arith) in omega (arith, e);
+  autostart = λ h. let e : 2 < 2 = h.autostart 0 0 (omega arith) in omega (arith, e);
+  receiver = λ h. let e : 2 < 2 = h.receiver 2 refl in omega (arith, e);
+}
+
+-- the tree whose names are declared
+
+named_in : (d : Declarations) (b : Body ℕ) → AllByRecursion (λ m. IsOneOf d m.0 m.1) (named_by_block b)
+    → NamesDeclared d b
+named_in d b h = All-from_recursion (λ m. IsOneOf d m.0 m.1) (named_by_block b) h
+
+-- of a list of one block
+at_only : (P : ℕ → Body ℕ → Type 0) (a : Body ℕ) → P 0 a → (k : ℕ) (b : Body ℕ) → slice_get (a ∷ []) k ≡ Some b → P k b
+at_only P a h zero b e = let same : a ≡ b = cc in subst (P 0) same h
+at_only P a h (suc k) b e = absurd cc
+
+first_declared : IsDeclaredIn names_what_is_there first_code
+first_declared = record {
+  callbacks = λ k b e. absurd cc;
+  threads = λ k b e. absurd cc;
+  on_poll = λ b e. absurd cc;
+  on_exit = λ b e. absurd cc;
+  body = named_in (of_process names_what_is_there first_code) end tt;
+}
+
+second_declared : IsDeclaredIn names_what_is_there second_there
+second_declared = record {
+  callbacks = λ k b e. at_only (λ j a. NamesDeclared (at_callback names_what_is_there second_there j) a)
+      (only (reset 2)) (named_in (at_callback names_what_is_there second_there 0) (only (reset 2))
+      ((omega arith, omega arith), tt)) k b e;
+  threads = λ k b e. at_only (λ j a. NamesDeclared (at_thread names_what_is_there second_there j) a)
+      (only (print (variable 0))) (named_in (at_thread names_what_is_there second_there 0) (only (print (variable 0)))
+      (omega arith, tt)) k b e;
+  on_poll = λ b e. absurd cc;
+  on_exit = λ b e. absurd cc;
+  body = named_in (of_process names_what_is_there second_there) second_there.body (
+    omega arith,
+    (
+      omega arith,
+      (
+        omega arith,
+        (
+          omega arith,
+          (
+            (omega arith, omega arith),
+            ((omega arith, omega arith), (omega arith, tt)),
+          ),
+        ),
+      ),
+    ),
+  );
+}
+
+each_declared : (k : ℕ) (c : Code) → slice_get names_what_is_there.codes k ≡ Some c → IsDeclaredIn names_what_is_there c
+each_declared zero c e = let same : first_code ≡ c = cc in subst (IsDeclaredIn names_what_is_there) same first_declared
+each_declared (suc zero) c e = let same : second_there ≡ c = cc in
+    subst (IsDeclaredIn names_what_is_there) same second_declared
+each_declared (suc (suc k)) c e = absurd cc
+
+first_complete : IsCompleteIn names_what_is_there first_code
+first_complete = record { starts = refl; callbacks = refl; thread_bodies = refl; timers = timers }
+  where
+    timers : (i : ℕ) → 0 ≤ i → i < 0 + (1 + 0) → slice_get names_what_is_there.timers i
+        ≡ Some (record { process = 0; is_callback = nat_le (0 + 1) i })
+    timers zero low high = refl
+    timers (suc i) low high = absurd (omega (arith, high))
+
+second_complete : IsCompleteIn names_what_is_there second_there
+second_complete = record { starts = refl; callbacks = refl; thread_bodies = refl; timers = timers }
+  where
+    timers : (i : ℕ) → 1 ≤ i → i < 1 + (1 + 1) → slice_get names_what_is_there.timers i
+        ≡ Some (record { process = 1; is_callback = nat_le (1 + 1) i })
+    timers zero low high = absurd (omega (arith, low))
+    timers (suc zero) low high = refl
+    timers (suc (suc zero)) low high = refl
+    timers (suc (suc (suc i))) low high = absurd (omega (arith, high))
+
+each_complete : (k : ℕ) (c : Code) → slice_get names_what_is_there.codes k ≡ Some c → (c.number ≡ k)
+    × IsCompleteIn names_what_is_there c
+each_complete zero c e = let same : first_code ≡ c = cc in
+    subst (λ d. (d.number ≡ 0) × IsCompleteIn names_what_is_there d) same (refl, first_complete)
+each_complete (suc zero) c e = let same : second_there ≡ c = cc in
+    subst (λ d. (d.number ≡ 1) × IsCompleteIn names_what_is_there d) same (refl, second_complete)
+each_complete (suc (suc k)) c e = absurd cc
+
+pub declares : TreesThatDeclare
+declares = record {
+  declared = record {
+    each = each_declared;
+    autostart = All-from_recursion (λ p. p < 2) (1 ∷ []) (omega arith, tt);
+    receiver = λ p e. let same : 0 ≡ p = cc in omega (arith, same);
+  };
+  complete = record { counts = refl; codes = refl; each = each_complete };
+}
+
+pub lacking : TreesThatLack
+lacking = record {
+  counts = λ h. let e : 0 ≡ 1 = h.counts in omega (arith, e);
+  codes = λ h. let e : 1 ≡ 2 = h.codes in omega (arith, e);
+  starts = λ h. let e : 0 ≡ 1 = (h.each 1 _ refl).1.starts in omega (arith, e);
+  numbers = λ h. let e : 0 ≡ 1 = (h.each 1 _ refl).0 in omega (arith, e);
+  timers = λ h. let e : slice_get {X = Timer} [] 0 ≡ Some (record { process = 1; is_callback = true }) =
+      (h.each 1 _ refl).1.timers 2 (omega arith) (omega arith) in absurd cc;
+}

@@ -1,0 +1,11 @@
+use Rattle.mote_program.proofs.Trees.{declares, undeclared, lacking}
+use Rattle.mote_program.proofs.name_laws.trees_are_told_apart.Goals as goal
+
+pub returns-clause-whole : goal.returns-clause-whole
+returns-clause-whole c = declares
+
+pub returns-clause-undeclared : goal.returns-clause-undeclared
+returns-clause-undeclared c = undeclared
+
+pub returns-clause-lacking : goal.returns-clause-lacking
+returns-clause-lacking c = lacking

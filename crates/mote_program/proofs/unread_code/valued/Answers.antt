@@ -1,0 +1,24 @@
+use Rattle.std.proofs.Common.{◌≡◌, ◌<◌, ◌++◌, [], length, map, get_or, arith}
+use Rattle.std.specs.List.{zip}
+use Rattle.mote_program.specs.Spelled.{valued_tokens}
+use Rattle.program_tree.specs.Tokens.{token_of}
+use Rattle.mote_program.proofs.Adding.{one_pair, no_more, zip_length}
+use Rattle.mote_program.proofs.unread_code.valued.Goals as goal
+
+pub loop-place-preserved : goal.loop-place-preserved
+loop-place-preserved c =
+    let low : c.loop-place.place < length c.args.names.now =
+    omega (arith, c.len-place-end.ensures, c.loop-place-test.true) in
+    let more : map token_of c.add_all.new.out.items ≡ map token_of c.loop-place.out.items
+    ++ valued_tokens c.args.keyword (
+      get_or c.args.names.now c.loop-place.place [],
+      get_or c.args.values.now
+          c.loop-place.place 0,
+    ) =
+    cc (c.in_ok-add_all.ensures, c.get.ensures, c.from.ensures) in
+    one_pair (valued_tokens c.args.keyword) c.args.names.now c.args.values.now c.loop-place.place [] 0 _ _ _ c.requires
+    low c.loop-place.invariant more
+
+pub returns : goal.returns
+returns c = no_more (valued_tokens c.args.keyword) (zip c.args.names.now c.args.values.now) c.loop-place.place _ _
+    (omega (arith, zip_length c.args.names.now c.args.values.now c.requires)) c.loop-place.invariant

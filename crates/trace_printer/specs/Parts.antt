@@ -1,0 +1,27 @@
+-- The traces' text in parts.
+use Rattle.std.specs.Prelude.{◌≡◌, ℕ, ◌+◌, List, [], ◌∷◌, length, map}
+use Rattle.mote_net.specs.Net.{net_of}
+use Rattle.mote_net.specs.Report.{lines_in}
+use Rattle.trace_printer.specs.TraceLines.{lines_of, part_text}
+use Rattle.trace_printer.specs.declared.work.Part.{Part}
+use Rattle.trace_printer.specs.declared.work.Traces.{Traces}
+
+-- there is one trace for each mote
+abbrev pub HasTraces : Traces → Type 0
+HasTraces t = length t.traces.now ≡ length (net_of t.net.now).motes
+
+-- the lines that all motes show
+abbrev pub lines_told : Traces → List (List ℕ)
+lines_told t = lines_of (net_of t.net.now) (map lines_in t.traces.now)
+
+-- from the first line to the last each part begins where the one before it ends, and nothing is put on its page yet
+abbrev pub Adjoin : (first : ℕ) → List Part → (last : ℕ) → Type 0
+Adjoin first [] last = first ≡ last
+Adjoin first (p ∷ ps) last = (p.skip ≡ first) × (p.page ≡ []) × Adjoin (first + p.count) ps last
+
+-- its lines are put on its page
+abbrev pub IsPut : Traces → (old new : Part) → Type 0
+IsPut t old new = new.page ≡ part_text (lines_told t) old.skip old.count
+
+abbrev pub page_of : Part → List ℕ
+page_of p = p.page

@@ -1,0 +1,120 @@
+//! A report, round by round.
+ghost use Rattle.std.specs.Prelude.{◌≡◌, ◌≤◌, [], length, map, vec_len, IfSome};
+ghost use Rattle.std.specs.List.{concat};
+ghost use Rattle.mote_net.specs.Net.{NetTold, net_of};
+ghost use Rattle.mote_net.specs.Report.{lines_in, report_of};
+ghost use Rattle.trace_printer.specs.Output.{Writes};
+ghost use Rattle.trace_printer.specs.Page.{Prints};
+ghost use Rattle.trace_printer.specs.ReportText.{report_text};
+ghost use Rattle.trace_printer.specs.TraceLines.{lines_of};
+ghost use Rattle.trace_printer.specs.Parts.{HasTraces, lines_told};
+
+use crate::error::PrintError;
+use crate::page::Page;
+use crate::part::count_lines;
+use crate::report::{write_medium, write_report};
+use crate::round::write_round;
+use crate::work::Traces;
+use mote_net::{Net, Report};
+use std::alloc::Global;
+use std::io::Write;
+use std::sync::Wait;
+use std::thread::Threads;
+use trace_lines::Line;
+
+/// How many lines the workers put in one round, all together. Their text takes some mebibytes.
+const ROUND: usize = 65_536;
+
+/// The least number of lines for which workers are started.
+const MANY: usize = 16_384;
+
+/// Writes the lines of all traces, `lines` in number, round by round.
+fn write_traces<R: Threads + Wait + Sync, W: Write>(
+    rt: &R,
+    alloc: Global,
+    workers: u16,
+    traces: &Traces<'_>,
+    lines: usize,
+    writer: &mut W,
+) -> Result<(), PrintError>
+    requires some { 1 ≤ workers }
+    requires traces { HasTraces traces.now }
+    requires all { length (lines_told traces.now) ≡ lines }
+    ensures { let text = concat (lines_told traces.now)
+        in Prints (W.contents writer.old) (W.contents writer.new) [] [] result text }
+{
+    let mut skip = 0;
+    'rounds: while skip < lines {
+        let count = (lines - skip).min(ROUND);
+        write_round(rt, alloc, workers, traces, skip, count, writer)?;
+        skip += count;
+    }
+    Ok(())
+}
+
+/// How many lines the traces have, if workers are to put them: if these are two or more, and the lines `MANY` or more.
+fn many_lines(workers: u16, traces: &[Vec<Line>]) -> Option<usize>
+    ensures { (net : NetTold) → length traces.now ≡ length net.motes
+        → IfSome result (λ count. length (lines_of net (map lines_in traces.now)) ≡ count) }
+{
+    if workers < 2 {
+        return None;
+    }
+    match count_lines(traces) {
+        Some(lines) if lines >= MANY => Some(lines),
+        _ => None,
+    }
+}
+
+/// Writes a report by workers, where its traces have `lines` lines. The page for what comes after them is made first.
+fn write_by<R: Threads + Wait + Sync, W: Write>(
+    rt: &R,
+    alloc: Global,
+    workers: u16,
+    net: &Net,
+    report: &Report,
+    lines: usize,
+    writer: &mut W,
+) -> Result<(), PrintError>
+    requires some { 1 ≤ workers }
+    requires traces { vec_len report.now.traces ≡ length (net_of net.now).motes }
+    requires all { length (lines_of (net_of net.now) (report_of report.now).traces) ≡ lines }
+    ensures { let text = report_text (net_of net.now) (report_of report.now)
+        in Writes (W.contents writer.old) (W.contents writer.new) result text }
+{
+    let mut page = Page::new(alloc)?;
+    let traces = Traces {
+        net,
+        traces: &report.traces,
+    };
+    write_traces(rt, alloc, workers, &traces, lines, writer)?;
+    write_medium(writer, &mut page, report)
+}
+
+/// Writes the report of a net as text, the same as `write_report`. If its traces have many lines, the workers put them
+/// on pages, each in a thread of its own, and this thread writes the pages; it puts what follows the traces itself.
+///
+/// This thread waits for the workers, so the promise holds if the call returns.
+///
+/// # Errors
+/// `Write` where the writer failed or took no byte, `Memory` where an allocation failed. A proper prefix of the text
+/// has then been written.
+pub fn write_report_by<R: Threads + Wait + Sync, W: Write>(
+    rt: &R,
+    alloc: Global,
+    workers: u16,
+    net: &Net,
+    report: &Report,
+    writer: &mut W,
+) -> Result<(), PrintError>
+    requires some { 1 ≤ workers }
+    // There is one trace for each mote.
+    requires traces { vec_len report.now.traces ≡ length (net_of net.now).motes }
+    ensures { let text = report_text (net_of net.now) (report_of report.now)
+        in Writes (W.contents writer.old) (W.contents writer.new) result text }
+{
+    match many_lines(workers, &report.traces) {
+        Some(lines) => write_by(rt, alloc, workers, net, report, lines, writer),
+        None => write_report(alloc, net, report, writer),
+    }
+}

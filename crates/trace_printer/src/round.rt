@@ -1,0 +1,104 @@
+//! One round: lines are cut into a part for each worker, each worker puts its part on a page, and the pages are
+//! written.
+ghost use Rattle.std.specs.Prelude.{◌≡◌, ◌<◌, ◌≤◌, ◌+◌, ◌^◌, [], IfOk};
+ghost use Rattle.std.specs.List.{flat_map};
+ghost use Rattle.trace_printer.specs.Page.{Prints};
+ghost use Rattle.trace_printer.specs.TraceLines.{part_text};
+ghost use Rattle.trace_printer.specs.Parts.{Adjoin, HasTraces, lines_told, page_of};
+
+use crate::error::PrintError;
+use crate::output::WriteFault;
+use crate::page::Page;
+use crate::part::put_part;
+use crate::work::{Part, Traces};
+use fork_join::{Refused, fork_join};
+use std::alloc::{AllocError, Global};
+use std::io::Write;
+use std::sync::Wait;
+use std::thread::Threads;
+
+/// Cuts `count` lines, after the first `skip`, into a part for each worker. The parts' lengths differ by one at most.
+fn cut(alloc: Global, workers: u16, skip: usize, count: usize) -> Result<Vec<Part>, AllocError>
+    requires some { 1 ≤ workers }
+    requires there { skip + count < 2 ^ 64 }
+    ensures { IfOk result (λ parts. Adjoin skip parts.items (skip + count)) }
+{
+    let mut parts = Vec::with_capacity(alloc, usize::from(workers))?;
+    let mut begin = skip;
+    let mut left = count;
+    for others in 0..workers {
+        let lines = left / usize::from(workers - others);
+        parts.push(Part::new(alloc, begin, lines))?;
+        begin += lines;
+        left -= lines;
+    }
+    Ok(parts)
+}
+
+/// The parts, each put on its page in a thread of its own.
+fn put<R: Threads + Wait + Sync>(
+    rt: &R,
+    alloc: Global,
+    workers: u16,
+    traces: &Traces<'_>,
+    skip: usize,
+    count: usize,
+) -> Result<Vec<Part>, Refused>
+    requires some { 1 ≤ workers }
+    requires traces { HasTraces traces.now }
+    requires there { skip + count < 2 ^ 64 }
+    ensures { IfOk result (λ parts. flat_map page_of parts.items ≡ part_text (lines_told traces.now) skip count) }
+{
+    let parts = cut(alloc, workers, skip, count)?;
+    fork_join(rt, alloc, parts, traces)
+}
+
+/// Writes each page.
+fn write_pages<W: Write>(writer: &mut W, parts: &[Part]) -> Result<(), WriteFault>
+    ensures { Prints (W.contents writer.old) (W.contents writer.new) [] [] result (flat_map page_of parts.now) }
+{
+    for part in parts {
+        part.page.write(writer)?;
+    }
+    Ok(())
+}
+
+/// Puts the lines on one page, and writes it, without another thread.
+fn write_alone<W: Write>(
+    alloc: Global,
+    traces: &Traces<'_>,
+    skip: usize,
+    count: usize,
+    writer: &mut W,
+) -> Result<(), PrintError>
+    requires { HasTraces traces.now }
+    ensures { let text = part_text (lines_told traces.now) skip count
+        in Prints (W.contents writer.old) (W.contents writer.new) [] [] result text }
+{
+    let mut page = Page::empty(alloc);
+    put_part(&mut page, traces.net, traces.traces, skip, count)?;
+    Ok(page.write(writer)?)
+}
+
+/// Writes `count` lines of the traces, after the first `skip`. If an allocation of a worker fails, or its thread
+/// can't be started, this thread puts them all itself.
+pub fn write_round<R: Threads + Wait + Sync, W: Write>(
+    rt: &R,
+    alloc: Global,
+    workers: u16,
+    traces: &Traces<'_>,
+    skip: usize,
+    count: usize,
+    writer: &mut W,
+) -> Result<(), PrintError>
+    requires some { 1 ≤ workers }
+    requires traces { HasTraces traces.now }
+    requires there { skip + count < 2 ^ 64 }
+    ensures { let text = part_text (lines_told traces.now) skip count
+        in Prints (W.contents writer.old) (W.contents writer.new) [] [] result text }
+{
+    match put(rt, alloc, workers, traces, skip, count) {
+        Ok(parts) => Ok(write_pages(writer, &parts)?),
+        Err(_) => write_alone(alloc, traces, skip, count, writer),
+    }
+}

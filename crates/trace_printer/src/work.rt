@@ -1,0 +1,71 @@
+//! A part of the traces' text, which one worker puts on a page.
+ghost use Rattle.std.specs.Prelude.{◌≡◌, []};
+
+use crate::page::Page;
+use crate::part::put_part;
+use fork_join::{Refused, Work};
+use mote_net::Net;
+use std::alloc::Global;
+use trace_lines::Line;
+
+/// A part of the traces' text: `count` of their lines, after the first `skip`, and the page on which they are put.
+#[derive(Drop)]
+pub struct Part {
+    pub skip: usize,
+    pub count: usize,
+    pub page: Page,
+}
+
+impl Part {
+    /// A part with an empty page.
+    pub fn new(alloc: Global, skip: usize, count: usize) -> Part
+        ensures skip { result.skip ≡ skip }
+        ensures count { result.count ≡ count }
+        ensures page { result.page ≡ [] }
+    {
+        Part {
+            skip,
+            count,
+            page: Page::empty(alloc),
+        }
+    }
+}
+
+/// A net and the trace of each of its motes.
+pub struct Traces<'a> {
+    pub net: &'a Net,
+    pub traces: &'a [Vec<Line>],
+}
+
+impl Drop for Traces<'_> {
+    fn drop(self) {
+        let Traces { net: _, traces: _ } = self;
+    }
+}
+
+impl Work<Part> for Traces<'_> {
+    ghost use Rattle.std.specs.Prelude.{◌≡◌, []};
+    ghost use Rattle.trace_printer.specs.Parts.{HasTraces, IsPut};
+
+    ghost ready = { λ traces part. HasTraces traces × (part.page ≡ []) };
+
+    ghost makes = { λ traces old new. IsPut traces old new };
+
+    fn work(&self, part: Part) -> Result<Part, Refused> {
+        let Part {
+            skip,
+            count,
+            mut page,
+        } = part;
+        put_part(&mut page, self.net, self.traces, skip, count)?;
+        Ok(Part { skip, count, page })
+    }
+
+    // No gate is asked: that is for the threads of the run.
+    fn may_start(&self, _part: &Part) -> bool {
+        true
+    }
+
+    // No worker waits for another.
+    fn give_up(&self) {}
+}

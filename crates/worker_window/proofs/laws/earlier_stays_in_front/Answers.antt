@@ -1,0 +1,5 @@
+use Rattle.worker_window.proofs.BehindTurns.{earlier_stays_in_front}
+use Rattle.worker_window.proofs.laws.earlier_stays_in_front.Goals as goal
+
+pub returns : goal.returns
+returns c = earlier_stays_in_front

@@ -1,0 +1,5 @@
+use Rattle.worker_window.proofs.BehindTurns.{ends_with_its_wake}
+use Rattle.worker_window.proofs.laws.ends_with_its_wake.Goals as goal
+
+pub returns : goal.returns
+returns c = ends_with_its_wake

@@ -1,0 +1,5 @@
+use Rattle.worker_window.proofs.Ends.{one_end}
+use Rattle.worker_window.proofs.laws.one_window_run.Goals as goal
+
+pub returns : goal.returns
+returns c = one_end

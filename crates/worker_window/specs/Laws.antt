@@ -1,0 +1,34 @@
+-- Laws of windows.
+use Rattle.std.specs.Prelude.{◌≡◌, ℕ, false, List, ◌++◌}
+use Rattle.trace_lines.specs.declared.line.Line.{Line}
+use Rattle.radio_packet.specs.declared.sent.Sent.{Sent}
+use Rattle.mote_node.specs.Node.{is_past}
+use Rattle.mote_node.specs.Wake.{wake_of}
+use Rattle.worker_window.specs.MoteWindow.{LoneNode, Window, WindowRun, EndsAs, HasTurn, IsNext, number_of, window_after_turn}
+
+-- a window has one end
+abbrev pub EndIsOne : Type 0
+EndIsOne = (window : Window) (a b : LoneNode) → EndsAs window a → EndsAs window b → b ≡ a
+
+-- the same mote, with lines and packets from before the window
+abbrev pub with_earlier : List Line → List Sent → LoneNode → LoneNode
+with_earlier lines sends mote = record mote { lines = lines ++ mote.lines; sends = sends ++ mote.sends }
+
+-- what was written and sent before a window stays before what its run adds
+abbrev pub EarlierStaysInFront : Type 0
+EarlierStaysInFront = (window : Window) (last : LoneNode) → EndsAs window last → (lines : List Line) (sends : List Sent)
+    → WindowRun (number_of window.mote.state) window.until window.copies (with_earlier lines sends window.mote)
+    (with_earlier lines sends last)
+
+-- a window that begins with the wake of its mote ends with the wake of its mote
+abbrev pub EndsWithItsWake : Type 0
+EndsWithItsWake = (window : Window) (last : LoneNode) → window.mote.wake ≡ wake_of window.mote.state
+    → EndsAs window last → last.wake ≡ wake_of last.state
+
+-- what comes next comes after the mote's last turn
+abbrev pub IsAhead : Window → Type 0
+IsAhead window = (moment : ℕ) → IsNext moment window → is_past moment window.mote.state.last ≡ false
+
+-- it does so after each turn of a window
+abbrev pub NoTurnIsPast : Type 0
+NoTurnIsPast = (window : Window) (moment : ℕ) → HasTurn moment window → IsAhead (window_after_turn moment window)

@@ -1,0 +1,82 @@
+-- The window that an `OwnWindow`, the state of a mote's window in the code, stands for.
+use Rattle.std.specs.Prelude.{◌≡◌, ℕ, ◌<◌, List, [], drop, Option, None, option_map}
+use Rattle.program_tree.specs.Code.{Tree}
+use Rattle.program_tree.specs.Program.{tree_of}
+use Rattle.trace_lines.specs.declared.line.Line.{Line}
+use Rattle.radio_packet.specs.declared.sent.Sent.{Sent}
+use Rattle.mote_node.specs.Node.{Node}
+use Rattle.mote_node.specs.Public.{node_in, wake_in}
+use Rattle.radio_packet.specs.declared.copy.RadioCopy.{RadioCopy}
+use Rattle.window_laws.specs.Windows.{IsQuiet}
+use Rattle.worker_window.specs.declared.out.WindowOut.{WindowOut}
+use Rattle.worker_window.specs.declared.own.OwnWindow.{OwnWindow}
+use Rattle.worker_window.specs.MoteWindow.{Window, IsNextOf}
+
+-- the window of a mote whose node is this
+abbrev pub window_over : Tree → (until : ℕ) → (copies : List RadioCopy) → (wake : Option ℕ) → (lines : List Line)
+    → (sends : List Sent) → Node → Window
+window_over program until copies wake lines sends n = record {
+  program = program;
+  until = until;
+  copies = copies;
+  mote = record { state = n; wake = wake; lines = lines; sends = sends };
+}
+
+-- the window that an `OwnWindow` stands for; there is none if its mote has failed
+unfoldable pub window_in : OwnWindow → Option Window
+window_in w =
+    let program = tree_of w.program.now in
+    option_map (window_over program w.until (drop w.next w.copies.items) w.wake w.lines.items w.sends.items)
+    (node_in program w.mote)
+
+-- ---- of any mote, even one that has failed
+-- the pending events of a window, and what the mote wrote and sent there so far
+pub record Course : Type 0 where
+  pub program : Tree
+  pub until : ℕ
+  pub copies : List RadioCopy
+  pub wake : Option ℕ
+  pub lines : List Line
+  pub sends : List Sent
+
+unfoldable pub course_in : OwnWindow → Course
+course_in w = record {
+  program = tree_of w.program.now;
+  until = w.until;
+  copies = drop w.next w.copies.items;
+  wake = w.wake;
+  lines = w.lines.items;
+  sends = w.sends.items;
+}
+
+-- before the first turn; to a mote that has failed only copies come
+abbrev pub course_of : Tree → (until : ℕ) → (copies : List RadioCopy) → Option Node → Course
+course_of program until copies mote = record {
+  program = program;
+  until = until;
+  copies = copies;
+  wake = wake_in mote;
+  lines = [];
+  sends = [];
+}
+
+-- nothing more comes before the bound
+abbrev pub IsSpent : Course → Type 0
+IsSpent c = IsQuiet c.until c.wake c.copies
+
+-- what comes next comes at this moment, before the bound
+pub record ComesNext (moment : ℕ) (c : Course) : Type 0 where
+  pub next : IsNextOf moment c.wake c.copies
+  pub in_window : moment < c.until
+
+-- a mote that has failed, with what it had before
+pub record StaysFailed (c : Course) (out : WindowOut) : Type 0 where
+  pub failed : node_in c.program out.mote ≡ None
+  pub wake : out.wake ≡ c.wake
+  pub lines : out.lines.items ≡ c.lines
+  pub sends : out.sends.items ≡ c.sends
+
+-- what a mote that had failed gives, to which nothing more comes
+pub record GivesNoMore (c : Course) (out : WindowOut) : Type 0 where
+  pub spent : IsSpent c
+  pub left : StaysFailed c out

@@ -1,0 +1,75 @@
+-- What a poll does to a mote's window, even to that of a mote that had failed before.
+use Rattle.std.specs.Prelude.{◌≡◌, ◌⊎◌, ℕ, true, Option, Some, None, Result, Ok, Err, IfSome, IsSomeAnd, MatchOption}
+use Rattle.mote_node.specs.declared.mote.MoteError.{MoteError}
+use Rattle.mote_node.specs.declared.mote.MoteError.TheVariants.{Failed, Memory, Past}
+use Rattle.mote_node.specs.Node.{is_past}
+use Rattle.worker_window.specs.declared.out.WindowOut.{WindowOut}
+use Rattle.worker_window.specs.declared.own.OwnWindow.{OwnWindow}
+use Rattle.worker_window.specs.Laws.{IsAhead}
+use Rattle.worker_window.specs.Own.{window_in, Course, course_in, ComesNext, GivesNoMore}
+use Rattle.worker_window.specs.MoteWindow.{Window, HasTurn, IsOver, window_after_turn}
+use Rattle.worker_window.specs.Out.{shown, Gives}
+
+-- what a window may give that hasn't been dropped
+abbrev pub MayGive : Option OwnWindow → WindowOut → Type 0
+MayGive None out = ⊥
+MayGive (Some own) out = MatchOption (window_in own) (GivesNoMore (course_in own) out) (λ w. Gives w out)
+
+-- the mote has not failed, and what comes to it next comes after its last turn
+abbrev pub CanGoOn : Option Window → Type 0
+CanGoOn window = IsSomeAnd window IsAhead
+
+-- a window of such a mote, which hasn't been dropped
+abbrev pub HasTurns : Option OwnWindow → Type 0
+HasTurns None = ⊥
+HasTurns (Some own) = CanGoOn (window_in own)
+
+-- what a poll may return: what the window gives, or an error, which is out of memory if the mote can go on
+abbrev pub MayAnswer : Option OwnWindow → Result WindowOut MoteError → Type 0
+MayAnswer own (Ok out) = MayGive own out
+MayAnswer own (Err e) = HasTurns own → e ≡ Memory
+
+-- the window after the turn at this moment; a mote that had failed takes none
+abbrev pub TurnsTo : (moment : ℕ) → (old new : Option Window) → Type 0
+TurnsTo moment (Some old) (Some new) = new ≡ window_after_turn moment old
+TurnsTo moment _ _ = ⊥
+
+-- the first turn of the window's run, and no more
+pub record IsFirstTurn (old new : Option Window) : Type 0 where
+  pub moment : ℕ
+  pub left : IfSome old (HasTurn moment)
+  pub turned : TurnsTo moment old new
+
+abbrev pub TakesTurn : (old new : Option OwnWindow) → Type 0
+TakesTurn (Some old) (Some new) = IsFirstTurn (window_in old) (window_in new)
+TakesTurn _ _ = ⊥
+
+-- an allocation for the turn failed, or its moment isn't after that of the mote's last turn
+abbrev pub IsErrorAt : (moment : ℕ) → MoteError → Window → Type 0
+IsErrorAt moment e window = (e ≡ Memory) ⊎ ((e ≡ Past) × (is_past moment window.mote.state.last ≡ true))
+
+-- the mote had failed before, or an allocation for what came to it failed
+abbrev pub IsRefusal : MoteError → Type 0
+IsRefusal e = (e ≡ Failed) ⊎ (e ≡ Memory)
+
+-- the error of the window's first turn; if the mote had failed, of the first turn that it would have taken
+pub record IsFirstError (course : Course) (window : Option Window) (e : MoteError) : Type 0 where
+  pub moment : ℕ
+  pub awaited : ComesNext moment course
+  pub left : IfSome window (HasTurn moment)
+  pub error : IfSome window (IsErrorAt moment e)
+  pub refusal : window ≡ None → IsRefusal e
+
+-- an error is that of the first turn, or says that the window was dropped before
+abbrev pub ErrsAs : Option OwnWindow → MoteError → Type 0
+ErrsAs None e = e ≡ Failed
+ErrsAs (Some own) e = IsFirstError (course_in own) (window_in own) e
+
+-- no turn is left, and this is what was made
+pub record IsMade (window : Option Window) (out : WindowOut) : Type 0 where
+  pub over : IfSome window IsOver
+  pub made : IfSome window (λ w. shown w.program out ≡ Some w.mote)
+
+abbrev pub RestsAs : Option OwnWindow → WindowOut → Type 0
+RestsAs None out = ⊥
+RestsAs (Some own) out = IsMade (window_in own) out

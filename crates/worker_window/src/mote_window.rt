@@ -1,0 +1,145 @@
+//! A mote's window as a future: each poll takes one turn.
+
+ghost use Rattle.std.specs.Prelude.{◌≡◌, ◌≤◌, ◌^◌, true, Some, None, IsSome, IsSomeAnd, IfSome, IfOk, IfErr, ⊤};
+ghost use Rattle.futures.specs.Poll.{IfReady, OnPending};
+ghost use Rattle.futures.specs.Task.{Covers, Keeps};
+ghost use Rattle.program_tree.specs.Program.{tree_of};
+ghost use Rattle.mote_node.specs.Public.{node_in};
+ghost use Rattle.worker_window.specs.Out.{shown};
+ghost use Rattle.worker_window.specs.Own.{window_in, course_in, course_of, StaysFailed};
+ghost use Rattle.worker_window.specs.MoteWindow.{is_rising, opened};
+ghost use Rattle.worker_window.specs.Turns.{MayAnswer, TakesTurn, RestsAs, ErrsAs};
+
+use crate::gate::Gate;
+use crate::out::WindowOut;
+use crate::own::OwnWindow;
+use crate::room::{TurnRoom, WindowRoom};
+use futures::Future;
+use futures::task::{Context, Poll};
+use mote_node::{Mote, MoteError};
+use program_tree::Program;
+use radio_packet::RadioCopy;
+use std::alloc::Global;
+use std::mem;
+
+/// A mote in its window, until the future is ready. A poll with a turn left takes exactly that turn, at the lesser of
+/// the mote's wake and the next copy's moment, and yields; with no turn left below the bound it is ready.
+pub struct MoteWindow<'a, G> {
+    own: Option<OwnWindow<'a>>,
+    worker: u16,
+    gate: &'a G,
+    room: Option<Box<TurnRoom>>,
+}
+
+impl<G> Drop for MoteWindow<'_, G> {
+    fn drop(self) {
+        let MoteWindow {
+            own: _,
+            worker: _,
+            gate: _,
+            room: _,
+        } = self;
+    }
+}
+
+impl<'a, G: Gate> MoteWindow<'a, G> {
+    /// The window of a mote with this program, up to `until`, which is at most 2^40. The copies are the mote's, each
+    /// below `until`, in the order of moment, sender and number. This allocates nothing.
+    pub fn new(
+        alloc: Global,
+        mote: Mote,
+        program: &'a Program,
+        copies: Vec<RadioCopy>,
+        until: u64,
+        worker: u16,
+        gate: &'a G,
+    ) -> MoteWindow<'a, G>
+        requires until { until ≤ 2 ^ 40 }
+        requires rising { is_rising copies.items ≡ true }
+        ensures worker { result.worker ≡ worker }
+        ensures window { let p = tree_of program.now in
+            IsSomeAnd result.own (λ own. window_in own ≡ opened p until copies.items (node_in p mote)) }
+        ensures course { let p = tree_of program.now in
+            IsSomeAnd result.own (λ own. course_in own ≡ course_of p until copies.items (node_in p mote)) }
+    {
+        let room = WindowRoom::new(alloc);
+        let own = OwnWindow::new(alloc, mote, program, copies, until, room);
+        MoteWindow::over(own, worker, gate)
+    }
+
+    /// A future over this window, unchanged.
+    pub(crate) fn over(own: OwnWindow<'a>, worker: u16, gate: &'a G) -> MoteWindow<'a, G>
+        ensures worker { result.worker ≡ worker }
+        ensures own { result.own ≡ Some own.entry }
+    {
+        MoteWindow {
+            own: Some(own),
+            worker,
+            gate,
+            room: None,
+        }
+    }
+
+    /// Swaps the scratch buffers of the window's turns with these.
+    pub(crate) fn swap_room(&mut self, room: &mut Option<Box<TurnRoom>>)
+        ensures { self.new.own ≡ self.old.own }
+    {
+        mem::swap(&mut self.room, room);
+    }
+}
+
+/// Takes the window, once no turn is left, and returns what it gives. A separate function, so that a turn clears no
+/// stack space for it.
+#[inline(always)]
+fn finish(own: &mut Option<OwnWindow<'_>>, room: &mut Option<Box<TurnRoom>>) -> WindowOut
+    requires { IsSome own.old }
+    ensures made { IfSome own.old (λ own. IfSome (window_in own) (λ w. shown w.program result ≡ Some w.mote)) }
+    ensures left { IfSome own.old (λ own. window_in own ≡ None → StaysFailed (course_in own) result) }
+    ensures given_up { own.new ≡ None }
+{
+    own.take().unwrap().finish(room)
+}
+
+/// Drops a window, with its mote; a separate function for the same reason.
+#[inline(always)]
+fn give_up(own: &mut Option<OwnWindow<'_>>)
+    ensures { own.new ≡ None }
+{
+    *own = None;
+}
+
+impl<G: Gate> Future for MoteWindow<'_, G> {
+    type Output = Result<WindowOut, MoteError>;
+
+    ghost gives = { λ w r. MayAnswer w.own r };
+
+    /// Takes one turn and yields, or is ready. A mote that had failed before takes none: it is ready with what it had,
+    /// if nothing comes to it in the window.
+    ///
+    /// # Errors
+    /// That of the turn, and then the mote is dropped; `Failed` at a poll after that, and if something comes to a mote
+    /// that had failed before.
+    fn poll(&mut self, cx: &mut Context<'_>) -> Poll<Self::Output>
+        ensures value { IfReady result (MayAnswer self.old.own) }
+        ensures again { OnPending result ⊤ }
+        ensures same { OnPending result ((r : _) → MayAnswer self.new.own r → MayAnswer self.old.own r) }
+        ensures registered { OnPending result (Covers cx.new (λ _. ⊥)) }
+        ensures kept { Keeps cx.old cx.new }
+        ensures turn { OnPending result (TakesTurn self.old.own self.new.own) }
+        ensures rest { IfReady result (λ r. IfOk r (RestsAs self.old.own)) }
+        ensures err { IfReady result (λ r. IfErr r (ErrsAs self.old.own)) }
+        ensures given_up { IfReady result (λ _. self.new.own ≡ None) }
+    {
+        let Some(own) = &mut self.own else {
+            return Poll::Ready(Err(MoteError::Failed));
+        };
+        let Some(moment) = own.next_moment() else {
+            return Poll::Ready(Ok(finish(&mut self.own, &mut self.room)));
+        };
+        if let Err(e) = own.turn(moment, self.worker, self.gate, &mut self.room) {
+            give_up(&mut self.own);
+            return Poll::Ready(Err(e));
+        }
+        cx.yield_now()
+    }
+}

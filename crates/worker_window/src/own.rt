@@ -1,0 +1,226 @@
+//! The state of one mote's window.
+
+ghost use Rattle.std.specs.Prelude.{◌≡◌, ◌≤◌, ◌^◌, ◌++◌, true, Some, map, vec_len};
+ghost use Rattle.std.specs.Prelude.{IfErr, IfSome, MatchOption, OnOk, None, []};
+ghost use Rattle.std.specs.List.{take_while};
+ghost use Rattle.program_tree.specs.Program.{tree_of};
+ghost use Rattle.mote_node.specs.Public.{node_in};
+ghost use Rattle.window_laws.specs.Windows.{is_at};
+ghost use Rattle.net_agenda.specs.Buckets.{arrival_of};
+ghost use Rattle.worker_window.specs.MoteWindow.{Window, HasTurn, IsOver, IsNextOf, is_rising, opened};
+
+use crate::gate::Gate;
+use crate::out::WindowOut;
+use crate::room::{TurnRoom, WindowRoom, keep_copies, room_in};
+use mote_node::{Mote, MoteError};
+use process_kernel::Line;
+use program_tree::Program;
+use radio_packet::{Arrival, RadioCopy, Sent};
+use std::alloc::{AllocError, Global};
+use std::mem;
+
+/// A mote in its window, with the copies that come to it there.
+pub struct OwnWindow<'a> {
+    alloc: Global,
+    program: &'a Program,
+    until: u64,
+    mote: Mote,
+    wake: Option<u64>,
+    copies: Vec<RadioCopy>,
+    next: usize,
+    lines: Vec<Line>,
+    sends: Vec<Sent>,
+    ghost early: { until ≤ 2 ^ 40 },
+    ghost inside: { next ≤ vec_len copies },
+    ghost rising: { is_rising copies.items ≡ true },
+}
+
+impl Drop for OwnWindow<'_> {
+    fn drop(self) {
+        let OwnWindow {
+            alloc: _,
+            program: _,
+            until: _,
+            mote: _,
+            wake: _,
+            copies: _,
+            next: _,
+            lines: _,
+            sends: _,
+        } = self;
+    }
+}
+
+impl<'a> OwnWindow<'a> {
+    ghost use Rattle.worker_window.specs.Out.{shown};
+    ghost use Rattle.worker_window.specs.Own.{window_in, course_in, course_of, IsSpent, ComesNext, StaysFailed};
+    ghost use Rattle.worker_window.specs.Turns.{TurnsTo, IsErrorAt, IsRefusal};
+
+    /// The mote, with this program, before its first turn in the window. The copies are the mote's, each below
+    /// `until`, in the order of moment, sender and number. `until` is at most 2^40. Lines and packets are written into
+    /// these scratch buffers. This allocates nothing.
+    #[tactic(auto, unfolding(crate::specs::Own::window_in, crate::specs::Own::course_in))]
+    pub fn new(
+        alloc: Global,
+        mote: Mote,
+        program: &'a Program,
+        copies: Vec<RadioCopy>,
+        until: u64,
+        room: WindowRoom,
+    ) -> OwnWindow<'a>
+        requires until { until ≤ 2 ^ 40 }
+        requires rising { is_rising copies.items ≡ true }
+        ensures window { let p = tree_of program.now in
+            window_in result ≡ opened p until copies.items (node_in p mote) }
+        ensures course { let p = tree_of program.now in
+            course_in result ≡ course_of p until copies.items (node_in p mote) }
+    {
+        let wake = mote.wake();
+        let WindowRoom {
+            mut lines,
+            mut sends,
+        } = room;
+        lines.clear();
+        sends.clear();
+        OwnWindow {
+            alloc,
+            program,
+            until,
+            mote,
+            wake,
+            copies,
+            next: 0,
+            lines,
+            sends,
+        }
+    }
+
+    /// The moment of the next turn, if one is left in the window.
+    #[tactic(auto, unfolding(crate::specs::Own::window_in, crate::specs::Own::course_in))]
+    pub fn next_moment(&self) -> Option<u64>
+        ensures comes { let c = course_in self.now in MatchOption result (IsSpent c) (λ moment. ComesNext moment c) }
+        ensures next { IfSome (window_in self.now) (λ w. MatchOption result (IsOver w) (λ moment. HasTurn moment w)) }
+        ensures early { IfSome result (λ moment. moment ≤ 2 ^ 40) }
+    {
+        let moment = least(self.wake, &self.copies[self.next..])?;
+        if moment < self.until {
+            Some(moment)
+        } else {
+            None
+        }
+    }
+
+    /// Takes the turn at `moment`, which `next_moment` gave, with the scratch buffers of an earlier turn, or with new
+    /// ones. Once the copies for the turn were collected, the gate is called, and then the mote takes them.
+    ///
+    /// # Errors
+    /// That of `Mote::turn_into`, so `Failed` if the mote had failed; `Memory` also if an allocation for buffers,
+    /// copies, lines or packets failed.
+    #[tactic(auto, unfolding(crate::specs::Own::window_in))]
+    pub fn turn<G: Gate>(
+        &mut self,
+        moment: u64,
+        worker: u16,
+        gate: &G,
+        room: &mut Option<Box<TurnRoom>>,
+    ) -> Result<(), MoteError>
+        requires early { moment ≤ 2 ^ 40 }
+        requires left { IfSome (window_in self.old) (HasTurn moment) }
+        ensures ok { OnOk result (TurnsTo moment (window_in self.old) (window_in self.new)) }
+        ensures err { IfErr result (λ e. IfSome (window_in self.old) (IsErrorAt moment e)) }
+        ensures refusal { IfErr result (λ e. window_in self.old ≡ None → IsRefusal e) }
+    {
+        let room = room_in(self.alloc, room)?;
+        take_arrivals(&self.copies[self.next..], moment, &mut room.arrivals)?;
+        self.next += room.arrivals.len();
+        gate.inside(worker, moment, self.mote.number());
+        self.wake = self
+            .mote
+            .turn_into(self.program, moment, &room.arrivals, &mut room.out)?;
+        move_to(&mut self.lines, &mut room.out.lines)?;
+        move_to(&mut self.sends, &mut room.out.sends)?;
+        Ok(())
+    }
+
+    /// What the window gives, once no turn is left. If there are scratch buffers, its list of copies goes to them, for
+    /// a later window.
+    #[tactic(auto, unfolding(crate::specs::Own::window_in, crate::specs::Own::course_in))]
+    pub fn finish(self, room: &mut Option<Box<TurnRoom>>) -> WindowOut
+        ensures made { IfSome (window_in self.entry) (λ w. shown w.program result ≡ Some w.mote) }
+        ensures left { window_in self.entry ≡ None → StaysFailed (course_in self.entry) result }
+    {
+        let OwnWindow {
+            alloc: _,
+            program: _,
+            until: _,
+            mote,
+            wake,
+            copies,
+            next: _,
+            lines,
+            sends,
+        } = self;
+        keep_copies(room, copies);
+        WindowOut {
+            mote,
+            lines,
+            sends,
+            wake,
+        }
+    }
+}
+
+/// Moves all elements of `more` to the end of a list. If that is empty, the two are swapped, so nothing is copied.
+fn move_to<T>(list: &mut Vec<T>, more: &mut Vec<T>) -> Result<(), AllocError>
+    ensures { OnOk result (list.new.items ≡ list.old.items ++ more.old.items) }
+{
+    if list.is_empty() {
+        mem::swap(list, more);
+        return Ok(());
+    }
+    list.append(more)?;
+    Ok(())
+}
+
+/// The lesser of the wake and the first copy's moment.
+fn least(wake: Option<u64>, copies: &[RadioCopy]) -> Option<u64>
+    requires { is_rising copies.now ≡ true }
+    ensures { MatchOption result ((wake ≡ None) × (copies.now ≡ [])) (λ moment. IsNextOf moment wake copies.now) }
+{
+    let Some(first) = copies.first() else {
+        return wake;
+    };
+    let Some(moment) = wake else {
+        return Some(first.at);
+    };
+    Some(moment.min(first.at))
+}
+
+fn arrival(copy: &RadioCopy) -> Arrival
+    ensures { result ≡ arrival_of copy.now }
+{
+    Arrival {
+        sender: copy.sender,
+        number: copy.number,
+        value: copy.value,
+    }
+}
+
+/// Collects the arrivals of the first copies, those that arrive at this moment.
+fn take_arrivals(
+    copies: &[RadioCopy],
+    moment: u64,
+    arrivals: &mut Vec<Arrival>,
+) -> Result<(), AllocError>
+    ensures { OnOk result (arrivals.new.items ≡ map arrival_of (take_while (is_at moment) copies.now)) }
+{
+    arrivals.clear();
+    for copy in copies {
+        if copy.at != moment {
+            return Ok(());
+        }
+        arrivals.reserve(1)?;
+        arrivals.push_reserved(arrival(copy));
+    }
+    Ok(())
+}
