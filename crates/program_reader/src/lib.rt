@@ -1,4 +1,4 @@
-//! From texts to programs.
+//! From texts to programs, and the laws of the notation: each text has one tree, or one reported error.
 #![tactic(auto)]
 
 mod code;
@@ -8,6 +8,7 @@ mod declarations;
 mod expressions;
 mod fault;
 mod head;
+pub mod laws;
 mod lexer;
 mod lists;
 mod named_blocks;
