@@ -18,7 +18,7 @@ use Rattle.program_tree.specs.Tree.{does, branch, while, Body, end, next, Otherw
 use Rattle.program_tree.specs.Tree as tree
 use Rattle.program_tree.specs.declared.keyword.Keyword.{Keyword as KeywordRead}
 use Rattle.program_tree.specs.declared.keyword.Keyword.TheVariants as word
-use Rattle.mote_program.specs.declared.unread.Scoped.{Scoped}
+use Rattle.mote_program.specs.declared.unparse.Scoped.{Scoped}
 
 -- all names that are in scope in a code
 abbrev pub names_in : Scoped → Names

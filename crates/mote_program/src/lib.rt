@@ -6,8 +6,8 @@
 pub mod name_laws;
 mod printer;
 mod spelling;
-mod unread;
-mod unread_code;
+mod unparse;
+mod unparse_code;
 
 pub use printer::print_program;
 pub use program_reader::{laws, read};

@@ -8,7 +8,7 @@ ghost use Rattle.program_tree.specs.ShapeOf.{text_of_tree};
 ghost use Rattle.program_tree.specs.Tokens.{token_of};
 
 use crate::spelling::spell;
-use crate::unread_code::unread;
+use crate::unparse_code::unparse;
 use program_tree::keyword::Keyword;
 use program_tree::program::Program;
 use program_tree::token::Token;
@@ -129,6 +129,6 @@ pub fn print_program(alloc: Global, program: &Program) -> Result<String, AllocEr
     ensures text { IfOk result (λ t. string_bytes t ≡ text_of_tree (tree_of program.now)) }
     ensures reads { IfOk result (λ t. IsTreeOf (string_bytes t) (tree_of program.now)) }
 {
-    let tokens = unread(alloc, program)?;
+    let tokens = unparse(alloc, program)?;
     print(alloc, &tokens)
 }

@@ -10,7 +10,7 @@ use Rattle.mote_net.specs.Net.{NetTold}
 use Rattle.window_laws.specs.Windows.{Alone, is_at, is_within, is_from_sender}
 use Rattle.window_laws.proofs.Lists.{every_append, every_weaker, every_filter, every_flat_map}
 use Rattle.worker_window.specs.declared.out.WindowOut.{WindowOut}
-use Rattle.worker_window.specs.declared.resident.Resident.{Resident}
+use Rattle.worker_window.specs.declared.lent_mote.LentMote.{LentMote}
 use Rattle.net_agenda.specs.NetSystem.{tree_at, system_of}
 use Rattle.worker_window.specs.declared.share.Share.{Share}
 use Rattle.worker_cut.specs.Crossed.{is_own, copies_seen, is_for_others}
@@ -51,16 +51,16 @@ go_out n of worker until out placed fit =
     not_true true e = absurd (cc)
     not_true false e = refl
 
--- what residents gave
-pub zip_every : (P : Resident → Type 0) (R : Resident → WindowOut → Type 0) (Q : WindowOut → Type 0) → ((r : Resident) (o : WindowOut) → P r → R r o → Q o)
-    → (rs : List Resident) (os : List WindowOut) → AllByRecursion P rs → AllZip R rs os → AllByRecursion Q os
+-- what lent motes gave
+pub zip_every : (P : LentMote → Type 0) (R : LentMote → WindowOut → Type 0) (Q : WindowOut → Type 0) → ((r : LentMote) (o : WindowOut) → P r → R r o → Q o)
+    → (rs : List LentMote) (os : List WindowOut) → AllByRecursion P rs → AllZip R rs os → AllByRecursion Q os
 zip_every P R Q f [] [] p z = tt
 zip_every P R Q f [] (o ∷ os) p z = absurd z
 zip_every P R Q f (r ∷ rs) [] p z = absurd z
 zip_every P R Q f (r ∷ rs) (o ∷ os) p z = (f r o p.0 z.0, zip_every P R Q f rs os p.1 z.1)
 
-pub zip_numbers : {X : Type 0} (P : Resident → Type 0) (R : Resident → X → Type 0) (Q : ℕ → X → Type 0) → ((r : Resident) (o : X) → P r → R r o → Q r.number o)
-    → (rs : List Resident) (os : List X) → AllByRecursion P rs → AllZip R rs os → AllZip Q (numbers_of rs) os
+pub zip_numbers : {X : Type 0} (P : LentMote → Type 0) (R : LentMote → X → Type 0) (Q : ℕ → X → Type 0) → ((r : LentMote) (o : X) → P r → R r o → Q r.number o)
+    → (rs : List LentMote) (os : List X) → AllByRecursion P rs → AllZip R rs os → AllZip Q (numbers_of rs) os
 zip_numbers P R Q f [] [] p z = tt
 zip_numbers P R Q f [] (o ∷ os) p z = absurd z
 zip_numbers P R Q f (r ∷ rs) [] p z = absurd z

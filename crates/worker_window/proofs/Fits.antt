@@ -10,8 +10,8 @@ use Rattle.window_laws.specs.Agenda.{Item, Packet, mote_of}
 use Rattle.window_laws.specs.Windows.{NoneBefore}
 use Rattle.window_laws.proofs.Lists.{every_weaker, every_append, every_map}
 use Rattle.worker_window.specs.declared.out.WindowOut.{WindowOut}
-use Rattle.worker_window.specs.declared.resident.Resident.{Resident}
-use Rattle.worker_window.specs.Shares.{ResidentGives, GivesList, AreInNet}
+use Rattle.worker_window.specs.declared.lent_mote.LentMote.{LentMote}
+use Rattle.worker_window.specs.Shares.{LentMoteGives, GivesList, AreInNet}
 use Rattle.net_agenda.specs.NetSystem.{tree_at}
 use Rattle.worker_window.specs.declared.share.Share.{Share}
 use Rattle.worker_window.specs.Calls.{CalledMotes, copies_for, TakesEventsBefore}
@@ -68,17 +68,17 @@ module _ (n : NetTold) (of : List ℕ) (share : Share) (kept : IsKept n of share
     pub called_here : (k : ℕ) → IsSome (copies_for calls k) → IsSome (mote_here share.motes.items k)
     called_here k h = some_mote (tree_at n k) (mote_here share.motes.items k) _ (kept.keeps.nodes k (called_mine k (is_some_of (copies_for calls k) h)))
 
-    module _ (new : List (Option Mote)) (residents : List Resident) (wakes : List (Option ℕ)) (lent : MotesAreLent until calls share.motes.items new residents wakes) (order : kept.from ≤ until) where
-      number_mine : (r : Resident) → IsCalled calls share.motes.items r → mine r.number ≡ true
+    module _ (new : List (Option Mote)) (lent_motes : List LentMote) (wakes : List (Option ℕ)) (lent : MotesAreLent until calls share.motes.items new lent_motes wakes) (order : kept.from ≤ until) where
+      number_mine : (r : LentMote) → IsCalled calls share.motes.items r → mine r.number ≡ true
       number_mine r called = called_mine r.number (ap is_some called.copies)
 
-      number_there : (r : Resident) → IsCalled calls share.motes.items r → r.number < length n.motes
+      number_there : (r : LentMote) → IsCalled calls share.motes.items r → r.number < length n.motes
       number_there r called = let a = own_there of kept.worker r.number (number_mine r called) in omega arith
 
-      pub in_net : AreInNet n residents
-      in_net = every_weaker _ _ number_there residents lent.called
+      pub in_net : AreInNet n lent_motes
+      in_net = every_weaker _ _ number_there lent_motes lent.called
 
-      one_fits : (r : Resident) (out : WindowOut) → IsCalled calls share.motes.items r → ResidentGives n until r out → IsFitOwn n of share.worker until out
+      one_fits : (r : LentMote) (out : WindowOut) → IsCalled calls share.motes.items r → LentMoteGives n until r out → IsFitOwn n of share.worker until out
       one_fits r out called gives =
           let k = r.number in
           let h = number_mine r called in
@@ -94,8 +94,8 @@ module _ (n : NetTold) (of : List ℕ) (share : Share) (kept : IsKept n of share
             sent = b.sent;
           }
 
-      pub all_fit : (outs : List WindowOut) → GivesList n until residents outs → AllByRecursion (IsFitOwn n of share.worker until) outs
-      all_fit outs gives = zip_every (IsCalled calls share.motes.items) (ResidentGives n until) (IsFitOwn n of share.worker until) one_fits residents outs lent.called gives
+      pub all_fit : (outs : List WindowOut) → GivesList n until lent_motes outs → AllByRecursion (IsFitOwn n of share.worker until) outs
+      all_fit outs gives = zip_every (IsCalled calls share.motes.items) (LentMoteGives n until) (IsFitOwn n of share.worker until) one_fits lent_motes outs lent.called gives
 
 pub every_split : {X : Type 0} (P : X → Type 0) (xs : List X) (x : X) → AllByRecursion P (xs ++ x ∷ []) → AllByRecursion P xs × P x
 every_split P [] x h = (tt, h.0)

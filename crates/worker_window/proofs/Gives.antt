@@ -19,11 +19,11 @@ use Rattle.window_laws.specs.NetStep.{stamped}
 use Rattle.window_laws.specs.Windows.{LoneMote, NoneBefore, lone_turn, IsQuiet, Alone}
 use Rattle.window_laws.proofs.Lists.{every_append, every_weaker, every_flat_map}
 use Rattle.worker_window.specs.declared.out.WindowOut.{WindowOut}
-use Rattle.worker_window.specs.declared.resident.Resident.{Resident}
+use Rattle.worker_window.specs.declared.lent_mote.LentMote.{LentMote}
 use Rattle.worker_window.specs.MoteWindow.{lone_node, number_of}
 use Rattle.worker_window.specs.Out.{Gives}
 use Rattle.worker_window.specs.Laws.{IsAhead}
-use Rattle.worker_window.specs.Shares.{ResidentGives, ResidentGoesOn}
+use Rattle.worker_window.specs.Shares.{LentMoteGives, LentMoteGoesOn}
 use Rattle.net_agenda.specs.Buckets.{arrival_of}
 use Rattle.net_agenda.specs.NetSystem.{mote_at, no_mote, tree_at, system_of, node_turn}
 use Rattle.net_agenda.proofs.Systems.{turn_wakes}
@@ -83,8 +83,8 @@ mote_there n k h = of (slice_get n.motes k) refl ((slice_get_cases n.motes k).1)
     of None e (inr w) = absurd (let l = w.0 in omega arith)
     of (Some x) e w = e ∙ ap Some (sym (ap (λ o. unwrap_or o no_mote) e))
 
--- the window of a resident that is a mote of the net
-pub gives_open : (n : NetTold) (until : ℕ) (r : Resident) (out : WindowOut) (state : Node) → r.number < length n.motes → node_in (tree_at n r.number) r.mote ≡ Some state → ResidentGives n until r out
+-- the window of a lent mote that is a mote of the net
+pub gives_open : (n : NetTold) (until : ℕ) (r : LentMote) (out : WindowOut) (state : Node) → r.number < length n.motes → node_in (tree_at n r.number) r.mote ≡ Some state → LentMoteGives n until r out
     → Gives (record { program = tree_at n r.number; until = until; copies = r.copies.items; mote = lone_node state }) out
 gives_open n until r out state h f g =
     let e = mote_there n r.number h in
@@ -93,8 +93,8 @@ gives_open n until r out state h f g =
     is
 
 -- and what comes to it comes after its last turn
-pub goes_open : (n : NetTold) (until : ℕ) (r : Resident) (state : Node) → r.number < length n.motes → node_in (tree_at n r.number) r.mote ≡ Some state
-    → IsAhead (record { program = tree_at n r.number; until = until; copies = r.copies.items; mote = lone_node state }) → ResidentGoesOn n until r
+pub goes_open : (n : NetTold) (until : ℕ) (r : LentMote) (state : Node) → r.number < length n.motes → node_in (tree_at n r.number) r.mote ≡ Some state
+    → IsAhead (record { program = tree_at n r.number; until = until; copies = r.copies.items; mote = lone_node state }) → LentMoteGoesOn n until r
 goes_open n until r state h f ahead = let e = mote_there n r.number h in rw (e, f) ahead
 
 module _ (n : NetTold) (from until : ℕ) where
@@ -118,7 +118,7 @@ module _ (n : NetTold) (from until : ℕ) where
   stamps k t h l [] = tt
   stamps k t h l (x ∷ sends) = (record { sender = refl; later = h; soon = l }, stamps k t h l sends)
 
-  -- what a resident's window gave is a mote back from its window
+  -- what a lent mote's window gave is a mote back from its window
   module _ (own : ℕ → Bool) (motes : Motes) (window_copies : ℕ → List RadioCopy) (k : ℕ) (mine : own k ≡ true) (there : k < length n.motes) (numbered : number_of (motes k).state ≡ k)
       (wakes : (motes k).wake ≡ wake_of (motes k).state) (wakes_from : NoneBefore from (motes k).wake) (window_copies_from : AllByRecursion (λ c. from ≤ c.at) (window_copies k)) (before : is_past until (motes k).state.last ≡ false) where
     front_is : in_front (motes k).lines (motes k).sends (lone_node (motes k).state) ≡ motes k

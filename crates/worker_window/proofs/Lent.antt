@@ -5,19 +5,19 @@ use Rattle.std.proofs.lemmas.Bool.{cases_Bool, cases_eq, eq-eqb, ne_eqb, eqb-tru
 use Rattle.std.proofs.lemmas.List.{map-append, length-set}
 use Rattle.mote_node.specs.declared.mote.Mote.{Mote}
 use Rattle.window_laws.proofs.Lists.{every_append}
-use Rattle.worker_window.specs.declared.resident.Resident.{Resident}
+use Rattle.worker_window.specs.declared.lent_mote.LentMote.{LentMote}
 use Rattle.worker_window.specs.Calls.{CalledMotes, copies_for}
 use Rattle.worker_window.specs.Share.{mote_here}
 use Rattle.worker_window.specs.Lending.{is_one_of, are_different, numbers_of, IsCalled, IsWakeOf, MotesAreLent}
 
 -- some of the motes that are called are lent, and the rest are still to be
-pub record Lent (until : ℕ) (calls rest : CalledMotes) (old now : List (Option Mote)) (residents : List Resident) (wakes : List (Option ℕ)) : Type 0 where
-  pub different : are_different (numbers_of residents) ≡ true
-  pub others : (k : ℕ) → copies_for rest k ≡ cond (is_one_of k (numbers_of residents)) None (copies_for calls k)
-  pub called : AllByRecursion (IsCalled calls old) residents
+pub record Lent (until : ℕ) (calls rest : CalledMotes) (old now : List (Option Mote)) (lent_motes : List LentMote) (wakes : List (Option ℕ)) : Type 0 where
+  pub different : are_different (numbers_of lent_motes) ≡ true
+  pub others : (k : ℕ) → copies_for rest k ≡ cond (is_one_of k (numbers_of lent_motes)) None (copies_for calls k)
+  pub called : AllByRecursion (IsCalled calls old) lent_motes
   pub places : length now ≡ length old
-  pub gone : (k : ℕ) → mote_here now k ≡ cond (is_one_of k (numbers_of residents)) None (mote_here old k)
-  pub told : AllZip (IsWakeOf until) residents wakes
+  pub gone : (k : ℕ) → mote_here now k ≡ cond (is_one_of k (numbers_of lent_motes)) None (mote_here old k)
+  pub told : AllZip (IsWakeOf until) lent_motes wakes
 
 some_within : {X : Type 0} (xs : List (Option X)) (k : ℕ) (x : X) → get_or xs k None ≡ Some x → k < length xs
 some_within [] k x e = absurd (none_is_not x e)
@@ -93,10 +93,10 @@ zip_more R [] (b ∷ ys) x y z r = absurd z
 zip_more R (a ∷ xs) [] x y z r = absurd z
 zip_more R (a ∷ xs) (b ∷ ys) x y z r = (z.0, zip_more R xs ys x y z.1 r)
 
-pub none_lent : (until : ℕ) (calls rest : CalledMotes) (motes : List (Option Mote)) (residents : List Resident) (wakes : List (Option ℕ)) → residents ≡ [] → wakes ≡ []
-    → ((k : ℕ) → copies_for rest k ≡ copies_for calls k) → Lent until calls rest motes motes residents wakes
-none_lent until calls rest motes residents wakes e f same =
-    subst (λ ws. Lent until calls rest motes motes residents ws) (sym f)
+pub none_lent : (until : ℕ) (calls rest : CalledMotes) (motes : List (Option Mote)) (lent_motes : List LentMote) (wakes : List (Option ℕ)) → lent_motes ≡ [] → wakes ≡ []
+    → ((k : ℕ) → copies_for rest k ≡ copies_for calls k) → Lent until calls rest motes motes lent_motes wakes
+none_lent until calls rest motes lent_motes wakes e f same =
+    subst (λ ws. Lent until calls rest motes motes lent_motes ws) (sym f)
     (subst (λ rs. Lent until calls rest motes motes rs []) (sym e) (record {
       different = refl;
       others = same;
@@ -106,17 +106,17 @@ none_lent until calls rest motes residents wakes e f same =
       told = tt;
     }))
 
-module _ (until : ℕ) (calls rest rest' : CalledMotes) (old now now' : List (Option Mote)) (residents residents' : List Resident) (wakes wakes' : List (Option ℕ)) (lent : Lent until calls rest old now residents wakes)
-    (r : Resident) (pushed : residents' ≡ residents ++ r ∷ []) (popped : copies_for rest r.number ≡ Some r.copies.items)
+module _ (until : ℕ) (calls rest rest' : CalledMotes) (old now now' : List (Option Mote)) (lent_motes lent_motes' : List LentMote) (wakes wakes' : List (Option ℕ)) (lent : Lent until calls rest old now lent_motes wakes)
+    (r : LentMote) (pushed : lent_motes' ≡ lent_motes ++ r ∷ []) (popped : copies_for rest r.number ≡ Some r.copies.items)
     (updated : (k : ℕ) → copies_for rest' k ≡ cond (eqb r.number k) None (copies_for rest k)) where
   abbrev ks : List ℕ
-  ks = numbers_of residents
+  ks = numbers_of lent_motes
 
   abbrev k : ℕ
   k = r.number
 
-  numbers : numbers_of residents' ≡ ks ++ k ∷ []
-  numbers = ap numbers_of pushed ∙ map-append (λ (x : Resident). x.number) residents (r ∷ [])
+  numbers : numbers_of lent_motes' ≡ ks ++ k ∷ []
+  numbers = ap numbers_of pushed ∙ map-append (λ (x : LentMote). x.number) lent_motes (r ∷ [])
 
   pub new : is_one_of k ks ≡ false
   new = elim (cases_Bool (is_one_of k ks)) [
@@ -133,7 +133,7 @@ module _ (until : ℕ) (calls rest rest' : CalledMotes) (old now now' : List (Op
   pub still_here : mote_here now k ≡ mote_here old k
   still_here = let h = rw new at (lent.gone k) in h
 
-  among : (j : ℕ) → is_one_of j (numbers_of residents') ≡ (is_one_of j ks || eqb k j)
+  among : (j : ℕ) → is_one_of j (numbers_of lent_motes') ≡ (is_one_of j ks || eqb k j)
   among j = ap (is_one_of j) numbers ∙ among_more j ks k
 
   none_more : {X : Type 0} (a b : Bool) (x : Option X) → cond b None (cond a None x) ≡ cond (a || b) None x
@@ -142,18 +142,18 @@ module _ (until : ℕ) (calls rest rest' : CalledMotes) (old now now' : List (Op
   none_more false true x = refl
   none_more false false x = refl
 
-  others' : (j : ℕ) → copies_for rest' j ≡ cond (is_one_of j (numbers_of residents')) None (copies_for calls j)
+  others' : (j : ℕ) → copies_for rest' j ≡ cond (is_one_of j (numbers_of lent_motes')) None (copies_for calls j)
   others' j = updated j ∙ (ap (λ o. cond (eqb k j) None o) (lent.others j) ∙ (none_more (is_one_of j ks) (eqb k j) (copies_for calls j) ∙ ap (λ b. cond b None (copies_for calls j)) (sym (among j))))
 
   module _ (mote : mote_here now k ≡ Some r.mote) (put : now' ≡ set now k None) (wake : Option ℕ) (told : IsWakeOf until r wake) (woken : wakes' ≡ wakes ++ wake ∷ []) where
     within : k < length now
     within = some_within now k r.mote mote
 
-    gone' : (j : ℕ) → mote_here now' j ≡ cond (is_one_of j (numbers_of residents')) None (mote_here old j)
+    gone' : (j : ℕ) → mote_here now' j ≡ cond (is_one_of j (numbers_of lent_motes')) None (mote_here old j)
     gone' j =
         ap (λ l. mote_here l j) put
         ∙ elim (cases_eq j k) [
-          | inl e ↦ subst (λ i. get_or (set now k None) i None ≡ cond (is_one_of i (numbers_of residents')) None (mote_here old i)) (sym e)
+          | inl e ↦ subst (λ i. get_or (set now k None) i None ≡ cond (is_one_of i (numbers_of lent_motes')) None (mote_here old i)) (sym e)
               (get_or-set_same now k None None within ∙ sym (ap (λ b. cond b None (mote_here old k)) yes))
           | inr ne ↦ get_or-set_other now k j None None ne
               ∙ (lent.gone j ∙ ap (λ b. cond b None (mote_here old j)) (sym (no j ne)))
@@ -167,35 +167,35 @@ module _ (until : ℕ) (calls rest rest' : CalledMotes) (old now now' : List (Op
         or_none true = refl
         or_none false = refl
 
-        yes : is_one_of k (numbers_of residents') ≡ true
+        yes : is_one_of k (numbers_of lent_motes') ≡ true
         yes = among k ∙ (ap (λ b. is_one_of k ks || b) (eq-eqb k k refl) ∙ or_yes (is_one_of k ks))
 
-        no : (j : ℕ) → (j ≡ k → ⊥) → is_one_of j (numbers_of residents') ≡ is_one_of j ks
+        no : (j : ℕ) → (j ≡ k → ⊥) → is_one_of j (numbers_of lent_motes') ≡ is_one_of j ks
         no j ne = among j ∙ (ap (λ b. is_one_of j ks || b) (ne_eqb k j (λ f. ne (sym f))) ∙ or_none (is_one_of j ks))
 
-    pub one_lent : Lent until calls rest' old now' residents' wakes'
+    pub one_lent : Lent until calls rest' old now' lent_motes' wakes'
     one_lent = record {
       different = ap are_different numbers ∙ different_more ks k lent.different new;
       others = others';
-      called = subst (AllByRecursion (IsCalled calls old)) (sym pushed) (every_append _ residents (r ∷ []) lent.called (record { mote = sym still_here ∙ mote; copies = is_called }, tt));
+      called = subst (AllByRecursion (IsCalled calls old)) (sym pushed) (every_append _ lent_motes (r ∷ []) lent.called (record { mote = sym still_here ∙ mote; copies = is_called }, tt));
       places = ap length put ∙ (length-set now k None ∙ lent.places);
       gone = gone';
       told = subst (λ rs. AllZip (IsWakeOf until) rs wakes') (sym pushed)
-          (subst (λ ws. AllZip (IsWakeOf until) (residents ++ r ∷ []) ws) (sym woken) (zip_more (IsWakeOf until) residents wakes r wake lent.told told));
+          (subst (λ ws. AllZip (IsWakeOf until) (lent_motes ++ r ∷ []) ws) (sym woken) (zip_more (IsWakeOf until) lent_motes wakes r wake lent.told told));
     }
 
-pub all_lent : (until : ℕ) (calls rest : CalledMotes) (old now : List (Option Mote)) (residents : List Resident) (wakes : List (Option ℕ)) → Lent until calls rest old now residents wakes
-    → ((k : ℕ) → copies_for rest k ≡ None) → MotesAreLent until calls old now residents wakes
-all_lent until calls rest old now residents wakes lent none = record {
+pub all_lent : (until : ℕ) (calls rest : CalledMotes) (old now : List (Option Mote)) (lent_motes : List LentMote) (wakes : List (Option ℕ)) → Lent until calls rest old now lent_motes wakes
+    → ((k : ℕ) → copies_for rest k ≡ None) → MotesAreLent until calls old now lent_motes wakes
+all_lent until calls rest old now lent_motes wakes lent none = record {
   different = lent.different;
-  all = λ k. each k (is_one_of k (numbers_of residents)) refl;
+  all = λ k. each k (is_one_of k (numbers_of lent_motes)) refl;
   called = lent.called;
   places = lent.places;
   gone = lent.gone;
   told = lent.told;
 }
   where
-    called_one : (k : ℕ) (rs : List Resident) → AllByRecursion (IsCalled calls old) rs → is_one_of k (numbers_of rs) ≡ true → is_some (copies_for calls k) ≡ true
+    called_one : (k : ℕ) (rs : List LentMote) → AllByRecursion (IsCalled calls old) rs → is_one_of k (numbers_of rs) ≡ true → is_some (copies_for calls k) ≡ true
     called_one k [] all e = absurd (false≢true e)
     called_one k (r ∷ rs) all e =
         elim (cases_Bool (eqb r.number k)) [
@@ -203,6 +203,6 @@ all_lent until calls rest old now residents wakes lent none = record {
           | inr f ↦ (let g = rw f at e in called_one k rs all.1 g)
         ]
 
-    each : (k : ℕ) (b : Bool) → is_one_of k (numbers_of residents) ≡ b → is_one_of k (numbers_of residents) ≡ is_some (copies_for calls k)
-    each k true e = e ∙ sym (called_one k residents lent.called e)
+    each : (k : ℕ) (b : Bool) → is_one_of k (numbers_of lent_motes) ≡ b → is_one_of k (numbers_of lent_motes) ≡ is_some (copies_for calls k)
+    each k true e = e ∙ sym (called_one k lent_motes lent.called e)
     each k false e = let h = rw e at (lent.others k) in e ∙ ap is_some (sym (none k) ∙ h)

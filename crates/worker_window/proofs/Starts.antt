@@ -10,8 +10,8 @@ use Rattle.window_laws.specs.Agenda.{Item, moment_of, mote_of}
 use Rattle.window_laws.specs.Windows.{is_sent_by, NoneBefore, IsQuiet}
 use Rattle.window_laws.proofs.Lists.{any_every, every_weaker}
 use Rattle.worker_window.specs.declared.out.WindowOut.{WindowOut}
-use Rattle.worker_window.specs.declared.resident.Resident.{Resident}
-use Rattle.worker_window.specs.Shares.{ResidentGives, ResidentGoesOn, GivesList, AreGoingOn}
+use Rattle.worker_window.specs.declared.lent_mote.LentMote.{LentMote}
+use Rattle.worker_window.specs.Shares.{LentMoteGives, LentMoteGoesOn, GivesList, AreGoingOn}
 use Rattle.worker_window.proofs.Ends.{not_before}
 use Rattle.net_agenda.specs.Buckets.{Holds}
 use Rattle.net_agenda.specs.NetSystem.{tree_at, system_of}
@@ -40,9 +40,9 @@ IsLeft old new = (new.worker ≡ old.worker) × (new.traces.items ≡ old.traces
 
 module _ (n : NetTold) (of : List ℕ) (worker from until : ℕ) (motes : Motes) (taken arrived : List RadioCopy) (old new : Share) (keeps : Keeps n of worker from motes taken old)
     (le : from ≤ until) (come : AllByRecursion (IsExpected of worker from) arrived) (long : length of ≡ length n.motes)
-    (calls : CalledMotes) (residents : List Resident) (wakes : List (Option ℕ)) (takes_events : TakesEventsBefore until (items n of worker from until motes taken arrived old keeps le come) calls)
+    (calls : CalledMotes) (lent_motes : List LentMote) (wakes : List (Option ℕ)) (takes_events : TakesEventsBefore until (items n of worker from until motes taken arrived old keeps le come) calls)
     (holds : Holds new.agenda.buckets (later n of worker from until motes taken arrived old keeps le come))
-    (lent : MotesAreLent until calls old.motes.items new.motes.items residents wakes) where
+    (lent : MotesAreLent until calls old.motes.items new.motes.items lent_motes wakes) where
   abbrev mine : ℕ → Bool
   mine = is_own of worker
 
@@ -52,7 +52,7 @@ module _ (n : NetTold) (of : List ℕ) (worker from until : ℕ) (motes : Motes)
   abbrev pub boxes : ℕ → List RadioCopy
   boxes = window_copies n of worker from until motes taken arrived old keeps le come
 
-  all : (k : ℕ) → is_one_of k (numbers_of residents) ≡ list_any (calls_for until k) all_items
+  all : (k : ℕ) → is_one_of k (numbers_of lent_motes) ≡ list_any (calls_for until k) all_items
   all k = lent.all k ∙ takes_events.called k
 
   called_mine : (k : ℕ) → is_some (copies_for calls k) ≡ true → mine k ≡ true
@@ -60,10 +60,10 @@ module _ (n : NetTold) (of : List ℕ) (worker from until : ℕ) (motes : Motes)
       called_in (λ k. mine k ≡ true) until k all_items (every_weaker _ _ (λ item h. h.0) all_items (all_in n of worker from until motes taken arrived old keeps le come)) (sym (takes_events.called k) ∙ e)
 
   abbrev here : ℕ → Bool
-  here k = mine k && not (is_one_of k (numbers_of residents))
+  here k = mine k && not (is_one_of k (numbers_of lent_motes))
 
   parts : (k : ℕ) → here k ≡ true → (mine k ≡ true) × (list_any (calls_for until k) all_items ≡ false)
-  parts k h = here_parts n of worker from until motes taken arrived old keeps le come (numbers_of residents) all k h
+  parts k h = here_parts n of worker from until motes taken arrived old keeps le come (numbers_of lent_motes) all k h
 
   same_mote : (k : ℕ) → here k ≡ true → mote_here new.motes.items k ≡ mote_here old.motes.items k
   same_mote k h = lent.gone k ∙ ap (λ b. cond b None (mote_here old.motes.items k)) (all k ∙ (parts k h).1)
@@ -89,7 +89,7 @@ module _ (n : NetTold) (of : List ℕ) (worker from until : ℕ) (motes : Motes)
     };
   }
 
-  one_gives : (r : Resident) (out : WindowOut) → IsCalled calls old.motes.items r → ResidentGives n until r out → IsBack n mine from until motes boxes r.number out
+  one_gives : (r : LentMote) (out : WindowOut) → IsCalled calls old.motes.items r → LentMoteGives n until r out → IsBack n mine from until motes boxes r.number out
   one_gives r out called gives =
       let k = r.number in
       let h = called_mine k (ap is_some called.copies) in
@@ -98,7 +98,7 @@ module _ (n : NetTold) (of : List ℕ) (worker from until : ℕ) (motes : Motes)
       (alike n of worker from until motes taken arrived old keeps le come k r.copies.items (takes_events.copies k r.copies.items called.copies)) out
       (gives_open n until r out (motes k).state there (ap (node_at (tree_at n k)) (sym called.mote) ∙ keeps.nodes k h) gives)
 
-  one_goes_on : (r : Resident) → IsCalled calls old.motes.items r → ResidentGoesOn n until r
+  one_goes_on : (r : LentMote) → IsCalled calls old.motes.items r → LentMoteGoesOn n until r
   one_goes_on r called =
       let k = r.number in
       let h = called_mine k (ap is_some called.copies) in
@@ -110,7 +110,7 @@ module _ (n : NetTold) (of : List ℕ) (worker from until : ℕ) (motes : Motes)
       goes_open n until r (motes k).state there (ap (node_at (tree_at n k)) (sym called.mote) ∙ keeps.nodes k h)
       (λ moment next. past_later from moment (not_before from moment wake r.copies.items quiet next.comes) (motes k).state.last (keeps.turned_before k h))
 
-  one_pending : (r : Resident) (wake : Option ℕ) → IsCalled calls old.motes.items r → IsWakeOf until r wake → IsPending until motes r.number wake
+  one_pending : (r : LentMote) (wake : Option ℕ) → IsCalled calls old.motes.items r → IsWakeOf until r wake → IsPending until motes r.number wake
   one_pending r wake called told =
       let k = r.number in
       let h = called_mine k (ap is_some called.copies) in
@@ -118,16 +118,16 @@ module _ (n : NetTold) (of : List ℕ) (worker from until : ℕ) (motes : Motes)
       ∙ (ap (λ o. wake_from until (wake_in o)) (ap (node_at (tree_at n k)) (sym called.mote) ∙ keeps.nodes k h) ∙ ap (wake_from until) (sym (keeps.wakes k h)))
 
   -- the motes that are called can go on
-  pub go_on : AreGoingOn n until residents
-  go_on = every_weaker (IsCalled calls old.motes.items) (ResidentGoesOn n until) one_goes_on residents lent.called
+  pub go_on : AreGoingOn n until lent_motes
+  go_on = every_weaker (IsCalled calls old.motes.items) (LentMoteGoesOn n until) one_goes_on lent_motes lent.called
 
-  pub starts : (outs : List WindowOut) → GivesList n until residents outs → IsLeft old new → Coming n of worker from until motes (taken ++ arrived) boxes new outs wakes []
+  pub starts : (outs : List WindowOut) → GivesList n until lent_motes outs → IsLeft old new → Coming n of worker from until motes (taken ++ arrived) boxes new outs wakes []
   starts outs gives same = record {
-    rest = numbers_of residents;
+    rest = numbers_of lent_motes;
     different = lent.different;
     now = motes;
-    backs = zip_numbers (IsCalled calls old.motes.items) (ResidentGives n until) (IsBack n mine from until motes boxes) one_gives residents outs lent.called gives;
-    pending = zip_numbers (IsCalled calls old.motes.items) (IsWakeOf until) (IsPending until motes) one_pending residents wakes lent.called lent.told;
+    backs = zip_numbers (IsCalled calls old.motes.items) (LentMoteGives n until) (IsBack n mine from until motes boxes) one_gives lent_motes outs lent.called gives;
+    pending = zip_numbers (IsCalled calls old.motes.items) (IsWakeOf until) (IsPending until motes) one_pending lent_motes wakes lent.called lent.told;
     stands = stands_left same;
     waits = λ k e. refl;
     others = λ k e. refl;

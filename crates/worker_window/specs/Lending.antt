@@ -12,7 +12,7 @@ use Rattle.radio_packet.specs.declared.copy.RadioCopy.{RadioCopy}
 use Rattle.radio_medium.specs.Medium.{Radio, copies}
 use Rattle.window_laws.specs.Agenda.{Item, Packet, is_wake_of, wake_items}
 use Rattle.worker_window.specs.declared.out.WindowOut.{WindowOut}
-use Rattle.worker_window.specs.declared.resident.Resident.{Resident}
+use Rattle.worker_window.specs.declared.lent_mote.LentMote.{LentMote}
 use Rattle.net_agenda.specs.Buckets.{Holds}
 use Rattle.net_agenda.specs.Changes.{without_wakes}
 use Rattle.worker_window.specs.declared.share.Share.{Share}
@@ -29,27 +29,27 @@ abbrev pub are_different : List ℕ → Bool
 are_different [] = true
 are_different (k ∷ ks) = not (is_one_of k ks) && are_different ks
 
-abbrev pub numbers_of : List Resident → List ℕ
-numbers_of residents = map (λ resident. resident.number) residents
+abbrev pub numbers_of : List LentMote → List ℕ
+numbers_of lent_motes = map (λ lent_mote. lent_mote.number) lent_motes
 
 -- a mote that was here, with the copies for it
-pub record IsCalled (calls : CalledMotes) (motes : List (Option Mote)) (resident : Resident) : Type 0 where
-  pub mote : mote_here motes resident.number ≡ Some resident.mote
-  pub copies : copies_for calls resident.number ≡ Some resident.copies.items
+pub record IsCalled (calls : CalledMotes) (motes : List (Option Mote)) (lent_mote : LentMote) : Type 0 where
+  pub mote : mote_here motes lent_mote.number ≡ Some lent_mote.mote
+  pub copies : copies_for calls lent_mote.number ≡ Some lent_mote.copies.items
 
 -- the wake of a mote, unless it is before a moment
-abbrev pub IsWakeOf : (until : ℕ) → Resident → (wake : Option ℕ) → Type 0
-IsWakeOf until resident wake = (tree : Tree) → wake ≡ wake_from until (wake_in (node_in tree resident.mote))
+abbrev pub IsWakeOf : (until : ℕ) → LentMote → (wake : Option ℕ) → Type 0
+IsWakeOf until lent_mote wake = (tree : Tree) → wake ≡ wake_from until (wake_in (node_in tree lent_mote.mote))
 
 -- the motes that are called are lent, and these are their wakes
-pub record MotesAreLent (until : ℕ) (calls : CalledMotes) (old new : List (Option Mote)) (residents : List Resident)
+pub record MotesAreLent (until : ℕ) (calls : CalledMotes) (old new : List (Option Mote)) (lent_motes : List LentMote)
     (wakes : List (Option ℕ)) : Type 0 where
-  pub different : are_different (numbers_of residents) ≡ true
-  pub all : (k : ℕ) → is_one_of k (numbers_of residents) ≡ is_some (copies_for calls k)
-  pub called : AllByRecursion (IsCalled calls old) residents
+  pub different : are_different (numbers_of lent_motes) ≡ true
+  pub all : (k : ℕ) → is_one_of k (numbers_of lent_motes) ≡ is_some (copies_for calls k)
+  pub called : AllByRecursion (IsCalled calls old) lent_motes
   pub places : length new ≡ length old
-  pub gone : (k : ℕ) → mote_here new k ≡ (if is_one_of k (numbers_of residents) then None else mote_here old k)
-  pub told : AllZip (IsWakeOf until) residents wakes
+  pub gone : (k : ℕ) → mote_here new k ≡ (if is_one_of k (numbers_of lent_motes) then None else mote_here old k)
+  pub told : AllZip (IsWakeOf until) lent_motes wakes
 
 -- the mote has this number
 pub record HasNumber (number : ℕ) (mote : Mote) : Type 0 where

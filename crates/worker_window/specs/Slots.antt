@@ -6,9 +6,9 @@ use Rattle.mote_node.specs.declared.mote.MoteError.{MoteError}
 use Rattle.mote_node.specs.declared.mote.MoteError.TheVariants.{Memory}
 use Rattle.mote_net.specs.Net.{NetTold}
 use Rattle.worker_window.specs.declared.out.WindowOut.{WindowOut}
-use Rattle.worker_window.specs.declared.resident.Resident.{Resident}
+use Rattle.worker_window.specs.declared.lent_mote.LentMote.{LentMote}
 use Rattle.worker_window.specs.declared.slot.Slot.{Slot}
-use Rattle.worker_window.specs.Shares.{ResidentGives}
+use Rattle.worker_window.specs.Shares.{LentMoteGives}
 use Rattle.worker_window.specs.Turns.{MayGive, HasTurns}
 
 abbrev pub is_done : {G : Type 0} → Slot G → Bool
@@ -28,9 +28,9 @@ SlotGoesOn slot = MatchOption slot.out (HasTurns slot.window.own) (λ made. Unit
 abbrev pub SlotsGoOn : {G : Type 0} → List (Slot G) → Type 0
 SlotsGoOn slots = AllByRecursion SlotGoesOn slots
 
--- what the slot may give, the resident's window gives
-abbrev pub IsOf : {G : Type 0} → NetTold → (until : ℕ) → Resident → Slot G → Type 0
-IsOf n until resident slot = (out : WindowOut) → SlotGives slot out → ResidentGives n until resident out
+-- what the slot may give, the lent mote's window gives
+abbrev pub IsOf : {G : Type 0} → NetTold → (until : ℕ) → LentMote → Slot G → Type 0
+IsOf n until lent_mote slot = (out : WindowOut) → SlotGives slot out → LentMoteGives n until lent_mote out
 
 -- what the worker may return: what its slots give, or an error, which is out of memory if all can go on
 abbrev pub WorkerMayAnswer : {G : Type 0} → List (Slot G) → Result (Vec WindowOut Global) MoteError → Type 0

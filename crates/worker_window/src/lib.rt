@@ -6,10 +6,10 @@
 mod calls;
 mod gate;
 pub mod laws;
+mod lent_mote;
 mod mote_window;
 mod out;
 mod own;
-mod resident;
 mod room;
 mod scratch;
 mod share;
@@ -18,10 +18,10 @@ mod window;
 mod worker;
 
 pub use gate::{Gate, NoGate};
+pub use lent_mote::{LentMote, LentMotes};
 pub use mote_window::MoteWindow;
 pub use out::WindowOut;
 pub use own::OwnWindow;
-pub use resident::{Resident, Residents};
 pub use room::{TurnRoom, WindowRoom, copies_in};
 pub use share::{Ended, Share};
 pub use worker::{ShareWindow, run_share};

@@ -19,8 +19,8 @@ ghost use Rattle.worker_window.specs.Lending.{MotesAreLent, HasNumber, IsOutOfMo
 
 use crate::calls::{CalledMotes, take_events_before};
 use crate::gate::Gate;
+use crate::lent_mote::{LentMote, LentMotes};
 use crate::out::WindowOut;
-use crate::resident::{Resident, Residents};
 use crate::room::WindowRoom;
 use crate::scratch::Rooms;
 use crate::share::Share;
@@ -70,28 +70,28 @@ pub(crate) fn lend(
     until: u64,
     calls: CalledMotes,
     rooms: &mut Rooms,
-) -> Result<Vec<Resident>, AllocError>
+) -> Result<Vec<LentMote>, AllocError>
     requires here { (k : ℕ) → IsSome (copies_for calls.copies.items k) → IsSome (mote_here motes.old.items k) }
     requires rising { (k : ℕ) (copies : List RadioCopy) → copies_for calls.copies.items k ≡ Some copies
         → is_rising copies ≡ true }
     ensures { IfOk result
-        (λ residents. MotesAreLent until calls.copies.items motes.old.items motes.new.items residents.items
+        (λ lent_motes. MotesAreLent until calls.copies.items motes.old.items motes.new.items lent_motes.items
         wakes.new.items) }
 {
     wakes.clear();
-    let mut residents = Vec::with_capacity(calls.alloc, calls.copies.len())?;
+    let mut lent_motes = Vec::with_capacity(calls.alloc, calls.copies.len())?;
     let mut calls = calls;
     while let Some((number, copies)) = calls.pop() {
         let mote = take_mote(motes, number);
         wakes.push(wake_from(until, mote.wake()))?;
-        residents.push(Resident {
+        lent_motes.push(LentMote {
             number,
             mote,
             copies,
             room: rooms.take(),
         })?;
     }
-    Ok(residents)
+    Ok(lent_motes)
 }
 
 fn last_wake(wakes: &mut Vec<Option<u64>>) -> Option<u64>
@@ -294,10 +294,10 @@ impl Share {
         self.agenda.put_copies(&arrived)?;
         let calls = take_events_before(self.alloc, &mut self.agenda, until, &mut self.rooms)?;
         let mut wakes = Vec::new(self.alloc);
-        let residents = lend(&mut self.motes, &mut wakes, until, calls, &mut self.rooms)?;
-        let called = Residents {
+        let lent_motes = lend(&mut self.motes, &mut wakes, until, calls, &mut self.rooms)?;
+        let called = LentMotes {
             worker: self.worker,
-            residents,
+            lent_motes,
         };
         let mut outs = run_share(
             rt,

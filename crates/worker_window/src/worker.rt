@@ -7,15 +7,15 @@ ghost use Rattle.fork_join.specs.declared.work.Refused.TheVariants.{Stopped};
 ghost use Rattle.futures.specs.Task.{Keeps};
 ghost use Rattle.mote_net.specs.Net.{net_of};
 ghost use Rattle.worker_window.specs.declared.out.WindowOut.{WindowOut as OutOfCode};
-ghost use Rattle.worker_window.specs.Shares.{AreGoingOn, AreInNet, GivesList, ResidentGives, ResidentGoesOn};
+ghost use Rattle.worker_window.specs.Shares.{AreGoingOn, AreInNet, GivesList, LentMoteGives, LentMoteGoesOn};
 ghost use Rattle.worker_window.specs.Slots.{SlotsGive, SlotsGoOn, WorkerMayAnswer, is_done};
 ghost use Rattle.worker_window.specs.Turns.{MayGive, HasTurns};
 
 use crate::gate::Gate;
+use crate::lent_mote::{LentMote, LentMotes};
 use crate::mote_window::MoteWindow;
 use crate::out::WindowOut;
 use crate::own::OwnWindow;
-use crate::resident::{Resident, Residents};
 use crate::room::TurnRoom;
 use crate::slot::Slot;
 use fork_join::Refused;
@@ -30,7 +30,7 @@ use std::random::RandomSource;
 use std::sync::Wait;
 
 /// Polls each unfinished window once in turn, and then yields. It is ready once all are, with what they gave, in the
-/// order of the residents; or once one returned an error.
+/// order of the lent motes; or once one returned an error.
 pub struct ShareWindow<'a, G> {
     alloc: Global,
     slots: Vec<Slot<'a, G>>,
@@ -48,26 +48,26 @@ impl<G> Drop for ShareWindow<'_, G> {
     }
 }
 
-/// The window of one resident.
+/// The window of one lent mote.
 fn open<'a, G: Gate>(
     alloc: Global,
     net: &'a Net,
-    resident: Resident,
+    lent_mote: LentMote,
     until: u64,
     worker: u16,
     gate: &'a G,
 ) -> MoteWindow<'a, G>
     requires until { until ≤ 2 ^ 40 }
-    requires there { resident.number < length (net_of net.now).motes }
-    ensures gives { (out : OutOfCode) → MayGive result.own out → ResidentGives (net_of net.now) until resident out }
-    ensures goes_on { ResidentGoesOn (net_of net.now) until resident → HasTurns result.own }
+    requires there { lent_mote.number < length (net_of net.now).motes }
+    ensures gives { (out : OutOfCode) → MayGive result.own out → LentMoteGives (net_of net.now) until lent_mote out }
+    ensures goes_on { LentMoteGoesOn (net_of net.now) until lent_mote → HasTurns result.own }
 {
-    let Resident {
+    let LentMote {
         number,
         mote,
         copies,
         room,
-    } = resident;
+    } = lent_mote;
     let own = OwnWindow::new(alloc, mote, net.program(number), copies, until, room);
     MoteWindow::over(own, worker, gate)
 }
@@ -78,22 +78,22 @@ impl<'a, G: Gate> ShareWindow<'a, G> {
     pub fn new(
         alloc: Global,
         net: &'a Net,
-        share: Residents,
+        share: LentMotes,
         until: u64,
         gate: &'a G,
         room: &'a mut Option<Box<TurnRoom>>,
     ) -> Result<ShareWindow<'a, G>, AllocError>
         requires until { until ≤ 2 ^ 40 }
-        requires there { AreInNet (net_of net.now) share.residents.items }
+        requires there { AreInNet (net_of net.now) share.lent_motes.items }
         ensures gives { IfOk result (λ w. (outs : List OutOfCode) → SlotsGive w.slots.items outs
-            → GivesList (net_of net.now) until share.residents.items outs) }
-        ensures go_on { IfOk result (λ w. AreGoingOn (net_of net.now) until share.residents.items
+            → GivesList (net_of net.now) until share.lent_motes.items outs) }
+        ensures go_on { IfOk result (λ w. AreGoingOn (net_of net.now) until share.lent_motes.items
             → SlotsGoOn w.slots.items) }
     {
-        let Residents { worker, residents } = share;
-        let mut slots = Vec::with_capacity(alloc, residents.len())?;
-        for resident in residents {
-            let window = open(alloc, net, resident, until, worker, gate);
+        let LentMotes { worker, lent_motes } = share;
+        let mut slots = Vec::with_capacity(alloc, lent_motes.len())?;
+        for lent_mote in lent_motes {
+            let window = open(alloc, net, lent_mote, until, worker, gate);
             slots.push(Slot { window, out: None })?;
         }
         Ok(ShareWindow { alloc, slots, room })
@@ -162,7 +162,7 @@ fn collect_outs<G: Gate>(
 }
 
 /// Runs a worker's motes, each of them a mote of the net, through the window up to `until`, which is at most 2^40, by
-/// the worker's future. What each gives is in the order of the residents. No mote has failed, and what comes to each
+/// the worker's future. What each gives is in the order of the lent motes. No mote has failed, and what comes to each
 /// comes after its last turn. The scratch buffers of the turns are passed from window to window.
 ///
 /// # Errors
@@ -171,7 +171,7 @@ pub fn run_share<R, G>(
     rt: &R,
     alloc: Global,
     net: &Net,
-    share: Residents,
+    share: LentMotes,
     until: u64,
     gate: &G,
     room: &mut Option<Box<TurnRoom>>,
@@ -180,9 +180,9 @@ where
     R: Wait + RandomSource + AllocGlobal,
     G: Gate,
     requires until { until ≤ 2 ^ 40 }
-    requires there { AreInNet (net_of net.now) share.residents.items }
-    requires go_on { AreGoingOn (net_of net.now) until share.residents.items }
-    ensures gives { IfOk result (λ outs. GivesList (net_of net.now) until share.residents.items outs.items) }
+    requires there { AreInNet (net_of net.now) share.lent_motes.items }
+    requires go_on { AreGoingOn (net_of net.now) until share.lent_motes.items }
+    ensures gives { IfOk result (λ outs. GivesList (net_of net.now) until share.lent_motes.items outs.items) }
     ensures refused { IfErr result (λ reason. reason ≢ Stopped) }
 {
     let worker = ShareWindow::new(alloc, net, share, until, gate, room)?;

@@ -10,7 +10,7 @@ use Rattle.net_agenda.proofs.Gathered.{zero_from}
 use Rattle.worker_window.specs.declared.share.Share.{Share}
 use Rattle.worker_cut.specs.Crossed.{is_own, is_for_others}
 use Rattle.worker_window.specs.Window.{IsOutgoing}
-use Rattle.worker_window.specs.Shares.{ResidentGives}
+use Rattle.worker_window.specs.Shares.{LentMoteGives}
 use Rattle.worker_window.specs.Lending.{HasNumber, IsWakeOf, MoteReturns}
 use Rattle.worker_window.proofs.Parts.{window_copies, window_copies_are}
 use Rattle.worker_window.proofs.Lent.{zip_length}
@@ -43,7 +43,7 @@ run_share-requires-clause-there g c =
     let kept = c.requires.ready.keeps in
     let base = subst (λ l. Holds c.put_copies.new.self.buckets (kept.agenda.items ++ map Packet l)) c.deref.ensures.value (c.in_ok-put_copies.ensures kept.agenda.items kept.agenda.holds) in
     in_net (net_of c.args.net.now) c.args.of.now c.args.self.now (kept_of c.requires.ready) c.args.arrived.items c.requires.to_own c.requires.of c.args.until c.in_ok-calls.calls.copies.items (c.in_ok-calls.ensures.taken _ base)
-    c.lend.new.motes.items c.in_ok-residents.residents.items c.lend.new.wakes.items c.in_ok-residents.ensures c.requires.ready.order
+    c.lend.new.motes.items c.in_ok-lent_motes.lent_motes.items c.lend.new.wakes.items c.in_ok-lent_motes.ensures c.requires.ready.order
 
 pub run_share-requires-clause-go_on : goal.run_share-requires-clause-go_on
 run_share-requires-clause-go_on g c =
@@ -52,29 +52,29 @@ run_share-requires-clause-go_on g c =
     let at = subst (λ l. Holds c.put_copies.new.self.buckets (r.keeps.agenda.items ++ map Packet l)) c.deref.ensures.value (c.in_ok-put_copies.ensures r.keeps.agenda.items r.keeps.agenda.holds) in
     let share : Share = record c.args.self.now { motes = c.lend.new.motes; agenda = c.take_events_before.new.agenda; rooms = c.lend.new.rooms } in
     go_on n c.args.of.now r.worker r.from c.args.until r.motes r.taken c.args.arrived.items c.args.self.now share r.keeps r.order r.expected c.requires.of c.in_ok-calls.calls.copies.items
-    c.in_ok-residents.residents.items c.lend.new.wakes.items (c.in_ok-calls.ensures.taken _ at) (c.in_ok-calls.ensures.rest _ at) c.in_ok-residents.ensures
+    c.in_ok-lent_motes.lent_motes.items c.lend.new.wakes.items (c.in_ok-calls.ensures.taken _ at) (c.in_ok-calls.ensures.rest _ at) c.in_ok-lent_motes.ensures
 
 pub loop-out-init : goal.loop-out-init
 loop-out-init g c =
     let n = net_of c.args.net.now in
     let kept = c.requires.ready.keeps in
     let base = subst (λ l. Holds c.put_copies.new.self.buckets (kept.agenda.items ++ map Packet l)) c.deref.ensures.value (c.in_ok-put_copies.ensures kept.agenda.items kept.agenda.holds) in
-    let lent = c.in_ok-residents.ensures in
+    let lent = c.in_ok-lent_motes.ensures in
     let share : Share = record c.args.self.now { motes = c.lend.new.motes; agenda = c.take_events_before.new.agenda; rooms = record c.lend.new.rooms { turns = c.run_share.new.room } } in
     record {
       motes = lent.places ∙ kept.places;
       traces = kept.traces_kept;
       worker = refl;
-      wakes = sym (zip_length (IsWakeOf c.args.until) _ _ lent.told) ∙ zip_length (ResidentGives n c.args.until) _ _ c.in_ok-outs.ensures;
+      wakes = sym (zip_length (IsWakeOf c.args.until) _ _ lent.told) ∙ zip_length (LentMoteGives n c.args.until) _ _ c.in_ok-outs.ensures;
       fits =
           all_fit n c.args.of.now c.args.self.now (kept_of c.requires.ready) c.args.arrived.items c.requires.to_own c.requires.of c.args.until c.in_ok-calls.calls.copies.items (c.in_ok-calls.ensures.taken _ base)
-          c.lend.new.motes.items c.in_ok-residents.residents.items c.lend.new.wakes.items lent c.requires.ready.order c.in_ok-outs.outs.items c.in_ok-outs.ensures;
+          c.lend.new.motes.items c.in_ok-lent_motes.lent_motes.items c.lend.new.wakes.items lent c.requires.ready.order c.in_ok-outs.outs.items c.in_ok-outs.ensures;
       go_out = subst (AllByRecursion (IsOutgoing n c.args.of.now c.args.self.now.worker)) (sym c.new-outgoing.ensures.items) tt;
       coming = λ worker from motes taken keeps le short come.
           let at = subst (λ l. Holds c.put_copies.new.self.buckets (keeps.agenda.items ++ map Packet l)) c.deref.ensures.value (c.in_ok-put_copies.ensures keeps.agenda.items keeps.agenda.holds) in
           subst (λ l. Coming n c.args.of.now worker from c.args.until motes (taken ++ c.args.arrived.items) (window_copies n c.args.of.now worker from c.args.until motes taken c.args.arrived.items c.args.self.now keeps le come) share c.in_ok-outs.outs.items c.lend.new.wakes.items l)
           (sym c.new-outgoing.ensures.items)
-          (starts n c.args.of.now worker from c.args.until motes taken c.args.arrived.items c.args.self.now share keeps le come c.requires.of c.in_ok-calls.calls.copies.items c.in_ok-residents.residents.items c.lend.new.wakes.items
+          (starts n c.args.of.now worker from c.args.until motes taken c.args.arrived.items c.args.self.now share keeps le come c.requires.of c.in_ok-calls.calls.copies.items c.in_ok-lent_motes.lent_motes.items c.lend.new.wakes.items
           (c.in_ok-calls.ensures.taken _ at) (c.in_ok-calls.ensures.rest _ at) lent c.in_ok-outs.outs.items c.in_ok-outs.ensures (refl, refl, refl));
     }
 

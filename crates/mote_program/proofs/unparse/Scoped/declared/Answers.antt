@@ -6,7 +6,7 @@ use Rattle.program_tree.specs.Tokens.{token_of}
 use Rattle.program_tree.specs.FlatBlock.{tree_in}
 use Rattle.program_tree.specs.declared.keyword.Keyword.TheVariants as word
 use Rattle.mote_program.proofs.Adding.{on_ok, four_added}
-use Rattle.mote_program.proofs.unread.Scoped.declared.Goals as goal
+use Rattle.mote_program.proofs.unparse.Scoped.declared.Goals as goal
 
 pub returns : goal.returns
 returns c =

@@ -3,7 +3,7 @@ use Rattle.program_tree.specs.InScope.{name_in}
 use Rattle.mote_program.specs.Spelled.{names_in}
 use Rattle.mote_program.proofs.Adding.{on_ok, block_begun, block_more, block_added, action_added}
 use Rattle.mote_program.proofs.Adding.{if_added, else_added, while_added}
-use Rattle.mote_program.proofs.unread.Scoped.+unread.Goals as goal
+use Rattle.mote_program.proofs.unparse.Scoped.+unparse.Goals as goal
 
 pub block-returns : goal.block-returns
 block-returns t c =

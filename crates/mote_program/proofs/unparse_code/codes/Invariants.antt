@@ -4,7 +4,7 @@ use Rattle.mote_program.specs.Spelled.{code_tokens}
 use Rattle.program_tree.specs.Program.{tree_of}
 use Rattle.program_tree.specs.ShapeOf.{codes_of_tree}
 use Rattle.program_tree.specs.Tokens.{token_of}
-use Rattle.mote_program.proofs.unread_code.codes.Given as goal
+use Rattle.mote_program.proofs.unparse_code.codes.Given as goal
 
 abbrev pub invariant-loop-place : goal.invariant-loop-place
 invariant-loop-place l =

@@ -4,7 +4,7 @@ use Rattle.mote_program.specs.Spelled.{valued_tokens, autostart_tokens}
 use Rattle.program_tree.specs.Tokens.{token_of}
 use Rattle.program_tree.specs.declared.keyword.Keyword.TheVariants as word
 use Rattle.mote_program.proofs.Adding.{on_ok, five_added}
-use Rattle.mote_program.proofs.unread_code.head.Goals as goal
+use Rattle.mote_program.proofs.unparse_code.head.Goals as goal
 
 pub returns : goal.returns
 returns c =

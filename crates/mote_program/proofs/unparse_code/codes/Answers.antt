@@ -4,7 +4,7 @@ use Rattle.program_tree.specs.Program.{code_of, tree_of}
 use Rattle.program_tree.specs.ShapeOf.{names_of_tree, code_shape, codes_of_tree}
 use Rattle.mote_program.specs.Spelled.{code_tokens}
 use Rattle.mote_program.proofs.Adding.{one_item, mapped_at, no_more, zip_length}
-use Rattle.mote_program.proofs.unread_code.codes.Goals as goal
+use Rattle.mote_program.proofs.unparse_code.codes.Goals as goal
 
 pub loop-place-preserved : goal.loop-place-preserved
 loop-place-preserved c =

@@ -10,7 +10,7 @@ ghost use Rattle.mote_program.specs.Spelled.{spelled_tokens};
 ghost use Rattle.program_tree.specs.Tokens.{token_of};
 ghost use Rattle.program_tree.specs.FlatBlock.{tree_in};
 
-use crate::unread::{Scoped, add, add_all, name_at};
+use crate::unparse::{Scoped, add, add_all, name_at};
 use program_tree::flat_block::FlatBlock;
 use program_tree::keyword::Keyword;
 use program_tree::names::Names;
@@ -242,7 +242,7 @@ fn head<'a>(program: &'a Program, out: &mut Vec<Token<'a>>) -> Result<(), AllocE
 }
 
 /// The tokens of a program.
-pub(crate) fn unread<'a>(alloc: Global, program: &'a Program) -> Result<Vec<Token<'a>>, AllocError>
+pub(crate) fn unparse<'a>(alloc: Global, program: &'a Program) -> Result<Vec<Token<'a>>, AllocError>
     ensures { IfOk result (λ ts. map token_of ts.items ≡ spelled_tokens (tree_of program.now)) }
 {
     let mut out = Vec::new(alloc);

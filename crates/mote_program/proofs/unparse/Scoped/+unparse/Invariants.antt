@@ -4,7 +4,7 @@ use Rattle.program_tree.specs.InScope.{name_in}
 use Rattle.mote_program.specs.Spelled.{names_in, statement_tokens}
 use Rattle.program_tree.specs.Tokens.{OpenBrace, token_of}
 use Rattle.program_tree.specs.Tree.{statement_of, statement_map}
-use Rattle.mote_program.proofs.unread.Scoped.+unread.Given as goal
+use Rattle.mote_program.proofs.unparse.Scoped.+unparse.Given as goal
 
 abbrev pub invariant-block-statements : goal.invariant-block-statements
 invariant-block-statements l =

@@ -1,7 +1,7 @@
 use Rattle.std.proofs.Common.{[], get_or}
 use Rattle.mote_program.specs.Spelled.{comma_tokens}
 use Rattle.mote_program.proofs.Adding.{one_number}
-use Rattle.mote_program.proofs.unread_code.autostart.Goals as goal
+use Rattle.mote_program.proofs.unparse_code.autostart.Goals as goal
 
 pub loop-number-preserved : goal.loop-number-preserved
 loop-number-preserved c =

@@ -10,7 +10,7 @@ use radio_packet::RadioCopy;
 /// A mote that is lent out for a window: with its number in the net, the copies that come to it in the window, in the
 /// order of moment, sender and number, and scratch buffers for what it writes and sends there.
 #[derive(Drop)]
-pub struct Resident {
+pub struct LentMote {
     pub number: u16,
     pub mote: Mote,
     pub copies: Vec<RadioCopy>,
@@ -20,7 +20,7 @@ pub struct Resident {
 
 /// The motes that one worker has lent out for a window: those that have a turn in it.
 #[derive(Drop)]
-pub struct Residents {
+pub struct LentMotes {
     pub worker: u16,
-    pub residents: Vec<Resident>,
+    pub lent_motes: Vec<LentMote>,
 }

@@ -3,7 +3,7 @@ use Rattle.std.specs.List.{zip}
 use Rattle.mote_program.specs.Spelled.{valued_tokens}
 use Rattle.program_tree.specs.Tokens.{token_of}
 use Rattle.mote_program.proofs.Adding.{one_pair, no_more, zip_length}
-use Rattle.mote_program.proofs.unread_code.valued.Goals as goal
+use Rattle.mote_program.proofs.unparse_code.valued.Goals as goal
 
 pub loop-place-preserved : goal.loop-place-preserved
 loop-place-preserved c =

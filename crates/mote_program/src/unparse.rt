@@ -350,7 +350,7 @@ impl<'a> Scoped<'a> {
     }
 
     /// Adds a statement.
-    #[cycle(unread)]
+    #[cycle(unparse)]
     fn statement(&self, statement: &Stmt, out: &mut Vec<Token<'a>>) -> Result<(), AllocError>
         ensures { OnOk result (map token_of out.new.items ≡ map token_of out.old.items
             ++ statement_tokens (statement_map (name_in (names_in self.now)) (statement_of statement.now))) }
@@ -376,7 +376,7 @@ impl<'a> Scoped<'a> {
     }
 
     /// Adds a block.
-    #[cycle(unread)]
+    #[cycle(unparse)]
     pub(crate) fn block(&self, block: &Block, out: &mut Vec<Token<'a>>) -> Result<(), AllocError>
         ensures { OnOk result (map token_of out.new.items ≡ map token_of out.old.items
             ++ block_tokens (body_map (name_in (names_in self.now)) (block_of block.now))) }

@@ -5,7 +5,7 @@ use Rattle.program_tree.specs.ShapeOf.{block_with}
 use Rattle.mote_program.specs.Spelled.{names_in, named_tokens}
 use Rattle.program_tree.specs.FlatBlock.{tree_in}
 use Rattle.mote_program.proofs.Adding.{one_item, mapped_at, no_more, two_added, zip_length}
-use Rattle.mote_program.proofs.unread.Scoped.blocks.Goals as goal
+use Rattle.mote_program.proofs.unparse.Scoped.blocks.Goals as goal
 
 pub loop-place-preserved : goal.loop-place-preserved
 loop-place-preserved c =

@@ -4,7 +4,7 @@ use Rattle.mote_program.specs.Spelled.{comma_tokens}
 use Rattle.program_tree.specs.declared.keyword.Keyword.TheVariants as word
 use Rattle.program_tree.specs.Tokens as token
 use Rattle.program_tree.specs.Tokens.{token_of}
-use Rattle.mote_program.proofs.unread_code.processes.Given as goal
+use Rattle.mote_program.proofs.unparse_code.processes.Given as goal
 
 abbrev pub invariant-loop-place : goal.invariant-loop-place
 invariant-loop-place l =
