@@ -1,5 +1,5 @@
 pub mod Held
 pub mod Start
-pub mod WindowWidth
+pub mod WindowLength
 pub mod Worker
 pub mod Workers

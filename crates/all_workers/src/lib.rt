@@ -1,4 +1,4 @@
-//! What joins and marks have in common: the group between windows, a window's width, the making of endpoints, one
+//! What joins and marks have in common: the group between windows, a window's length, the making of endpoints, one
 //! worker.
 #![tactic(auto)]
 
@@ -9,6 +9,6 @@ mod worker;
 mod workers;
 
 pub use senders::make_endpoints;
-pub use windows::{lookahead_of, window_end, window_width};
+pub use windows::{lookahead_of, window_end, window_length};
 pub use worker::{Worker, split_workers, workers_of};
 pub use workers::Workers;

@@ -5,7 +5,7 @@ ghost use Rattle.mote_net.specs.Limits.{latest_end};
 ghost use Rattle.mote_net.specs.Net.{net_of};
 ghost use Rattle.net_agenda.specs.NetSystem.{system_of};
 ghost use Rattle.window_laws.specs.System.{RunsForward};
-ghost use Rattle.all_workers.specs.WindowWidth.{end_of_window, width_of_window};
+ghost use Rattle.all_workers.specs.WindowLength.{end_of_window, length_of_window};
 
 use mote_net::Net;
 
@@ -18,9 +18,9 @@ pub fn lookahead_of(net: &Net) -> u64
 }
 
 /// How long a window lasts: as long as the lookahead, or `longest`, if that is above 0 and less.
-pub fn window_width(lookahead: u64, longest: u32) -> u64
+pub fn window_length(lookahead: u64, longest: u32) -> u64
     requires { 0 < lookahead }
-    ensures value { result ≡ width_of_window lookahead longest }
+    ensures value { result ≡ length_of_window lookahead longest }
     ensures above_zero { 0 < result }
     ensures within { result ≤ lookahead }
     ensures told { 0 < longest → longest < lookahead → result ≡ longest }

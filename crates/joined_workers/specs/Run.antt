@@ -2,7 +2,7 @@
 use Rattle.std.specs.Prelude.{ℕ, zero, suc, ◌≡◌, ◌+◌, ◌<◌, ◌≤◌, min, List, Option, Some, None}
 use Rattle.mote_net.specs.Net.{NetTold}
 use Rattle.all_workers.specs.declared.workers.Workers.{Workers}
-use Rattle.all_workers.specs.WindowWidth.{end_of_window}
+use Rattle.all_workers.specs.WindowLength.{end_of_window}
 use Rattle.joined_workers.specs.Next.{IsNextOfAll}
 use Rattle.joined_workers.specs.Laws.{GroupRunsUntil}
 

@@ -8,11 +8,11 @@ ghost use Rattle.std.specs.List.{AllByRecursion as Each};
 ghost use Rattle.copy_exchange.specs.Inboxes.{IsPlain};
 ghost use Rattle.all_workers.specs.Workers.{IsAt};
 ghost use Rattle.joined_workers.specs.Run.{BeginsAt, GroupRunsToEnd};
-ghost use Rattle.all_workers.specs.WindowWidth.{width_of_window};
+ghost use Rattle.all_workers.specs.WindowLength.{length_of_window};
 
 use crate::next::next_moment;
 use crate::window::run_group_window;
-use all_workers::{Workers, lookahead_of, window_end, window_width};
+use all_workers::{Workers, lookahead_of, window_end, window_length};
 use fork_join::Refused;
 use mote_net::Net;
 use std::alloc::{AllocGlobal, Global};
@@ -60,10 +60,10 @@ where
     ensures at { let n = net_of net.now in IfOk result (λ done. IsAt n of.now (suc n.end) done) }
     ensures inboxes { IfOk result (λ done. done.inboxes.items ≡ group.inboxes.items) }
     ensures windows { let n = net_of net.now in
-        IfOk result (GroupRunsToEnd n of.now (width_of_window (system_of n).lookahead longest) group) }
+        IfOk result (GroupRunsToEnd n of.now (length_of_window (system_of n).lookahead longest) group) }
 {
     let end = net.end();
-    let width = window_width(lookahead_of(net), longest);
+    let width = window_length(lookahead_of(net), longest);
     let mut group = group;
     let mut from = window_start(&group, end);
     'windows: while from <= end {

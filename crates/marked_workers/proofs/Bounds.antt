@@ -2,7 +2,7 @@
 use Rattle.std.proofs.Common.{◌≡◌, ◌⊎◌, ℕ, zero, suc, ◌+◌, ◌*◌, ◌<◌, ◌≤◌, inl, inr, arith, suc-mul}
 use Rattle.std.proofs.Math.Nat.{le-div_iff_mul-le, le-mul_of_pos_right}
 use Rattle.std.proofs.lemmas.Bool.{cases_lt}
-use Rattle.all_workers.specs.WindowWidth.{end_of_window}
+use Rattle.all_workers.specs.WindowLength.{end_of_window}
 use Rattle.marked_workers.specs.Bounds.{bound, windows_of, AreWindows}
 
 pub at_first : (width end : ℕ) → bound width end 0 ≡ 0

@@ -10,7 +10,7 @@ ghost use Rattle.copy_exchange.specs.Endpoints.{IsOnInboxes};
 ghost use Rattle.copy_exchange.specs.Inboxes.{IsFresh};
 ghost use Rattle.copy_exchange.specs.Steps.{GathersBack};
 ghost use Rattle.all_workers.specs.Workers.{IsAt};
-ghost use Rattle.all_workers.specs.WindowWidth.{width_of_window};
+ghost use Rattle.all_workers.specs.WindowLength.{length_of_window};
 ghost use Rattle.all_workers.specs.Start.{AreFirst};
 ghost use Rattle.all_workers.specs.Workers.{IsCut};
 ghost use Rattle.marked_workers.specs.Bounds.{windows_of};
@@ -20,7 +20,7 @@ ghost use Rattle.marked_workers.specs.Thread.{IsFirst, WorkerRunsAllWindows};
 use crate::thread::MarkRunner;
 use crate::worker::WorkersRun;
 use all_workers::{
-    Worker, Workers, lookahead_of, make_endpoints, split_workers, window_width, workers_of,
+    Worker, Workers, lookahead_of, make_endpoints, split_workers, window_length, workers_of,
 };
 use copy_exchange::{Endpoint, gather_back};
 use copy_inbox::{Inbox, Taker};
@@ -148,10 +148,10 @@ where
     ensures inboxes { IfOk result (λ done. done.inboxes.items ≡ group.inboxes.items) }
     // Each worker ran all windows of this length.
     ensures windows { let n = net_of net.now in
-        IfOk result (GroupRunsMarked n of.now (width_of_window (system_of n).lookahead longest) group) }
+        IfOk result (GroupRunsMarked n of.now (length_of_window (system_of n).lookahead longest) group) }
     ensures all_taken { IfOk result
         (λ done. Each (λ taker. Whole taker.state.gathered taker.state.taken) done.takers.items) }
 {
-    let width = window_width(lookahead_of(net), longest);
+    let width = window_length(lookahead_of(net), longest);
     run_threads(rt, alloc, net, of, width, gate, group)
 }

@@ -4,7 +4,7 @@ use Rattle.net_agenda.specs.NetSystem.{system_of}
 use Rattle.all_workers.specs.declared.workers.Workers.{Workers}
 use Rattle.joined_workers.specs.Laws.{GroupRunsUntil}
 use Rattle.joined_workers.specs.Run.{BeginsAt, GroupRunsNext}
-use Rattle.all_workers.specs.WindowWidth.{end_of_window, width_of_window}
+use Rattle.all_workers.specs.WindowLength.{end_of_window, length_of_window}
 use Rattle.joined_workers.proofs.Runs.{begins_later, short_enough, stands_there}
 use Rattle.joined_workers.proofs.run.run_group.Goals as goal
 
@@ -21,7 +21,7 @@ windows-init g c = record {
 pub windows-smaller : goal.windows-smaller
 windows-smaller g c =
     let up = c.window_end-until.ensures.later in
-    let short = short_enough c.windows.from c.window_width-width.result c.lookahead_of.result _ c.window_end-until.result c.window_end-until.ensures.short c.window_width-width.ensures.within c.lookahead_of.ensures.value in
+    let short = short_enough c.windows.from c.window_length-width.result c.lookahead_of.result _ c.window_end-until.result c.window_end-until.ensures.short c.window_length-width.ensures.within c.lookahead_of.ensures.value in
     let moved = c.in_ok-group.ensures.moves c.lookahead_of.ensures.forward c.windows.from c.windows.invariant.at up short in
     let on = begins_later (net_of c.args.net.now) c.args.of.now c.window_end-until.result c.end-end.result c.in_ok-group.group _ moved c.window_end-until.ensures.within c.window_start-from-in-windows.ensures.value in
     let there = c.windows-test.true in
@@ -30,14 +30,14 @@ windows-smaller g c =
 pub windows-preserved : goal.windows-preserved
 windows-preserved g c =
     let up = c.window_end-until.ensures.later in
-    let short = short_enough c.windows.from c.window_width-width.result c.lookahead_of.result _ c.window_end-until.result c.window_end-until.ensures.short c.window_width-width.ensures.within c.lookahead_of.ensures.value in
+    let short = short_enough c.windows.from c.window_length-width.result c.lookahead_of.result _ c.window_end-until.result c.window_end-until.ensures.short c.window_length-width.ensures.within c.lookahead_of.ensures.value in
     let moved = c.in_ok-group.ensures.moves c.lookahead_of.ensures.forward c.windows.from c.windows.invariant.at up short in
     let n = net_of c.args.net.now in
-    let width = width_of_window (system_of n).lookahead c.args.longest in
+    let width = length_of_window (system_of n).lookahead c.args.longest in
     let is : c.window_end-until.result ≡ end_of_window n.end width c.windows.from =
     c.window_end-until.ensures.value
-    ∙ (ap (λ e. end_of_window e c.window_width-width.result c.windows.from) c.end-end.ensures.value
-    ∙ ap (λ l. end_of_window n.end l c.windows.from) (c.window_width-width.ensures.value ∙ ap (λ l. width_of_window l c.args.longest) c.lookahead_of.ensures.value)) in
+    ∙ (ap (λ e. end_of_window e c.window_length-width.result c.windows.from) c.end-end.ensures.value
+    ∙ ap (λ l. end_of_window n.end l c.windows.from) (c.window_length-width.ensures.value ∙ ap (λ l. length_of_window l c.args.longest) c.lookahead_of.ensures.value)) in
     -- the window that was run is the next one
     let next : GroupRunsNext n c.args.of.now width c.windows.group c.in_ok-group.group = record {
       from = c.windows.from;

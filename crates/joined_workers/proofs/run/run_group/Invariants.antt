@@ -5,7 +5,7 @@ use Rattle.copy_exchange.specs.Inboxes.{IsPlain}
 use Rattle.net_agenda.specs.NetSystem.{system_of}
 use Rattle.all_workers.specs.Workers.{IsAt}
 use Rattle.joined_workers.specs.Run.{BeginsAt, GroupRunsWindows}
-use Rattle.all_workers.specs.WindowWidth.{width_of_window}
+use Rattle.all_workers.specs.WindowLength.{length_of_window}
 use Rattle.joined_workers.proofs.run.run_group.Given as goal
 
 abbrev pub invariant-windows : goal.invariant-windows
@@ -14,7 +14,7 @@ invariant-windows g l = record {
   plain : Each IsPlain l.group.takers.items;
   early : l.from ≤ l.end + 1;
   inboxes : l.group.inboxes.items ≡ l.fn.group.inboxes.items;
-  windows : (k : ℕ) × GroupRunsWindows (net_of l.net) l.of (width_of_window (system_of (net_of l.net)).lookahead l.longest) k l.fn.group l.group;
+  windows : (k : ℕ) × GroupRunsWindows (net_of l.net) l.of (length_of_window (system_of (net_of l.net)).lookahead l.longest) k l.fn.group l.group;
   begins : BeginsAt (net_of l.net).end l.group l.from;
 }
 

@@ -1,6 +1,6 @@
 use Rattle.std.proofs.Common.{◌≡◌, ◌+◌, ◌∙◌, ◌<◌, ◌≤◌, sym, ap, subst, suc, arith}
 use Rattle.mote_net.specs.Net.{net_of}
-use Rattle.all_workers.specs.WindowWidth.{end_of_window}
+use Rattle.all_workers.specs.WindowLength.{end_of_window}
 use Rattle.marked_workers.specs.Bounds.{bound, windows_of}
 use Rattle.marked_workers.specs.Thread.{HasRun}
 use Rattle.marked_workers.proofs.Bounds.{at_first, are_windows, goes_on, over, next_bound}

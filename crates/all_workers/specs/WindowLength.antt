@@ -2,8 +2,8 @@
 use Rattle.std.specs.Prelude.{ℕ, ◌+◌, min, nat_lt, ◌&&◌, if◌then◌else◌}
 
 -- a window lasts as long as the lookahead, or less if that is asked for
-abbrev pub width_of_window : (lookahead longest : ℕ) → ℕ
-width_of_window lookahead longest = if nat_lt 0 longest && nat_lt longest lookahead then longest else lookahead
+abbrev pub length_of_window : (lookahead longest : ℕ) → ℕ
+length_of_window lookahead longest = if nat_lt 0 longest && nat_lt longest lookahead then longest else lookahead
 
 -- the moment before which it ends
 abbrev pub end_of_window : (end width from : ℕ) → ℕ
