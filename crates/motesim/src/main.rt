@@ -1,70 +1,12 @@
-//! The program: it gives the command the words and the streams of its process.
+//! The program: it gives the command the streams of its process.
 #![tactic(auto)]
 
-use simulation::{SimError, run_command, status_of};
-use std::alloc::{AllocError, Global};
-use std::io::{Read, Write};
+use simulation::run_process;
 use std::process::ExitCode;
-use std::random::RandomSource;
-use std::rt::{Env, Files};
-use std::sync::Wait;
-use std::thread::Threads;
-use std::{env, io};
-
-fn borrow_words(alloc: Global, words: &[String]) -> Result<Vec<&str>, AllocError> {
-    words.iter().map(|word| word.as_str()).collect(alloc)
-}
-
-/// The words that the process was given.
-fn words_of<T: AllocGlobal + Env>(rt: &T) -> io::Result<Vec<String>> {
-    let words = env::args(rt)?.collect(rt.alloc())?;
-    Ok(words)
-}
-
-/// Runs the command with these words.
-fn run_words<T, R, W, E>(
-    rt: &T,
-    words: &[String],
-    input: &mut R,
-    output: &mut W,
-    errors: &mut E,
-) -> Result<u8, AllocError>
-where
-    T: AllocGlobal + Files + Threads + Wait + RandomSource + Sync,
-    R: Read,
-    W: Write,
-    E: Write,
-{
-    let words = borrow_words(rt.alloc(), words)?;
-    Ok(run_command(rt, &words, input, output, errors))
-}
-
-/// Runs the command with the words that the process was given.
-fn run<T, R, W, E>(rt: &T, input: &mut R, output: &mut W, errors: &mut E) -> io::Result<u8>
-where
-    T: AllocGlobal + Env + Files + Threads + Wait + RandomSource + Sync,
-    R: Read,
-    W: Write,
-    E: Write,
-{
-    let words = words_of(rt)?;
-    Ok(run_words(rt, &words, input, output, errors)?)
-}
 
 fn main(rt: HostRuntime) -> ExitCode {
     let mut input = rt.stdin();
     let mut output = rt.stdout();
     let mut errors = rt.stderr();
-    let status = match run(&rt, &mut input, &mut output, &mut errors) {
-        Ok(status) => status,
-        Err(error) if error.kind() == io::ErrorKind::InvalidData => {
-            let _ = writeln!(
-                errors,
-                "error: invalid UTF-8 was detected in one or more arguments"
-            );
-            2
-        }
-        Err(_) => status_of(Err(SimError::Memory), &mut errors),
-    };
-    ExitCode::from(status)
+    ExitCode::from(run_process(&rt, &mut input, &mut output, &mut errors))
 }

@@ -9,6 +9,7 @@ mod error;
 mod input;
 pub mod laws;
 mod options;
+mod process;
 
 pub use command::{run_command, simulate_asked, status_of};
 pub use command_line::{Asked, asked_by};
@@ -17,5 +18,6 @@ pub use error::SimError;
 pub use input::{InputError, read_text};
 pub use net_scenario::ScenarioError;
 pub use options::{CutKind, Options};
+pub use process::run_process;
 pub use trace_printer::PrintError;
 pub use window_workers::{Gate, NoGate, RunError, SyncKind};

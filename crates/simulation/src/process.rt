@@ -1,0 +1,76 @@
+//! The command as a process runs it: with the words that the process was given.
+
+use crate::command::{run_command, status_of};
+use crate::error::SimError;
+use std::alloc::{AllocError, Global};
+use std::io::{Read, Write};
+use std::random::RandomSource;
+use std::rt::{Env, Files};
+use std::sync::Wait;
+use std::thread::Threads;
+use std::{env, io};
+
+fn borrow_words(alloc: Global, words: &[String]) -> Result<Vec<&str>, AllocError> {
+    words.iter().map(|word| word.as_str()).collect(alloc)
+}
+
+/// The words that the process was given.
+fn words_of<T: AllocGlobal + Env>(rt: &T) -> io::Result<Vec<String>> {
+    let words = env::args(rt)?.collect(rt.alloc())?;
+    Ok(words)
+}
+
+/// Runs the command with these words.
+fn run_words<T, R, W, E>(
+    rt: &T,
+    words: &[String],
+    input: &mut R,
+    output: &mut W,
+    errors: &mut E,
+) -> Result<u8, AllocError>
+where
+    T: AllocGlobal + Files + Threads + Wait + RandomSource + Sync,
+    R: Read,
+    W: Write,
+    E: Write,
+{
+    let words = borrow_words(rt.alloc(), words)?;
+    Ok(run_command(rt, &words, input, output, errors))
+}
+
+/// Runs the command with the words that the process was given.
+fn run<T, R, W, E>(rt: &T, input: &mut R, output: &mut W, errors: &mut E) -> io::Result<u8>
+where
+    T: AllocGlobal + Env + Files + Threads + Wait + RandomSource + Sync,
+    R: Read,
+    W: Write,
+    E: Write,
+{
+    let words = words_of(rt)?;
+    Ok(run_words(rt, &words, input, output, errors)?)
+}
+
+/// Runs `run_command` with the words that the process was given, and returns its exit status. If one of the words isn't
+/// UTF-8, that is 2, and `errors` says so.
+///
+/// It stands here, and not with the program's `main`, since a check of `main` would load once more all that the
+/// contract of `run_command` rests on.
+pub fn run_process<T, R, W, E>(rt: &T, input: &mut R, output: &mut W, errors: &mut E) -> u8
+where
+    T: AllocGlobal + Env + Files + Threads + Wait + RandomSource + Sync,
+    R: Read,
+    W: Write,
+    E: Write,
+{
+    match run(rt, input, output, errors) {
+        Ok(status) => status,
+        Err(error) if error.kind() == io::ErrorKind::InvalidData => {
+            let _ = writeln!(
+                errors,
+                "error: invalid UTF-8 was detected in one or more arguments"
+            );
+            2
+        }
+        Err(_) => status_of(Err(SimError::Memory), errors),
+    }
+}
