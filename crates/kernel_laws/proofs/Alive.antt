@@ -10,7 +10,7 @@ use Rattle.process_kernel.specs.declared.process.ProcessState.TheVariants.{Off, 
 use Rattle.process_kernel.specs.declared.process.Member.{Member}
 use Rattle.process_kernel.specs.Members.{place_of, is_same, holds_member}
 use Rattle.process_kernel.specs.State.{State}
-use Rattle.process_kernel.specs.Processes.{is_alive, process_state, is_listed, is_on_list, has_process, with_state, with_exiting, with_mark}
+use Rattle.process_kernel.specs.Processes.{is_alive, process_state, is_listed, is_on_list, has_process, with_state, with_exiting, with_needs_poll}
 use Rattle.process_kernel.specs.ProcessList.{exiting_of, unlisted_of}
 use Rattle.kernel_laws.specs.Own.{IsOwn}
 use Rattle.kernel_laws.specs.Poll.{CanBePolled}
@@ -21,7 +21,7 @@ use Rattle.kernel_laws.proofs.Tables.{set_same, set_other, is_entry, is_equal}
 pub record Alive (p : Proc) (s t : State) : Type 0 where
   pub can : CanBePolled p s → CanBePolled p t
   pub state : has_process s p ≡ true → has_process t p ≡ true
-  pub mark : nat_lt (place_of p) (length s.marks) ≡ true → nat_lt (place_of p) (length t.marks) ≡ true
+  pub can_need_poll : nat_lt (place_of p) (length s.needs_poll) ≡ true → nat_lt (place_of p) (length t.needs_poll) ≡ true
   pub listed : is_listed s p ≡ true → is_listed t p ≡ true
   pub there : (m : Member) → m.process ≡ p → is_on_list s m ≡ true → is_on_list t m ≡ true
 
@@ -45,27 +45,27 @@ others_there : (ms : List Member) (q : Proc) (m : Member) → (place_of m.proces
 others_there [] q m e = refl
 others_there (x ∷ ms) q m e = grind (arith, nat_tests, others_there ms q m e)
 
-pub still_has : (k j : ℕ) (b : Bool) (marks : List Bool) → nat_lt k (length marks) ≡ true → nat_lt k (length (slice_set marks j b)) ≡ true
-still_has k j b marks h = rw (length-set marks j b) h
+pub still_has : (k j : ℕ) (b : Bool) (needs_poll : List Bool) → nat_lt k (length needs_poll) ≡ true → nat_lt k (length (slice_set needs_poll j b)) ≡ true
+still_has k j b needs_poll h = rw (length-set needs_poll j b) h
 
--- a mark that is set stays so when one is set
-pub marked_more : (k j : ℕ) (marks : List Bool) → unwrap_or (slice_get marks k) false ≡ true → unwrap_or (slice_get (slice_set marks j true) k) false ≡ true
-marked_more k j marks e = by (is_equal k j)
+-- a process that needs a poll still does when one more does
+pub needs_poll_more : (k j : ℕ) (needs_poll : List Bool) → unwrap_or (slice_get needs_poll k) false ≡ true → unwrap_or (slice_get (slice_set needs_poll j true) k) false ≡ true
+needs_poll_more k j needs_poll e = by (is_equal k j)
   where
-    by : (k ≡ j) ⊎ (k ≡ j → ⊥) → unwrap_or (slice_get (slice_set marks j true) k) false ≡ true
-    by (inl q) = subst (λ i. unwrap_or (slice_get (slice_set marks i true) k) false ≡ true) q (set_same marks k true false (is_entry marks k false (λ z. let f : true ≡ false = sym e ∙ z in cc)))
-    by (inr n) = set_other marks j k true false n ∙ e
+    by : (k ≡ j) ⊎ (k ≡ j → ⊥) → unwrap_or (slice_get (slice_set needs_poll j true) k) false ≡ true
+    by (inl q) = subst (λ i. unwrap_or (slice_get (slice_set needs_poll i true) k) false ≡ true) q (set_same needs_poll k true false (is_entry needs_poll k false (λ z. let f : true ≡ false = sym e ∙ z in cc)))
+    by (inr n) = set_other needs_poll j k true false n ∙ e
 
 module _ (p : Proc) (system : place_of p < 3) where
   apart : (q : Proc) → IsOwn q → (place_of p == place_of q) ≡ false
   apart q own = let n = no_own q (place_of p) system own in grind (arith, nat_tests)
 
   -- nothing of this is changed
-  pub alive_still : (s t : State) → t.states ≡ s.states → t.marks ≡ s.marks → t.members ≡ s.members → Alive p s t
-  alive_still s t states marks members = record {
-    can = λ c. record { alive = rw states c.alive; has_mark = rw marks c.has_mark };
+  pub alive_still : (s t : State) → t.states ≡ s.states → t.needs_poll ≡ s.needs_poll → t.members ≡ s.members → Alive p s t
+  alive_still s t states needs_poll members = record {
+    can = λ c. record { alive = rw states c.alive; can_need_poll = rw needs_poll c.can_need_poll };
     state = λ h. rw states h;
-    mark = λ h. rw marks h;
+    can_need_poll = λ h. rw needs_poll h;
     listed = λ h. rw members h;
     there = λ m e h. rw members h;
   }
@@ -74,7 +74,7 @@ module _ (p : Proc) (system : place_of p < 3) where
   alive_joined a b c h i = record {
     can = λ x. i.can (h.can x);
     state = λ x. i.state (h.state x);
-    mark = λ x. i.mark (h.mark x);
+    can_need_poll = λ x. i.can_need_poll (h.can_need_poll x);
     listed = λ x. i.listed (h.listed x);
     there = λ m e x. i.there m e (h.there m e x);
   }
@@ -91,9 +91,9 @@ module _ (p : Proc) (system : place_of p < 3) where
   pub alive_state : (s : State) (q : Proc) (x : ProcessState) → is_alive x ≡ true → Alive p s (with_state s q x)
   unfolding with_state
   alive_state s q x alive = record {
-    can = λ c. record { alive = alive_with s q x alive c.alive; has_mark = c.has_mark };
+    can = λ c. record { alive = alive_with s q x alive c.alive; can_need_poll = c.can_need_poll };
     state = λ h. rw (length-set s.states (place_of q) x) h;
-    mark = λ h. h;
+    can_need_poll = λ h. h;
     listed = λ h. h;
     there = λ m e h. h;
   }
@@ -101,28 +101,28 @@ module _ (p : Proc) (system : place_of p < 3) where
   pub alive_exiting : (s : State) (q : Proc) → IsOwn q → Alive p s (exiting_of s q)
   unfolding exiting_of with_exiting with_state
   alive_exiting s q own = record {
-    can = λ c. record { alive = rw (set_other s.states (place_of q) (place_of p) Off Off (no_own q (place_of p) system own)) c.alive; has_mark = c.has_mark };
+    can = λ c. record { alive = rw (set_other s.states (place_of q) (place_of p) Off Off (no_own q (place_of p) system own)) c.alive; can_need_poll = c.can_need_poll };
     state = λ h. rw (length-set s.states (place_of q) Off) h;
-    mark = λ h. h;
+    can_need_poll = λ h. h;
     listed = λ h. h;
     there = λ m e h. h;
   }
 
-  pub alive_mark : (s : State) (q : Proc) (b : Bool) → Alive p s (with_mark s q b)
-  unfolding with_mark
-  alive_mark s q b = record {
-    can = λ c. record { alive = c.alive; has_mark = still_has (place_of p) (place_of q) b s.marks c.has_mark };
+  pub alive_needs_poll : (s : State) (q : Proc) (b : Bool) → Alive p s (with_needs_poll s q b)
+  unfolding with_needs_poll
+  alive_needs_poll s q b = record {
+    can = λ c. record { alive = c.alive; can_need_poll = still_has (place_of p) (place_of q) b s.needs_poll c.can_need_poll };
     state = λ h. h;
-    mark = λ h. still_has (place_of p) (place_of q) b s.marks h;
+    can_need_poll = λ h. still_has (place_of p) (place_of q) b s.needs_poll h;
     listed = λ h. h;
     there = λ m e h. h;
   }
 
   pub alive_longer : (s : State) (m : Member) (n : ℕ) → Alive p s (record s { members = m ∷ s.members; started = n })
   alive_longer s m n = record {
-    can = λ c. record { alive = c.alive; has_mark = c.has_mark };
+    can = λ c. record { alive = c.alive; can_need_poll = c.can_need_poll };
     state = λ h. h;
-    mark = λ h. h;
+    can_need_poll = λ h. h;
     listed = λ h. any_or (is_same p m.process) (is_listed s p) h;
     there = λ x e h. any_or _ (holds_member s.members x) h;
   }
@@ -130,9 +130,9 @@ module _ (p : Proc) (system : place_of p < 3) where
   pub alive_shorter : (s : State) (q : Proc) → IsOwn q → Alive p s (unlisted_of (with_exiting s q false) q)
   unfolding unlisted_of with_exiting
   alive_shorter s q own = record {
-    can = λ c. record { alive = c.alive; has_mark = c.has_mark };
+    can = λ c. record { alive = c.alive; can_need_poll = c.can_need_poll };
     state = λ h. h;
-    mark = λ h. h;
+    can_need_poll = λ h. h;
     listed = λ h. others_stay s.members q p (apart q own) ∙ h;
     there = λ m e h. others_there s.members q m (rw e (apart q own)) ∙ h;
   }

@@ -40,7 +40,7 @@ use Rattle.kernel_laws.specs.Traces.{KernelCall, RunAt, PollOf, Accepts, Notes, 
 use Rattle.kernel_laws.specs.Printed.{IsQuietApart, is_told_of, starts_and_prints, Unborn, LivesSoFar, Told, PrintsAreTheReading, PrintsSoFarAreTheReading}
 use Rattle.kernel_laws.specs.Telling.{Standing, standing_of, RestsAsTold, TellsSoFar, IsProcess, TellingIsOfLives, TellingIsOfLivesSoFar, NoLinesTellFirst, BootTells, RunTells, PollTells, PacketTells, NoteTells}
 use Rattle.kernel_laws.proofs.Resting.{numbered_listed, first_rests}
-use Rattle.kernel_laws.proofs.Standing.{told_more, line_quiet, mark_quiet, poll_quiet}
+use Rattle.kernel_laws.proofs.Standing.{told_more, line_quiet, needs_poll_quiet, poll_quiet}
 use Rattle.kernel_laws.proofs.BodyCalls.{Leads, AreTold, from, bind, either, goes, still, start_led, calls_told}
 
 module _ (program : Tree) (mote p : ℕ) (code : Code) (is_code : slice_get program.codes p ≡ Some code) (apart : IsQuietApart code) where
@@ -53,11 +53,11 @@ module _ (program : Tree) (mote p : ℕ) (code : Code) (is_code : slice_get prog
     unfolding poll_turn_of
     polls_led [] s = still program mote p code earlier s tt
     polls_led (m ∷ ms) s =
-        bind program mote p code earlier s _ _ (either program mote p code earlier s _ _ _ (from program mote p code earlier s _ _ (mark_quiet p s m.process false) (are.call _ m.process (told Poll 0))) (still program mote p code earlier s tt)) (λ a t. polls_led ms t)
+        bind program mote p code earlier s _ _ (either program mote p code earlier s _ _ _ (from program mote p code earlier s _ _ (needs_poll_quiet p s m.process false) (are.call _ m.process (told Poll 0))) (still program mote p code earlier s tt)) (λ a t. polls_led ms t)
 
     polls_due_led : (s : State) → L (Unit {0}) s (polls_due_of calls s)
     unfolding polls_due_of polls_of
-    polls_due_led s = either program mote p code earlier s s.flag _ _ (from program mote p code earlier s _ _ refl (polls_led s.members _)) (still program mote p code earlier s tt)
+    polls_due_led s = either program mote p code earlier s s.poll_requested _ _ (from program mote p code earlier s _ _ refl (polls_led s.members _)) (still program mote p code earlier s tt)
 
     give_led : (s : State) (x : Posted) (q : Proc) (there : Bool) → L (Unit {0}) s (give_of calls s x q there)
     unfolding give_of write_of

@@ -33,7 +33,7 @@ use Rattle.process_kernel.specs.Boot.{starts_of, boot_of}
 use Rattle.kernel_laws.specs.Own.{FitsTarget}
 use Rattle.kernel_laws.specs.Seen.{seen_lines, seen_member, seen_posted, view_of}
 use Rattle.kernel_laws.specs.Going.{SystemStays}
-use Rattle.kernel_laws.proofs.Steps.{Reach, quiet, reaches_bind, reaches_from, reaches_if, goes_still, mark_quiet, listed_alike, lines_joined, enlists, first_sound}
+use Rattle.kernel_laws.proofs.Steps.{Reach, quiet, reaches_bind, reaches_from, reaches_if, goes_still, needs_poll_quiet, listed_alike, lines_joined, enlists, first_sound}
 use Rattle.kernel_laws.proofs.CallSteps.{AreRuns, fits_other, start_runs}
 
 -- the machine that the kernel is, in the midst of a walk: the serial of its event and the members still to come
@@ -139,11 +139,11 @@ module _ (calls : Calls) (are : AreRuns calls) where
   unfolding poll_turn_of
   polls_run [] s = goes_still _ s tt
   polls_run (m ∷ ms) s =
-      reaches_bind _ _ s _ _ (reaches_if _ s _ _ _ (reaches_from _ (quiet s _ (mark_quiet s m.process false)) (are.call _ m.process (told Poll 0) (fits_other m.process _ refl))) (goes_still _ s tt)) (λ a t. polls_run ms t)
+      reaches_bind _ _ s _ _ (reaches_if _ s _ _ _ (reaches_from _ (quiet s _ (needs_poll_quiet s m.process false)) (are.call _ m.process (told Poll 0) (fits_other m.process _ refl))) (goes_still _ s tt)) (λ a t. polls_run ms t)
 
   pub polls_due_run : (s : State) → Reach (Unit {0}) s (polls_due_of calls s)
   unfolding polls_due_of polls_of
-  polls_due_run s = reaches_if _ s s.flag _ _ (reaches_from _ (quiet s (record s { flag = false }) (record { lines = refl; members = refl; started = refl; queue = refl })) (polls_run s.members _)) (goes_still _ s tt)
+  polls_due_run s = reaches_if _ s s.poll_requested _ _ (reaches_from _ (quiet s (record s { poll_requested = false }) (record { lines = refl; members = refl; started = refl; queue = refl })) (polls_run s.members _)) (goes_still _ s tt)
 
   -- the line of an event that reaches a process, and the call that follows it
   given_run : (A : Type 0) (m : DeliveryMachine) (s : State) (x : Posted) (p : Proc) (there : Bool) (walked : ℕ) (coming : List Member) (g : Unit {0} → State → Outcome A) → FitsTarget (One p) x.event.number → SystemStays s →

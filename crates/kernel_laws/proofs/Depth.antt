@@ -21,7 +21,7 @@ use Rattle.protothread.specs.Remainder.{Remainder, fresh_of}
 use Rattle.process_kernel.specs.declared.process.Member.{Member}
 use Rattle.process_kernel.specs.Members.{is_same}
 use Rattle.process_kernel.specs.State.{State, Outcome, Ends, Goes, ◌>>=◌}
-use Rattle.process_kernel.specs.Processes.{has_process, is_busy, is_listed, is_running, is_on_list, with_state, with_exiting, with_mark}
+use Rattle.process_kernel.specs.Processes.{has_process, is_busy, is_listed, is_running, is_on_list, with_state, with_exiting, with_needs_poll}
 use Rattle.process_kernel.specs.ProcessList.{put_remainder, with_fresh_body, exiting_of}
 use Rattle.process_kernel.specs.Semaphores.{take_of, signal_of}
 use Rattle.process_kernel.specs.Writes.{halted_of, spend_of}
@@ -187,14 +187,14 @@ module _ (n : ℕ) (a b : Calls) (agree : Agree n a b) where
   -- boots and kernel runs
 
   same_polls : (ms : List Member) (s : State) → s.units ≤ n → Same (Unit {0}) n (walk_polls a ms s) (walk_polls b ms s)
-  unfolding poll_turn_of with_mark
+  unfolding poll_turn_of with_needs_poll
   same_polls [] s l = still _ n tt s l
   same_polls (m ∷ ms) s l =
       same_bind _ _ n _ _ _ _ (same_if _ n _ _ _ _ _ (agree.call _ m.process (told Poll 0) l) (still _ n tt s l)) (λ u t k. same_polls ms t k)
 
   same_polls_due : (s : State) → s.units ≤ n → Same (Unit {0}) n (polls_due_of a s) (polls_due_of b s)
   unfolding polls_due_of polls_of
-  same_polls_due s l = same_if _ n s.flag _ _ _ _ (same_polls s.members _ l) (still _ n tt s l)
+  same_polls_due s l = same_if _ n s.poll_requested _ _ _ _ (same_polls s.members _ l) (still _ n tt s l)
 
   same_give : (s : State) (x : Posted) (p : Proc) (there : Bool) → s.units ≤ n → Same (Unit {0}) n (give_of a s x p there) (give_of b s x p there)
   unfolding give_of

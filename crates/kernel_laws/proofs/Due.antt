@@ -14,7 +14,7 @@ use Rattle.trace_lines.specs.declared.line.Line.{Line}
 use Rattle.radio_packet.specs.declared.sent.Sent.{Sent}
 use Rattle.process_kernel.specs.declared.kernel.Ran.TheVariants as ran
 use Rattle.process_kernel.specs.State.{State, Outcome, Ends, Goes, ◌>>=◌}
-use Rattle.process_kernel.specs.Processes.{is_marked, is_listed, has_process, with_mark}
+use Rattle.process_kernel.specs.Processes.{process_needs_poll, is_listed, has_process, with_needs_poll}
 use Rattle.process_kernel.specs.Calls.{Calls, told}
 use Rattle.process_kernel.specs.Call.{calls_of}
 use Rattle.process_kernel.specs.Polls.{walk_polls}
@@ -44,7 +44,7 @@ use Rattle.process_kernel.specs.declared.process.ProcessState.TheVariants.{Off}
 use Rattle.kernel_laws.proofs.Alive.{alive_has}
 use Rattle.kernel_laws.proofs.PollTurns.{splits, walk_splits, turn_calls, before_led, polls_are}
 use Rattle.kernel_laws.proofs.WatchedBoot.{boot_good}
-use Rattle.kernel_laws.proofs.WatchedRuns.{Stands, unflagged, Good, AreWatched, Comes, comes, unmarked_stands, unmarked_moment, etimer_runs, kernel_good}
+use Rattle.kernel_laws.proofs.WatchedRuns.{Stands, unrequested, Good, AreWatched, Comes, comes, cleared_stands, cleared_moment, etimer_runs, kernel_good}
 
 are_watched : (k : ℕ) → AreWatched (calls_of (suc k))
 unfolding calls_of
@@ -73,13 +73,13 @@ module _ (m : Mote) (moment : ℕ) (lines : List Line) (sends : List Sent) where
 
   begun_can : (p : Proc) → CanBePolled p m.state → CanBePolled p (begun m moment lines sends)
   unfolding begun_of
-  begun_can p c = record { alive = c.alive; has_mark = c.has_mark }
+  begun_can p c = record { alive = c.alive; can_need_poll = c.can_need_poll }
 
   begun_listed : (p : Proc) → is_listed m.state p ≡ true → is_listed (begun m moment lines sends) p ≡ true
   unfolding begun_of
   begun_listed p h = listed_anew 0 m.state.members p ∙ h
 
-  begun_room : has_process m.state Radio ≡ true → nat_lt 2 (length m.state.marks) ≡ true → (has_process (begun m moment lines sends) Radio ≡ true) × (nat_lt 2 (length (begun m moment lines sends).marks) ≡ true)
+  begun_room : has_process m.state Radio ≡ true → nat_lt 2 (length m.state.needs_poll) ≡ true → (has_process (begun m moment lines sends) Radio ≡ true) × (nat_lt 2 (length (begun m moment lines sends).needs_poll) ≡ true)
   unfolding begun_of
   begun_room h k = (h, k)
 
@@ -90,7 +90,7 @@ module _ (m : Mote) (moment : ℕ) (lines : List Line) (sends : List Sent) where
   begun_forgets : ForgetsNone moment m.state → ForgetsNone moment (begun m moment lines sends)
   unfolding begun_of
   begun_forgets (inl n) = inl n
-  begun_forgets (inr w) = inr (record { marked = w.marked; flag = w.flag })
+  begun_forgets (inr w) = inr (record { needs_poll = w.needs_poll; poll_requested = w.poll_requested })
 
   begun_lines : (begun m moment lines sends).lines ≡ lines
   unfolding begun_of
@@ -99,8 +99,8 @@ module _ (m : Mote) (moment : ℕ) (lines : List Line) (sends : List Sent) where
   pub begun_stands : IsAtRest m.state → Stands true (begun m moment lines sends)
   begun_stands h =
       let r = begun_rests h.step h.idle in
-      let q = begun_room (alive_has Radio m.state h.radio.alive) h.radio.has_mark in
-      record { can = begun_can Etimer h.can; step = r.step; idle = r.idle; listed = begun_listed Etimer h.sound.stays; radio_state = q.0; radio_mark = q.1; radio = λ e. record { can = begun_can Radio h.radio; listed = begun_listed Radio h.radio_stays } }
+      let q = begun_room (alive_has Radio m.state h.radio.alive) h.radio.can_need_poll in
+      record { can = begun_can Etimer h.can; step = r.step; idle = r.idle; listed = begun_listed Etimer h.sound.stays; radio_state = q.0; radio_can_need_poll = q.1; radio = λ e. record { can = begun_can Radio h.radio; listed = begun_listed Radio h.radio_stays } }
 
   begun_good : IsAtRest m.state → ForgetsNone moment m.state → Good true moment (begun m moment lines sends)
   begun_good h f = record { now_is = begun_moment; stands = begun_stands h; forgets = begun_forgets f }
@@ -117,8 +117,8 @@ leaves_good moment walked s b (Goes a t) g r h = (
     sound = record { stays = r.sound.stays; fits = r.sound.fits };
     step = (tables.keeps_still t _ (record { states = refl; exiting = refl; members = refl }) g.stands.step).step;
     idle = record { called = g.stands.idle.called; exiting = g.stands.idle.exiting };
-    can = record { alive = g.stands.can.alive; has_mark = g.stands.can.has_mark };
-    radio = let q = g.stands.radio refl in record { alive = q.can.alive; has_mark = q.can.has_mark };
+    can = record { alive = g.stands.can.alive; can_need_poll = g.stands.can.can_need_poll };
+    radio = let q = g.stands.radio refl in record { alive = q.can.alive; can_need_poll = q.can.can_need_poll };
     radio_stays = (g.stands.radio refl).listed;
   },
   again g.forgets,
@@ -126,7 +126,7 @@ leaves_good moment walked s b (Goes a t) g r h = (
   where
     again : ForgetsNone moment t → ForgetsNone moment (given (Goes a t)).mote.state
     again (inl n) = inl n
-    again (inr w) = inr (record { marked = w.marked; flag = w.flag })
+    again (inr w) = inr (record { needs_poll = w.needs_poll; poll_requested = w.poll_requested })
 
 abbrev LeavesGood : (moment : ℕ) → Given → Type 0
 LeavesGood moment g = g.mote.halted ≡ false → IsAtRest g.mote.state × ForgetsNone moment g.mote.state
@@ -168,9 +168,9 @@ boot_forgets_none program mote queue moment lines sends =
       members = refl;
       busy = first.blank.idle;
       there = first.blank.there;
-      mark = is_there 0 n (omega arith);
+      can_need_poll = is_there 0 n (omega arith);
       radio_state = has_radio n;
-      radio_mark = is_there 2 n (omega arith);
+      radio_can_need_poll = is_there 2 n (omega arith);
       none = λ id owner d. let h = d.listed in cc;
     }))
     (boot_rests m moment lines sends 0 first.blank))
@@ -231,33 +231,33 @@ record Polled (calls : Calls) (moment : ℕ) (s t : State) : Type 0 where
   tells : TellsDue moment at_turn s.lines t.lines
 
 module _ (calls : Calls) (are : AreWatched calls) (written : stamped.AreKept calls) where
-  still_marked : (s u : State) → walk_polls calls (members_before Etimer s.members) s ≡ Goes tt u → is_marked s Etimer ≡ true → is_marked u Etimer ≡ true
-  still_marked s u e m = let h : Lead (Watches Etimer) Whatever (Unit {0}) s (Goes tt u) = subst (λ o. Lead (Watches Etimer) Whatever (Unit {0}) s o) e (before_led Etimer calls are.led s.members s) in h.leads.marked m
+  still_needs_poll : (s u : State) → walk_polls calls (members_before Etimer s.members) s ≡ Goes tt u → process_needs_poll s Etimer ≡ true → process_needs_poll u Etimer ≡ true
+  still_needs_poll s u e m = let h : Lead (Watches Etimer) Whatever (Unit {0}) s (Goes tt u) = subst (λ o. Lead (Watches Etimer) Whatever (Unit {0}) s o) e (before_led Etimer calls are.led s.members s) in h.leads.needs_poll m
 
-  unmarked_lines : (u : State) → ((with_mark u Etimer false).lines ≡ u.lines) × ((with_mark u Etimer false).timers ≡ u.timers)
-  unfolding with_mark
-  unmarked_lines u = (refl, refl)
+  cleared_lines : (u : State) → ((with_needs_poll u Etimer false).lines ≡ u.lines) × ((with_needs_poll u Etimer false).timers ≡ u.timers)
+  unfolding with_needs_poll
+  cleared_lines u = (refl, refl)
 
-  served : (moment : ℕ) (u v : State) → u.moment ≡ moment → Stands true u → calls.call (with_mark u Etimer false) Etimer (told Poll 0) ≡ Goes tt v → (i : Adds u v)
+  served : (moment : ℕ) (u v : State) → u.moment ≡ moment → Stands true u → calls.call (with_needs_poll u Etimer false) Etimer (told Poll 0) ≡ Goes tt v → (i : Adds u v)
       → (timer : ℕ) (owner : Proc) → IsDueFor moment u.timers timer owner → HasTelling moment i.more (One owner) (system_number Timer) timer
   served moment u v e h goes i timer owner d =
-      let u' = with_mark u Etimer false in
-      let h' = unmarked_stands true u Etimer h in
-      let same = unmarked_lines u in
-      let now : u'.moment ≡ moment = unmarked_moment u Etimer ∙ e in
+      let u' = with_needs_poll u Etimer false in
+      let h' = cleared_stands true u Etimer h in
+      let same = cleared_lines u in
+      let now : u'.moment ≡ moment = cleared_moment u Etimer ∙ e in
       let k : Serves u' v = subst (IfGoes (Serves u')) goes (are.serves u' (etimer_runs true u' h') h'.can) in
       let due : IsDueFor u'.moment u'.timers timer owner = subst (λ l. IsDueFor u'.moment l timer owner) (sym same.1) (subst (λ n. IsDueFor n u.timers timer owner) (sym now) d) in
       telling_of moment u' v u.lines i.more (One owner) (system_number Timer) timer same.0 now i.wrote (k.tells timer owner due)
 
-  polled : (moment : ℕ) (s t : State) → s.moment ≡ moment → Stands true s → is_marked s Etimer ≡ true → walk_polls calls s.members s ≡ Goes tt t → Polled calls moment s t
-  polled moment s t e h marked goes =
+  polled : (moment : ℕ) (s t : State) → s.moment ≡ moment → Stands true s → process_needs_poll s Etimer ≡ true → walk_polls calls s.members s ≡ Goes tt t → Polled calls moment s t
+  polled moment s t e h needs_poll goes =
       let k = splits Etimer s.members h.listed in
       let a = through _ _ _ _ _ _ (sym (walk_splits Etimer calls s.members k.member k.after s k.split) ∙ goes) in
       let b = through _ _ _ _ _ _ a.second in
-      let c : Comes true moment k.member a.midst = subst (IfGoes (Comes true moment k.member)) a.first (comes calls are true moment k.member s e h k.is_it k.holds (inr marked)) in
-      let m = still_marked s a.midst a.first marked in
+      let c : Comes true moment k.member a.midst = subst (IfGoes (Comes true moment k.member)) a.first (comes calls are true moment k.member s e h k.is_it k.holds (inr needs_poll)) in
+      let m = still_needs_poll s a.midst a.first needs_poll in
       let call = sym (turn_calls Etimer calls a.midst k.member k.is_it c.there m) ∙ b.first in
-      let i = adds_by _ a.midst b.midst tt _ call (lead_from stamps.Keeps stamps.Keeps stamps.chain _ a.midst _ _ (stamps.run_steps.mark a.midst Etimer) (written.call _ Etimer (told Poll 0) (λ q. tt))) in
+      let i = adds_by _ a.midst b.midst tt _ call (lead_from stamps.Keeps stamps.Keeps stamps.chain _ a.midst _ _ (stamps.run_steps.needs_poll a.midst Etimer) (written.call _ Etimer (told Poll 0) (λ q. tt))) in
       record {
         at_turn = a.midst;
         comes = a.first;
@@ -274,15 +274,15 @@ module _ (calls : Calls) (are : AreWatched calls) (written : stamped.AreKept cal
         record { telling = k.telling; tells = k.tells; before = k.before; after = k.after ++ i.more; split = rw (k.split) (append_assoc k.before _ i.more) };
   }
 
-  run_polled : (moment : ℕ) (s t : State) (n : ℕ) → s.moment ≡ moment → Stands true s → PollWaits Etimer s → kernel_of calls s ≡ Goes n t → Polled calls moment (record s { flag = false }) t
+  run_polled : (moment : ℕ) (s t : State) (n : ℕ) → s.moment ≡ moment → Stands true s → PollWaits Etimer s → kernel_of calls s ≡ Goes n t → Polled calls moment (record s { poll_requested = false }) t
   unfolding kernel_of
   run_polled moment s t n e h w goes =
       let a = through _ _ _ _ _ _ goes in
       let b = through _ _ _ _ _ _ a.second in
-      let p = polled moment (record s { flag = false }) a.midst e (unflagged true s h) w.marked (sym (polls_are calls s w.flag) ∙ a.first) in
+      let p = polled moment (record s { poll_requested = false }) a.midst e (unrequested true s h) w.needs_poll (sym (polls_are calls s w.poll_requested) ∙ a.first) in
       let i = adds_by _ a.midst b.midst tt _ b.first (front_led stamps.Keeps stamps.Keeps stamps.chain Whoever stamps.steps stamps.run_steps calls written a.midst.queue.events a.midst) in
       let last : b.midst.lines ≡ t.lines = cc in
-      record { at_turn = p.at_turn; comes = p.comes; tells = subst (λ l. TellsDue moment p.at_turn s.lines l) last (tells_on moment p.at_turn (record s { flag = false }) a.midst b.midst p.tells i) }
+      record { at_turn = p.at_turn; comes = p.comes; tells = subst (λ l. TellsDue moment p.at_turn s.lines l) last (tells_on moment p.at_turn (record s { poll_requested = false }) a.midst b.midst p.tells i) }
 
 -- a run
 
@@ -294,7 +294,7 @@ given_polled moment m lines sends (Goes n t) rest w e h =
     record { at_turn = p.at_turn; comes = p.comes; tells = subst (λ l. TellsDue moment p.at_turn l t.lines) (begun_lines m moment lines sends) p.tells }
   where
     begun_waits : PollWaits Etimer m.state → PollWaits Etimer (begun m moment lines sends)
-    begun_waits w = record { marked = w.marked; flag = w.flag }
+    begun_waits w = record { needs_poll = w.needs_poll; poll_requested = w.poll_requested }
 
 pub run_tells_due : RunTellsDue
 unfolding run_given

@@ -28,7 +28,7 @@ use Rattle.process_kernel.specs.declared.process.ProcessState.TheVariants.{Runni
 use Rattle.process_kernel.specs.declared.process.Member.{Member}
 use Rattle.process_kernel.specs.Members.{is_same}
 use Rattle.process_kernel.specs.State.{State, Outcome, Went, Ends, Goes, ◌>>=◌}
-use Rattle.process_kernel.specs.Processes.{has_process, is_busy, is_listed, is_running, is_on_list, with_state, with_mark}
+use Rattle.process_kernel.specs.Processes.{has_process, is_busy, is_listed, is_running, is_on_list, with_state, with_needs_poll}
 use Rattle.process_kernel.specs.ProcessList.{put_remainder, with_fresh_body, enlist_of, exiting_of, leave_of}
 use Rattle.process_kernel.specs.Posts.{post_of, poll_of, send_of}
 use Rattle.process_kernel.specs.Semaphores.{take_of, signal_of}
@@ -408,8 +408,8 @@ module _ (Keeps Stops : State → State → Type 0) where
       -- the steps of boots and kernel runs outside any call, where each process may be exited
       pub record AreRunSteps : Type 0 where
         pub any : (p : Proc) → Leaves p
-        pub flag : (s : State) → Keeps s (record s { flag = false })
-        pub mark : (s : State) (p : Proc) → Keeps s (with_mark s p false)
+        pub poll_requested : (s : State) → Keeps s (record s { poll_requested = false })
+        pub needs_poll : (s : State) (p : Proc) → Keeps s (with_needs_poll s p false)
         pub front : (s : State) → Keeps s (record s { queue = without_front s.queue })
         pub takes : (s : State) (serial : ℕ) (p : Proc) → Keeps s (with_line s (what.Take serial p))
         pub drops : (s : State) (serial : ℕ) (p : Proc) → Keeps s (with_line s (what.Drop serial p))
@@ -422,11 +422,11 @@ module _ (Keeps Stops : State → State → Type 0) where
         unfolding poll_turn_of
         polls_led [] s = lead_still _ s tt
         polls_led (m ∷ ms) s =
-            lead_bind _ _ s _ _ (lead_if _ s _ _ _ (lead_from _ s _ _ (run_steps.mark s m.process) (call_any _ m.process (told Poll 0))) (lead_still _ s tt)) (λ a t. polls_led ms t)
+            lead_bind _ _ s _ _ (lead_if _ s _ _ _ (lead_from _ s _ _ (run_steps.needs_poll s m.process) (call_any _ m.process (told Poll 0))) (lead_still _ s tt)) (λ a t. polls_led ms t)
 
         polls_due_led : (s : State) → Lead (Unit {0}) s (polls_due_of calls s)
         unfolding polls_due_of polls_of
-        polls_due_led s = lead_if _ s s.flag _ _ (lead_from _ s _ _ (run_steps.flag s) (polls_led s.members _)) (lead_still _ s tt)
+        polls_due_led s = lead_if _ s s.poll_requested _ _ (lead_from _ s _ _ (run_steps.poll_requested s) (polls_led s.members _)) (lead_still _ s tt)
 
         give_led : (s : State) (x : Posted) (p : Proc) (there : Bool) → Lead (Unit {0}) s (give_of calls s x p there)
         unfolding give_of write_of

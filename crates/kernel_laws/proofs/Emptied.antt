@@ -10,7 +10,7 @@ use Rattle.trace_lines.specs.declared.line.Line.{Line}
 use Rattle.radio_packet.specs.declared.sent.Sent.{Sent}
 use Rattle.process_kernel.specs.declared.kernel.Ran.TheVariants as ran
 use Rattle.process_kernel.specs.State.{State, Outcome, Went, Ends, Goes, ◌>>=◌}
-use Rattle.process_kernel.specs.Processes.{is_running, is_marked, process_state, with_state, with_mark}
+use Rattle.process_kernel.specs.Processes.{is_running, process_needs_poll, process_state, with_state, with_needs_poll}
 use Rattle.process_kernel.specs.Calls.{Calls, told, is_system_event}
 use Rattle.process_kernel.specs.Radio.{radio_of}
 use Rattle.process_kernel.specs.Reaction.{react_of}
@@ -34,7 +34,7 @@ use Rattle.kernel_laws.proofs.Ring.{HearsNone, run_tells_packets}
 use Rattle.kernel_laws.proofs.Watch.{Watches, Whatever, chain, steps}
 use Rattle.kernel_laws.proofs.PollTurns.{splits, walk_splits, turn_calls, before_led, polls_are}
 use Rattle.kernel_laws.proofs.Passes.{spent}
-use Rattle.kernel_laws.proofs.WatchedRuns.{Stands, unflagged, runs_now}
+use Rattle.kernel_laws.proofs.WatchedRuns.{Stands, unrequested, runs_now}
 use Rattle.kernel_laws.proofs.Due.{through, begun_stands}
 
 -- if no packet arrives, an empty ring stays empty
@@ -101,12 +101,12 @@ module _ (calls : Calls) (are : AreHeard calls) where
   kept : (s u : State) → walk_polls calls (members_before Radio s.members) s ≡ Goes tt u → Stands true s → tables.Keeps s u
   kept s u e h = let k : tables.Leaves (Unit {0}) (tables.Keeps s) (Goes tt u) = subst (λ (o : Went). tables.Leaves (Unit {0}) (tables.Keeps s) o) e (resting.polls_kept calls are.kept (members_before Radio s.members) s h.step) in k.out
 
-  unmarked_runs : (u : State) → is_running u Radio ≡ true → is_running (with_mark u Radio false) Radio ≡ true
-  unfolding with_mark
-  unmarked_runs u h = h
+  cleared_runs : (u : State) → is_running u Radio ≡ true → is_running (with_needs_poll u Radio false) Radio ≡ true
+  unfolding with_needs_poll
+  cleared_runs u h = h
 
-  polled : (s t : State) → Stands true s → is_marked s Radio ≡ true → walk_polls calls s.members s ≡ Goes tt t → t.ring ≡ []
-  polled s t h marked goes =
+  polled : (s t : State) → Stands true s → process_needs_poll s Radio ≡ true → walk_polls calls s.members s ≡ Goes tt t → t.ring ≡ []
+  polled s t h needs_poll goes =
       let q = h.radio refl in
       let k = splits Radio s.members q.listed in
       let a = through _ _ _ _ _ _ (sym (walk_splits Radio calls s.members k.member k.after s k.split) ∙ goes) in
@@ -114,9 +114,9 @@ module _ (calls : Calls) (are : AreHeard calls) where
       let u = a.midst in
       let w = comes s u a.first in
       let i = kept s u a.first h in
-      let call = sym (turn_calls Radio calls u k.member k.is_it (w.radio.there k.member k.is_it k.holds) (w.marked marked)) ∙ b.first in
-      let running = unmarked_runs u (runs_now (process_state u Radio) (w.radio.can q.can).alive (i.busy.called 2 ∙ h.idle.called 2)) in
-      let none : b.midst.ring ≡ [] = subst (IfGoes (λ v. v.ring ≡ [])) call (are.empties (with_mark u Radio false) running) in
+      let call = sym (turn_calls Radio calls u k.member k.is_it (w.radio.there k.member k.is_it k.holds) (w.needs_poll needs_poll)) ∙ b.first in
+      let running = cleared_runs u (runs_now (process_state u Radio) (w.radio.can q.can).alive (i.busy.called 2 ∙ h.idle.called 2)) in
+      let none : b.midst.ring ≡ [] = subst (IfGoes (λ v. v.ring ≡ [])) call (are.empties (with_needs_poll u Radio false) running) in
       empty_by _ b.midst t tt _ b.second (polls_led RingGoes RingHalts ring.chain Whoever ring.steps ring.run_steps calls are.rings k.after b.midst) none
 
   run_emptied : (s t : State) (n : ℕ) → Stands true s → PollWaits Radio s → kernel_of calls s ≡ Goes n t → t.ring ≡ []
@@ -124,7 +124,7 @@ module _ (calls : Calls) (are : AreHeard calls) where
   run_emptied s t n h w goes =
       let a = through _ _ _ _ _ _ goes in
       let b = through _ _ _ _ _ _ a.second in
-      let none = polled (record s { flag = false }) a.midst (unflagged true s h) w.marked (sym (polls_are calls s w.flag) ∙ a.first) in
+      let none = polled (record s { poll_requested = false }) a.midst (unrequested true s h) w.needs_poll (sym (polls_are calls s w.poll_requested) ∙ a.first) in
       let last : b.midst.ring ≡ t.ring = cc in
       sym last ∙ empty_by _ a.midst b.midst tt _ b.first (front_led RingGoes RingHalts ring.chain Whoever ring.steps ring.run_steps calls are.rings a.midst.queue.events a.midst) none
 
@@ -132,7 +132,7 @@ given_emptied : (moment : ℕ) (m : Mote) (lines : List Line) (sends : List Sent
 unfolding begun_of
 given_emptied moment m lines sends (Ends t) rest w e h = absurd (cc)
 given_emptied moment m lines sends (Goes n t) rest w e h =
-    run_emptied (calls_of (most_units + 1)) all_heard (begun m moment lines sends) t n (begun_stands m moment lines sends rest) (record { marked = w.marked; flag = w.flag }) e
+    run_emptied (calls_of (most_units + 1)) all_heard (begun m moment lines sends) t n (begun_stands m moment lines sends rest) (record { needs_poll = w.needs_poll; poll_requested = w.poll_requested }) e
 
 polled_emptied : (moment : ℕ) (m : Mote) (lines : List Line) (sends : List Sent) → m.halted ≡ false → IsAtRest m.state → PollWaits Radio m.state → let g = run_given moment m lines sends in g.mote.halted ≡ false → g.mote.state.ring ≡ []
 unfolding run_given

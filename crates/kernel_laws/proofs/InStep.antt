@@ -27,7 +27,7 @@ use Rattle.process_kernel.specs.declared.process.ProcessState.TheVariants.{Off, 
 use Rattle.process_kernel.specs.declared.process.Member.{Member}
 use Rattle.process_kernel.specs.Members.{place_of, is_same}
 use Rattle.process_kernel.specs.State.{State, Outcome, Went, Ends, Goes, ◌>>=◌}
-use Rattle.process_kernel.specs.Processes.{is_alive, process_state, has_process, is_busy, is_listed, is_running, is_running_state, is_called_state, flag_at, with_state, with_exiting, with_mark}
+use Rattle.process_kernel.specs.Processes.{is_alive, process_state, has_process, is_busy, is_listed, is_running, is_running_state, is_called_state, at_process, with_state, with_exiting, with_needs_poll}
 use Rattle.process_kernel.specs.ProcessList.{put_remainder, with_fresh_body, with_fresh_process, enlist_of, exiting_of, unlisted_of, leave_of}
 use Rattle.process_kernel.specs.Calls.{Calls, told, is_system_event, walk_of}
 use Rattle.process_kernel.specs.Etimer.{fired_of, purge_of, post_due, walk_timers, walks_of, pass_of, etimer_of}
@@ -144,12 +144,12 @@ spend_kept : (s : State) → Kept s (spend_of s)
 unfolding spend_of
 spend_kept s = kept_if s (s.units == 0) _ _ (kept_ends s _) (kept_goes s tt _ (record { states = refl; exiting = refl; members = refl }))
 
-pub mark_still : (s : State) (p : Proc) (b : Bool) → IsStill s (with_mark s p b)
-unfolding with_mark
-mark_still s p b = record { states = refl; exiting = refl; members = refl }
+pub needs_poll_still : (s : State) (p : Proc) (b : Bool) → IsStill s (with_needs_poll s p b)
+unfolding with_needs_poll
+needs_poll_still s p b = record { states = refl; exiting = refl; members = refl }
 
 pub poll_still : (s : State) (p : Proc) → IsStill s (poll_of s p)
-unfolding poll_of with_mark
+unfolding poll_of with_needs_poll
 poll_still s p = still_if s (is_alive (process_state s p)) _ s (record { states = refl; exiting = refl; members = refl }) (still s)
 
 remainder_still : (s : State) (p : ℕ) (r : Remainder) → IsStill s (put_remainder s p r)
@@ -538,13 +538,13 @@ module _ (calls : Calls) (are : AreKept calls) where
 
   kill_kept : (s : State) (p : Proc) (current : ℕ) → Kept s (kill_of calls s p current)
   unfolding kill_of
-  kill_kept s p current i = leaves_cases (Unit {0}) (Keeps s) (is_busy s p) _ _ (λ b. write_kept s (what.Busy p) i) (λ b. let f = not_busy (is_called_state (process_state s p)) (flag_at s.exiting p) b in exit_kept s p (Own current) f.0 f.1 i)
+  kill_kept s p current i = leaves_cases (Unit {0}) (Keeps s) (is_busy s p) _ _ (λ b. write_kept s (what.Busy p) i) (λ b. let f = not_busy (is_called_state (process_state s p)) (at_process s.exiting p) b in exit_kept s p (Own current) f.0 f.1 i)
 
   pub start_kept : (s : State) (p : Proc) → Kept s (start_of calls s p)
   unfolding start_of
   start_kept s p i =
       leaves_cases (Unit {0}) (Keeps s) (is_busy s p) _ _ (λ b. write_kept s (what.Busy p) i) (λ b.
-      let f = not_busy (is_called_state (process_state s p)) (flag_at s.exiting p) b in
+      let f = not_busy (is_called_state (process_state s p)) (at_process s.exiting p) b in
       leaves_cases (Unit {0}) (Keeps s) (has_process s p && not (is_listed s p)) _ _ (λ l. kept_bind s _ _ (enlist_kept s p (has (has_process s p) _ l) f.0 f.1) (λ a t. are.call t p _) i) (λ l. kept_goes s tt s (still s) i))
     where
       has : (b c : Bool) → (b && c) ≡ true → b ≡ true

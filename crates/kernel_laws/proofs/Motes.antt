@@ -9,7 +9,7 @@ use Rattle.program_tree.specs.declared.event.Proc.{Proc}
 use Rattle.trace_lines.specs.declared.line.Line.{Line}
 use Rattle.trace_lines.specs.declared.line.What.{What}
 use Rattle.trace_lines.specs.declared.line.What.TheVariants as what
-use Rattle.process_kernel.specs.Processes.{is_alive, process_state, with_mark}
+use Rattle.process_kernel.specs.Processes.{is_alive, process_state, with_needs_poll}
 use Rattle.radio_packet.specs.declared.sent.Sent.{Sent}
 use Rattle.radio_packet.specs.declared.arrival.Arrival.{Arrival}
 use Rattle.process_kernel.specs.State.{State, Outcome, Ends, Goes}
@@ -86,8 +86,8 @@ boot_adds lines m moment before sends b g = boot_first lines m moment before sen
 -- polls and packets
 
 blank_poll : (s : State) (p : Proc) → IsBlank s → IsBlank (poll_of s p)
-unfolding poll_of with_mark
-blank_poll s p k = elim (is_alive (process_state s p)) as (λ b. IsBlank (if b then record (with_mark s p true) { flag = true } else s)) [ true ↦ record { members = k.members; events = k.events; idle = k.idle; there = k.there } | false ↦ k ]
+unfolding poll_of with_needs_poll
+blank_poll s p k = elim (is_alive (process_state s p)) as (λ b. IsBlank (if b then record (with_needs_poll s p true) { poll_requested = true } else s)) [ true ↦ record { members = k.members; events = k.events; idle = k.idle; there = k.there } | false ↦ k ]
 
 told_quiet : (lines : List Line) (s t : State) → IsQuiet s t → view.GoesWithView (seen_lines lines) (view_of s) → view.GoesWithView (seen_lines lines) (view_of t)
 told_quiet lines s t q g = subst (λ v. view.GoesWithView (seen_lines lines) v) (view_quiet s t q) g

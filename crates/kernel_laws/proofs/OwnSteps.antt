@@ -11,7 +11,7 @@ use Rattle.process_kernel.specs.declared.process.ProcessState.{ProcessState}
 use Rattle.process_kernel.specs.declared.process.ProcessState.TheVariants.{Off, Running}
 use Rattle.process_kernel.specs.Members.{place_of, stands_in}
 use Rattle.process_kernel.specs.State.{State}
-use Rattle.process_kernel.specs.Processes.{with_state, with_exiting, flag_at, process_state}
+use Rattle.process_kernel.specs.Processes.{with_state, with_exiting, at_process, process_state}
 use Rattle.process_kernel.specs.ProcessList.{put_remainder, with_fresh_body, enlist_of, exiting_of, unlisted_of, leave_of}
 use Rattle.process_kernel.specs.Writes.{with_line, write_of}
 use Rattle.kernel_laws.specs.Printed.{starts_and_prints}
@@ -37,7 +37,7 @@ module _ (p : ℕ) where
   exiting_set_stands : (s : State) (b : Bool) → (standing_of p s).room ≡ true → standing_of p (with_exiting s (Own p) b) ≡ record (standing_of p s) { exiting = b }
   unfolding with_exiting
   exiting_set_stands s b h =
-      ap (λ k. record (standing_of p s) { room = nat_lt (place_of (Own p)) k; exiting = flag_at (slice_set s.exiting (place_of (Own p)) b) (Own p) }) (length-set s.exiting (place_of (Own p)) b)
+      ap (λ k. record (standing_of p s) { room = nat_lt (place_of (Own p)) k; exiting = at_process (slice_set s.exiting (place_of (Own p)) b) (Own p) }) (length-set s.exiting (place_of (Own p)) b)
       ∙ ap (λ k. record (standing_of p s) { exiting = k }) (set_same s.exiting (place_of (Own p)) b false (below _ _ h))
 
   pub exiting_stands : (s : State) → (standing_of p s).has ≡ true → (standing_of p s).room ≡ true → standing_of p (exiting_of s (Own p)) ≡ record (standing_of p s) { state = Off; exiting = true }

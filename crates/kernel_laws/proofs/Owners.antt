@@ -16,7 +16,7 @@ use Rattle.trace_lines.specs.declared.line.Line.{Line}
 use Rattle.radio_packet.specs.declared.sent.Sent.{Sent}
 use Rattle.process_kernel.specs.declared.kernel.Ran.TheVariants as ran
 use Rattle.process_kernel.specs.State.{State, Outcome, Ends, Goes}
-use Rattle.process_kernel.specs.Processes.{is_alive, process_state, with_state, with_exiting, with_mark}
+use Rattle.process_kernel.specs.Processes.{is_alive, process_state, with_state, with_exiting, with_needs_poll}
 use Rattle.process_kernel.specs.ProcessList.{with_fresh_process, enlist_of, exiting_of, unlisted_of, leave_of}
 use Rattle.process_kernel.specs.Posts.{post_of, poll_of, send_of}
 use Rattle.process_kernel.specs.TimerOperations.{has_timer, timer_is_set}
@@ -71,10 +71,10 @@ unfolding purge_timers
 owned_purged l p h j listed = h j (is_left (λ k. not (is_owned_by p (timer_at l.timers k))) j l.listed listed).0
 
 pub poll_timers : (s : State) (p : Proc) → (poll_of s p).timers ≡ s.timers
-unfolding poll_of with_mark
+unfolding poll_of with_needs_poll
 poll_timers s p = by (is_alive (process_state s p))
   where
-    by : (b : Bool) → (if b then record (with_mark s p true) { flag = true } else s).timers ≡ s.timers
+    by : (b : Bool) → (if b then record (with_needs_poll s p true) { poll_requested = true } else s).timers ≡ s.timers
     by true = refl
     by false = refl
 
@@ -146,11 +146,11 @@ steps = record {
 }
 
 run_steps : AreRunSteps Owns Owns chain Whoever
-unfolding with_mark
+unfolding with_needs_poll
 run_steps = record {
   any = λ p. tt;
-  flag = λ s. owns_still s _ refl;
-  mark = λ s p. owns_still s _ refl;
+  poll_requested = λ s. owns_still s _ refl;
+  needs_poll = λ s p. owns_still s _ refl;
   front = λ s. owns_still s _ refl;
   takes = λ s n p. owns_still s _ refl;
   drops = λ s n p. owns_still s _ refl;

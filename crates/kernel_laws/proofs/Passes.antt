@@ -53,8 +53,8 @@ unfolding post_of write_of
 post_still s t e =
     goes_if Bool (IsStill s) (nat_le (2 ^ 62) s.queue.accepted) _ _ tt
     (goes_if Bool (IsStill s) (nat_le s.queue.capacity (length s.queue.events)) _ _
-    (record { moment = refl; states = refl; marks = refl; flag = refl; members = refl; timers = refl })
-    (record { moment = refl; states = refl; marks = refl; flag = refl; members = refl; timers = refl }))
+    (record { moment = refl; states = refl; needs_poll = refl; poll_requested = refl; members = refl; timers = refl })
+    (record { moment = refl; states = refl; needs_poll = refl; poll_requested = refl; members = refl; timers = refl }))
 
 waits_on : (s : State) (o : Went) → PollWaits Etimer s → Watched (Unit {0}) s o → IfGoes Forgets o
 waits_on s (Ends t) w h = tt
@@ -90,7 +90,7 @@ module _ (few : ℕ) (again : State → Went) (led : (s : State) → Watched (Un
   offered on led_on s u x false q can within there = begins (fired_of u x) (can_fired u x ((watches_still Etimer s u q).etimer.can can)) (less_fired u x (rw (q.timers) there) (rw (q.timers) within))
     where
       can_fired : (u : State) (x : ℕ) → CanBePolled Etimer u → CanBePolled Etimer (fired_of u x)
-      can_fired u x c = record { alive = c.alive; has_mark = c.has_mark }
+      can_fired u x c = record { alive = c.alive; can_need_poll = c.can_need_poll }
 
       less_fired : (u : State) (x : ℕ) → is_member x u.timers.listed ≡ true → length u.timers.listed ≤ suc few → length (fired_of u x).timers.listed ≤ few
       less_fired u x there within = fewer u.timers x few there within
@@ -146,7 +146,7 @@ serves_like s s' t lines moment timers h = record {
   where
     again : ForgetsNone t.moment t → ForgetsNone t.moment (with_state t Etimer Running)
     again (inl n) = inl n
-    again (inr w) = inr (record { marked = w.marked; flag = w.flag })
+    again (inr w) = inr (record { needs_poll = w.needs_poll; poll_requested = w.poll_requested })
 
 answers_serve : (calls : Calls) (s s' : State) (o : Went) → s'.lines ≡ s.lines → s'.moment ≡ s.moment → s'.timers ≡ s.timers → IfGoes (Serves s') o
     → IfGoes (Serves s) ((o >>= λ _ s1. Goes Yielded s1) >>= λ answer s2. answered calls s2 Etimer (has_ended answer || is_system_event Exit (told Poll 0)))
@@ -166,4 +166,4 @@ call_serves calls s running can = rw running (by (s.units == 0))
     by true = tt
     by false =
         let s' = with_state (record s { units = s.units - 1 }) Etimer Called in
-        answers_serve calls s s' (etimer_of s' (told Poll 0)) refl refl refl (pass_serves s' _ ((alive_state Etimer etimer_system (record s { units = s.units - 1 }) Etimer Called refl).can (record { alive = can.alive; has_mark = can.has_mark })) refl)
+        answers_serve calls s s' (etimer_of s' (told Poll 0)) refl refl refl (pass_serves s' _ ((alive_state Etimer etimer_system (record s { units = s.units - 1 }) Etimer Called refl).can (record { alive = can.alive; can_need_poll = can.can_need_poll })) refl)

@@ -7,13 +7,13 @@ use Rattle.program_tree.specs.declared.event.SystemEvent.TheVariants.{Poll}
 use Rattle.process_kernel.specs.declared.process.Member.{Member}
 use Rattle.process_kernel.specs.Members.{place_of, is_same, stands_in, holds_member}
 use Rattle.process_kernel.specs.State.{State, Went, Ends, Goes, ◌>>=◌}
-use Rattle.process_kernel.specs.Processes.{is_marked, is_on_list, with_mark}
+use Rattle.process_kernel.specs.Processes.{process_needs_poll, is_on_list, with_needs_poll}
 use Rattle.process_kernel.specs.Calls.{Calls, told}
 use Rattle.process_kernel.specs.Polls.{walk_polls, polls_of, polls_due_of, poll_turn_of}
 use Rattle.kernel_laws.specs.Own.{IsOwn}
 use Rattle.kernel_laws.specs.Poll.{members_before}
 use Rattle.kernel_laws.proofs.EachStep.{Lead, AreLed, fits_no_exit, lead_bind, lead_from, lead_if, lead_still}
-use Rattle.kernel_laws.proofs.Watch.{Watches, Whatever, chain, watches_unmarked}
+use Rattle.kernel_laws.proofs.Watch.{Watches, Whatever, chain, watches_cleared}
 
 place_is : (q p : Proc) → is_same q p ≡ true → q ≡ p
 place_is (Own a) (Own b) e = let same : a ≡ b = grind (arith, nat_tests) in ap Own same
@@ -51,8 +51,8 @@ walk_joined calls (x ∷ xs) ys s = by (poll_turn_of calls s x) (λ t. walk_join
     by (Ends t) later = refl
     by (Goes a t) later = later t
 
--- the polls, if the flag is set
-pub polls_are : (calls : Calls) (s : State) → s.flag ≡ true → polls_due_of calls s ≡ walk_polls calls s.members (record s { flag = false })
+-- the polls, if a poll is requested
+pub polls_are : (calls : Calls) (s : State) → s.poll_requested ≡ true → polls_due_of calls s ≡ walk_polls calls s.members (record s { poll_requested = false })
 unfolding polls_due_of polls_of
 polls_are calls s e = rw e refl
 
@@ -81,16 +81,16 @@ module _ (p : Proc) where
       → walk_polls calls ms s ≡ (walk_polls calls (members_before p ms) s >>= λ _ t. (poll_turn_of calls t x >>= λ _ u. walk_polls calls after u))
   walk_splits calls ms x after s e = subst (λ l. walk_polls calls l s ≡ (walk_polls calls (members_before p ms) s >>= λ _ t. walk_polls calls (x ∷ after) t)) (sym e) (walk_joined calls (members_before p ms) (x ∷ after) s)
 
-  -- at its turn it is called, if it is on the list and marked
-  pub turn_calls : (calls : Calls) (u : State) (x : Member) → x.process ≡ p → is_on_list u x ≡ true → is_marked u p ≡ true → poll_turn_of calls u x ≡ calls.call (with_mark u p false) p (told Poll 0)
+  -- at its turn it is called, if it is on the list and needs a poll
+  pub turn_calls : (calls : Calls) (u : State) (x : Member) → x.process ≡ p → is_on_list u x ≡ true → process_needs_poll u p ≡ true → poll_turn_of calls u x ≡ calls.call (with_needs_poll u p false) p (told Poll 0)
   unfolding poll_turn_of
-  turn_calls calls u x e there marked = rw (there, e, marked) refl
+  turn_calls calls u x e there needs_poll = rw (there, e, needs_poll) refl
 
-  -- before its turn its mark stays
+  -- before its turn it still needs a poll
   module _ (calls : Calls) (led : AreLed (Watches p) Whatever (chain p) IsOwn calls) where
-    pub other_led : (s : State) (q : Proc) → (place_of p ≡ place_of q → ⊥) → Lead (Watches p) Whatever (Unit {0}) s (calls.call (with_mark s q false) q (told Poll 0))
+    pub other_led : (s : State) (q : Proc) → (place_of p ≡ place_of q → ⊥) → Lead (Watches p) Whatever (Unit {0}) s (calls.call (with_needs_poll s q false) q (told Poll 0))
     other_led s q n =
-        lead_from (Watches p) Whatever (chain p) _ s _ _ (watches_unmarked p s q n) (led.call _ q (told Poll 0) (fits_no_exit (Watches p) Whatever (chain p) IsOwn q (told Poll 0).number refl))
+        lead_from (Watches p) Whatever (chain p) _ s _ _ (watches_cleared p s q n) (led.call _ q (told Poll 0) (fits_no_exit (Watches p) Whatever (chain p) IsOwn q (told Poll 0).number refl))
 
     turn_led : (s : State) (x : Member) → is_same x.process p ≡ false → Lead (Watches p) Whatever (Unit {0}) s (poll_turn_of calls s x)
     unfolding poll_turn_of

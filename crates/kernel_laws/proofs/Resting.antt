@@ -30,18 +30,18 @@ use Rattle.process_kernel.specs.Given.{Given, given, begun, boot_given, run_give
 use Rattle.kernel_laws.specs.InStep.{state_at_place, exiting_at, listed_in, AreInStep, IsInStep, IsIdle}
 use Rattle.kernel_laws.specs.Traces.{KernelCall, RunAt, PollOf, Accepts, Notes, Traced, after_call, after_calls, booted_at}
 use Rattle.kernel_laws.specs.Laws.{OnlyTheRunningAreCalled, CallsKeepStep, ListedAreRunning}
-use Rattle.kernel_laws.proofs.InStep.{Keeps, Leaves, Kept, IsStill, still, keeps_still, kept_goes, kept_bind, kept_from, kept_if, AreKept, mark_still, poll_still, write_kept, start_kept, calls_kept}
+use Rattle.kernel_laws.proofs.InStep.{Keeps, Leaves, Kept, IsStill, still, keeps_still, kept_goes, kept_bind, kept_from, kept_if, AreKept, needs_poll_still, poll_still, write_kept, start_kept, calls_kept}
 
 module _ (calls : Calls) (are : AreKept calls) where
   pub polls_kept : (ms : List Member) (s : State) → Kept s (walk_polls calls ms s)
   unfolding poll_turn_of
   polls_kept [] s = kept_goes s tt s (still s)
   polls_kept (m ∷ ms) s =
-      kept_bind s _ _ (kept_if s _ _ _ (kept_from s _ _ (mark_still s m.process false) (are.call _ m.process (told Poll 0))) (kept_goes s tt s (still s))) (λ a t. polls_kept ms t)
+      kept_bind s _ _ (kept_if s _ _ _ (kept_from s _ _ (needs_poll_still s m.process false) (are.call _ m.process (told Poll 0))) (kept_goes s tt s (still s))) (λ a t. polls_kept ms t)
 
   pub polls_due_kept : (s : State) → Kept s (polls_due_of calls s)
   unfolding polls_due_of polls_of
-  polls_due_kept s = kept_if s s.flag _ _ (kept_from s (record s { flag = false }) _ (record { states = refl; exiting = refl; members = refl }) (polls_kept s.members _)) (kept_goes s tt s (still s))
+  polls_due_kept s = kept_if s s.poll_requested _ _ (kept_from s (record s { poll_requested = false }) _ (record { states = refl; exiting = refl; members = refl }) (polls_kept s.members _)) (kept_goes s tt s (still s))
 
   pub give_kept : (s : State) (x : Posted) (p : Proc) (there : Bool) → Kept s (give_of calls s x p there)
   unfolding give_of

@@ -12,7 +12,7 @@ use Rattle.radio_packet.specs.declared.sent.Sent.{Sent}
 use Rattle.trace_lines.specs.declared.line.What.{What}
 use Rattle.trace_lines.specs.declared.line.What.TheVariants as what
 use Rattle.process_kernel.specs.State.{State, Outcome, Ends, Goes}
-use Rattle.process_kernel.specs.Processes.{is_alive, process_state, with_state, with_exiting, with_mark}
+use Rattle.process_kernel.specs.Processes.{is_alive, process_state, with_state, with_exiting, with_needs_poll}
 use Rattle.process_kernel.specs.ProcessList.{with_fresh_process, enlist_of, exiting_of, unlisted_of, leave_of}
 use Rattle.process_kernel.specs.Posts.{post_of, poll_of, send_of}
 use Rattle.process_kernel.specs.Radio.{hand_to, empty_ring}
@@ -125,10 +125,10 @@ rings_if : (A : Type 0) (s : State) (b : Bool) (o p : Outcome A) → Rings A s o
 rings_if A s b o p h i = lead_if RingGoes RingHalts chain A s b o p h i
 
 polls_still : (s : State) (p : Proc) → RingGoes s (poll_of s p)
-unfolding poll_of with_mark
+unfolding poll_of with_needs_poll
 polls_still s p = by (is_alive (process_state s p))
   where
-    by : (b : Bool) → RingGoes s (if b then record (with_mark s p true) { flag = true } else s)
+    by : (b : Bool) → RingGoes s (if b then record (with_needs_poll s p true) { poll_requested = true } else s)
     by true = goes_still s _ (record { lines = refl; ring = refl; program = refl })
     by false = ring_same s
 
@@ -217,11 +217,11 @@ steps = record {
 }
 
 pub run_steps : AreRunSteps RingGoes RingHalts chain Whoever
-unfolding with_mark
+unfolding with_needs_poll
 run_steps = record {
   any = λ p. tt;
-  flag = λ s. goes_still s _ (record { lines = refl; ring = refl; program = refl });
-  mark = λ s p. goes_still s _ (record { lines = refl; ring = refl; program = refl });
+  poll_requested = λ s. goes_still s _ (record { lines = refl; ring = refl; program = refl });
+  needs_poll = λ s p. goes_still s _ (record { lines = refl; ring = refl; program = refl });
   front = λ s. goes_still s _ (record { lines = refl; ring = refl; program = refl });
   takes = λ s n p. line_apart s (what.Take n p) tt (λ h. h);
   drops = λ s n p. line_apart s (what.Drop n p) tt (λ h. h);

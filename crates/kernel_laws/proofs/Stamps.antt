@@ -11,7 +11,7 @@ use Rattle.trace_lines.specs.declared.line.What.TheVariants as what
 use Rattle.process_kernel.specs.declared.process.ProcessState.{ProcessState}
 use Rattle.process_kernel.specs.declared.process.ProcessState.TheVariants.{Running, Called}
 use Rattle.process_kernel.specs.State.{State, Outcome, Ends, Goes, ◌>>=◌}
-use Rattle.process_kernel.specs.Processes.{is_alive, process_state, with_state, with_exiting, with_mark}
+use Rattle.process_kernel.specs.Processes.{is_alive, process_state, with_state, with_exiting, with_needs_poll}
 use Rattle.process_kernel.specs.ProcessList.{with_fresh_body, with_fresh_process, enlist_of, exiting_of, unlisted_of, leave_of}
 use Rattle.process_kernel.specs.Posts.{post_of, poll_of, send_of}
 use Rattle.process_kernel.specs.TimerOperations.{timer_is_set}
@@ -171,12 +171,12 @@ exiting_still : (s : State) (p : Proc) → IsStill s (exiting_of s p)
 unfolding exiting_of with_exiting with_state
 exiting_still s p = record { lines = refl; sends = refl; sent = refl; moment = refl; mote = refl; program = refl }
 
-pub mark_still : (s : State) (p : Proc) (b : Bool) → IsStill s (with_mark s p b)
-unfolding with_mark
-mark_still s p b = record { lines = refl; sends = refl; sent = refl; moment = refl; mote = refl; program = refl }
+pub needs_poll_still : (s : State) (p : Proc) (b : Bool) → IsStill s (with_needs_poll s p b)
+unfolding with_needs_poll
+needs_poll_still s p b = record { lines = refl; sends = refl; sent = refl; moment = refl; mote = refl; program = refl }
 
 pub poll_still : (s : State) (p : Proc) → IsStill s (poll_of s p)
-unfolding poll_of with_mark
+unfolding poll_of with_needs_poll
 poll_still s p = still_if s (is_alive (process_state s p)) _ s (record { lines = refl; sends = refl; sent = refl; moment = refl; mote = refl; program = refl }) (still s)
 
 body_still : (s : State) (p : ℕ) → IsStill s (with_fresh_body s p)
@@ -260,8 +260,8 @@ steps = record {
 pub run_steps : AreRunSteps Keeps Keeps chain Whoever
 run_steps = record {
   any = λ p. tt;
-  flag = λ s. keeps_still s _ (record { lines = refl; sends = refl; sent = refl; moment = refl; mote = refl; program = refl });
-  mark = λ s p. keeps_still s _ (mark_still s p false);
+  poll_requested = λ s. keeps_still s _ (record { lines = refl; sends = refl; sent = refl; moment = refl; mote = refl; program = refl });
+  needs_poll = λ s p. keeps_still s _ (needs_poll_still s p false);
   front = λ s. keeps_still s _ (record { lines = refl; sends = refl; sent = refl; moment = refl; mote = refl; program = refl });
   takes = λ s n p. keeps_line s (what.Take n p);
   drops = λ s n p. keeps_line s (what.Drop n p);

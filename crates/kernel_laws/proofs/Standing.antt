@@ -20,7 +20,7 @@ use Rattle.process_kernel.specs.declared.process.ProcessState.TheVariants.{Off, 
 use Rattle.process_kernel.specs.declared.process.Member.{Member}
 use Rattle.process_kernel.specs.Members.{place_of, is_same, stands_in}
 use Rattle.process_kernel.specs.State.{State, Outcome, Ends, Goes}
-use Rattle.process_kernel.specs.Processes.{is_alive, process_state, flag_at, with_state, with_exiting, with_mark}
+use Rattle.process_kernel.specs.Processes.{is_alive, process_state, at_process, with_state, with_exiting, with_needs_poll}
 use Rattle.process_kernel.specs.ProcessList.{put_remainder, fresh_at, with_fresh_body, with_fresh_process, enlist_of, exiting_of, unlisted_of, leave_of}
 use Rattle.process_kernel.specs.Posts.{post_of, poll_of, send_of}
 use Rattle.process_kernel.specs.Writes.{with_line, write_of, halted_of}
@@ -125,7 +125,7 @@ module _ (p : ℕ) where
   pub exiting_set_quiet : (s : State) (q : Proc) (b : Bool) → IsOther p q → IsQuiet s (with_exiting s q b)
   unfolding with_exiting
   exiting_set_quiet s q b n =
-      ap (λ k. record (standing_of p s) { room = nat_lt (place_of (Own p)) k; exiting = flag_at (slice_set s.exiting (place_of q) b) (Own p) }) (length-set s.exiting (place_of q) b) ∙ ap (λ k. record (standing_of p s) { exiting = k }) (set_other s.exiting (place_of q) (place_of (Own p)) b false n)
+      ap (λ k. record (standing_of p s) { room = nat_lt (place_of (Own p)) k; exiting = at_process (slice_set s.exiting (place_of q) b) (Own p) }) (length-set s.exiting (place_of q) b) ∙ ap (λ k. record (standing_of p s) { exiting = k }) (set_other s.exiting (place_of q) (place_of (Own p)) b false n)
 
   pub exiting_quiet : (s : State) (q : Proc) → IsOther p q → IsQuiet s (exiting_of s q)
   unfolding exiting_of
@@ -135,12 +135,12 @@ module _ (p : ℕ) where
   quiet_if s true t u h i = h
   quiet_if s false t u h i = i
 
-  pub mark_quiet : (s : State) (q : Proc) (b : Bool) → IsQuiet s (with_mark s q b)
-  unfolding with_mark
-  mark_quiet s q b = refl
+  pub needs_poll_quiet : (s : State) (q : Proc) (b : Bool) → IsQuiet s (with_needs_poll s q b)
+  unfolding with_needs_poll
+  needs_poll_quiet s q b = refl
 
   pub poll_quiet : (s : State) (q : Proc) → IsQuiet s (poll_of s q)
-  unfolding poll_of with_mark
+  unfolding poll_of with_needs_poll
   poll_quiet s q = quiet_if s (is_alive (process_state s q)) _ s refl refl
 
   pub variables_quiet : (s : State) (q : ℕ) (vs : List ℕ) (n : ℕ) → (q ≡ p → ⊥) → IsQuiet s (record s { variables = slice_set s.variables q vs; units = n })

@@ -22,7 +22,7 @@ use Rattle.process_kernel.specs.declared.process.ProcessState.TheVariants.{Runni
 use Rattle.process_kernel.specs.declared.process.Member.{Member}
 use Rattle.process_kernel.specs.Members.{place_of, is_same, stands_in}
 use Rattle.process_kernel.specs.State.{State, Outcome, Ends, Goes, ◌>>=◌}
-use Rattle.process_kernel.specs.Processes.{is_alive, process_state, is_listed, with_state, with_exiting, with_mark}
+use Rattle.process_kernel.specs.Processes.{is_alive, process_state, is_listed, with_state, with_exiting, with_needs_poll}
 use Rattle.process_kernel.specs.ProcessList.{with_fresh_body, with_fresh_process, enlist_of, exiting_of, unlisted_of, leave_of}
 use Rattle.process_kernel.specs.Posts.{post_of, poll_of, send_of}
 use Rattle.process_kernel.specs.TimerOperations.{timer_is_set}
@@ -155,9 +155,9 @@ pub exiting_quiet : (s : State) (p : Proc) → IsQuiet s (exiting_of s p)
 unfolding exiting_of with_exiting with_state
 exiting_quiet s p = record { lines = refl; members = refl; started = refl; queue = refl }
 
-pub mark_quiet : (s : State) (p : Proc) (x : Bool) → IsQuiet s (with_mark s p x)
-unfolding with_mark
-mark_quiet s p x = record { lines = refl; members = refl; started = refl; queue = refl }
+pub needs_poll_quiet : (s : State) (p : Proc) (x : Bool) → IsQuiet s (with_needs_poll s p x)
+unfolding with_needs_poll
+needs_poll_quiet s p x = record { lines = refl; members = refl; started = refl; queue = refl }
 
 pub body_quiet : (s : State) (p : ℕ) → IsQuiet s (with_fresh_body s p)
 body_quiet s p = record { lines = refl; members = refl; started = refl; queue = refl }
@@ -169,7 +169,7 @@ fresh_quiet s Ctimer = quiet_same s
 fresh_quiet s Radio = quiet_same s
 
 pub poll_quiet : (s : State) (p : Proc) → IsQuiet s (poll_of s p)
-unfolding poll_of with_mark
+unfolding poll_of with_needs_poll
 poll_quiet s p = quiet_if s (is_alive (process_state s p)) _ s (record { lines = refl; members = refl; started = refl; queue = refl }) (quiet_same s)
 
 pub set_quiet : (s : State) (timers : TimerLists) (timer : ℕ) → IsQuiet s (timer_is_set (record s { timers = timers }) timer)

@@ -18,7 +18,7 @@ use Rattle.process_kernel.specs.State.{State, Went, Ends, Goes}
 use Rattle.process_kernel.specs.Calls.{told, is_system_event}
 use Rattle.process_kernel.specs.Etimer.{fired_of, post_due, walk_timers, walks_of, pass_of, etimer_of}
 use Rattle.process_kernel.specs.Posts.{post_of, poll_of}
-use Rattle.process_kernel.specs.Processes.{is_alive, process_state, with_mark}
+use Rattle.process_kernel.specs.Processes.{is_alive, process_state, with_needs_poll}
 use Rattle.kernel_laws.specs.Polled.{TellsPost, TellsOfPost, TimersAreTold}
 use Rattle.kernel_laws.proofs.Packets.{IfGoes, Offered, WritesOne, post_offers, goes_bind}
 use Rattle.kernel_laws.proofs.Steps.{Reach, Reaches}
@@ -56,26 +56,26 @@ unfolding stop_timer
 fewer l x k h few = let less = less_without x l.listed h in omega arith
 
 pub poll_lines : (s : State) → (poll_of s Etimer).lines ≡ s.lines
-unfolding poll_of with_mark
+unfolding poll_of with_needs_poll
 poll_lines s = if_same (is_alive (process_state s Etimer))
   where
-    if_same : (b : Bool) → (if b then record (with_mark s Etimer true) { flag = true } else s).lines ≡ s.lines
+    if_same : (b : Bool) → (if b then record (with_needs_poll s Etimer true) { poll_requested = true } else s).lines ≡ s.lines
     if_same true = refl
     if_same false = refl
 
 pub poll_timers : (s : State) → (poll_of s Etimer).timers ≡ s.timers
-unfolding poll_of with_mark
+unfolding poll_of with_needs_poll
 poll_timers s = if_same (is_alive (process_state s Etimer))
   where
-    if_same : (b : Bool) → (if b then record (with_mark s Etimer true) { flag = true } else s).timers ≡ s.timers
+    if_same : (b : Bool) → (if b then record (with_needs_poll s Etimer true) { poll_requested = true } else s).timers ≡ s.timers
     if_same true = refl
     if_same false = refl
 
 pub poll_moment : (s : State) → (poll_of s Etimer).moment ≡ s.moment
-unfolding poll_of with_mark
+unfolding poll_of with_needs_poll
 poll_moment s = if_same (is_alive (process_state s Etimer))
   where
-    if_same : (b : Bool) → (if b then record (with_mark s Etimer true) { flag = true } else s).moment ≡ s.moment
+    if_same : (b : Bool) → (if b then record (with_needs_poll s Etimer true) { poll_requested = true } else s).moment ≡ s.moment
     if_same true = refl
     if_same false = refl
 

@@ -14,7 +14,7 @@ use Rattle.protothread.specs.Remainder.{Remainder}
 use Rattle.protothread.proofs.Units.{costs}
 use Rattle.trace_lines.specs.declared.line.What.{What}
 use Rattle.process_kernel.specs.State.{State, Outcome, Went, Ends, Goes}
-use Rattle.process_kernel.specs.Processes.{is_alive, process_state, with_state, with_exiting, with_mark}
+use Rattle.process_kernel.specs.Processes.{is_alive, process_state, with_state, with_exiting, with_needs_poll}
 use Rattle.process_kernel.specs.ProcessList.{with_fresh_process, enlist_of, unlisted_of, leave_of}
 use Rattle.process_kernel.specs.Posts.{post_of, poll_of, send_of}
 use Rattle.process_kernel.specs.TimerOperations.{has_timer, timer_is_set, set_of, reset_of, restart_of, stop_of}
@@ -71,7 +71,7 @@ unfolding send_of write_of
 sends s v = lead_if Less Anyhow chain _ s (nat_le (2 ^ 62) s.sent) _ _ (ends _ s _) (goes _ s tt _ (omega arith))
 
 pub polled : (s : State) (p : Proc) → Less s (poll_of s p)
-unfolding poll_of with_mark
+unfolding poll_of with_needs_poll
 polled s p = less_if s (is_alive (process_state s p)) _ s (omega arith) (omega arith)
 
 pub fresh : (s : State) (p : Proc) → Less s (with_fresh_process s p)

@@ -17,7 +17,7 @@ use Rattle.trace_lines.specs.declared.line.What.{What}
 use Rattle.trace_lines.specs.declared.line.What.TheVariants as what
 use Rattle.process_kernel.specs.Members.{place_of}
 use Rattle.process_kernel.specs.State.{State, Outcome}
-use Rattle.process_kernel.specs.Processes.{is_alive, process_state, is_marked, with_state, with_exiting, with_mark}
+use Rattle.process_kernel.specs.Processes.{is_alive, process_state, process_needs_poll, with_state, with_exiting, with_needs_poll}
 use Rattle.process_kernel.specs.ProcessList.{with_fresh_process, enlist_of, exiting_of, unlisted_of, leave_of}
 use Rattle.process_kernel.specs.Posts.{post_of, poll_of, send_of}
 use Rattle.process_kernel.specs.TimerOperations.{timer_is_set}
@@ -25,19 +25,19 @@ use Rattle.process_kernel.specs.Writes.{with_line, write_of}
 use Rattle.kernel_laws.specs.Own.{IsOwn}
 use Rattle.kernel_laws.specs.Poll.{PollWaits, CanBePolled}
 use Rattle.kernel_laws.specs.Due.{IsDueFor, NoneIsDue, ForgetsNone}
-use Rattle.kernel_laws.proofs.Alive.{Alive, marked_more, alive_still, alive_joined, alive_state, alive_exiting, alive_mark, alive_longer, alive_shorter}
+use Rattle.kernel_laws.proofs.Alive.{Alive, needs_poll_more, alive_still, alive_joined, alive_state, alive_exiting, alive_needs_poll, alive_longer, alive_shorter}
 use Rattle.kernel_laws.proofs.Steps.{any_or}
 use Rattle.kernel_laws.proofs.Tables.{set_same, set_other}
 use Rattle.kernel_laws.proofs.Timers.{other_timer}
 use Rattle.kernel_laws.proofs.EachStep.{Lead, AreJoined, AreSteps, lead_if, empty_led}
 
--- what a step keeps, with a look at the mark of one process
+-- what a step keeps, with a look at whether one process needs a poll
 pub record Watches (p : Proc) (s t : State) : Type 0 where
   pub moment : t.moment ≡ s.moment
   pub etimer : Alive Etimer s t
   pub radio : Alive Radio s t
-  pub marked : is_marked s p ≡ true → is_marked t p ≡ true
-  pub flag : s.flag ≡ true → t.flag ≡ true
+  pub needs_poll : process_needs_poll s p ≡ true → process_needs_poll t p ≡ true
+  pub poll_requested : s.poll_requested ≡ true → t.poll_requested ≡ true
   pub due : p ≡ Etimer → CanBePolled Etimer s → NoneIsDue s.moment s.timers → ForgetsNone t.moment t
 
 -- no claim is made about halted motes
@@ -45,7 +45,7 @@ abbrev pub Whatever : State → State → Type 0
 Whatever s t = Unit {0}
 
 pub still_waits : (p : Proc) (s t : State) → Watches p s t → PollWaits p s → PollWaits p t
-still_waits p s t h w = record { marked = h.marked w.marked; flag = h.flag w.flag }
+still_waits p s t h w = record { needs_poll = h.needs_poll w.needs_poll; poll_requested = h.poll_requested w.poll_requested }
 
 forgets_by : (p : Proc) (s t : State) → Watches p s t → p ≡ Etimer → CanBePolled Etimer s → ForgetsNone s.moment s → ForgetsNone t.moment t
 forgets_by p s t h e c (inl n) = h.due e c n
@@ -58,8 +58,8 @@ forgets_on s t h c f = forgets_by Etimer s t h refl c f
 pub record IsStill (s t : State) : Type 0 where
   pub moment : t.moment ≡ s.moment
   pub states : t.states ≡ s.states
-  pub marks : t.marks ≡ s.marks
-  pub flag : t.flag ≡ s.flag
+  pub needs_poll : t.needs_poll ≡ s.needs_poll
+  pub poll_requested : t.poll_requested ≡ s.poll_requested
   pub members : t.members ≡ s.members
   pub timers : t.timers ≡ s.timers
 
@@ -71,8 +71,8 @@ radio_system = omega arith
 
 -- asks for a poll
 pub waits_now : (p : Proc) (s : State) → CanBePolled p s → PollWaits p (poll_of s p)
-unfolding poll_of with_mark
-waits_now p s c = rw (c.alive) (record { marked = set_same s.marks (place_of p) true false (below_of (place_of p) (length s.marks) c.has_mark); flag = refl })
+unfolding poll_of with_needs_poll
+waits_now p s c = rw (c.alive) (record { needs_poll = set_same s.needs_poll (place_of p) true false (below_of (place_of p) (length s.needs_poll) c.can_need_poll); poll_requested = refl })
   where
     below_of : (k n : ℕ) → nat_lt k n ≡ true → k < n
     below_of k n h = grind (arith, nat_tests)
@@ -106,39 +106,39 @@ unpurged_due moment l p id owner d =
     record { listed = (is_left (λ k. not (is_owned_by p (timer_at l.timers k))) id l.listed d.listed).0; due = d.due; owned = d.owned }
 
 fresh_still : (s : State) (p : Proc) → IsStill s (with_fresh_process s p)
-fresh_still s (Own p) = record { moment = refl; states = refl; marks = refl; flag = refl; members = refl; timers = refl }
-fresh_still s Etimer = record { moment = refl; states = refl; marks = refl; flag = refl; members = refl; timers = refl }
-fresh_still s Ctimer = record { moment = refl; states = refl; marks = refl; flag = refl; members = refl; timers = refl }
-fresh_still s Radio = record { moment = refl; states = refl; marks = refl; flag = refl; members = refl; timers = refl }
+fresh_still s (Own p) = record { moment = refl; states = refl; needs_poll = refl; poll_requested = refl; members = refl; timers = refl }
+fresh_still s Etimer = record { moment = refl; states = refl; needs_poll = refl; poll_requested = refl; members = refl; timers = refl }
+fresh_still s Ctimer = record { moment = refl; states = refl; needs_poll = refl; poll_requested = refl; members = refl; timers = refl }
+fresh_still s Radio = record { moment = refl; states = refl; needs_poll = refl; poll_requested = refl; members = refl; timers = refl }
 
 module _ (p : Proc) where
   pub watches_still : (s t : State) → IsStill s t → Watches p s t
   watches_still s t q = record {
     moment = q.moment;
-    etimer = alive_still Etimer etimer_system s t q.states q.marks q.members;
-    radio = alive_still Radio radio_system s t q.states q.marks q.members;
-    marked = λ e. rw (q.marks) e;
-    flag = λ e. q.flag ∙ e;
+    etimer = alive_still Etimer etimer_system s t q.states q.needs_poll q.members;
+    radio = alive_still Radio radio_system s t q.states q.needs_poll q.members;
+    needs_poll = λ e. rw (q.needs_poll) e;
+    poll_requested = λ e. q.poll_requested ∙ e;
     due = λ is c n. inl (rw (q.moment, q.timers) n);
   }
 
   watches_same : (s : State) → Watches p s s
-  watches_same s = watches_still s s (record { moment = refl; states = refl; marks = refl; flag = refl; members = refl; timers = refl })
+  watches_same s = watches_still s s (record { moment = refl; states = refl; needs_poll = refl; poll_requested = refl; members = refl; timers = refl })
 
   pub watches_joined : (a b c : State) → Watches p a b → Watches p b c → Watches p a c
   watches_joined a b c h i = record {
     moment = i.moment ∙ h.moment;
     etimer = alive_joined Etimer etimer_system a b c h.etimer i.etimer;
     radio = alive_joined Radio radio_system a b c h.radio i.radio;
-    marked = λ x. i.marked (h.marked x);
-    flag = λ x. i.flag (h.flag x);
+    needs_poll = λ x. i.needs_poll (h.needs_poll x);
+    poll_requested = λ x. i.poll_requested (h.poll_requested x);
     due = λ is x n. forgets_by p b c i is (h.etimer.can x) (h.due is x n);
   }
 
   pub chain : AreJoined (Watches p) Whatever
   chain = record { same = watches_same; joined = watches_joined; ended = λ a b c h i. tt }
 
-  -- states and marks
+  -- states, and who needs a poll
 
   watches_state : (s : State) (q : Proc) (x : ProcessState) → is_alive x ≡ true → Watches p s (with_state s q x)
   unfolding with_state
@@ -146,8 +146,8 @@ module _ (p : Proc) where
     moment = refl;
     etimer = alive_state Etimer etimer_system s q x alive;
     radio = alive_state Radio radio_system s q x alive;
-    marked = λ e. e;
-    flag = λ e. e;
+    needs_poll = λ e. e;
+    poll_requested = λ e. e;
     due = λ is c n. inl n;
   }
 
@@ -157,37 +157,37 @@ module _ (p : Proc) where
     moment = refl;
     etimer = alive_exiting Etimer etimer_system s q own;
     radio = alive_exiting Radio radio_system s q own;
-    marked = λ e. e;
-    flag = λ e. e;
+    needs_poll = λ e. e;
+    poll_requested = λ e. e;
     due = λ is c n. inl n;
   }
 
   pub watches_poll : (s : State) (q : Proc) → Watches p s (poll_of s q)
-  unfolding poll_of with_mark
+  unfolding poll_of with_needs_poll
   watches_poll s q = by (is_alive (process_state s q))
     where
-      by : (b : Bool) → Watches p s (if b then record (with_mark s q true) { flag = true } else s)
+      by : (b : Bool) → Watches p s (if b then record (with_needs_poll s q true) { poll_requested = true } else s)
       by true =
-          let e = alive_mark Etimer etimer_system s q true in
-          let r = alive_mark Radio radio_system s q true in record {
+          let e = alive_needs_poll Etimer etimer_system s q true in
+          let r = alive_needs_poll Radio radio_system s q true in record {
             moment = refl;
-            etimer = record { can = λ c. let k = e.can c in record { alive = k.alive; has_mark = k.has_mark }; state = e.state; mark = e.mark; listed = e.listed; there = e.there };
-            radio = record { can = λ c. let k = r.can c in record { alive = k.alive; has_mark = k.has_mark }; state = r.state; mark = r.mark; listed = r.listed; there = r.there };
-            marked = λ m. marked_more (place_of p) (place_of q) s.marks m;
-            flag = λ f. refl;
+            etimer = record { can = λ c. let k = e.can c in record { alive = k.alive; can_need_poll = k.can_need_poll }; state = e.state; can_need_poll = e.can_need_poll; listed = e.listed; there = e.there };
+            radio = record { can = λ c. let k = r.can c in record { alive = k.alive; can_need_poll = k.can_need_poll }; state = r.state; can_need_poll = r.can_need_poll; listed = r.listed; there = r.there };
+            needs_poll = λ m. needs_poll_more (place_of p) (place_of q) s.needs_poll m;
+            poll_requested = λ f. refl;
             due = λ is c n. inl n;
           }
       by false = watches_same s
 
-  -- the mark of another process is cleared
-  pub watches_unmarked : (s : State) (q : Proc) → (place_of p ≡ place_of q → ⊥) → Watches p s (with_mark s q false)
-  unfolding with_mark
-  watches_unmarked s q n = record {
+  -- `needs_poll` of another process is cleared
+  pub watches_cleared : (s : State) (q : Proc) → (place_of p ≡ place_of q → ⊥) → Watches p s (with_needs_poll s q false)
+  unfolding with_needs_poll
+  watches_cleared s q n = record {
     moment = refl;
-    etimer = alive_mark Etimer etimer_system s q false;
-    radio = alive_mark Radio radio_system s q false;
-    marked = λ e. set_other s.marks (place_of q) (place_of p) false false n ∙ e;
-    flag = λ e. e;
+    etimer = alive_needs_poll Etimer etimer_system s q false;
+    radio = alive_needs_poll Radio radio_system s q false;
+    needs_poll = λ e. set_other s.needs_poll (place_of q) (place_of p) false false n ∙ e;
+    poll_requested = λ e. e;
     due = λ is c d. inl d;
   }
 
@@ -200,9 +200,9 @@ module _ (p : Proc) where
         moment = h.moment;
         etimer = alive_joined Etimer etimer_system s _ _ (alive_still Etimer etimer_system s _ refl refl refl) h.etimer;
         radio = alive_joined Radio radio_system s _ _ (alive_still Radio radio_system s _ refl refl refl) h.radio;
-        marked = λ e. h.marked e;
-        flag = λ e. h.flag e;
-        due = λ is c n. inr (waits_now Etimer _ (record { alive = c.alive; has_mark = c.has_mark }));
+        needs_poll = λ e. h.needs_poll e;
+        poll_requested = λ e. h.poll_requested e;
+        due = λ is c n. inr (waits_now Etimer _ (record { alive = c.alive; can_need_poll = c.can_need_poll }));
       }
 
   -- fewer timers are due, and nothing else is changed
@@ -211,8 +211,8 @@ module _ (p : Proc) where
     moment = refl;
     etimer = alive_still Etimer etimer_system s _ refl refl refl;
     radio = alive_still Radio radio_system s _ refl refl refl;
-    marked = λ e. e;
-    flag = λ e. e;
+    needs_poll = λ e. e;
+    poll_requested = λ e. e;
     due = λ is c n. inl (λ id owner d. n id owner (f id owner d));
   }
 
@@ -225,19 +225,19 @@ module _ (p : Proc) where
   leads_if A s b o q h i = lead_if (Watches p) Whatever chain A s b o q h i
 
   pub watches_line : (s : State) (w : What) → Watches p s (with_line s w)
-  watches_line s w = watches_still s _ (record { moment = refl; states = refl; marks = refl; flag = refl; members = refl; timers = refl })
+  watches_line s w = watches_still s _ (record { moment = refl; states = refl; needs_poll = refl; poll_requested = refl; members = refl; timers = refl })
 
   posts_watch : (s : State) (t : Target) (e : Event) → Leads Bool s (post_of s t e)
   unfolding post_of write_of
   posts_watch s t e =
       leads_if Bool s (nat_le (2 ^ 62) s.queue.accepted) _ _ (record { leads = tt })
       (leads_if Bool s (nat_le s.queue.capacity (length s.queue.events)) _ _ (record { leads = watches_line s _ })
-      (record { leads = watches_still s _ (record { moment = refl; states = refl; marks = refl; flag = refl; members = refl; timers = refl }) }))
+      (record { leads = watches_still s _ (record { moment = refl; states = refl; needs_poll = refl; poll_requested = refl; members = refl; timers = refl }) }))
 
   sends_watch : (s : State) (v : ℕ) → Leads (Unit {0}) s (send_of s v)
   unfolding send_of write_of
   sends_watch s v =
-      leads_if _ s (nat_le (2 ^ 62) s.sent) _ _ (record { leads = tt }) (record { leads = watches_still s _ (record { moment = refl; states = refl; marks = refl; flag = refl; members = refl; timers = refl }) })
+      leads_if _ s (nat_le (2 ^ 62) s.sent) _ _ (record { leads = tt }) (record { leads = watches_still s _ (record { moment = refl; states = refl; needs_poll = refl; poll_requested = refl; members = refl; timers = refl }) })
 
   -- the process list
 
@@ -246,8 +246,8 @@ module _ (p : Proc) where
     moment = refl;
     etimer = alive_longer Etimer etimer_system s m n;
     radio = alive_longer Radio radio_system s m n;
-    marked = λ e. e;
-    flag = λ e. e;
+    needs_poll = λ e. e;
+    poll_requested = λ e. e;
     due = λ is c d. inl d;
   }
 
@@ -265,8 +265,8 @@ module _ (p : Proc) where
     moment = refl;
     etimer = alive_shorter Etimer etimer_system s q own;
     radio = alive_shorter Radio radio_system s q own;
-    marked = λ e. e;
-    flag = λ e. e;
+    needs_poll = λ e. e;
+    poll_requested = λ e. e;
     due = λ is c n. inl n;
   }
 
@@ -278,23 +278,23 @@ module _ (p : Proc) where
   steps = record {
     own = λ q own. own;
     halts = λ s. tt;
-    units = λ s n. watches_still s _ (record { moment = refl; states = refl; marks = refl; flag = refl; members = refl; timers = refl });
+    units = λ s n. watches_still s _ (record { moment = refl; states = refl; needs_poll = refl; poll_requested = refl; members = refl; timers = refl });
     busy = λ s q. watches_line s (what.Busy q);
     prints = λ s q v. watches_line s (what.Print q v);
     called = λ s q. watches_state s q Called refl;
     runs = λ s q. watches_state s q Running refl;
     exiting = watches_exiting;
     polled = watches_poll;
-    remainders = λ s rs. watches_still s _ (record { moment = refl; states = refl; marks = refl; flag = refl; members = refl; timers = refl });
-    variables = λ s vs. watches_still s _ (record { moment = refl; states = refl; marks = refl; flag = refl; members = refl; timers = refl });
+    remainders = λ s rs. watches_still s _ (record { moment = refl; states = refl; needs_poll = refl; poll_requested = refl; members = refl; timers = refl });
+    variables = λ s vs. watches_still s _ (record { moment = refl; states = refl; needs_poll = refl; poll_requested = refl; members = refl; timers = refl });
     sets = λ s t start interval owner there. watches_set s _ t;
     stops = λ s t. watches_fewer s (stop_timer s.timers t) (others_due s.moment s.timers t);
     purges = λ s q. watches_fewer s (purge_timers s.timers q) (unpurged_due s.moment s.timers q);
-    callbacks = λ s ts. watches_still s _ (record { moment = refl; states = refl; marks = refl; flag = refl; members = refl; timers = refl });
-    semaphores = λ s ns. watches_still s _ (record { moment = refl; states = refl; marks = refl; flag = refl; members = refl; timers = refl });
+    callbacks = λ s ts. watches_still s _ (record { moment = refl; states = refl; needs_poll = refl; poll_requested = refl; members = refl; timers = refl });
+    semaphores = λ s ns. watches_still s _ (record { moment = refl; states = refl; needs_poll = refl; poll_requested = refl; members = refl; timers = refl });
     posts = λ s t e f. posts_watch s t e;
     sends = sends_watch;
     enlists = λ s q l. enlists_watch s q;
     leaves = leaves_watch;
-    empties = λ s. empty_led (Watches p) Whatever chain (λ t r. watches_still t _ (record { moment = refl; states = refl; marks = refl; flag = refl; members = refl; timers = refl })) (λ t to e f. posts_watch t to e) (λ t f n. watches_line t (what.Deaf f n)) s.program.receiver s.ring s;
+    empties = λ s. empty_led (Watches p) Whatever chain (λ t r. watches_still t _ (record { moment = refl; states = refl; needs_poll = refl; poll_requested = refl; members = refl; timers = refl })) (λ t to e f. posts_watch t to e) (λ t f n. watches_line t (what.Deaf f n)) s.program.receiver s.ring s;
   }

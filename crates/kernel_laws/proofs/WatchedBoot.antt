@@ -34,13 +34,13 @@ below k n h = grind (arith, nat_tests)
 enlisted : State → Proc → State
 enlisted s p = with_line (with_fresh_process (with_state (record s { members = record { process = p; incarnation = s.started } ∷ s.members; started = s.started + 1 }) p Running) p) (what.Start p)
 
-enlisted_can : (s : State) → has_process s Etimer ≡ true → nat_lt 0 (length s.marks) ≡ true → CanBePolled Etimer (enlisted s Etimer)
+enlisted_can : (s : State) → has_process s Etimer ≡ true → nat_lt 0 (length s.needs_poll) ≡ true → CanBePolled Etimer (enlisted s Etimer)
 unfolding enlisted with_state
-enlisted_can s there marks = record { alive = rw (set_same s.states 0 Running Off (below 0 (length s.states) there)) refl; has_mark = marks }
+enlisted_can s there needs_poll = record { alive = rw (set_same s.states 0 Running Off (below 0 (length s.states) there)) refl; can_need_poll = needs_poll }
 
-enlisted_room : (s : State) → has_process s Radio ≡ true → nat_lt 2 (length s.marks) ≡ true → (has_process (enlisted s Etimer) Radio ≡ true) × (nat_lt 2 (length (enlisted s Etimer).marks) ≡ true)
+enlisted_room : (s : State) → has_process s Radio ≡ true → nat_lt 2 (length s.needs_poll) ≡ true → (has_process (enlisted s Etimer) Radio ≡ true) × (nat_lt 2 (length (enlisted s Etimer).needs_poll) ≡ true)
 unfolding enlisted with_state
-enlisted_room s there marks = (rw (length-set s.states 0 Running) there, marks)
+enlisted_room s there needs_poll = (rw (length-set s.states 0 Running) there, needs_poll)
 
 enlisted_listed : (s : State) → is_listed (enlisted s Etimer) Etimer ≡ true
 unfolding enlisted with_state
@@ -67,9 +67,9 @@ pub record IsUnstarted (moment : ℕ) (s : State) : Type 0 where
   pub members : s.members ≡ []
   pub busy : is_busy s Etimer ≡ false
   pub there : has_process s Etimer ≡ true
-  pub mark : nat_lt 0 (length s.marks) ≡ true
+  pub can_need_poll : nat_lt 0 (length s.needs_poll) ≡ true
   pub radio_state : has_process s Radio ≡ true
-  pub radio_mark : nat_lt 2 (length s.marks) ≡ true
+  pub radio_can_need_poll : nat_lt 2 (length s.needs_poll) ≡ true
   pub none : NoneIsDue moment s.timers
 
 module _ (calls : Calls) (are : AreWatched calls) where
@@ -86,10 +86,10 @@ module _ (calls : Calls) (are : AreWatched calls) where
   unfolding enlisted enlist_of write_of
   first_goes s b t n = first_start calls are.reach s b t n
 
-  first_by : (moment : ℕ) (s u : State) (o : Went) → IsUnstarted moment s → (u.moment ≡ s.moment) × (u.timers ≡ s.timers) → CanBePolled Etimer u → is_listed u Etimer ≡ true → has_process u Radio ≡ true → nat_lt 2 (length u.marks) ≡ true
+  first_by : (moment : ℕ) (s u : State) (o : Went) → IsUnstarted moment s → (u.moment ≡ s.moment) × (u.timers ≡ s.timers) → CanBePolled Etimer u → is_listed u Etimer ≡ true → has_process u Radio ≡ true → nat_lt 2 (length u.needs_poll) ≡ true
       → Lead (Watches Etimer) Whatever (Unit {0}) u o → tables.Leaves (Unit {0}) (tables.Keeps s) o → IfGoes (Good false moment) o
-  first_by moment s u (Ends t) h same can listed state mark w k = tt
-  first_by moment s u (Goes a t) h same can listed state mark w k =
+  first_by moment s u (Ends t) h same can listed state can_need_poll w k = tt
+  first_by moment s u (Goes a t) h same can listed state can_need_poll w k =
       let now : u.moment ≡ moment = same.0 ∙ h.now_is in
       let later : t.moment ≡ moment = w.leads.moment ∙ now in
       let before : NoneIsDue u.moment u.timers = rw (now, same.1) h.none in
@@ -101,7 +101,7 @@ module _ (calls : Calls) (are : AreWatched calls) where
           idle = record { called = λ j. k.out.busy.called j ∙ h.idle.called j; exiting = λ j. k.out.busy.exiting j ∙ h.idle.exiting j };
           listed = w.leads.etimer.listed listed;
           radio_state = w.leads.radio.state state;
-          radio_mark = w.leads.radio.mark mark;
+          radio_can_need_poll = w.leads.radio.can_need_poll can_need_poll;
           radio = λ e. absurd (cc);
         };
         forgets = subst (λ n. ForgetsNone n t) later (w.leads.due refl can before);
@@ -110,9 +110,9 @@ module _ (calls : Calls) (are : AreWatched calls) where
   first_good : (moment : ℕ) (s : State) → IsUnstarted moment s → IfGoes (Good false moment) (start_of calls s Etimer)
   first_good moment s h =
       let q = first_goes s h.busy h.there (rw (h.members) refl) in
-      let room = enlisted_room s h.radio_state h.radio_mark in
+      let room = enlisted_room s h.radio_state h.radio_can_need_poll in
       let call = are.led.call (enlisted s Etimer) Etimer (told Init 0) (fits_no_exit (Watches Etimer) Whatever (chain Etimer) IsOwn Etimer (told Init 0).number refl) in
-      first_by moment s (enlisted s Etimer) _ h (enlisted_moment s) (enlisted_can s h.there h.mark) (enlisted_listed s) room.0 room.1
+      first_by moment s (enlisted s Etimer) _ h (enlisted_moment s) (enlisted_can s h.there h.can_need_poll) (enlisted_listed s) room.0 room.1
       (subst (λ o. Lead (Watches Etimer) Whatever (Unit {0}) (enlisted s Etimer) o) (sym q) call) (tables.start_kept calls are.kept s Etimer h.step)
 
   -- the radio process
@@ -141,8 +141,8 @@ module _ (calls : Calls) (are : AreWatched calls) where
           idle = h.idle;
           listed = h.listed;
           radio_state = h.radio_state;
-          radio_mark = h.radio_mark;
-          radio = λ e. record { can = record { alive = alive_is (state_at_place t 2) (exiting_at t 2) (listed_in t.members 2) (h.step.each 2) (h.idle.exiting 2) l; has_mark = h.radio_mark }; listed = l };
+          radio_can_need_poll = h.radio_can_need_poll;
+          radio = λ e. record { can = record { alive = alive_is (state_at_place t 2) (exiting_at t 2) (listed_in t.members 2) (h.step.each 2) (h.idle.exiting 2) l; can_need_poll = h.radio_can_need_poll }; listed = l };
         };
         forgets = g.forgets;
       }

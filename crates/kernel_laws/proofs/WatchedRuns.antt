@@ -16,7 +16,7 @@ use Rattle.process_kernel.specs.declared.process.Member.{Member}
 use Rattle.trace_lines.specs.declared.line.What.TheVariants as what
 use Rattle.process_kernel.specs.Members.{place_of}
 use Rattle.process_kernel.specs.State.{State, Outcome, Went, Ends, Goes}
-use Rattle.process_kernel.specs.Processes.{is_alive, is_running, is_running_state, is_called_state, process_state, is_marked, is_listed, is_on_list, has_process, with_mark}
+use Rattle.process_kernel.specs.Processes.{is_alive, is_running, is_running_state, is_called_state, process_state, process_needs_poll, is_listed, is_on_list, has_process, with_needs_poll}
 use Rattle.process_kernel.specs.Writes.{write_of}
 use Rattle.process_kernel.specs.Calls.{Calls, told}
 use Rattle.process_kernel.specs.Polls.{walk_polls, polls_of, polls_due_of, poll_turn_of}
@@ -52,7 +52,7 @@ pub record Stands (started : Bool) (s : State) : Type 0 where
   pub idle : IsIdle s
   pub listed : is_listed s Etimer ≡ true
   pub radio_state : has_process s Radio ≡ true
-  pub radio_mark : nat_lt 2 (length s.marks) ≡ true
+  pub radio_can_need_poll : nat_lt 2 (length s.needs_poll) ≡ true
   pub radio : started ≡ true → RadioStands s
 
 stands_on : (r : Bool) (s t : State) → Stands r s → Watches Etimer s t → tables.Keeps s t → Stands r t
@@ -62,7 +62,7 @@ stands_on r s t h w k = record {
   idle = record { called = λ j. k.busy.called j ∙ h.idle.called j; exiting = λ j. k.busy.exiting j ∙ h.idle.exiting j };
   listed = w.etimer.listed h.listed;
   radio_state = w.radio.state h.radio_state;
-  radio_mark = w.radio.mark h.radio_mark;
+  radio_can_need_poll = w.radio.can_need_poll h.radio_can_need_poll;
   radio = λ e. let q = h.radio e in record { can = w.radio.can q.can; listed = w.radio.listed q.listed };
 }
 
@@ -90,42 +90,42 @@ pub good_leads : (A : Type 0) (r : Bool) (moment : ℕ) (s : State) (o : Outcome
 good_leads A r moment s (Ends t) g w k = tt
 good_leads A r moment s (Goes a t) g w k = good_on r moment s t g w.leads k.out
 
--- the mark of a process is cleared
+-- `needs_poll` of a process is cleared
 
-pub unmarked_stands : (r : Bool) (s : State) (p : Proc) → Stands r s → Stands r (with_mark s p false)
-unfolding with_mark
-unmarked_stands r s p h = record {
-  can = record { alive = h.can.alive; has_mark = still_has 0 (place_of p) false s.marks h.can.has_mark };
-  step = (tables.keeps_still s (record s { marks = slice_set s.marks (place_of p) false }) (record { states = refl; exiting = refl; members = refl }) h.step).step;
+pub cleared_stands : (r : Bool) (s : State) (p : Proc) → Stands r s → Stands r (with_needs_poll s p false)
+unfolding with_needs_poll
+cleared_stands r s p h = record {
+  can = record { alive = h.can.alive; can_need_poll = still_has 0 (place_of p) false s.needs_poll h.can.can_need_poll };
+  step = (tables.keeps_still s (record s { needs_poll = slice_set s.needs_poll (place_of p) false }) (record { states = refl; exiting = refl; members = refl }) h.step).step;
   idle = record { called = h.idle.called; exiting = h.idle.exiting };
   listed = h.listed;
   radio_state = h.radio_state;
-  radio_mark = still_has 2 (place_of p) false s.marks h.radio_mark;
-  radio = λ e. let q = h.radio e in record { can = record { alive = q.can.alive; has_mark = still_has 2 (place_of p) false s.marks q.can.has_mark }; listed = q.listed };
+  radio_can_need_poll = still_has 2 (place_of p) false s.needs_poll h.radio_can_need_poll;
+  radio = λ e. let q = h.radio e in record { can = record { alive = q.can.alive; can_need_poll = still_has 2 (place_of p) false s.needs_poll q.can.can_need_poll }; listed = q.listed };
 }
 
-pub unmarked_moment : (s : State) (p : Proc) → (with_mark s p false).moment ≡ s.moment
-unfolding with_mark
-unmarked_moment s p = refl
+pub cleared_moment : (s : State) (p : Proc) → (with_needs_poll s p false).moment ≡ s.moment
+unfolding with_needs_poll
+cleared_moment s p = refl
 
--- the poll flag is cleared
-pub unflagged : (r : Bool) (s : State) → Stands r s → Stands r (record s { flag = false })
-unflagged r s h = record {
-  can = record { alive = h.can.alive; has_mark = h.can.has_mark };
-  step = (tables.keeps_still s (record s { flag = false }) (record { states = refl; exiting = refl; members = refl }) h.step).step;
+-- `poll_requested` is cleared
+pub unrequested : (r : Bool) (s : State) → Stands r s → Stands r (record s { poll_requested = false })
+unrequested r s h = record {
+  can = record { alive = h.can.alive; can_need_poll = h.can.can_need_poll };
+  step = (tables.keeps_still s (record s { poll_requested = false }) (record { states = refl; exiting = refl; members = refl }) h.step).step;
   idle = record { called = h.idle.called; exiting = h.idle.exiting };
   listed = h.listed;
   radio_state = h.radio_state;
-  radio_mark = h.radio_mark;
-  radio = λ e. let q = h.radio e in record { can = record { alive = q.can.alive; has_mark = q.can.has_mark }; listed = q.listed };
+  radio_can_need_poll = h.radio_can_need_poll;
+  radio = λ e. let q = h.radio e in record { can = record { alive = q.can.alive; can_need_poll = q.can.can_need_poll }; listed = q.listed };
 }
 
--- at etimer's turn: it is on the list, and either no timer is due or it is marked
+-- at etimer's turn: it is on the list, and either no timer is due or it needs a poll
 pub record Comes (r : Bool) (moment : ℕ) (x : Member) (t : State) : Type 0 where
   pub now_is : t.moment ≡ moment
   pub stands : Stands r t
   pub there : is_on_list t x ≡ true
-  pub due : NoneIsDue moment t.timers ⊎ (is_marked t Etimer ≡ true)
+  pub due : NoneIsDue moment t.timers ⊎ (process_needs_poll t Etimer ≡ true)
 
 -- what holds of the calls that nest less deep
 pub record AreWatched (calls : Calls) : Type 0 where
@@ -150,56 +150,56 @@ module _ (calls : Calls) (are : AreWatched calls) where
   etimer_good r moment s e h =
       served_good r moment s _ e h (are.led.call s Etimer (told Poll 0) (fits_poll Etimer)) (are.kept.call s Etimer (told Poll 0) h.step) (are.serves s (etimer_runs r s h) h.can)
 
-  other_good : (r : Bool) (moment : ℕ) (s : State) (p : Proc) → (0 ≡ place_of p → ⊥) → Good r moment s → IfGoes (Good r moment) (calls.call (with_mark s p false) p (told Poll 0))
-  other_good r moment s p n g = good_leads _ r moment s _ g (other_led Etimer calls are.led s p n) (tables.kept_from s _ _ (tables.mark_still s p false) (are.kept.call _ p (told Poll 0)) g.stands.step)
+  other_good : (r : Bool) (moment : ℕ) (s : State) (p : Proc) → (0 ≡ place_of p → ⊥) → Good r moment s → IfGoes (Good r moment) (calls.call (with_needs_poll s p false) p (told Poll 0))
+  other_good r moment s p n g = good_leads _ r moment s _ g (other_led Etimer calls are.led s p n) (tables.kept_from s _ _ (tables.needs_poll_still s p false) (are.kept.call _ p (told Poll 0)) g.stands.step)
 
-  polled_good : (r : Bool) (moment : ℕ) (s : State) (p : Proc) → Good r moment s → IfGoes (Good r moment) (calls.call (with_mark s p false) p (told Poll 0))
+  polled_good : (r : Bool) (moment : ℕ) (s : State) (p : Proc) → Good r moment s → IfGoes (Good r moment) (calls.call (with_needs_poll s p false) p (told Poll 0))
   polled_good r moment s (Own p) g = other_good r moment s (Own p) (λ e. omega arith) g
-  polled_good r moment s Etimer g = etimer_good r moment (with_mark s Etimer false) (unmarked_moment s Etimer ∙ g.now_is) (unmarked_stands r s Etimer g.stands)
+  polled_good r moment s Etimer g = etimer_good r moment (with_needs_poll s Etimer false) (cleared_moment s Etimer ∙ g.now_is) (cleared_stands r s Etimer g.stands)
   polled_good r moment s Ctimer g = other_good r moment s Ctimer (λ e. omega arith) g
   polled_good r moment s Radio g = other_good r moment s Radio (λ e. omega arith) g
 
   turn_good : (r : Bool) (moment : ℕ) (s : State) (x : Member) → Good r moment s → IfGoes (Good r moment) (poll_turn_of calls s x)
   unfolding poll_turn_of
-  turn_good r moment s x g = goes_cases (Good r moment) (is_on_list s x && is_marked s x.process) _ _ (λ e. polled_good r moment s x.process g) (λ e. g)
+  turn_good r moment s x g = goes_cases (Good r moment) (is_on_list s x && process_needs_poll s x.process) _ _ (λ e. polled_good r moment s x.process g) (λ e. g)
 
   polls_good : (r : Bool) (moment : ℕ) (ms : List Member) (s : State) → Good r moment s → IfGoes (Good r moment) (walk_polls calls ms s)
   polls_good r moment [] s g = g
   polls_good r moment (x ∷ ms) s g = goes_bind _ _ (Good r moment) (Good r moment) (poll_turn_of calls s x) _ (turn_good r moment s x g) (λ a t h. polls_good r moment ms t h)
 
-  -- before etimer's turn its mark stays
+  -- before etimer's turn it still needs a poll
 
-  comes_by : (r : Bool) (moment : ℕ) (x : Member) (s : State) (o : Went) → s.moment ≡ moment → Stands r s → x.process ≡ Etimer → is_on_list s x ≡ true → NoneIsDue moment s.timers ⊎ (is_marked s Etimer ≡ true)
+  comes_by : (r : Bool) (moment : ℕ) (x : Member) (s : State) (o : Went) → s.moment ≡ moment → Stands r s → x.process ≡ Etimer → is_on_list s x ≡ true → NoneIsDue moment s.timers ⊎ (process_needs_poll s Etimer ≡ true)
       → Lead (Watches Etimer) Whatever (Unit {0}) s o → tables.Leaves (Unit {0}) (tables.Keeps s) o → IfGoes (Comes r moment x) o
   comes_by r moment x s (Ends t) e h p there due w k = tt
   comes_by r moment x s (Goes a t) e h p there due w k =
       let now : t.moment ≡ moment = w.leads.moment ∙ e in record { now_is = now; stands = stands_on r s t h w.leads k.out; there = w.leads.etimer.there x p there; due = still due }
     where
-      on : ForgetsNone t.moment t → NoneIsDue moment t.timers ⊎ (is_marked t Etimer ≡ true)
+      on : ForgetsNone t.moment t → NoneIsDue moment t.timers ⊎ (process_needs_poll t Etimer ≡ true)
       on (inl n) = inl (subst (λ m. NoneIsDue m t.timers) (w.leads.moment ∙ e) n)
-      on (inr f) = inr f.marked
+      on (inr f) = inr f.needs_poll
 
-      still : NoneIsDue moment s.timers ⊎ (is_marked s Etimer ≡ true) → NoneIsDue moment t.timers ⊎ (is_marked t Etimer ≡ true)
+      still : NoneIsDue moment s.timers ⊎ (process_needs_poll s Etimer ≡ true) → NoneIsDue moment t.timers ⊎ (process_needs_poll t Etimer ≡ true)
       still (inl n) = on (w.leads.due refl h.can (subst (λ m. NoneIsDue m s.timers) (sym e) n))
-      still (inr m) = inr (w.leads.marked m)
+      still (inr m) = inr (w.leads.needs_poll m)
 
-  pub comes : (r : Bool) (moment : ℕ) (x : Member) (s : State) → s.moment ≡ moment → Stands r s → x.process ≡ Etimer → is_on_list s x ≡ true → NoneIsDue moment s.timers ⊎ (is_marked s Etimer ≡ true) → IfGoes (Comes r moment x) (walk_polls calls (members_before Etimer s.members) s)
+  pub comes : (r : Bool) (moment : ℕ) (x : Member) (s : State) → s.moment ≡ moment → Stands r s → x.process ≡ Etimer → is_on_list s x ≡ true → NoneIsDue moment s.timers ⊎ (process_needs_poll s Etimer ≡ true) → IfGoes (Comes r moment x) (walk_polls calls (members_before Etimer s.members) s)
   comes r moment x s e h p there due =
       comes_by r moment x s _ e h p there due (before_led Etimer calls are.led s.members s) (resting.polls_kept calls are.kept (members_before Etimer s.members) s h.step)
 
   at_turn : (r : Bool) (moment : ℕ) (x : Member) (u : State) → x.process ≡ Etimer → Comes r moment x u → IfGoes (Good r moment) (poll_turn_of calls u x)
   unfolding poll_turn_of
-  at_turn r moment x u p c = rw (c.there, p) (by (is_marked u Etimer) refl)
+  at_turn r moment x u p c = rw (c.there, p) (by (process_needs_poll u Etimer) refl)
     where
-      none : is_marked u Etimer ≡ false → NoneIsDue moment u.timers ⊎ (is_marked u Etimer ≡ true) → ForgetsNone moment u
+      none : process_needs_poll u Etimer ≡ false → NoneIsDue moment u.timers ⊎ (process_needs_poll u Etimer ≡ true) → ForgetsNone moment u
       none e (inl n) = inl n
       none e (inr m) = absurd (cc)
 
-      by : (b : Bool) → is_marked u Etimer ≡ b → IfGoes (Good r moment) (if b then calls.call (with_mark u Etimer false) Etimer (told Poll 0) else Goes tt u)
-      by true e = etimer_good r moment (with_mark u Etimer false) (unmarked_moment u Etimer ∙ c.now_is) (unmarked_stands r u Etimer c.stands)
+      by : (b : Bool) → process_needs_poll u Etimer ≡ b → IfGoes (Good r moment) (if b then calls.call (with_needs_poll u Etimer false) Etimer (told Poll 0) else Goes tt u)
+      by true e = etimer_good r moment (with_needs_poll u Etimer false) (cleared_moment u Etimer ∙ c.now_is) (cleared_stands r u Etimer c.stands)
       by false e = record { now_is = c.now_is; stands = c.stands; forgets = none e c.due }
 
-  walk_good : (r : Bool) (moment : ℕ) (s : State) → s.moment ≡ moment → Stands r s → NoneIsDue moment s.timers ⊎ (is_marked s Etimer ≡ true) → IfGoes (Good r moment) (walk_polls calls s.members s)
+  walk_good : (r : Bool) (moment : ℕ) (s : State) → s.moment ≡ moment → Stands r s → NoneIsDue moment s.timers ⊎ (process_needs_poll s Etimer ≡ true) → IfGoes (Good r moment) (walk_polls calls s.members s)
   walk_good r moment s e h due =
       let k = splits Etimer s.members h.listed in
       rw (walk_splits Etimer calls s.members k.member k.after s k.split)
@@ -209,11 +209,11 @@ module _ (calls : Calls) (are : AreWatched calls) where
   polls_due_good : (r : Bool) (moment : ℕ) (s : State) → Good r moment s → IfGoes (Good r moment) (polls_due_of calls s)
   unfolding polls_due_of polls_of
   polls_due_good r moment s g =
-      goes_cases (Good r moment) s.flag _ _ (λ e. walk_good r moment (record s { flag = false }) g.now_is (unflagged r s g.stands) (weaker g.forgets)) (λ e. g)
+      goes_cases (Good r moment) s.poll_requested _ _ (λ e. walk_good r moment (record s { poll_requested = false }) g.now_is (unrequested r s g.stands) (weaker g.forgets)) (λ e. g)
     where
-      weaker : ForgetsNone moment s → NoneIsDue moment s.timers ⊎ (is_marked s Etimer ≡ true)
+      weaker : ForgetsNone moment s → NoneIsDue moment s.timers ⊎ (process_needs_poll s Etimer ≡ true)
       weaker (inl n) = inl n
-      weaker (inr w) = inr w.marked
+      weaker (inr w) = inr w.needs_poll
 
   -- an event
 
@@ -238,7 +238,7 @@ module _ (calls : Calls) (are : AreWatched calls) where
   target_good r moment ToEach s x f g = walk_event_good r moment x s.members s f g
 
   untaken_good : (r : Bool) (moment : ℕ) (s : State) → Good r moment s → Good r moment (record s { queue = without_front s.queue })
-  untaken_good r moment s g = good_on r moment s _ g (watches_still Etimer s _ (record { moment = refl; states = refl; marks = refl; flag = refl; members = refl; timers = refl })) (tables.keeps_still s _ (record { states = refl; exiting = refl; members = refl }) g.stands.step)
+  untaken_good r moment s g = good_on r moment s _ g (watches_still Etimer s _ (record { moment = refl; states = refl; needs_poll = refl; poll_requested = refl; members = refl; timers = refl })) (tables.keeps_still s _ (record { states = refl; exiting = refl; members = refl }) g.stands.step)
 
   front_good : (r : Bool) (moment : ℕ) (q : List Posted) (s : State) → s.queue.events ≡ q → SystemStays s → Good r moment s → IfGoes (Good r moment) (deliver_front calls q s)
   unfolding deliver_of

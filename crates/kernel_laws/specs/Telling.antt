@@ -16,7 +16,7 @@ use Rattle.process_kernel.specs.declared.process.ProcessState.{ProcessState}
 use Rattle.process_kernel.specs.declared.process.ProcessState.TheVariants.{Off, Running}
 use Rattle.process_kernel.specs.Members.{place_of}
 use Rattle.process_kernel.specs.State.{State}
-use Rattle.process_kernel.specs.Processes.{process_state, flag_at, has_process, is_listed}
+use Rattle.process_kernel.specs.Processes.{process_state, at_process, has_process, is_listed}
 use Rattle.process_kernel.specs.Calls.{told}
 use Rattle.process_kernel.specs.Mote.{Mote, unbooted, with_packet, with_poll}
 use Rattle.process_kernel.specs.Given.{boot_given, run_given}
@@ -88,7 +88,7 @@ standing_of p s = record {
   has = has_process s (Own p);
   room = nat_lt (place_of (Own p)) (length s.exiting);
   state = process_state s (Own p);
-  exiting = flag_at s.exiting (Own p);
+  exiting = at_process s.exiting (Own p);
   listed = is_listed s (Own p);
   rest = slice_get s.remainders p;
   vars = slice_get s.variables p;

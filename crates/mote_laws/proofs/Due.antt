@@ -64,8 +64,8 @@ packet_rested m a r = record { booted = r.booted; rest = λ h. again (r.rest h) 
       sound = record { stays = k.sound.stays; fits = k.sound.fits };
       step = (tables.keeps_still m.state _ (record { states = refl; exiting = refl; members = refl }) k.step).step;
       idle = record { called = k.idle.called; exiting = k.idle.exiting };
-      can = record { alive = k.can.alive; has_mark = k.can.has_mark };
-      radio = record { alive = k.radio.alive; has_mark = k.radio.has_mark };
+      can = record { alive = k.can.alive; can_need_poll = k.can.can_need_poll };
+      radio = record { alive = k.radio.alive; can_need_poll = k.radio.can_need_poll };
       radio_stays = k.radio_stays;
     }
 
@@ -265,7 +265,7 @@ all_stand program number queue collides given lines last t = turns_stand program
 -- if a poll of etimer waits, the mote wakes at the next moment
 wakes_next : (moment : ℕ) (n : Node) → n.last ≡ Some moment → n.mote.halted ≡ false → PollWaits Etimer n.mote.state → wake_of n ≡ Some (moment + 1)
 unfolding wake_after
-wakes_next moment n e running w = rw (running, e, w.flag) (either (nat_lt 0 (length n.mote.state.queue.events)))
+wakes_next moment n e running w = rw (running, e, w.poll_requested) (either (nat_lt 0 (length n.mote.state.queue.events)))
   where
     either : (b : Bool) → (if b || true then Some (moment + 1) else option_map (λ due. max (moment + 1) due) (next_expiration_of n.mote.state.timers)) ≡ Some (moment + 1)
     either true = refl

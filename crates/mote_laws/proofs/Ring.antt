@@ -12,7 +12,7 @@ use Rattle.trace_lines.specs.declared.line.Line.{Line}
 use Rattle.trace_lines.specs.declared.line.What.{What}
 use Rattle.trace_lines.specs.declared.line.What.TheVariants as what
 use Rattle.process_kernel.specs.State.{State}
-use Rattle.process_kernel.specs.Processes.{is_alive, process_state, with_mark}
+use Rattle.process_kernel.specs.Processes.{is_alive, process_state, with_needs_poll}
 use Rattle.process_kernel.specs.Posts.{poll_of}
 use Rattle.process_kernel.specs.Mote.{Mote, unbooted, has_room, with_packet, with_poll}
 use Rattle.process_kernel.specs.Given.{Given, boot_given, run_given}
@@ -107,10 +107,10 @@ hear_each_works program before moment [] u w = w
 hear_each_works program before moment (a ∷ later) u w = hear_each_works program before moment later (hear moment a u) (hear_works program before moment a u w)
 
 pub poll_same : (s : State) (p : Proc) → ((poll_of s p).ring ≡ s.ring) × ((poll_of s p).program ≡ s.program)
-unfolding poll_of with_mark
+unfolding poll_of with_needs_poll
 poll_same s p = by (is_alive (process_state s p))
   where
-    by : (b : Bool) → ((if b then record (with_mark s p true) { flag = true } else s).ring ≡ s.ring) × ((if b then record (with_mark s p true) { flag = true } else s).program ≡ s.program)
+    by : (b : Bool) → ((if b then record (with_needs_poll s p true) { poll_requested = true } else s).ring ≡ s.ring) × ((if b then record (with_needs_poll s p true) { poll_requested = true } else s).program ≡ s.program)
     by true = (refl, refl)
     by false = (refl, refl)
 

@@ -52,12 +52,12 @@ pub boot_tells : TellsLeft boot_given
 unfolding boot_given
 boot_tells moment m ls ss n is = unless_left m ls ss _ n (given_left _ n (boot_left _ _)) is
 
-some_left : (n : ℕ) (flag : Bool) → (nat_lt 0 n || flag) ≡ nat_lt 0 (n + (if flag then 1 else 0))
+some_left : (n : ℕ) (requested : Bool) → (nat_lt 0 n || requested) ≡ nat_lt 0 (n + (if requested then 1 else 0))
 some_left n true = grind (arith, nat_tests)
 some_left n false = grind (arith, nat_tests)
 
 pub pending_left : PendingIsLeft
-pending_left m = some_left (length m.state.queue.events) m.state.flag
+pending_left m = some_left (length m.state.queue.events) m.state.poll_requested
 
 pub run_stays : StaysHalted run_given
 unfolding run_given

@@ -5,7 +5,7 @@ pub mod Given
 pub mod Heard
 pub mod Left
 pub mod Lists
-pub mod Marks
+pub mod NeedsPoll
 pub mod Numbered
 pub mod Places
 pub mod Remainders

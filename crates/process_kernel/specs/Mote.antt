@@ -28,12 +28,12 @@ unbooted t mote queue = record {
     mote = mote;
     states = replicate (length t.processes + 3) Off;
     exiting = replicate (length t.processes + 3) false;
-    marks = replicate (length t.processes + 3) false;
+    needs_poll = replicate (length t.processes + 3) false;
     remainders = map (λ c. fresh_of c Body) t.codes;
     variables = map (λ c. c.starts) t.codes;
     members = [];
     started = 0;
-    flag = false;
+    poll_requested = false;
     queue = empty_queue queue;
     semaphores = t.counts;
     timers = new_timers (length t.timers);
@@ -56,9 +56,9 @@ with_packet m a = record m { state = record m.state { ring = m.state.ring ++ a �
 unfoldable pub with_poll : Mote → Proc → Mote
 with_poll m p = record m { state = poll_of m.state p }
 
--- something is left to do: an event is queued, or the poll flag is set
+-- something is left to do: an event is queued, or a poll is requested
 abbrev pub is_pending : Mote → Bool
-is_pending m = nat_lt 0 (length m.state.queue.events) || m.state.flag
+is_pending m = nat_lt 0 (length m.state.queue.events) || m.state.poll_requested
 
 -- how many packets are in the ring
 abbrev pub holds_packets : Mote → ℕ

@@ -6,7 +6,7 @@ use Rattle.program_tree.specs.declared.event.Event.{Event}
 use Rattle.event_queue.specs.Queue.{with_posted}
 use Rattle.trace_lines.specs.declared.line.What.TheVariants as what
 use Rattle.process_kernel.specs.State.{State, Outcome, Went, Ends, Goes, ◌>>=◌}
-use Rattle.process_kernel.specs.Processes.{process_state, is_alive, with_mark}
+use Rattle.process_kernel.specs.Processes.{process_state, is_alive, with_needs_poll}
 use Rattle.process_kernel.specs.Writes.{write_of, halted_of}
 
 -- An event is posted; the answer is whether the queue was full. A mote that has accepted 2 to the 62 events halts.
@@ -20,7 +20,7 @@ post_of s t e =
 
 -- a process that is running or called is to be polled
 unfoldable pub poll_of : State → Proc → State
-poll_of s p = if is_alive (process_state s p) then record (with_mark s p true) { flag = true } else s
+poll_of s p = if is_alive (process_state s p) then record (with_needs_poll s p true) { poll_requested = true } else s
 
 -- a packet is sent; a mote that has sent 2 to the 62 halts
 unfoldable pub send_of : State → ℕ → Went

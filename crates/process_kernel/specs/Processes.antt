@@ -11,8 +11,9 @@ use Rattle.process_kernel.specs.State.{State}
 abbrev pub state_at : List ProcessState → Proc → ProcessState
 state_at states p = unwrap_or (slice_get states (place_of p)) Off
 
-abbrev pub flag_at : List Bool → Proc → Bool
-flag_at flags p = unwrap_or (slice_get flags (place_of p)) false
+-- what the list says of the process: false, if the mote has no such process
+abbrev pub at_process : List Bool → Proc → Bool
+at_process xs p = unwrap_or (slice_get xs (place_of p)) false
 
 abbrev pub is_running_state : ProcessState → Bool
 is_running_state Off = false
@@ -38,10 +39,10 @@ is_running s p = is_running_state (state_at s.states p)
 
 -- its body or a handler of it is being executed, or it is being exited
 abbrev pub is_busy : State → Proc → Bool
-is_busy s p = is_called_state (state_at s.states p) || flag_at s.exiting p
+is_busy s p = is_called_state (state_at s.states p) || at_process s.exiting p
 
-abbrev pub is_marked : State → Proc → Bool
-is_marked s p = flag_at s.marks p
+abbrev pub process_needs_poll : State → Proc → Bool
+process_needs_poll s p = at_process s.needs_poll p
 
 -- the mote has such a process
 abbrev pub has_process : State → Proc → Bool
@@ -61,5 +62,5 @@ with_state s p x = record s { states = slice_set s.states (place_of p) x }
 unfoldable pub with_exiting : State → Proc → Bool → State
 with_exiting s p x = record s { exiting = slice_set s.exiting (place_of p) x }
 
-unfoldable pub with_mark : State → Proc → Bool → State
-with_mark s p x = record s { marks = slice_set s.marks (place_of p) x }
+unfoldable pub with_needs_poll : State → Proc → Bool → State
+with_needs_poll s p x = record s { needs_poll = slice_set s.needs_poll (place_of p) x }

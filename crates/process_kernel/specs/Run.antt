@@ -21,16 +21,16 @@ begun_of s moment = record s {
   started = length s.members;
 }
 
--- how much is left: the queued events, and one more if the poll flag is set
+-- how much is left: the queued events, and one more if a poll is requested
 abbrev pub left_of : State → ℕ
-left_of s = length s.queue.events + (if s.flag then 1 else 0)
+left_of s = length s.queue.events + (if s.poll_requested then 1 else 0)
 
 -- the oldest event is removed from the queue, and then delivered
 abbrev pub deliver_front : Calls → List Posted → State → Went
 deliver_front calls [] s = Goes tt s
 deliver_front calls (x ∷ xs) s = deliver_of calls (record s { queue = without_front s.queue }) x
 
--- a kernel run: the polls, if the flag is set, and then one event, if there is one; the answer is what is left
+-- a kernel run: the polls, if one is requested, and then one event, if there is one; the answer is what is left
 unfoldable pub kernel_of : Calls → State → Outcome ℕ
 kernel_of calls s =
     polls_due_of calls s >>= λ _ s1. deliver_front calls s1.queue.events s1 >>= λ _ s2. Goes (left_of s2) s2

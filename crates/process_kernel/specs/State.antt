@@ -11,22 +11,22 @@ use Rattle.trace_lines.specs.declared.line.Line.{Line}
 use Rattle.radio_packet.specs.declared.sent.Sent.{Sent}
 
 -- The program and the number of the mote. For each process, the system processes first: its state, whether it is being
--- exited, and whether its needs-poll mark is set. For each process of the program: what its body has still to do, and
--- its variables. The process list, the newest first, and how many incarnations have a number. The poll flag; the event
--- queue; the counts of the semaphores; the timers with the timer list; the callback list; the packets in the receive
--- ring; how many packets were sent; the moment. And of the current run: the units of work that are left, and the lines
--- and packets so far.
+-- exited, and whether it needs a poll. For each process of the program: what its body has still to do, and its
+-- variables. The process list, the newest first, and how many incarnations have a number. Whether a poll is requested;
+-- the event queue; the counts of the semaphores; the timers with the timer list; the callback list; the packets in the
+-- receive ring; how many packets were sent; the moment. And of the current run: the units of work that are left, and
+-- the lines and packets so far.
 pub record State : Type 0 where
   pub program : Tree
   pub mote : ℕ
   pub states : List ProcessState
   pub exiting : List Bool
-  pub marks : List Bool
+  pub needs_poll : List Bool
   pub remainders : List Remainder
   pub variables : List (List ℕ)
   pub members : List Member
   pub started : ℕ
-  pub flag : Bool
+  pub poll_requested : Bool
   pub queue : Queue
   pub semaphores : List ℕ
   pub timers : TimerLists

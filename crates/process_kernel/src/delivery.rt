@@ -92,7 +92,7 @@ impl Machine {
         Ok(())
     }
 
-    /// The turn of an incarnation in the walk of an event that goes to all: first the polls run, if the flag is set;
+    /// The turn of an incarnation in the walk of an event that goes to all: first the polls run, if one is requested;
     /// then the event is given to its process, or dropped if the incarnation is no longer on the list.
     #[inline(always)]
     #[tactic(auto, unfolding(crate::specs::Delivery::visit_of))]

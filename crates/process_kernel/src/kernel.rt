@@ -17,7 +17,7 @@ use trace_lines::Out;
 /// How a boot or a kernel run ends.
 #[derive(Clone, Copy, Debug, PartialEq, Eq)]
 pub enum Ran {
-    /// How much is left to do: the queued events, and one more if the poll flag is set.
+    /// How much is left to do: the queued events, and one more if a poll is requested.
     Left(u16),
     Halted,
 }
@@ -139,7 +139,7 @@ impl Kernel {
         self.close(ran)
     }
 
-    /// One kernel run at this moment: the polls, if the flag is set, and the oldest event of the queue. Lines and
+    /// One kernel run at this moment: the polls, if one is requested, and the oldest event of the queue. Lines and
     /// packets are appended to `out`. A kernel that ran out of memory fails from then on.
     pub fn run(&mut self, program: &Program, now: u64, out: &mut Out) -> Result<Ran, KernelError>
         requires { now ≤ 2 ^ 40 }
@@ -199,7 +199,7 @@ impl Kernel {
     }
 
     /// Asks for a poll of a process, if it is running or called.
-    #[tactic(auto, unfolding(crate::specs::Public::mote_in, crate::specs::Public::held_in, crate::specs::Mote::with_poll, crate::specs::Posts::poll_of, crate::specs::Processes::with_mark))]
+    #[tactic(auto, unfolding(crate::specs::Public::mote_in, crate::specs::Public::held_in, crate::specs::Mote::with_poll, crate::specs::Posts::poll_of, crate::specs::Processes::with_needs_poll))]
     pub fn poll(&mut self, process: Proc)
         ensures mote { (t : Tree) → mote_in t self.new ≡ option_map (λ m. with_poll m process) (mote_in t self.old) }
         ensures held { (t : Tree) → held_in t self.new ≡ with_poll (held_in t self.old) process }
@@ -207,13 +207,13 @@ impl Kernel {
         self.machine.poll(process);
     }
 
-    /// Whether an event is queued or the poll flag is set.
+    /// Whether an event is queued or a poll is requested.
     #[tactic(auto, unfolding(crate::specs::Public::mote_in, crate::specs::Public::held_in))]
     pub fn pending(&self) -> bool
         ensures mote { (t : Tree) → IfSome (mote_in t self.now) (λ m. result ≡ is_pending m) }
         ensures held { (t : Tree) → result ≡ is_pending (held_in t self.now) }
     {
-        self.machine.queue.len() > 0 || self.machine.flag
+        self.machine.queue.len() > 0 || self.machine.poll_requested
     }
 
     /// The earliest moment at which a timer on the timer list is due; none for an empty list.

@@ -49,17 +49,17 @@ impl<T: Drop> From<AllocFailed<T>> for Stop {
 /// The kernel of a mote. The tables have the system processes first, then those of the program in their order; threads
 /// and variables are those of the program's processes alone. While a body runs, a fresh one stands in its place.
 /// `is_numbered` says that the incarnations on the process list are known to be numbered from 0 on, which spares
-/// numbering them anew. A mark, one of `marks` for each process, is Contiki's `needspoll` flag, and `flag` is its
-/// `poll_requested`. The fields that a run touches stand together, so that it needs few cache lines.
+/// numbering them anew. `needs_poll` says of each process whether it needs a poll (Contiki's `needspoll`). The fields
+/// that a run touches stand together, so that it needs few cache lines.
 #[derive(Drop)]
 pub struct Machine {
     pub(crate) shown: Shown,
     pub(crate) members: Vec<Member>,
     pub(crate) started: u32,
     pub(crate) is_numbered: bool,
-    pub(crate) flag: bool,
+    pub(crate) poll_requested: bool,
     pub(crate) fuel: Fuel,
-    pub(crate) marks: Vec<bool>,
+    pub(crate) needs_poll: Vec<bool>,
     pub(crate) threads: Vec<Thread>,
     pub(crate) variables: Vec<Vars>,
     pub(crate) queue: EventQueue,

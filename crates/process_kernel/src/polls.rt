@@ -3,7 +3,7 @@
 ghost use Rattle.std.specs.Prelude.{◌≡◌, ◌≤◌, ◌+◌, drop, length, position};
 ghost use Rattle.process_kernel.specs.Follows.{Follows};
 ghost use Rattle.process_kernel.specs.Polls.{poll_turn_of, walk_polls, polls_of, polls_due_of};
-ghost use Rattle.process_kernel.specs.Processes.{flag_at};
+ghost use Rattle.process_kernel.specs.Processes.{at_process};
 ghost use Rattle.process_kernel.specs.Views.{HasRoom};
 
 use crate::event::system_event;
@@ -16,17 +16,17 @@ use program_tree::{Program, SystemEvent};
 const FEW: usize = 4;
 
 impl Machine {
-    /// Polls each listed process whose mark is set, if a poll was requested (`flag`).
+    /// Polls each listed process that needs a poll, if a poll was requested.
     #[inline(always)]
     #[tactic(auto, unfolding(crate::specs::Polls::polls_of, crate::specs::Polls::polls_due_of))]
     pub fn poll_due(&mut self, program: &Program) -> Result<(), Stop>
         requires { HasRoom 0 self.old }
         ensures { Follows program.now self.old result self.new polls_due_of }
     {
-        if !self.flag {
+        if !self.poll_requested {
             return Ok(());
         }
-        self.flag = false;
+        self.poll_requested = false;
         self.poll_all(program)
     }
 
@@ -37,7 +37,7 @@ impl Machine {
         requires { HasRoom 0 self.old }
         ensures { Follows program.now self.old result self.new (λ calls. walk_polls calls self.old.members.items) }
     {
-        let Some(place) = self.first_marked() else {
+        let Some(place) = self.first_to_poll() else {
             return Ok(());
         };
         let count = self.members.len() - place;
@@ -69,7 +69,7 @@ impl Machine {
         self.walk_polls(program, members.as_slice())
     }
 
-    /// Calls each of these incarnations whose mark is set at its turn.
+    /// Calls each of these incarnations that needs a poll at its turn.
     #[inline(always)]
     fn walk_polls(&mut self, program: &Program, members: &[Member]) -> Result<(), Stop>
         requires { HasRoom 0 self.old }
@@ -81,28 +81,28 @@ impl Machine {
         Ok(())
     }
 
-    /// The turn of an incarnation in the polls: if it is on the list, and its mark is set, it is called with POLL.
+    /// The turn of an incarnation in the polls: if it is on the list, and needs a poll, it is called with POLL.
     #[inline(always)]
     #[tactic(auto, unfolding(crate::specs::Polls::poll_turn_of))]
     fn poll_in_turn(&mut self, program: &Program, member: Member) -> Result<(), Stop>
         requires { HasRoom 0 self.old }
         ensures { Follows program.now self.old result self.new (λ calls state. poll_turn_of calls state member) }
     {
-        if !self.is_marked(member.process) {
+        if !self.process_needs_poll(member.process) {
             return Ok(());
         }
         if !self.is_on_list(member) {
             return Ok(());
         }
-        self.set_mark(member.process, false);
+        self.set_needs_poll(member.process, false);
         self.call(program, member.process, &system_event(SystemEvent::Poll, 0))
     }
 
-    fn first_marked(&self) -> Option<usize>
-        ensures { result ≡ position (λ m. flag_at self.now.marks.items m.process) self.now.members.items }
+    fn first_to_poll(&self) -> Option<usize>
+        ensures { result ≡ position (λ m. at_process self.now.needs_poll.items m.process) self.now.members.items }
     {
         self.members
             .iter()
-            .position(|member| self.is_marked(member.process))
+            .position(|member| self.process_needs_poll(member.process))
     }
 }

@@ -79,15 +79,15 @@ impl Machine {
     }
 
     /// Asks for a poll of a process, if it is running or called.
-    #[tactic(auto, unfolding(crate::specs::Processes::with_mark, crate::specs::Posts::poll_of))]
+    #[tactic(auto, unfolding(crate::specs::Processes::with_needs_poll, crate::specs::Posts::poll_of))]
     pub fn poll(&mut self, process: Proc)
         ensures exact { (t : Tree) → state_of t self.new ≡ poll_of (state_of t self.old) process }
         ensures kept { KeepsCounts self.old self.new }
         ensures adds { OnlyAdds self.old self.new }
     {
         if is_alive(self.process_state(process)) {
-            self.set_mark(process, true);
-            self.flag = true;
+            self.set_needs_poll(process, true);
+            self.poll_requested = true;
         }
     }
 

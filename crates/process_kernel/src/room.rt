@@ -86,7 +86,7 @@ impl Machine {
             IfOk result (λ m. state_of t m ≡ record
             (unbooted t mote queue).state {
               exiting = [];
-              marks = [];
+              needs_poll = [];
               remainders = remainders_of t.codes [];
               variables = [];
             }) }
@@ -97,13 +97,13 @@ impl Machine {
             callbacks: Callbacks::new(alloc, program.timers())?,
             shown: first_shown(alloc, program, mote)?,
             exiting: Vec::new(alloc),
-            marks: Vec::new(alloc),
+            needs_poll: Vec::new(alloc),
             members: Vec::new(alloc),
             variables: Vec::new(alloc),
             threads: Vec::new(alloc),
             started: 0,
             is_numbered: false,
-            flag: false,
+            poll_requested: false,
             sent: 0,
             fuel: Fuel::new(0),
             out: Out::new(alloc),
@@ -117,14 +117,14 @@ impl Machine {
             OnOk result (state_of t self.new
             ≡ record (state_of t self.old) {
               exiting = replicate n false;
-              marks = replicate n false;
+              needs_poll = replicate n false;
               remainders = map (λ c. fresh_of c Part.Body) t.codes;
               variables = map (λ c. c.starts) t.codes;
               members = [];
             }) }
     {
         let places = usize::from(program.processes()) + 3;
-        self.marks = vec![in alloc; false; places]?;
+        self.needs_poll = vec![in alloc; false; places]?;
         self.members = Vec::with_capacity(alloc, places)?;
         self.threads = fresh_bodies(alloc, program)?;
         self.variables = first_variables(alloc, program)?;

@@ -54,11 +54,11 @@ impl Machine {
         }
     }
 
-    /// How much is left to do: the queued events, and one more if the poll flag is set.
+    /// How much is left to do: the queued events, and one more if a poll is requested.
     pub fn left(&self) -> u16
-        ensures { result ≡ length self.now.queue.events + (if self.now.flag then 1 else 0) }
+        ensures { result ≡ length self.now.queue.events + (if self.now.poll_requested then 1 else 0) }
     {
-        self.queue.len() as u16 + u16::from(self.flag)
+        self.queue.len() as u16 + u16::from(self.poll_requested)
     }
 }
 

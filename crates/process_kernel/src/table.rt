@@ -3,8 +3,8 @@
 ghost use Rattle.std.specs.Prelude.{◌≡◌, ◌||◌, nat_lt, length, slice_get, unwrap_or};
 ghost use Rattle.program_tree.specs.Code.{Tree};
 ghost use Rattle.process_kernel.specs.Members.{place_of, is_same as are_same, holds_member, stands_in};
-ghost use Rattle.process_kernel.specs.Processes.{state_at as state_of_process, flag_at, is_running_state};
-ghost use Rattle.process_kernel.specs.Processes.{is_called_state, with_state, with_exiting, with_mark};
+ghost use Rattle.process_kernel.specs.Processes.{state_at as state_of_process, at_process, is_running_state};
+ghost use Rattle.process_kernel.specs.Processes.{is_called_state, with_state, with_exiting, with_needs_poll};
 ghost use Rattle.process_kernel.specs.Processes.{is_alive as lives};
 ghost use Rattle.process_kernel.specs.Views.{state_of, Grows, KeepsCounts, OnlyAdds};
 
@@ -67,7 +67,7 @@ impl Machine {
     }
 
     pub fn is_exiting(&self, process: Proc) -> bool
-        ensures { result ≡ flag_at self.now.exiting.items process }
+        ensures { result ≡ at_process self.now.exiting.items process }
     {
         self.exiting
             .get(place_of(process))
@@ -78,7 +78,7 @@ impl Machine {
     /// Whether its body or a handler of it is being executed, or it is being exited.
     pub fn is_busy(&self, process: Proc) -> bool
         ensures { result ≡ (is_called_state
-            (state_of_process self.now.shown.states.items process) || flag_at self.now.exiting.items process) }
+            (state_of_process self.now.shown.states.items process) || at_process self.now.exiting.items process) }
     {
         match self.process_state(process) {
             ProcessState::Off => self.is_exiting(process),
@@ -87,10 +87,13 @@ impl Machine {
         }
     }
 
-    pub fn is_marked(&self, process: Proc) -> bool
-        ensures { result ≡ flag_at self.now.marks.items process }
+    pub fn process_needs_poll(&self, process: Proc) -> bool
+        ensures { result ≡ at_process self.now.needs_poll.items process }
     {
-        self.marks.get(place_of(process)).copied().unwrap_or(false)
+        self.needs_poll
+            .get(place_of(process))
+            .copied()
+            .unwrap_or(false)
     }
 
     /// Whether the mote has such a process.
@@ -155,15 +158,15 @@ impl Machine {
         }
     }
 
-    #[tactic(auto, unfolding(crate::specs::Processes::with_mark))]
-    pub fn set_mark(&mut self, process: Proc, mark: bool)
-        ensures exact { (t : Tree) → state_of t self.new ≡ with_mark (state_of t self.old) process mark }
+    #[tactic(auto, unfolding(crate::specs::Processes::with_needs_poll))]
+    pub fn set_needs_poll(&mut self, process: Proc, needs_poll: bool)
+        ensures exact { (t : Tree) → state_of t self.new ≡ with_needs_poll (state_of t self.old) process needs_poll }
         ensures kept { KeepsCounts self.old self.new }
         ensures adds { OnlyAdds self.old self.new }
     {
         let place = place_of(process);
-        if place < self.marks.len() {
-            self.marks[place] = mark;
+        if place < self.needs_poll.len() {
+            self.needs_poll[place] = needs_poll;
         }
     }
 }
