@@ -29,7 +29,7 @@ use Rattle.process_kernel.specs.Writes.{write_of}
 use Rattle.process_kernel.specs.Calls.{Calls, told}
 use Rattle.process_kernel.specs.Call.{calls_of}
 use Rattle.process_kernel.specs.Polls.{walk_polls, polls_of, polls_due_of, poll_turn_of}
-use Rattle.process_kernel.specs.Delivery.{give_of, visit_of, walk_event, deliver_to, deliver_of}
+use Rattle.process_kernel.specs.Delivery.{give_of, visit_of, walk_broadcast, deliver_to, deliver_of}
 use Rattle.process_kernel.specs.Run.{begun_of, left_of, deliver_front, kernel_of, most_units}
 use Rattle.process_kernel.specs.Boot.{starts_of, boot_of}
 use Rattle.process_kernel.specs.Mote.{Mote, unbooted, with_poll, with_packet}
@@ -64,15 +64,15 @@ module _ (program : Tree) (mote p : ℕ) (code : Code) (is_code : slice_get prog
     give_led s x q there =
         either program mote p code earlier s there _ _ (from program mote p code earlier s _ _ (line_quiet p s (what.Take x.serial q) refl) (are.call _ q x.event)) (goes program mote p code earlier s tt _ (line_quiet p s (what.Drop x.serial q) refl))
 
-    walk_event_led : (x : Posted) (ms : List Member) (s : State) → L (Unit {0}) s (walk_event calls x ms s)
+    walk_broadcast_led : (x : Posted) (ms : List Member) (s : State) → L (Unit {0}) s (walk_broadcast calls x ms s)
     unfolding visit_of
-    walk_event_led x [] s = still program mote p code earlier s tt
-    walk_event_led x (m ∷ ms) s =
-        bind program mote p code earlier s _ _ (bind program mote p code earlier s _ _ (polls_due_led s) (λ a t. give_led t x m.process (is_on_list t m))) (λ a t. walk_event_led x ms t)
+    walk_broadcast_led x [] s = still program mote p code earlier s tt
+    walk_broadcast_led x (m ∷ ms) s =
+        bind program mote p code earlier s _ _ (bind program mote p code earlier s _ _ (polls_due_led s) (λ a t. give_led t x m.process (is_on_list t m))) (λ a t. walk_broadcast_led x ms t)
 
     target_led : (target : Target) (s : State) (x : Posted) → L (Unit {0}) s (deliver_to target calls s x)
     target_led (One q) s x = give_led s x q (is_listed s q)
-    target_led All s x = walk_event_led x s.members s
+    target_led All s x = walk_broadcast_led x s.members s
 
     front_led : (q : List Posted) (s : State) → L (Unit {0}) s (deliver_front calls q s)
     unfolding deliver_of

@@ -26,7 +26,7 @@ use Rattle.process_kernel.specs.ProcessList.{numbered_from, enlist_of}
 use Rattle.process_kernel.specs.Writes.{with_line, write_of}
 use Rattle.process_kernel.specs.Calls.{Calls, told}
 use Rattle.process_kernel.specs.Polls.{walk_polls, polls_of, polls_due_of, poll_turn_of}
-use Rattle.process_kernel.specs.Delivery.{give_of, visit_of, walk_event, deliver_to, deliver_of}
+use Rattle.process_kernel.specs.Delivery.{give_of, visit_of, walk_broadcast, deliver_to, deliver_of}
 use Rattle.process_kernel.specs.Run.{begun_of, deliver_front, kernel_of}
 use Rattle.process_kernel.specs.Start.{start_of}
 use Rattle.process_kernel.specs.Boot.{starts_of, boot_of}
@@ -157,7 +157,7 @@ module _ (calls : Calls) (are : AreRuns calls) where
       rests_behind A m s s1 (machine_of s walked coming) _ _ refl r (k s1 (record { stays = h.stays; fits = h.fits }))
 
   -- the walk of an event that goes to all, from the members that are still to come
-  walk_run : (x : Posted) (ms : List Member) (s : State) → (x.event.number ≡ system_number Exit → ⊥) → SystemStays s → RestsAt (machine_of s x.serial ms) s (walk_event calls x ms s)
+  walk_run : (x : Posted) (ms : List Member) (s : State) → (x.event.number ≡ system_number Exit → ⊥) → SystemStays s → RestsAt (machine_of s x.serial ms) s (walk_broadcast calls x ms s)
   unfolding visit_of
   walk_run x [] s f h = rests_now s x.serial h
   walk_run x (m ∷ ms) s f h =

@@ -34,7 +34,7 @@ use Rattle.process_kernel.specs.Kill.{kill_of}
 use Rattle.process_kernel.specs.Operation.{act_of, perform_of, after_step, run_of}
 use Rattle.process_kernel.specs.Call.{has_ended, answered, call_of, calls_of}
 use Rattle.process_kernel.specs.Polls.{walk_polls, polls_of, polls_due_of, poll_turn_of}
-use Rattle.process_kernel.specs.Delivery.{give_of, visit_of, walk_event, deliver_to, deliver_of}
+use Rattle.process_kernel.specs.Delivery.{give_of, visit_of, walk_broadcast, deliver_to, deliver_of}
 use Rattle.process_kernel.specs.Run.{begun_of, deliver_front, kernel_of, most_units}
 use Rattle.process_kernel.specs.Boot.{starts_of, boot_of}
 use Rattle.process_kernel.specs.Given.{begun, given, unless_halted, boot_given, run_given}
@@ -201,15 +201,15 @@ module _ (n : ℕ) (a b : Calls) (agree : Agree n a b) where
   same_give s x p there l =
       same_if _ n there _ _ _ _ (same_bind _ _ n _ _ _ _ (plain _ n s _ l (writes s _)) (λ u t k. agree.call t p x.event k)) (plain _ n s _ l (writes s _))
 
-  same_walk_event : (x : Posted) (ms : List Member) (s : State) → s.units ≤ n → Same (Unit {0}) n (walk_event a x ms s) (walk_event b x ms s)
+  same_walk_broadcast : (x : Posted) (ms : List Member) (s : State) → s.units ≤ n → Same (Unit {0}) n (walk_broadcast a x ms s) (walk_broadcast b x ms s)
   unfolding visit_of
-  same_walk_event x [] s l = still _ n tt s l
-  same_walk_event x (m ∷ ms) s l =
-      same_bind _ _ n _ _ _ _ (same_bind _ _ n _ _ _ _ (same_polls_due s l) (λ u t k. same_give t x m.process (is_on_list t m) k)) (λ u t k. same_walk_event x ms t k)
+  same_walk_broadcast x [] s l = still _ n tt s l
+  same_walk_broadcast x (m ∷ ms) s l =
+      same_bind _ _ n _ _ _ _ (same_bind _ _ n _ _ _ _ (same_polls_due s l) (λ u t k. same_give t x m.process (is_on_list t m) k)) (λ u t k. same_walk_broadcast x ms t k)
 
   same_target : (target : Target) (s : State) (x : Posted) → s.units ≤ n → Same (Unit {0}) n (deliver_to target a s x) (deliver_to target b s x)
   same_target (One p) s x l = same_give s x p (is_listed s p) l
-  same_target ToEach s x l = same_walk_event x s.members s l
+  same_target ToEach s x l = same_walk_broadcast x s.members s l
 
   same_front : (q : List Posted) (s : State) → s.units ≤ n → Same (Unit {0}) n (deliver_front a q s) (deliver_front b q s)
   unfolding deliver_of

@@ -47,7 +47,7 @@ use Rattle.process_kernel.specs.Call.{has_ended, answered, call_of, calls_of}
 use Rattle.process_kernel.specs.Thread.{stepped_with, stepped_of}
 use Rattle.process_kernel.specs.Looks.{looks_of}
 use Rattle.process_kernel.specs.Polls.{walk_polls, polls_of, polls_due_of, poll_turn_of}
-use Rattle.process_kernel.specs.Delivery.{give_of, visit_of, walk_event, deliver_to, deliver_of}
+use Rattle.process_kernel.specs.Delivery.{give_of, visit_of, walk_broadcast, deliver_to, deliver_of}
 use Rattle.process_kernel.specs.Run.{left_of, deliver_front, kernel_of}
 use Rattle.process_kernel.specs.Boot.{starts_of, boot_of}
 use Rattle.kernel_laws.specs.Own.{IsOwn, FitsTarget}
@@ -433,15 +433,15 @@ module _ (Keeps Stops : State → State → Type 0) where
         give_led s x p there =
             lead_if _ s there _ _ (lead_from _ s _ _ (run_steps.takes s x.serial p) (call_any _ p x.event)) (lead_goes _ s tt _ (run_steps.drops s x.serial p))
 
-        walk_event_led : (x : Posted) (ms : List Member) (s : State) → Lead (Unit {0}) s (walk_event calls x ms s)
+        walk_broadcast_led : (x : Posted) (ms : List Member) (s : State) → Lead (Unit {0}) s (walk_broadcast calls x ms s)
         unfolding visit_of
-        walk_event_led x [] s = lead_still _ s tt
-        walk_event_led x (m ∷ ms) s =
-            lead_bind _ _ s _ _ (lead_bind _ _ s _ _ (polls_due_led s) (λ a t. give_led t x m.process (is_on_list t m))) (λ a t. walk_event_led x ms t)
+        walk_broadcast_led x [] s = lead_still _ s tt
+        walk_broadcast_led x (m ∷ ms) s =
+            lead_bind _ _ s _ _ (lead_bind _ _ s _ _ (polls_due_led s) (λ a t. give_led t x m.process (is_on_list t m))) (λ a t. walk_broadcast_led x ms t)
 
         target_led : (target : Target) (s : State) (x : Posted) → Lead (Unit {0}) s (deliver_to target calls s x)
         target_led (One p) s x = give_led s x p (is_listed s p)
-        target_led ToEach s x = walk_event_led x s.members s
+        target_led ToEach s x = walk_broadcast_led x s.members s
 
         pub front_led : (q : List Posted) (s : State) → Lead (Unit {0}) s (deliver_front calls q s)
         unfolding deliver_of

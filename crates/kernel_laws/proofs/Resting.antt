@@ -22,7 +22,7 @@ use Rattle.process_kernel.specs.ProcessList.{numbered_from}
 use Rattle.process_kernel.specs.Calls.{Calls, told}
 use Rattle.process_kernel.specs.Call.{call_of, calls_of}
 use Rattle.process_kernel.specs.Polls.{walk_polls, polls_of, polls_due_of, poll_turn_of}
-use Rattle.process_kernel.specs.Delivery.{give_of, visit_of, walk_event, deliver_to, deliver_of}
+use Rattle.process_kernel.specs.Delivery.{give_of, visit_of, walk_broadcast, deliver_to, deliver_of}
 use Rattle.process_kernel.specs.Run.{begun_of, left_of, deliver_front, kernel_of, most_units}
 use Rattle.process_kernel.specs.Boot.{starts_of, boot_of}
 use Rattle.process_kernel.specs.Mote.{Mote, at_rest, unbooted, with_packet, with_poll}
@@ -47,7 +47,7 @@ module _ (calls : Calls) (are : AreKept calls) where
   unfolding give_of
   give_kept s x p there = kept_if s there _ _ (kept_bind s _ _ (write_kept s (what.Take x.serial p)) (λ a t. are.call t p x.event)) (write_kept s (what.Drop x.serial p))
 
-  walk_kept : (x : Posted) (ms : List Member) (s : State) → Kept s (walk_event calls x ms s)
+  walk_kept : (x : Posted) (ms : List Member) (s : State) → Kept s (walk_broadcast calls x ms s)
   unfolding visit_of
   walk_kept x [] s = kept_goes s tt s (still s)
   walk_kept x (m ∷ ms) s = kept_bind s _ _ (kept_bind s _ _ (polls_due_kept s) (λ a t. give_kept t x m.process (is_on_list t m))) (λ a t. walk_kept x ms t)

@@ -20,7 +20,7 @@ use Rattle.process_kernel.specs.Processes.{is_alive, is_running, is_running_stat
 use Rattle.process_kernel.specs.Writes.{write_of}
 use Rattle.process_kernel.specs.Calls.{Calls, told}
 use Rattle.process_kernel.specs.Polls.{walk_polls, polls_of, polls_due_of, poll_turn_of}
-use Rattle.process_kernel.specs.Delivery.{give_of, visit_of, walk_event, deliver_to, deliver_of}
+use Rattle.process_kernel.specs.Delivery.{give_of, visit_of, walk_broadcast, deliver_to, deliver_of}
 use Rattle.process_kernel.specs.Run.{deliver_front, kernel_of}
 use Rattle.kernel_laws.specs.Own.{IsOwn, FitsTarget}
 use Rattle.kernel_laws.specs.Going.{SystemStays}
@@ -225,17 +225,17 @@ module _ (calls : Calls) (are : AreWatched calls) where
   give_good : (r : Bool) (moment : ℕ) (s : State) (x : Posted) (p : Proc) (there : Bool) → FitsTarget (One p) x.event.number → Good r moment s → IfGoes (Good r moment) (give_of calls s x p there)
   give_good r moment s x p there f g = good_leads _ r moment s _ g (give_led s x p there f) (resting.give_kept calls are.kept s x p there g.stands.step)
 
-  walk_event_good : (r : Bool) (moment : ℕ) (x : Posted) (ms : List Member) (s : State) → (x.event.number ≡ system_number Exit → ⊥) → Good r moment s → IfGoes (Good r moment) (walk_event calls x ms s)
+  walk_broadcast_good : (r : Bool) (moment : ℕ) (x : Posted) (ms : List Member) (s : State) → (x.event.number ≡ system_number Exit → ⊥) → Good r moment s → IfGoes (Good r moment) (walk_broadcast calls x ms s)
   unfolding visit_of
-  walk_event_good r moment x [] s f g = g
-  walk_event_good r moment x (m ∷ ms) s f g =
+  walk_broadcast_good r moment x [] s f g = g
+  walk_broadcast_good r moment x (m ∷ ms) s f g =
       goes_bind _ _ (Good r moment) (Good r moment) (visit_of calls s x m) _
       (goes_bind _ _ (Good r moment) (Good r moment) (polls_due_of calls s) _ (polls_due_good r moment s g) (λ a t h. give_good r moment t x m.process (is_on_list t m) (λ q. absurd (f q)) h))
-      (λ a t h. walk_event_good r moment x ms t f h)
+      (λ a t h. walk_broadcast_good r moment x ms t f h)
 
   target_good : (r : Bool) (moment : ℕ) (target : Target) (s : State) (x : Posted) → FitsTarget target x.event.number → Good r moment s → IfGoes (Good r moment) (deliver_to target calls s x)
   target_good r moment (One p) s x f g = give_good r moment s x p (is_listed s p) f g
-  target_good r moment ToEach s x f g = walk_event_good r moment x s.members s f g
+  target_good r moment ToEach s x f g = walk_broadcast_good r moment x s.members s f g
 
   untaken_good : (r : Bool) (moment : ℕ) (s : State) → Good r moment s → Good r moment (record s { queue = without_front s.queue })
   untaken_good r moment s g = good_on r moment s _ g (watches_still Etimer s _ (record { moment = refl; states = refl; needs_poll = refl; poll_requested = refl; members = refl; timers = refl })) (tables.keeps_still s _ (record { states = refl; exiting = refl; members = refl }) g.stands.step)

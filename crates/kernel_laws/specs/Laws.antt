@@ -51,7 +51,7 @@ NoteKeeps = (lines : List Line) (m : Mote) (l : Line) → m.halted ≡ false →
 
 -- Processes are called only while they are running, and those that are running or called are on the process list.
 
--- for a process that is not running the event is lost
+-- with a process that is not running nothing happens
 abbrev pub OnlyTheRunningAreCalled : Type 0
 OnlyTheRunningAreCalled = (depth : ℕ) (s : State) (p : Proc) (e : Event) → is_running s p ≡ false
     → (calls_of (depth + 1)).call s p e ≡ Goes tt s

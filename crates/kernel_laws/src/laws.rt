@@ -30,10 +30,10 @@ pub fn each_call_keeps_order()
     ensures note { NoteKeeps }
 {}
 
-/// A process is called only while it is on the process list and running: the event is lost for one that isn't running,
+/// A process is called only while it is on the process list and running: with one that isn't running nothing happens,
 /// and the states of the processes stay in step with the list, within calls and between those of the kernel.
 pub fn the_listed_are_running()
-    ensures lost { OnlyTheRunningAreCalled }
+    ensures called { OnlyTheRunningAreCalled }
     ensures within { CallsKeepStep }
     ensures between { ListedAreRunning }
 {}

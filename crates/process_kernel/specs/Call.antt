@@ -24,7 +24,7 @@ has_ended Ended = true
 unfoldable pub answered : Calls → State → Proc → (ended : Bool) → Went
 answered calls s p ended = if ended then exit_of calls s p p else Goes tt (with_state s p Running)
 
--- A running process is called, which costs a unit of work. For one that isn't running the event is lost.
+-- A running process is called, which costs a unit of work. If it isn't running, nothing happens.
 unfoldable pub call_of : Calls → State → Proc → Event → Went
 call_of calls s p e =
     if is_running s p then (spend_of s >>= λ _ s1. react_of calls (with_state s1 p Called) p e >>= λ answer s2.

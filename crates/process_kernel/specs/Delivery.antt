@@ -23,13 +23,13 @@ unfoldable pub visit_of : Calls → State → Posted → Member → Went
 visit_of calls s x m = polls_due_of calls s >>= λ _ s1. give_of calls s1 x m.process (is_on_list s1 m)
 
 -- the walk of an event that goes to all
-abbrev pub walk_event : Calls → Posted → List Member → State → Went
-walk_event calls x [] s = Goes tt s
-walk_event calls x (m ∷ ms) s = visit_of calls s x m >>= λ _ s1. walk_event calls x ms s1
+abbrev pub walk_broadcast : Calls → Posted → List Member → State → Went
+walk_broadcast calls x [] s = Goes tt s
+walk_broadcast calls x (m ∷ ms) s = visit_of calls s x m >>= λ _ s1. walk_broadcast calls x ms s1
 
 abbrev pub deliver_to : Target → Calls → State → Posted → Went
 deliver_to (One p) calls s x = give_of calls s x p (is_listed s p)
-deliver_to All calls s x = walk_event calls x s.members s
+deliver_to All calls s x = walk_broadcast calls x s.members s
 
 unfoldable pub deliver_of : Calls → State → Posted → Went
 deliver_of calls s x = deliver_to x.target calls s x

@@ -27,7 +27,7 @@ fn has_ended(answer: PtState) -> bool
 }
 
 impl Machine {
-    /// Calls a process with an event, which is lost if the process isn't running (`call_process` of `process.c`).
+    /// Calls a process with an event. If the process isn't running, nothing happens (`call_process` of `process.c`).
     #[cycle(kernel)]
     #[tactic(auto, unfolding(crate::specs::Call::call_of, crate::specs::Call::answered))]
     pub fn call(&mut self, program: &Program, process: Proc, event: &Event) -> Result<(), Stop>

@@ -1,7 +1,7 @@
 //! The delivery of events (`do_event` of `process.c`).
 
 ghost use Rattle.std.specs.Prelude.{◌≤◌, length};
-ghost use Rattle.process_kernel.specs.Delivery.{give_of, visit_of, walk_event, deliver_of};
+ghost use Rattle.process_kernel.specs.Delivery.{give_of, visit_of, walk_broadcast, deliver_of};
 ghost use Rattle.process_kernel.specs.Follows.{Follows};
 ghost use Rattle.process_kernel.specs.Run.{deliver_front};
 ghost use Rattle.process_kernel.specs.Views.{HasRoom};
@@ -39,52 +39,52 @@ impl Machine {
                 let is_there = self.is_listed(process);
                 self.give(program, posted, process, is_there)
             }
-            Target::All => self.deliver_to_all(program, posted),
+            Target::All => self.broadcast(program, posted),
         }
     }
 
-    fn deliver_to_all(&mut self, program: &Program, posted: &Posted) -> Result<(), Stop>
+    fn broadcast(&mut self, program: &Program, posted: &Posted) -> Result<(), Stop>
         requires { HasRoom 0 self.old }
         ensures { Follows program.now self.old result self.new
-            (λ calls. walk_event calls posted.now self.old.members.items) }
+            (λ calls. walk_broadcast calls posted.now self.old.members.items) }
     {
         if self.members.len() <= FEW {
-            self.deliver_to_few(program, posted)
+            self.broadcast_to_few(program, posted)
         } else {
-            self.deliver_to_many(program, posted)
+            self.broadcast_to_many(program, posted)
         }
     }
 
     /// Delivers an event to all, where at most 16 are listed.
-    fn deliver_to_few(&mut self, program: &Program, posted: &Posted) -> Result<(), Stop>
+    fn broadcast_to_few(&mut self, program: &Program, posted: &Posted) -> Result<(), Stop>
         requires units { HasRoom 0 self.old }
         requires few { length self.old.members.items ≤ 16 }
         ensures { Follows program.now self.old result self.new
-            (λ calls. walk_event calls posted.now self.old.members.items) }
+            (λ calls. walk_broadcast calls posted.now self.old.members.items) }
     {
         let members: ArrayVec<Member, FEW> = self.snapshot_from(0);
-        self.walk_event(program, posted, members.as_slice())
+        self.walk_broadcast(program, posted, members.as_slice())
     }
 
     /// Delivers an event to all, however many are listed.
-    fn deliver_to_many(&mut self, program: &Program, posted: &Posted) -> Result<(), Stop>
+    fn broadcast_to_many(&mut self, program: &Program, posted: &Posted) -> Result<(), Stop>
         requires { HasRoom 0 self.old }
         ensures { Follows program.now self.old result self.new
-            (λ calls. walk_event calls posted.now self.old.members.items) }
+            (λ calls. walk_broadcast calls posted.now self.old.members.items) }
     {
         let members = self.snapshot();
-        self.walk_event(program, posted, members.as_slice())
+        self.walk_broadcast(program, posted, members.as_slice())
     }
 
     /// The walk of an event that goes to all.
-    fn walk_event(
+    fn walk_broadcast(
         &mut self,
         program: &Program,
         posted: &Posted,
         members: &[Member],
     ) -> Result<(), Stop>
         requires { HasRoom 0 self.old }
-        ensures { Follows program.now self.old result self.new (λ calls. walk_event calls posted.now members.now) }
+        ensures { Follows program.now self.old result self.new (λ calls. walk_broadcast calls posted.now members.now) }
     {
         for member in members {
             self.give_in_turn(program, posted, *member)?;
