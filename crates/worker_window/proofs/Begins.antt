@@ -22,7 +22,7 @@ use Rattle.worker_window.specs.declared.share.Share.{Share}
 use Rattle.worker_cut.specs.Crossed.{is_own, copies_seen}
 use Rattle.worker_window.specs.Log.{HaveFates, packets_in}
 use Rattle.worker_window.specs.Share.{node_at, mote_here, Keeps, is_to_come}
-use Rattle.worker_window.proofs.Behind.{not_begun}
+use Rattle.worker_window.proofs.NoTurnIsPast.{not_begun}
 use Rattle.worker_window.proofs.Items.{all_wakes}
 
 -- a mote of the worker is one of the net

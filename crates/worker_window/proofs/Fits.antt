@@ -20,7 +20,7 @@ use Rattle.worker_window.specs.Share.{IsKept, node_at, mote_here}
 use Rattle.worker_window.specs.Lending.{IsCalled, MotesAreLent}
 use Rattle.worker_window.specs.Window.{CanRun}
 use Rattle.worker_window.proofs.Begins.{own_there}
-use Rattle.worker_window.proofs.Behind.{past_later}
+use Rattle.worker_window.proofs.NoTurnIsPast.{past_later}
 use Rattle.worker_window.proofs.Gives.{IsBack, back, gives_open}
 use Rattle.worker_window.proofs.Items.{inside}
 use Rattle.worker_window.proofs.Starts.{called_in}

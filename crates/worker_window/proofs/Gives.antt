@@ -28,7 +28,7 @@ use Rattle.net_agenda.specs.Buckets.{arrival_of}
 use Rattle.net_agenda.specs.NetSystem.{mote_at, no_mote, tree_at, system_of, node_turn}
 use Rattle.net_agenda.proofs.Systems.{turn_wakes}
 use Rattle.worker_window.specs.Share.{Motes}
-use Rattle.worker_window.proofs.Behind.{turn_before}
+use Rattle.worker_window.proofs.NoTurnIsPast.{turn_before}
 use Rattle.worker_window.proofs.Lone.{in_front, alone_in_front, alone_alike, alone_keeps, rests_quiet, IsAlike}
 
 -- a packet of this mote, sent in the window

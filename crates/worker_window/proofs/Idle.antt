@@ -12,7 +12,7 @@ use Rattle.net_agenda.specs.NetSystem.{system_of}
 use Rattle.worker_window.specs.declared.share.Share.{Share}
 use Rattle.worker_cut.specs.Crossed.{is_own, copies_seen}
 use Rattle.worker_window.specs.Share.{Motes, Keeps, is_to_come}
-use Rattle.worker_window.proofs.Behind.{past_later}
+use Rattle.worker_window.proofs.NoTurnIsPast.{past_later}
 use Rattle.worker_window.proofs.Items.{inside, all_wakes, wake_of_all, packets_of_all}
 
 -- the tests over plain numbers

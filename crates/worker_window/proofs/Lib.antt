@@ -1,8 +1,7 @@
+pub mod AfterEarlier
 pub mod Ahead
 pub mod Back
 pub mod Begins
-pub mod Behind
-pub mod BehindTurns
 pub mod Comings
 pub mod Ends
 pub mod Failing
@@ -13,6 +12,7 @@ pub mod Idle
 pub mod Items
 pub mod Lent
 pub mod Lone
+pub mod NoTurnIsPast
 pub mod Orders
 pub mod Parts
 pub mod Places

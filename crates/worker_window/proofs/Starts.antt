@@ -23,7 +23,7 @@ use Rattle.worker_window.specs.Share.{Motes, IsShare, Keeps, node_at, mote_here,
 use Rattle.worker_window.specs.Window.{outgoing_by}
 use Rattle.worker_window.specs.Lending.{IsCalled, IsWakeOf, MotesAreLent, is_one_of, numbers_of}
 use Rattle.worker_window.proofs.Begins.{own_there}
-use Rattle.worker_window.proofs.Behind.{past_later}
+use Rattle.worker_window.proofs.NoTurnIsPast.{past_later}
 use Rattle.worker_window.proofs.Gives.{IsBack, back, gives_open, goes_open}
 use Rattle.worker_window.proofs.Lone.{quiet_alike}
 use Rattle.worker_window.proofs.Parts.{items, window_copies, window_copies_from, alike, idle_alone, all_in, later, later_wakes, later_copies, quiet_else, here_parts}

@@ -1,4 +1,4 @@
-use Rattle.worker_window.proofs.BehindTurns.{earlier_stays_in_front}
+use Rattle.worker_window.proofs.AfterEarlier.{earlier_stays_in_front}
 use Rattle.worker_window.proofs.laws.earlier_stays_in_front.Goals as goal
 
 pub returns : goal.returns

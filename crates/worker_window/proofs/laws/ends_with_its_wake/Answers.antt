@@ -1,4 +1,4 @@
-use Rattle.worker_window.proofs.BehindTurns.{ends_with_its_wake}
+use Rattle.worker_window.proofs.AfterEarlier.{ends_with_its_wake}
 use Rattle.worker_window.proofs.laws.ends_with_its_wake.Goals as goal
 
 pub returns : goal.returns
