@@ -9,7 +9,7 @@ use Rattle.program_tree.specs.declared.tree.Expr.{Expr}
 use Rattle.program_tree.specs.declared.tree.Stmt.{Stmt}
 use Rattle.program_tree.specs.declared.tree.Stmt.TheVariants as stmt
 use Rattle.program_tree.proofs.TreeLaws.{does_of-Do}
-use Rattle.mote_program.specs.Declared.{NamesDeclared, of_process, IsDeclared}
+use Rattle.mote_program.specs.Declarations.{NamesDeclared, of_process, IsDeclared}
 
 -- the variable that the first statement of a block sets
 set_first : (t : Tree) (c : Code) (b : Body ℕ) (i : ℕ) (e : Expression ℕ) (ss : List (Statement ℕ))

@@ -10,7 +10,7 @@ use Rattle.program_tree.specs.Numbers.{block_in, named_of, values_of, timers_of,
 use Rattle.program_tree.specs.Shapes.{Name, Named, CodeShape}
 use Rattle.program_reader.specs.Steps.{Extends, IsFront}
 use Rattle.program_tree.specs.Tree.{Class, an_event, a_semaphore, a_process, a_variable, a_timer, a_thread, Body}
-use Rattle.mote_program.specs.Declared.{Declarations, NamesDeclared, of_process, at_thread, IsDeclaredIn}
+use Rattle.mote_program.specs.Declarations.{Declarations, NamesDeclared, of_process, at_thread, IsDeclaredIn}
 use Rattle.mote_program.proofs.Marks.{AreSound}
 use Rattle.mote_program.proofs.Numbers.{counts_of, Counts, counted, counted_before, numbers_declared}
 use Rattle.mote_program.proofs.Walk.{BlockStands, CallbacksStand, ThreadsStand, variables_sound, etimers_sound}

@@ -14,7 +14,7 @@ use Rattle.program_reader.specs.Steps.{look, Finds, Extends}
 use Rattle.program_tree.specs.Tree.{Class, an_event, a_semaphore, a_process, a_variable, a_timer, a_thread, Body}
 use Rattle.program_tree.proofs.NameLaws.{name_at, place_below, bytes_same}
 use Rattle.program_reader.proofs.ScopeLaws.{number_found, still_found}
-use Rattle.mote_program.specs.Declared.{Declarations, IsOneOf, NamesDeclared}
+use Rattle.mote_program.specs.Declarations.{Declarations, IsOneOf, NamesDeclared}
 use Rattle.mote_program.specs.Named.{named_by_block}
 use Rattle.mote_program.proofs.Changed.{change, block_changed}
 use Rattle.mote_program.proofs.Stands.{Stands}

@@ -13,7 +13,7 @@ use Rattle.program_tree.specs.Shapes.{ProgramShape}
 use Rattle.program_tree.specs.declared.program.Program.{Program}
 use Rattle.mote_program.proofs.ReadAgain.{read_again}
 use Rattle.mote_program.specs.Complete.{IsComplete}
-use Rattle.mote_program.specs.Declared.{IsDeclared}
+use Rattle.mote_program.specs.Declarations.{IsDeclared}
 use Rattle.mote_program.specs.NameLaws.{NamesAreDeclared, DeclarationsAreComplete}
 use Rattle.mote_program.proofs.Codes.{codes_declared}
 use Rattle.mote_program.proofs.Complete.{shape_complete}

@@ -7,8 +7,8 @@ use Rattle.program_tree.specs.Code.{Code}
 use Rattle.program_tree.specs.Tree.{Body, end, a_variable, Class, variable, print, reset}
 use Rattle.program_tree.specs.declared.timer.Timer.{Timer}
 use Rattle.mote_program.specs.Complete.{IsCompleteIn}
-use Rattle.mote_program.specs.Declared.{Declarations, IsOneOf, NamesDeclared, of_process, at_callback, at_thread}
-use Rattle.mote_program.specs.Declared.{IsDeclaredIn, IsDeclared}
+use Rattle.mote_program.specs.Declarations.{Declarations, IsOneOf, NamesDeclared, of_process, at_callback, at_thread}
+use Rattle.mote_program.specs.Declarations.{IsDeclaredIn, IsDeclared}
 use Rattle.mote_program.specs.Named.{named_by_block}
 use Rattle.mote_program.specs.Trees.{only, first_code, second_code, second_there, tree_with, names_what_is_there}
 use Rattle.mote_program.specs.Trees.{TreesThatDeclare, TreesThatDoNot, TreesThatLack}

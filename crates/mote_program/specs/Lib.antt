@@ -1,5 +1,5 @@
 pub mod Complete
-pub mod Declared
+pub mod Declarations
 pub mod NameLaws
 pub mod Named
 pub mod Spelled

@@ -5,7 +5,7 @@ use Rattle.program_tree.specs.Code.{Tree}
 use Rattle.program_tree.specs.Reading.{IsTreeOf}
 use Rattle.program_tree.specs.Tree.{Class, Body, body_map}
 use Rattle.mote_program.specs.Complete.{IsComplete}
-use Rattle.mote_program.specs.Declared.{IsDeclared}
+use Rattle.mote_program.specs.Declarations.{IsDeclared}
 use Rattle.mote_program.specs.Named.{named_by_block}
 
 abbrev pub NamesAreDeclared : Type 0

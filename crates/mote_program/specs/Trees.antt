@@ -5,7 +5,7 @@ use Rattle.program_tree.specs.EventNames as event
 use Rattle.program_tree.specs.Tree.{number, variable, Action, print, broadcast, poll, signal, spawn, reset, does, Body}
 use Rattle.program_tree.specs.Tree.{end, next}
 use Rattle.mote_program.specs.Complete.{IsComplete}
-use Rattle.mote_program.specs.Declared.{IsDeclared}
+use Rattle.mote_program.specs.Declarations.{IsDeclared}
 
 -- a block of one statement
 abbrev pub only : Action ℕ → Body ℕ

@@ -2,7 +2,7 @@
 
 ghost use Rattle.program_tree.specs.Program.{tree_of};
 ghost use Rattle.mote_program.specs.Complete.{IsComplete};
-ghost use Rattle.mote_program.specs.Declared.{IsDeclared};
+ghost use Rattle.mote_program.specs.Declarations.{IsDeclared};
 ghost use Rattle.mote_program.specs.NameLaws.{NamesAreDeclared, DeclarationsAreComplete, EachNameIsListed};
 ghost use Rattle.mote_program.specs.Trees.{TreesThatDeclare, TreesThatDoNot, TreesThatLack};
 
