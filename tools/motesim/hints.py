@@ -205,18 +205,28 @@ def _at(tables: object, path: tuple[str | int, ...]) -> object:
     return tables
 
 
-def _of_missing(tables: dict[str, object], fault: ScenarioFault) -> str | None:
-    """A key that is missing, beside one that is like it."""
+def like_of_missing(tables: object, fault: ScenarioFault) -> str | None:
+    """A key that isn't known and is like the one that is missing beside it."""
     wanted = fault.may.split('`')[1] if '`' in fault.may else ''
     table = _at(tables, fault.path)
-    if isinstance(table, dict):
-        like = nearest(wanted, [it for it in table if it not in {**TOP, **MEDIUM, **LOSS, **MOTE}])
-        if like:
-            return 'It has `%s`: did you mean `%s`?' % (like, wanted)
+    if not isinstance(table, dict):
+        return None
+    return nearest(wanted, [it for it in table if it not in {**TOP, **MEDIUM, **LOSS, **MOTE}])
+
+
+def _of_missing(tables: dict[str, object], fault: ScenarioFault) -> str | None:
+    """What most likely stands for a key that is missing."""
+    wanted = fault.may.split('`')[1] if '`' in fault.may else ''
+    like = like_of_missing(tables, fault)
+    if like:
+        return 'It has `%s`: did you mean `%s`?' % (like, wanted)
     if wanted == 'collide':
         return 'Version 2 says whether packets collide: `collide = true` or `collide = false` in `[medium]`.'
-    if wanted == 'mote' and isinstance(tables.get('motes'), list):
-        return 'Each mote is a table `[[mote]]`.'
+    if not tables:
+        return 'The text has no key and no table. examples/print_then_yield.toml is a small scenario to begin with.'
+    behind = next((name for name, table in tables.items() if isinstance(table, dict) and wanted in table), None)
+    if not fault.path and behind:
+        return 'The `%s` that is there belongs to `[%s]`, as it stands below that name: move it up.' % (wanted, behind)
     return None
 
 
