@@ -42,13 +42,18 @@ class Names:
     motes: int | None = None
 
 
+def processes_of(program: object) -> list[str]:
+    """The processes that a program's text declares."""
+    plain = re.sub(r'//[^\n]*', '', program) if isinstance(program, str) else ''
+    head = re.search(r'\bprocess\s([^;]*);', plain)
+    return re.findall(r'\w+', head[1]) if head else []
+
+
 def names_of(scenario: Scenario) -> Names:
     """What a sentence on this scenario may name."""
     found: dict[str, None] = dict.fromkeys(SYSTEM)
     for text in scenario.programs.values():
-        plain = re.sub(r'//[^\n]*', '', text) if isinstance(text, str) else ''
-        head = re.search(r'\bprocess\s([^;]*);', plain)
-        found.update(dict.fromkeys(re.findall(r'\w+', head[1]) if head else []))
+        found.update(dict.fromkeys(processes_of(text)))
     return Names(tuple(found), scenario.motes)
 
 

@@ -48,7 +48,7 @@ from typing import Any, Iterator
 
 from motesim.faults import command
 from motesim.flows import NAMES as FLOW_NAMES
-from motesim.flows import flow_rows
+from motesim.flows import flow_rows, silent
 from motesim.report import Report
 from motesim.run import Run, read_run
 from motesim.scenario import Scenario
@@ -148,8 +148,11 @@ def write_csv(rows: list[Row], names: list[str]) -> None:
     writer.writerows(rows)
 
 
-def show_flow(rows: list[Row], words: argparse.Namespace) -> int:
-    """Shows the rows of a flow, in the form that is asked for."""
+def show_flow(run: Run, words: argparse.Namespace) -> int:
+    """Shows the rows of a flow, in the form that is asked for, and says why there is nothing in them."""
+    rows = flow_rows(run.report, run.scenario, words.flow)
+    for line in silent(run.report, run.scenario, words.flow):
+        print('summary: %s' % line, file=sys.stderr)
     if words.json:
         print(json.dumps({'flow': words.flow, 'origins': rows[:-1], 'net': rows[-1]}, indent=1))
     elif words.csv:
@@ -174,7 +177,7 @@ def main() -> int:
     asked = words.parse_args()
     run = read_run(asked.report, asked.scenario)
     if asked.flow is not None:
-        return show_flow(flow_rows(run.report, run.scenario, asked.flow), asked)
+        return show_flow(run, asked)
     motes, net, links = summary(run)
     names, of_links = list(net), LINK_NAMES
     if asked.json:
