@@ -19,6 +19,7 @@ What can go wrong is a `motesim.faults.Fault`, whose text can be shown as it is:
 """
 from __future__ import annotations
 
+import re
 import subprocess
 import sys
 from pathlib import Path
@@ -33,6 +34,9 @@ from motesim.report import Report, ReportFault
 from motesim.scenario import Scenario, ScenarioFault
 
 SECONDS = 600
+# How a report begins, and how a scenario: by a comment, a table or a key.
+OF_REPORT = re.compile(rb'mote 0 ')
+OF_SCENARIO = re.compile(rb'(?:\xef\xbb\xbf)?\s*(?:#|\[|[A-Za-z0-9_"\'-]+\s*=)')
 
 
 class NoReport(ProgramFault):
@@ -83,17 +87,22 @@ def read_file(path: str | Path) -> bytes:
         raise Fault('%s: %s' % (path, fault.strerror)) from None
 
 
+def is_scenario(path: str | Path, data: bytes) -> bool:
+    """Whether a file holds a scenario, and no report: by its first line, or else by its name."""
+    return not OF_REPORT.match(data) and (str(path).endswith('.toml') or OF_SCENARIO.match(data) is not None)
+
+
 def read_run(path: str | Path, scenario: str | Path | None = None) -> Run:
     """A report from a file, with the scenario from another where it is named.
 
-    A file NAME.toml is a scenario, and is run. The name `-` is a report on standard input.
+    A scenario is run: a text that begins as one, or else a file NAME.toml. The name `-` is standard input.
     """
-    if str(path).endswith('.toml') and scenario is not None:
-        raise Fault('%s is a scenario itself, and takes no other' % path)
     data = read_file(path)
-    at, found = path, None
+    is_run, at, found = is_scenario(path, data), path, None
+    if is_run and scenario is not None:
+        raise Fault('%s is a scenario itself, and takes no other' % path)
     try:
-        if str(path).endswith('.toml'):
+        if is_run:
             found = Scenario.parse(data)
             return Run(str(path), Report.parse(run_program(data)), found)
         report = Report.parse(data)
@@ -102,7 +111,7 @@ def read_run(path: str | Path, scenario: str | Path | None = None) -> Run:
             found = Scenario.parse(read_file(scenario))
             check_scenario(report, found)
     except (ReportFault, ScenarioFault, ProgramFault) as fault:
-        is_explained = str(path).endswith('.toml') and isinstance(fault, (ScenarioFault, NoReport))
+        is_explained = is_run and isinstance(fault, (ScenarioFault, NoReport))
         fault.args = ('%s: %s%s' % (at, fault, ' (tools/explain %s says more)' % at if is_explained else ''),)
         raise
     return Run(str(path), report, found)
