@@ -18,6 +18,7 @@ from motesim.scenario import Scenario, ScenarioFault
 from motesim.sentences import Names, Refused, Sentence, SentenceFault, lacking, names_of, read_sentence
 
 LONGEST_SHOWN = 150
+REFUSED = 'the scenario is refused'
 WHOLE = 'the report is as it is written down'
 KINDS = {list: 'an array', str: 'a text', dict: 'a table'}
 KEYS = {'expect': list, 'report': str, 'change': list, 'about': str, 'replace': dict}
@@ -119,7 +120,7 @@ def same_report(rows: list[str], wanted: str) -> Told:
 def refused(part: Part, sentences: list[Sentence], got: Answer) -> list[Told]:
     """What is told of a scenario that has no report."""
     line = got.fault.decode('utf-8', 'backslashreplace').strip() or 'status %d' % got.status
-    more, found = ['the scenario is refused: %s' % line], []
+    more, found = ['%s: %s' % (REFUSED, line)], []
     for text, sentence in zip(part.sentences, sentences):
         holds = isinstance(sentence, Refused) and got == Answer(1, b'', ('motesim: %s\n' % sentence.fault).encode())
         found.append(Told(text, holds, more))
@@ -171,10 +172,16 @@ def judged(scenario: str, part: Part) -> list[Told]:
     return of_report(part, sentences, Judge(Report.parse(got.report), known or Scenario.parse(text)))
 
 
+def is_refused(told: list[Told]) -> bool:
+    """Whether sentences are broken because the scenario has no report."""
+    return any(not it.holds and it.more and it.more[0].startswith(REFUSED) for it in told)
+
+
 def expect(scenario: Path, expectations: Path, is_quiet: bool = False) -> tuple[int, int]:
     """Tells which sentences hold, or, quietly, which don't; and counts those that do and those that don't."""
     text = text_of(scenario)
     passed = failed = 0
+    has_fault = False
     name = str(expectations)
     for part in parts_of(text_of(expectations), name):
         try:
@@ -189,4 +196,7 @@ def expect(scenario: Path, expectations: Path, is_quiet: bool = False) -> tuple[
                 print('holds   %s' % it.sentence)
             elif not it.holds:
                 print('\n          '.join(['broken  %s' % it.sentence, *it.more]))
+        has_fault |= is_refused(told) and not part.replace
+    if has_fault:
+        print('tools/explain %s shows where the fault is, and what may stand there' % scenario)
     return passed, failed

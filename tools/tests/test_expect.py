@@ -253,6 +253,17 @@ class Files(unittest.TestCase):
         self.assertIn("holds   the scenario is refused with 'scenario fault 5'", out)
         self.assertIn('broken  no mote halts\n          the scenario is refused: motesim: scenario fault 5', out)
         self.assertEqual(code, 1)
+        # (what tools/explain would say is of the scenario as it is)
+        self.assertNotIn('explain', out)
+
+    def test_where_the_scenario_is_refused_tools_explain_is_named(self):
+        self.scenario.write_text(self.scenario.read_text().replace('end = 100', 'end = 2000000'))
+        out, _, code = self.said('expect = ["some mote halts", "no mote halts"]')
+        self.assertEqual(out.splitlines()[-2:], [
+            'tools/explain %s shows where the fault is, and what may stand there' % self.scenario, '0 passed, 2 failed'])
+        self.assertEqual(code, 1)
+        out, _, code = self.said('expect = ["the scenario is refused with \'scenario fault 5\'"]')
+        self.assertEqual((out.count('explain'), code), (0, 0))
 
     def test_a_whole_report(self):
         whole = 'report = """\n%s"""'
