@@ -81,15 +81,22 @@ def run_program(scenario: bytes, *words: str) -> bytes:
 
 def read_file(path: str | Path) -> bytes:
     """The bytes of a file, or of standard input for the name `-`."""
+    if str(path) == '-' and sys.stdin is None:
+        raise Fault('standard input is closed')
     try:
         return sys.stdin.buffer.read() if str(path) == '-' else Path(path).read_bytes()
     except OSError as fault:
         raise Fault('%s: %s' % (path, fault.strerror)) from None
 
 
+def is_report(data: bytes) -> bool:
+    """Whether a text begins as a report."""
+    return OF_REPORT.match(data) is not None
+
+
 def is_scenario(path: str | Path, data: bytes) -> bool:
     """Whether a file holds a scenario, and no report: by its first line, or else by its name."""
-    return not OF_REPORT.match(data) and (str(path).endswith('.toml') or OF_SCENARIO.match(data) is not None)
+    return not is_report(data) and (str(path).endswith('.toml') or OF_SCENARIO.match(data) is not None)
 
 
 def read_run(path: str | Path, scenario: str | Path | None = None) -> Run:
@@ -101,6 +108,9 @@ def read_run(path: str | Path, scenario: str | Path | None = None) -> Run:
     is_run, at, found = is_scenario(path, data), path, None
     if is_run and scenario is not None:
         raise Fault('%s is a scenario itself, and takes no other' % path)
+    if not (is_run or data.strip()):
+        raise Fault('%s is empty: a report or a scenario is wanted' % (
+            'standard input' if str(path) == '-' else path))
     try:
         if is_run:
             found = Scenario.parse(data)

@@ -258,9 +258,11 @@ class Runs(unittest.TestCase):
         for text in '[medium]\n', '"end" = 5\n', 'end=5\n':
             with self.assertRaisesRegex(ScenarioFault, r'net.txt: the scenario has no key .* \(tools/explain .*net.txt says'):
                 read_run(self.write('net.txt', text))
-        for text in 'mote 1 a\n', '0 start etimer\n', '':
+        for text in 'mote 1 a\n', '0 start etimer\n':
             with self.assertRaisesRegex(ReportFault, 'net.txt: line 1: expected'):
                 read_run(self.write('net.txt', text))
+        with self.assertRaisesRegex(Fault, 'net.txt is empty: a report or a scenario is wanted'):
+            read_run(self.write('net.txt', '\n'))
 
     def test_what_can_not_be_run_or_read_has_a_fault(self):
         scenario = self.write('a.toml', EXAMPLE)
