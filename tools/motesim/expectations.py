@@ -11,10 +11,12 @@ from pathlib import Path
 from typing import Any, NamedTuple
 
 from motesim.faults import Fault
+from motesim.hints import nearest
 from motesim.judge import Broken, Judge
 from motesim.report import Report
 from motesim.run import Answer, answer, read_file
 from motesim.scenario import Scenario, ScenarioFault
+from motesim.scenario_faults import TOP
 from motesim.sentences import Names, Refused, Sentence, SentenceFault, lacking, names_of, read_sentence
 
 LONGEST_SHOWN = 150
@@ -57,7 +59,9 @@ def part_of(table: dict[str, Any], name: str, keys: set[str]) -> Part:
     """What a table of the file expects."""
     for key, value in table.items():
         if key not in keys:
-            raise Fault('%s has a key %s; there may stand: %s' % (name, key, ', '.join(sorted(keys))))
+            like = nearest(key, keys)
+            more = ', as a scenario has' if key in TOP else '; did you mean %s?' % like if like else ''
+            raise Fault('%s has a key %s%s; there may stand: %s' % (name, key, more, ', '.join(sorted(keys))))
         if type(value) is not KEYS[key]:
             raise Fault('%s of %s is not %s' % (key, name, KINDS[KEYS[key]]))
     sentences, replace = table.get('expect', []), table.get('replace', {})

@@ -273,11 +273,18 @@ class Files(unittest.TestCase):
         self.assertEqual(code, 1)
         self.assertIn('expected: the end', self.said(whole % REPORT.replace('left 1\n', ''))[0])
 
+    def test_a_file_of_expectations_that_is_not_there_is_told(self):
+        self.scenario = self.scenario.rename(self.scenario.with_name('other.toml'))
+        told = 'expect: there is no file %s beside %s: name another, tools/expect SCENARIO EXPECTATIONS\n' % (
+            self.scenario.with_name('other.expect.toml'), self.scenario)
+        self.assertEqual(self.said('expect = ["mote 0 sends"]'), ('', told, 2))
+
     def test_faults_have_status_2(self):
         change = 'expect = ["mote 0 sends"]\n[[change]]\nexpect = ["mote 0 sends"]\n'
         for text, told in [
             ('expect = ["mote 9 halts"]', 'sentence 1 is not known'), ('expect = [', 'is no TOML'),
-            ('', 'expects nothing'), ('expect = "x"', 'is not an array'), ('wanted = []', 'has a key wanted'),
+            ('', 'expects nothing'), ('expect = "x"', 'is not an array'), ('wanted = []', 'has a key wanted'), ('expct = []', 'did you mean expect?'),
+            ('version = 1', 'has a key version, as a scenario has;'),
             ('expect = [1]', 'something else'),
             (change, 'has no table replace'), (change + 'replace = { "no such text" = "" }', 'has no text'),
         ]:
