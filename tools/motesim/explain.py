@@ -17,7 +17,7 @@ from motesim import encodings, hints, missing, program_faults, scenario_faults
 from motesim.faults import command
 from motesim.lint import Warned, warnings
 from motesim.report import Report
-from motesim.run import Answer, answer, read_file
+from motesim.run import Answer, answer, is_report, read_file
 from motesim.scenario import Scenario
 from motesim.scenario_faults import Place, ScenarioFault
 from motesim.words import words_of
@@ -25,6 +25,7 @@ from motesim.words import words_of
 WIDTH = 112
 # (what a terminal would take for a command)
 CONTROL = re.compile(r'[\x00-\x08\x0b-\x1f\x7f-\x9f]')
+OF_REPORT = 'This is a report, and no scenario: tools/summary, tools/compare and tools/timeline read it.'
 PROGRAM = re.compile(r'program (\S+) fault (\d+) line (\d+)')
 
 
@@ -147,7 +148,8 @@ def explanation(name: str, data: bytes, line: str) -> list[str]:
         return (wrapped(encodings.shown(name, encoding)) + wrapped(rule_of(what))
                 + wrapped('Here may stand: text in UTF-8') + hinted(encodings.hint(name, encoding)))
     may = missing.may_stand(fault.lacks) if fault.lacks else fault.may
-    hint = hints.of_scenario(tables_or_none(text), fault) or encodings.hint_of_byte(data)
+    hint = OF_REPORT if is_report(data) else (
+        hints.of_scenario(tables_or_none(text), fault, text) or encodings.hint_of_byte(data))
     return where_told(name, text, fault) + wrapped(rule_of(what)) + wrapped('Here may stand: %s' % may) + hinted(hint)
 
 

@@ -177,6 +177,10 @@ class Scenarios(unittest.TestCase):
                 Scenario({**tables, **shown})
                 self.assertEqual(list(shown), [name])
 
+    def test_a_report_is_named(self):
+        lines = explain.explanation('r', b'mote 0 p\nmedium\nleft 0\n', 'motesim: scenario fault 1')
+        self.assertIn('Hint: This is a report, and no scenario', lines[-1])
+
     def test_a_text_in_another_encoding_is_named(self):
         for codec, name, taken, why in [
                 ('utf-16', 'UTF-16', 'UTF-16', 'by the byte order mark'), ('utf-16-le', 'UTF-16', 'UTF-16LE', 'as every second'),
