@@ -22,8 +22,13 @@ from motesim.sentences import Names, Refused, Sentence, SentenceFault, lacking, 
 LONGEST_SHOWN = 150
 REFUSED = 'the scenario is refused'
 WHOLE = 'the report is as it is written down'
-KINDS = {list: 'an array', str: 'a text', dict: 'a table'}
 KEYS = {'expect': list, 'report': str, 'change': list, 'about': str, 'replace': dict}
+# What may stand at a key, and how it is written.
+WRITTEN = {
+    'expect': 'an array of sentences, as `expect = ["mote 0 sends twice"]`', 'report': 'a text',
+    'change': 'an array of tables: each begins with a line `[[change]]`', 'about': 'a text, as `about = "a late end"`',
+    'replace': 'a table, as `replace = { "end = 9" = "end = 99" }`',
+}
 
 
 def beside(scenario: Path) -> Path:
@@ -63,7 +68,7 @@ def part_of(table: dict[str, Any], name: str, keys: set[str]) -> Part:
             more = ', as a scenario has' if key in TOP else '; did you mean %s?' % like if like else ''
             raise Fault('%s has a key %s%s; there may stand: %s' % (name, key, more, ', '.join(sorted(keys))))
         if type(value) is not KEYS[key]:
-            raise Fault('%s of %s is not %s' % (key, name, KINDS[KEYS[key]]))
+            raise Fault('%s of %s is not %s' % (key, name, WRITTEN[key]))
     sentences, replace = table.get('expect', []), table.get('replace', {})
     if not all(type(it) is str for it in [*sentences, *replace.values()]):
         raise Fault('%s holds something else than texts' % name)

@@ -282,7 +282,9 @@ class Files(unittest.TestCase):
     def test_faults_have_status_2(self):
         change = 'expect = ["mote 0 sends"]\n[[change]]\nexpect = ["mote 0 sends"]\n'
         for text, told in [
-            ('expect = ["mote 9 halts"]', 'sentence 1 is not known'), ('expect = [', 'is no TOML'),
+            ('expect = ["mote 9 halts"]', 'sentence 1 is not known'),
+            ('expect = ["mote 0 prnts x 1"]', 'Did you mean: prints\n'), ('expect = ["evry mote halts"]', 'Did you mean: every\n'),
+            ('expect = ["mote 0 sends twise"]', 'Did you mean: twice\n'), ('expect = [', 'is no TOML'),
             ('', 'expects nothing'), ('expect = "x"', 'is not an array'), ('wanted = []', 'has a key wanted'), ('expct = []', 'did you mean expect?'),
             ('version = 1', 'has a key version, as a scenario has;'),
             ('expect = [1]', 'something else'),
