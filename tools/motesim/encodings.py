@@ -37,10 +37,15 @@ def shown(file: str, found: Encoding) -> str:
     return '%s looks like a text in %s, %s.' % (file, found.name, found.sign)
 
 
+def command_for(file: str, found: Encoding) -> str:
+    """A command that saves a file of another encoding as UTF-8."""
+    return 'iconv -f %s -t UTF-8 %s >NEW' % (found.of_iconv, file)
+
+
 def hint(file: str, found: Encoding) -> str:
     """How a file of another encoding is saved as UTF-8."""
-    return 'Save it as UTF-8: an editor has that under "Save as" or "Encoding". On a command line: ' \
-           '`iconv -f %s -t UTF-8 %s >NEW.toml`.' % (found.of_iconv, file)
+    return 'Save it as UTF-8: an editor has that under "Save as" or "Encoding". On a command line: `%s`.' % (
+        command_for(file, found))
 
 
 def hint_of_byte(data: bytes) -> str | None:

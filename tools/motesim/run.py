@@ -26,6 +26,7 @@ from pathlib import Path
 from typing import NamedTuple
 
 from motesim.belongs import check_scenario as check_scenario
+from motesim.encodings import command_for, encoding_of, shown
 from motesim.faults import Fault
 from motesim.programs import TOP as TOP
 from motesim.programs import ProgramFault as ProgramFault
@@ -111,6 +112,9 @@ def read_run(path: str | Path, scenario: str | Path | None = None) -> Run:
     if not (is_run or data.strip()):
         raise Fault('%s is empty: a report or a scenario is wanted' % (
             'standard input' if str(path) == '-' else path))
+    encoding = None if is_run else encoding_of(data)
+    if encoding:
+        raise Fault('%s Save it as UTF-8: %s' % (shown(str(path), encoding), command_for(str(path), encoding)))
     try:
         if is_run:
             found = Scenario.parse(data)

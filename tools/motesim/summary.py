@@ -1,7 +1,7 @@
 """Counts what a report tells, by mote, for the net, and by link: tools/summary REPORT [--scenario FILE]
 
-REPORT is a file with a report, `-` for standard input, or a scenario NAME.toml, which is run. `--scenario FILE` names
-the scenario of a report: then links that carried nothing are shown too.
+REPORT is a file with a report, or with a scenario, which is run; `-` is standard input. `--scenario FILE` names the
+scenario of a report: then links that carried nothing are shown too.
 
 Of a mote and of the net
   sent      packets that it sent
@@ -165,7 +165,7 @@ def show_flow(run: Run, words: argparse.Namespace) -> int:
 @command('summary')
 def main() -> int:
     words = words_of(__doc__)
-    words.add_argument('report', metavar='REPORT', help='a report, or a scenario NAME.toml')
+    words.add_argument('report', metavar='REPORT', help='a report, or a scenario; - is standard input')
     words.add_argument('--scenario', metavar='FILE', help="the report's scenario")
     form = words.add_mutually_exclusive_group()
     form.add_argument('--csv', action='store_true', help='for a spreadsheet')

@@ -188,7 +188,7 @@ class Scenarios(unittest.TestCase):
             data = SCENARIO.encode(codec)
             lines = explain.explanation('s.toml', data, 'motesim: ' + scenario_faults.find_fault(data).told)
             self.assertTrue(lines[0].startswith('s.toml looks like a text in %s, %s' % (name, why)), lines)
-            self.assertIn('`iconv -f %s -t UTF-8 s.toml >NEW.toml`' % taken, ' '.join(line.strip() for line in lines))
+            self.assertIn('`iconv -f %s -t UTF-8 s.toml >NEW`' % taken, ' '.join(line.strip() for line in lines))
             self.assertFalse(any('\0' in line or '^' in line for line in lines))
         self.assertIsNone(encodings.encoding_of(b'\xef\xbb\xbf' + SCENARIO.encode()))
 

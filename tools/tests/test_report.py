@@ -261,6 +261,11 @@ class Runs(unittest.TestCase):
         for text in 'mote 1 a\n', '0 start etimer\n':
             with self.assertRaisesRegex(ReportFault, 'net.txt: line 1: expected'):
                 read_run(self.write('net.txt', text))
+        with self.assertRaisesRegex(ReportFault, 'net.txt: line 1: .* ends with LF alone, and not as on Windows'):
+            read_run(self.write('net.txt', EXAMPLE_REPORT.replace('\n', '\r\n')))
+        self.write('net.txt', '').write_bytes(EXAMPLE_REPORT.encode('utf-16'))
+        with self.assertRaisesRegex(Fault, 'net.txt looks like a text in UTF-16, .* Save it as UTF-8: iconv -f UTF-16 '):
+            read_run(Path(self.folder.name) / 'net.txt')
         with self.assertRaisesRegex(Fault, 'net.txt is empty: a report or a scenario is wanted'):
             read_run(self.write('net.txt', '\n'))
 
