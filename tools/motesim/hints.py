@@ -1,17 +1,19 @@
 """Hints on faults: what the writer most likely meant, and how it is written here.
 
-`of_program(text, fault)` and `of_scenario(tables, fault, text)` give one sentence, or None where nothing better is known
-than the rule. They go by the word that can't stand and the words before it; whether a hint is right, the next run shows.
+`of_program(text, fault)` and `of_scenario(tables, fault, text)` give one sentence, or None where nothing better is
+known than the rule. They go by the word that can't stand and the words before it; whether a hint is right, the next
+run shows.
 """
 from __future__ import annotations
 
 import difflib
+import re
 from collections.abc import Iterable
 
 from motesim.notation import RESERVED
 from motesim.parentheses import written
 from motesim.program_faults import OPERATORS, STATEMENTS, ProgramFault, Token, tokens_of
-from motesim.scenario_faults import LOSS, MEDIUM, MOTE, TOP, ScenarioFault, last_outside
+from motesim.scenario_faults import LONG_QUOTES, LOSS, MEDIUM, MOTE, TOP, ScenarioFault, last_outside
 
 # What people write who know other languages, and what stands for it here.
 WISHES = {
@@ -62,6 +64,8 @@ NO_TOML = {
 }
 QUOTES = '\u2018\u2019\u201a\u201b\u201c\u201d\u201e\u201f\u00ab\u00bb\u00b4`'
 OF_QUOTES = 'These are quotes of another kind, as text programs make them: plain ones are wanted, `"` or `\'`.'
+# What Python says of a text of several lines that has no end.
+NO_END = re.compile('Expected "\'\'\'"|Unterminated string')
 # Keys that stand for a wish that the medium can't meet.
 CHANCE = ('probability', 'prob', 'p', 'rate', 'loss_rate', 'random', 'seed', 'noise', 'per_link', 'chance')
 
@@ -190,8 +194,9 @@ def _of_no_toml(text: str, fault: ScenarioFault, place: tuple[int, int]) -> str 
     row = text.split('\n')[place[0] - 1]
     if row[place[1]:place[1] + 1] in QUOTES and place[1] < len(row):
         return OF_QUOTES
-    if 'Expected "\'\'\'"' in fault.may or "Expected '\"\"\"'" in fault.may:
-        return 'The text that begins on line %d has no end: the three quotes that close it are missing.' % last_outside(text)
+    opened = last_outside(text)
+    if NO_END.search(fault.may) and any(it in text.split('\n')[opened - 1] for it in LONG_QUOTES):
+        return 'The text that begins on line %d has no end: the three quotes that close it are missing.' % opened
     if row.lstrip().startswith('[') and 'overwrite' in fault.may:
         return NO_TOML['twice']
     return next((hint for said, hint in NO_TOML.items() if said in fault.may), None)

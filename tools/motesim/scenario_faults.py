@@ -314,7 +314,7 @@ def places(text: str) -> dict[Path, Place]:
 
 
 def last_outside(text: str) -> int:
-    """The last line that begins outside of a text of several lines: where one has no end, the line on which it begins."""
+    """The last line that begins outside of a text of several lines: of one that has no end, its first."""
     return max((number for number, _ in _lines(text)), default=1)
 
 

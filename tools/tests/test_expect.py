@@ -260,7 +260,8 @@ class Files(unittest.TestCase):
         self.scenario.write_text(self.scenario.read_text().replace('end = 100', 'end = 2000000'))
         out, _, code = self.said('expect = ["some mote halts", "no mote halts"]')
         self.assertEqual(out.splitlines()[-2:], [
-            'tools/explain %s shows where the fault is, and what may stand there' % self.scenario, '0 passed, 2 failed'])
+            'tools/explain %s shows where the fault is, and what may stand there' % self.scenario,
+            '0 passed, 2 failed'])
         self.assertEqual(code, 1)
         out, _, code = self.said('expect = ["the scenario is refused with \'scenario fault 5\'"]')
         self.assertEqual((out.count('explain'), code), (0, 0))
@@ -283,9 +284,11 @@ class Files(unittest.TestCase):
         change = 'expect = ["mote 0 sends"]\n[[change]]\nexpect = ["mote 0 sends"]\n'
         for text, told in [
             ('expect = ["mote 9 halts"]', 'sentence 1 is not known'),
-            ('expect = ["mote 0 prnts x 1"]', 'Did you mean: prints\n'), ('expect = ["evry mote halts"]', 'Did you mean: every\n'),
+            ('expect = ["mote 0 prnts x 1"]', 'Did you mean: prints\n'),
+            ('expect = ["evry mote halts"]', 'Did you mean: every\n'),
             ('expect = ["mote 0 sends twise"]', 'Did you mean: twice\n'), ('expect = [', 'is no TOML'),
-            ('', 'expects nothing'), ('expect = "x"', 'is not an array'), ('wanted = []', 'has a key wanted'), ('expct = []', 'did you mean expect?'),
+            ('', 'expects nothing'), ('expect = "x"', 'is not an array'), ('wanted = []', 'has a key wanted'),
+            ('expct = []', 'did you mean expect?'),
             ('version = 1', 'has a key version, as a scenario has;'),
             ('expect = [1]', 'something else'),
             (change, 'has no table replace'), (change + 'replace = { "no such text" = "" }', 'has no text'),

@@ -69,15 +69,18 @@ LACKS = [
      'Here may stand: the key `version`: a whole number, 1 to 2'),
     ({'end = 5\n': ''}, '.. has no key `end`. Above the first table (line 2) there may stand:', 'end = 100',
      'Here may stand: the key `end`: a whole number, 0 to 1,000,000'),
-    ({'end = 5\n': '', 'range = 10': 'range = 10\nend = 5'}, '.. has no key `end`. Above the first table (line 2) there '
-     'may stand:', 'end = 100', 'Hint: The `end` that is there belongs to `[medium]`, as it stands below that name: move '
-     'it up.'),
-    ({'[medium]\nrange = 10\nbase = 1\nper = 100\n': ''}, '.. has no table `[medium]`. At the end of the text, or above '
-     'any other table, there may stand:', '[medium]', '`per`: a whole number, 1 to 1,000,000'),
-    ({SCENARIO[SCENARIO.index('[programs]'):SCENARIO.index('[[mote]]')]: ''}, '.. has no table `[programs]`. At the end of '
-     'the text, or above any other table, there may stand:', '[programs]', 'a key for each program'),
-    ({SCENARIO[SCENARIO.index('[[mote]]'):]: ''}, '.. has no table `[[mote]]`. Each mote is one; at the end of the text '
-     'there may stand:', '[[mote]]', '`y`: a whole number, -30,000 to 30,000'),
+    ({'end = 5\n': '', 'range = 10': 'range = 10\nend = 5'},
+     '.. has no key `end`. Above the first table (line 2) there may stand:', 'end = 100',
+     'Hint: The `end` that is there belongs to `[medium]`, as it stands below that name: move it up.'),
+    ({'[medium]\nrange = 10\nbase = 1\nper = 100\n': ''},
+     '.. has no table `[medium]`. At the end of the text, or above any other table, there may stand:', '[medium]',
+     '`per`: a whole number, 1 to 1,000,000'),
+    ({SCENARIO[SCENARIO.index('[programs]'):SCENARIO.index('[[mote]]')]: ''},
+     '.. has no table `[programs]`. At the end of the text, or above any other table, there may stand:', '[programs]',
+     'a key for each program'),
+    ({SCENARIO[SCENARIO.index('[[mote]]'):]: ''},
+     '.. has no table `[[mote]]`. Each mote is one; at the end of the text there may stand:', '[[mote]]',
+     '`y`: a whole number, -30,000 to 30,000'),
     ({SCENARIO: ''}, '.. has no key `version`. There may stand:', 'version = 1',
      'Hint: The text has no key and no table. examples/print_then_yield.toml is a small scenario'),
     ({'[medium]': '[medum]'}, '.., line 3:', '[medum]', 'Hint: It has `medum`: did you mean `medium`?'),
@@ -183,8 +186,10 @@ class Scenarios(unittest.TestCase):
 
     def test_a_text_in_another_encoding_is_named(self):
         for codec, name, taken, why in [
-                ('utf-16', 'UTF-16', 'UTF-16', 'by the byte order mark'), ('utf-16-le', 'UTF-16', 'UTF-16LE', 'as every second'),
-                ('utf-16-be', 'UTF-16', 'UTF-16BE', 'as every second'), ('utf-32', 'UTF-32', 'UTF-32', 'by the byte order mark')]:
+                ('utf-16', 'UTF-16', 'UTF-16', 'by the byte order mark'),
+                ('utf-16-le', 'UTF-16', 'UTF-16LE', 'as every second'),
+                ('utf-16-be', 'UTF-16', 'UTF-16BE', 'as every second'),
+                ('utf-32', 'UTF-32', 'UTF-32', 'by the byte order mark')]:
             data = SCENARIO.encode(codec)
             lines = explain.explanation('s.toml', data, 'motesim: ' + scenario_faults.find_fault(data).told)
             self.assertTrue(lines[0].startswith('s.toml looks like a text in %s, %s' % (name, why)), lines)

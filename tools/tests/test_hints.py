@@ -35,7 +35,8 @@ BODIES = [
     ('while true { }', '`1` is true'), ('print Seq;', 'small letters'), ('sleep 3;', 'yield_until'),
     ('yield_untl fired(t);', '`yield_until`'), ('var z = 0;', 'head of `code`'), ('set tt 4;', '`t`'),
     ('seq == 1;', '`=` assigns'), ('send 1 to 2;', 'all who hear it'), ('yield_until is(packt);', '`packet`'),
-    ('print\u00a01;', 'U+00A0'), ('print \u201cx\u201d;', 'U+201C'), ('seq = [1];', 'arrays'), ('seq = (seq & 1);', 'bits'), ('seq = 1.5;', 'whole'), ('seq = 01;', '`1`'),
+    ('print\u00a01;', 'U+00A0'), ('print \u201cx\u201d;', 'U+201C'), ('seq = [1];', 'arrays'),
+    ('seq = (seq & 1);', 'bits'), ('seq = 1.5;', 'whole'), ('seq = 01;', '`1`'),
 ]
 
 SCENARIO = """version = %s
@@ -94,6 +95,7 @@ class Hints(unittest.TestCase):
             (scenario().replace('[[mote]]', '[mote]', 1), '`[[mote]]`'),
             (scenario().replace('program = "source"', 'program = \u201csource\u201d'), 'quotes of another kind'),
             (scenario().replace('"process', "'''\nprocess").replace(' }"\n', ' }\n'), 'begins on line 9 has no end'),
+            (scenario().replace('"process', '"""process').replace(' }"\n', ' }\n'), 'begins on line 9 has no end'),
         ]:
             with self.subTest(text):
                 self.assertIn(wanted, hint_of(text))

@@ -256,7 +256,7 @@ class Runs(unittest.TestCase):
                 for name in 'net', 'net.txt', 'net.toml':
                     self.assertEqual(read_run(self.write(name, begin + EXAMPLE)).scenario.end, 20)
         for text in '[medium]\n', '"end" = 5\n', 'end=5\n':
-            with self.assertRaisesRegex(ScenarioFault, r'net.txt: the scenario has no key .* \(tools/explain .*net.txt says'):
+            with self.assertRaisesRegex(ScenarioFault, r'net.txt: the scenario has no key .* \(tools/explain '):
                 read_run(self.write('net.txt', text))
         for text in 'mote 1 a\n', '0 start etimer\n':
             with self.assertRaisesRegex(ReportFault, 'net.txt: line 1: expected'):
@@ -264,7 +264,7 @@ class Runs(unittest.TestCase):
         with self.assertRaisesRegex(ReportFault, 'net.txt: line 1: .* ends with LF alone, and not as on Windows'):
             read_run(self.write('net.txt', EXAMPLE_REPORT.replace('\n', '\r\n')))
         self.write('net.txt', '').write_bytes(EXAMPLE_REPORT.encode('utf-16'))
-        with self.assertRaisesRegex(Fault, 'net.txt looks like a text in UTF-16, .* Save it as UTF-8: iconv -f UTF-16 '):
+        with self.assertRaisesRegex(Fault, 'net.txt looks like a text in UTF-16, .* as UTF-8: iconv -f UTF-16'):
             read_run(Path(self.folder.name) / 'net.txt')
         with self.assertRaisesRegex(Fault, 'net.txt is empty: a report or a scenario is wanted'):
             read_run(self.write('net.txt', '\n'))

@@ -164,12 +164,12 @@ from to copies received lost ring collided halted late ratio delay
 
     def test_a_flow_that_shows_nothing_says_why(self):
         for words, told in [
-                ('print hearr', 'the report has no line `print hearr V`, so nothing was delivered; did you mean hearer?'),
-                ('print Hearer', 'the report has no line `print Hearer V`, so nothing was delivered; did you mean hearer?'),
-                ('print x -> print hearer', 'the report has no line `print x V`, so no message began; it has: hearer, talker'),
-                ('print talker', 'the report has no line `print talker V`, so nothing was delivered')]:
+                ('print hearr', '`print hearr V`, so nothing was delivered; did you mean hearer?'),
+                ('print Hearer', '`print Hearer V`, so nothing was delivered; did you mean hearer?'),
+                ('print x -> print hearer', '`print x V`, so no message began; it has: hearer, talker'),
+                ('print talker', '`print talker V`, so nothing was delivered')]:
             done = self.run_it('--flow', words)
-            self.assertEqual((done.returncode, done.stderr), (0, 'summary: %s\n' % told))
+            self.assertEqual((done.returncode, done.stderr), (0, 'summary: the report has no line %s\n' % told))
             self.assertTrue(done.stdout.startswith('origin sent'))
         self.say('--flow', 'recv')
 
@@ -178,9 +178,10 @@ from to copies received lost ring collided halted late ratio delay
         scenario = Scenario.parse(SCENARIO.replace('talker = ""', programs[0]).replace('hearer = ""', programs[1]))
         for words, told in [('print haerer', '; did you mean hearer?'), ('print xyz', '; it has: a, b, hearer'),
                             ('print a -> print no', '; it has: a, b, hearer')]:
-            with self.assertRaisesRegex(Fault, re.escape('no flow: the scenario has no process ') + '.*' + re.escape(told)):
+            with self.assertRaisesRegex(Fault, 'no flow: the scenario has no process .*' + re.escape(told)):
                 flow_rows(Report.parse(REPORT), scenario, words)
-        for words in 'print hearer', 'print b', 'print a -> print hearer', 'print radio', 'send -> recv', 'print talker':
+        for words in ('print hearer', 'print b', 'print a -> print hearer', 'print radio', 'send -> recv',
+                      'print talker'):
             flow_rows(Report.parse(REPORT), scenario, words)
         talker = Report.parse(REPORT.replace('talker', 'a').replace('mote 0 a', 'mote 0 talker'))
         with self.assertRaisesRegex(Fault, 'has no process talker; talker is a program, with: a, b$'):

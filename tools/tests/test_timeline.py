@@ -408,7 +408,7 @@ class Pages(unittest.TestCase):
         for lane in 40, 11, 7, 3:
             told = self.value('''(() => {
               const c = pane.context, {fillText, fillRect} = c, drawn = [];
-              c.fillText = (text, x, y, ...rest) => { drawn.push({text, x, y}); fillText.call(c, text, x, y, ...rest); };
+              c.fillText = (text, x, y, wide) => { drawn.push({text, x, y}); fillText.call(c, text, x, y, wide); };
               c.fillRect = (x, y, w, h) => { drawn.push({x, y, w, h}); fillRect.call(c, x, y, w, h); };
               pane.lane = %d;
               pane.top = 0;

@@ -44,7 +44,8 @@ function drawAxis(pane) {
     c.fillStyle = colours.edge;
     if (x >= pane.gutter) c.fillRect(Math.round(x), AXIS - 5, 1, 5);
     c.fillStyle = colours.quiet;
-    const half = c.measureText(String(moment)).width / 2, at = Math.max(pane.x(moment + middle), pane.gutter + half + 1);
+    const half = c.measureText(String(moment)).width / 2;
+    const at = Math.max(pane.x(moment + middle), pane.gutter + half + 1);
     if (x >= pane.gutter && at + half < pane.width - 2) c.fillText(String(moment), at, AXIS / 2);
   }
   c.textAlign = 'left';
