@@ -1,6 +1,6 @@
 """Says whether two reports are the same, and else where they part first: tools/compare A B [--rows N] [--html FILE]
 
-A and B are files with reports, or scenarios, NAME.toml, which are run. The first difference is the one at the least
+A and B are files with reports, or with scenarios, which are run. The first difference is the one at the least
 moment, not the one on the least line. It is shown with the mote, the moment, the line of each side, and the last
 packets and events of that mote before. Of two scenarios it says in what they differ. Then come the first collision
 that only one of the two has, and how many lines differ, by mote and by kind. `--html FILE` writes a page with both
@@ -16,7 +16,7 @@ from operator import ne
 from typing import Any, Iterator, NamedTuple
 
 from motesim import scenario_differences
-from motesim.faults import command
+from motesim.faults import Fault, command
 from motesim.report import FIELDS, Line, Packet, Report
 from motesim.run import Run, read_run
 from motesim.timeline import write_page
@@ -303,11 +303,13 @@ def write_html(path: str, a: Run, b: Run, first: Difference | None) -> None:
 @command('compare')
 def main() -> int:
     words = words_of(__doc__)
-    words.add_argument('a', metavar='A', help='a report, or a scenario NAME.toml')
+    words.add_argument('a', metavar='A', help='a report, or a scenario')
     words.add_argument('b', metavar='B', help='another')
     words.add_argument('--rows', type=int, default=20, metavar='N', help='at most so many motes in the table (20)')
     words.add_argument('--html', metavar='FILE', help='write both timelines to this page, which opens where they part')
     asked = words.parse_args()
+    if asked.a == asked.b == '-':
+        raise Fault('A and B can\'t both be standard input: one of them is a file')
     a, b = read_run(asked.a), read_run(asked.b)
     lines, first, is_same = compared(a, b, max(1, asked.rows))
     if asked.html:

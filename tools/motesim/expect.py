@@ -15,7 +15,7 @@ from __future__ import annotations
 from pathlib import Path
 
 from motesim.expectations import beside, expect
-from motesim.faults import command
+from motesim.faults import Fault, command
 from motesim.words import words_of
 
 
@@ -26,7 +26,11 @@ def main() -> int:
     words.add_argument('expectations', nargs='?', metavar='EXPECTATIONS', help='else NAME.expect.toml beside it')
     asked = words.parse_args()
     scenario = Path(asked.scenario)
-    passed, failed = expect(scenario, Path(asked.expectations) if asked.expectations else beside(scenario))
+    expectations = Path(asked.expectations) if asked.expectations else beside(scenario)
+    if not asked.expectations and scenario.exists() and not expectations.exists():
+        raise Fault('there is no file %s beside %s: name another, tools/expect SCENARIO EXPECTATIONS' % (
+            expectations, scenario))
+    passed, failed = expect(scenario, expectations)
     print('%d passed, %d failed' % (passed, failed))
     return 1 if failed else 0
 

@@ -11,16 +11,24 @@ from pathlib import Path
 from typing import Any, NamedTuple
 
 from motesim.faults import Fault
+from motesim.hints import nearest
 from motesim.judge import Broken, Judge
 from motesim.report import Report
 from motesim.run import Answer, answer, read_file
 from motesim.scenario import Scenario, ScenarioFault
+from motesim.scenario_faults import TOP
 from motesim.sentences import Names, Refused, Sentence, SentenceFault, lacking, names_of, read_sentence
 
 LONGEST_SHOWN = 150
+REFUSED = 'the scenario is refused'
 WHOLE = 'the report is as it is written down'
-KINDS = {list: 'an array', str: 'a text', dict: 'a table'}
 KEYS = {'expect': list, 'report': str, 'change': list, 'about': str, 'replace': dict}
+# What may stand at a key, and how it is written.
+WRITTEN = {
+    'expect': 'an array of sentences, as `expect = ["mote 0 sends twice"]`', 'report': 'a text',
+    'change': 'an array of tables: each begins with a line `[[change]]`', 'about': 'a text, as `about = "a late end"`',
+    'replace': 'a table, as `replace = { "end = 9" = "end = 99" }`',
+}
 
 
 def beside(scenario: Path) -> Path:
@@ -56,9 +64,11 @@ def part_of(table: dict[str, Any], name: str, keys: set[str]) -> Part:
     """What a table of the file expects."""
     for key, value in table.items():
         if key not in keys:
-            raise Fault('%s has a key %s; there may stand: %s' % (name, key, ', '.join(sorted(keys))))
+            like = nearest(key, keys)
+            more = ', as a scenario has' if key in TOP else '; did you mean %s?' % like if like else ''
+            raise Fault('%s has a key %s%s; there may stand: %s' % (name, key, more, ', '.join(sorted(keys))))
         if type(value) is not KEYS[key]:
-            raise Fault('%s of %s is not %s' % (key, name, KINDS[KEYS[key]]))
+            raise Fault('%s of %s is not %s' % (key, name, WRITTEN[key]))
     sentences, replace = table.get('expect', []), table.get('replace', {})
     if not all(type(it) is str for it in [*sentences, *replace.values()]):
         raise Fault('%s holds something else than texts' % name)
@@ -119,7 +129,7 @@ def same_report(rows: list[str], wanted: str) -> Told:
 def refused(part: Part, sentences: list[Sentence], got: Answer) -> list[Told]:
     """What is told of a scenario that has no report."""
     line = got.fault.decode('utf-8', 'backslashreplace').strip() or 'status %d' % got.status
-    more, found = ['the scenario is refused: %s' % line], []
+    more, found = ['%s: %s' % (REFUSED, line)], []
     for text, sentence in zip(part.sentences, sentences):
         holds = isinstance(sentence, Refused) and got == Answer(1, b'', ('motesim: %s\n' % sentence.fault).encode())
         found.append(Told(text, holds, more))
@@ -171,10 +181,16 @@ def judged(scenario: str, part: Part) -> list[Told]:
     return of_report(part, sentences, Judge(Report.parse(got.report), known or Scenario.parse(text)))
 
 
+def is_refused(told: list[Told]) -> bool:
+    """Whether sentences are broken because the scenario has no report."""
+    return any(not it.holds and it.more and it.more[0].startswith(REFUSED) for it in told)
+
+
 def expect(scenario: Path, expectations: Path, is_quiet: bool = False) -> tuple[int, int]:
     """Tells which sentences hold, or, quietly, which don't; and counts those that do and those that don't."""
     text = text_of(scenario)
     passed = failed = 0
+    has_fault = False
     name = str(expectations)
     for part in parts_of(text_of(expectations), name):
         try:
@@ -189,4 +205,7 @@ def expect(scenario: Path, expectations: Path, is_quiet: bool = False) -> tuple[
                 print('holds   %s' % it.sentence)
             elif not it.holds:
                 print('\n          '.join(['broken  %s' % it.sentence, *it.more]))
+        has_fault |= is_refused(told) and not part.replace
+    if has_fault:
+        print('tools/explain %s shows where the fault is, and what may stand there' % scenario)
     return passed, failed

@@ -13,16 +13,19 @@ import textwrap
 import tomllib
 from typing import Any
 
-from motesim import hints, program_faults, scenario_faults
+from motesim import encodings, hints, missing, program_faults, scenario_faults
 from motesim.faults import command
 from motesim.lint import Warned, warnings
 from motesim.report import Report
-from motesim.run import Answer, answer, read_file
+from motesim.run import Answer, answer, is_report, read_file
 from motesim.scenario import Scenario
 from motesim.scenario_faults import Place, ScenarioFault
 from motesim.words import words_of
 
 WIDTH = 112
+# (what a terminal would take for a command)
+CONTROL = re.compile(r'[\x00-\x08\x0b-\x1f\x7f-\x9f]')
+OF_REPORT = 'This is a report, and no scenario: tools/summary, tools/compare and tools/timeline read it.'
 PROGRAM = re.compile(r'program (\S+) fault (\d+) line (\d+)')
 
 
@@ -36,7 +39,7 @@ def told(got: Answer) -> str | None:
 def marked(line: str, column: int, length: int) -> list[str]:
     """A line with a mark under a part of it; of a long line, what is around that part."""
     begin = max(0, column - WIDTH // 2) if len(line) > WIDTH else 0
-    shown, before = line[begin:begin + WIDTH], column - begin
+    shown, before = CONTROL.sub('\ufffd', line[begin:begin + WIDTH]), column - begin
     blank = re.sub(r'[^\t]', ' ', shown[:before])
     return ['  ' + shown, '  ' + blank + '^' * max(1, min(length, len(shown) - before))]
 
@@ -67,13 +70,21 @@ def place_of_token(text: str, program: str, token: program_faults.Token) -> Plac
     return None
 
 
+def place_of_scenario(text: str, fault: ScenarioFault) -> Place | None:
+    """Where a fault of the scenario's own is; of what it lacks at its top a table that is named nearly so, or None."""
+    if fault.lacks is None:
+        return fault.place(text)
+    like = hints.like_of_missing(tables_or_none(text), fault)
+    return scenario_faults.place_of(text, (like,)) if like else None
+
+
 def place_of_fault(data: bytes, line: str) -> Place | None:
     """Where in the scenario the fault is that the program tells by a line, or None where that isn't known."""
     fault, text = scenario_faults.find_fault(data), data.decode('utf-8', 'replace')
     if fault is None or fault.told != line.removeprefix('motesim: '):
         return None
     if not fault.program:
-        return fault.place(text)
+        return place_of_scenario(text, fault)
     found = place_of_token(text, str(fault.path[1]), fault.program.token)
     return found or scenario_faults.place_of(text, fault.path)
 
@@ -132,9 +143,22 @@ def explanation(name: str, data: bytes, line: str) -> list[str]:
     text = data.decode('utf-8', 'replace')
     if fault.program:
         return of_program(name, text, str(fault.path[1]), fault.program)
-    place = shown_place(name, text, fault.place(text))
-    lines = place + wrapped(rule_of(what)) + wrapped('Here may stand: %s' % fault.may)
-    return lines + hinted(hints.of_scenario(tables_or_none(text), fault))
+    encoding = encodings.encoding_of(data) if fault.line else None
+    if encoding:
+        return (wrapped(encodings.shown(name, encoding)) + wrapped(rule_of(what))
+                + wrapped('Here may stand: text in UTF-8') + hinted(encodings.hint(name, encoding)))
+    may = missing.may_stand(fault.lacks) if fault.lacks else fault.may
+    hint = OF_REPORT if is_report(data) else (
+        hints.of_scenario(tables_or_none(text), fault, text) or encodings.hint_of_byte(data))
+    return where_told(name, text, fault) + wrapped(rule_of(what)) + wrapped('Here may stand: %s' % may) + hinted(hint)
+
+
+def where_told(name: str, text: str, fault: ScenarioFault) -> list[str]:
+    """The place of a fault of the scenario's own, or what it lacks."""
+    place = place_of_scenario(text, fault)
+    if place or not fault.lacks:
+        return shown_place(name, text, place or Place(1, 0, 1))
+    return missing.shown(name, fault.lacks, tables_or_none(text) or {}, scenario_faults.first_table(text))
 
 
 def warned(name: str, text: str, warning: Warned) -> list[str]:

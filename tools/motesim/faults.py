@@ -34,9 +34,18 @@ def drop_output() -> None:
         os.dup2(nothing.fileno(), 1)
 
 
+def check_streams() -> None:
+    """Whether there is a standard output; a standard error that was closed takes what it is told."""
+    if sys.stderr is None:
+        sys.stderr = open(os.devnull, 'w', encoding='utf-8')
+    if sys.stdout is None:
+        raise Fault('standard output is closed')
+
+
 def status_of(tool: str, work: Callable[[], int]) -> int:
     """The status that `work` gives, or the one of what went wrong, which is told."""
     try:
+        check_streams()
         status = work()
         sys.stdout.flush()
         return status

@@ -9,17 +9,21 @@ from __future__ import annotations
 
 import re
 from collections import defaultdict
+from collections.abc import Iterator
 from dataclasses import dataclass, field
 from statistics import median
 from typing import NamedTuple, Union
 
 from motesim.faults import Fault
+from motesim.hints import nearest
+from motesim.notation import SYSTEM
 from motesim.report import Line, Report
 from motesim.scenario import Scenario
+from motesim.sentences import names_of, processes_of
 
 Row = dict[str, Union[int, float, str, None]]
 NAMES = ['origin', 'sent', 'delivered', 'ratio', 'reached', 'copies', 'duplicates', 'hops', 'least', 'middle', 'most']
-FORM = re.compile(r'\s*(?:(send|recv)|print\s+([a-z][a-z0-9_]*))\s*')
+FORM = re.compile(r'\s*(?:(send|recv)|print\s+([A-Za-z][A-Za-z0-9_]*))\s*')
 
 
 class FlowFault(Fault):
@@ -33,6 +37,9 @@ class Mark(NamedTuple):
 
     def has(self, line: Line) -> bool:
         return line.kind == self.kind and (self.process is None or line.process == self.process)
+
+    def __str__(self) -> str:
+        return ' '.join(it for it in (self.kind, self.process) if it)
 
 
 @dataclass
@@ -51,6 +58,36 @@ def read_flow(words: str) -> tuple[Mark, Mark]:
         raise FlowFault('no flow: %r. It is END or BEGIN -> END; each is `print PROCESS`, `send` or `recv`' % words)
     found = [Mark(it[1] or 'print', it[2]) for it in marks if it]
     return (found[0], found[1]) if len(found) == 2 else (Mark('send'), found[0])
+
+
+def like(process: str, scenario: Scenario | None, known: set[str]) -> str:
+    """What was most likely meant by the name of a process that isn't there, and which there are."""
+    own = sorted(known.difference(SYSTEM))
+    programs = scenario.programs if scenario else {}
+    if process in programs:
+        return '; %s is a program, with: %s' % (process, ', '.join(processes_of(programs[process])))
+    near = nearest(process, own)
+    return '; did you mean %s?' % near if near else '; it has: %s' % ', '.join(own) if own else ''
+
+
+def check_processes(report: Report, scenario: Scenario, marks: tuple[Mark, Mark]) -> None:
+    """Whether each process of a flow is one of the scenario's."""
+    for process in {it.process for it in marks if it.process}:
+        known = set(names_of(scenario).processes or ())
+        if process not in known and not any(line.process == process for line in report.lines()):
+            raise FlowFault('no flow: the scenario has no process %s%s' % (
+                process, like(process, scenario, known)))
+
+
+def silent(report: Report, scenario: Scenario | None, words: str) -> Iterator[str]:
+    """Why a flow has nothing to show: no line begins a message, or none is a delivery."""
+    begin, end = read_flow(words)
+    for mark, what in (begin, 'no message began'), (end, 'nothing was delivered'):
+        if not any(map(mark.has, report.lines())):
+            told = {line.process for line in report.lines() if line.process}.difference({'all'})
+            more = like(mark.process, scenario, told) if mark.process and mark.process not in told else ''
+            yield 'the report has no line `%s V`, so %s%s' % (mark, what, more)
+            return
 
 
 def messages(report: Report, begin: Mark, end: Mark) -> dict[int, Message]:
@@ -93,6 +130,8 @@ def flow_rows(report: Report, scenario: Scenario | None, words: str) -> list[Row
     least..     of each message and mote the moments from its beginning to its first delivery: least, middle, most
     """
     begin, end = read_flow(words)
+    if scenario:
+        check_processes(report, scenario, (begin, end))
     found = messages(report, begin, end)
     origins = sorted({it.origin for it in found.values()})
     rows = [_row(origin, [it for it in found.values() if it.origin == origin], scenario) for origin in origins]

@@ -18,13 +18,11 @@ import sys
 from pathlib import Path
 from typing import NamedTuple
 
-from motesim.expectations import Part, Told, judged_each, parts_of, read_all, text_of
+from motesim.expectations import REFUSED, Part, Told, judged_each, parts_of, read_all, text_of
 from motesim.faults import Fault, command
 from motesim.run import answer, read_file
 from motesim.sentences import Names
 from motesim.words import words_of
-
-REFUSED = 'the scenario is refused'
 
 
 class Graded(NamedTuple):

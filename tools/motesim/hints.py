@@ -1,17 +1,19 @@
 """Hints on faults: what the writer most likely meant, and how it is written here.
 
-`of_program(text, fault)` and `of_scenario(tables, fault)` give one sentence, or None where nothing better is known
-than the rule. They go by the word that can't stand and the words before it; whether a hint is right, the next run shows.
+`of_program(text, fault)` and `of_scenario(tables, fault, text)` give one sentence, or None where nothing better is
+known than the rule. They go by the word that can't stand and the words before it; whether a hint is right, the next
+run shows.
 """
 from __future__ import annotations
 
 import difflib
+import re
 from collections.abc import Iterable
 
 from motesim.notation import RESERVED
 from motesim.parentheses import written
 from motesim.program_faults import OPERATORS, STATEMENTS, ProgramFault, Token, tokens_of
-from motesim.scenario_faults import LOSS, MEDIUM, MOTE, TOP, ScenarioFault
+from motesim.scenario_faults import LONG_QUOTES, LOSS, MEDIUM, MOTE, TOP, ScenarioFault, last_outside
 
 # What people write who know other languages, and what stands for it here.
 WISHES = {
@@ -60,6 +62,10 @@ NO_TOML = {
     'overwrite': 'A key stands once in its table.',
     '': 'Texts stand in quotes, programs of several lines in three: p = """ .. """.',
 }
+QUOTES = '\u2018\u2019\u201a\u201b\u201c\u201d\u201e\u201f\u00ab\u00bb\u00b4`'
+OF_QUOTES = 'These are quotes of another kind, as text programs make them: plain ones are wanted, `"` or `\'`.'
+# What Python says of a text of several lines that has no end.
+NO_END = re.compile('Expected "\'\'\'"|Unterminated string')
 # Keys that stand for a wish that the medium can't meet.
 CHANCE = ('probability', 'prob', 'p', 'rate', 'loss_rate', 'random', 'seed', 'noise', 'per_link', 'chance')
 
@@ -103,6 +109,9 @@ def _of_sign(here: Token, behind: Token) -> str | None:
         return 'Names have small letters: `%s`.' % word.lower()
     if word[:1].isdigit() and word.isdigit():
         return 'Without the zeros in front: `%s`.' % (word.lstrip('0') or '0')
+    if word and ord(word[0]) > 127:
+        return 'This sign, U+%04X, is none of the notation: was a plain %s meant?' % (
+            ord(word[0]), 'space' if word[0].isspace() else 'letter, quote or dash')
     return None
 
 
@@ -119,7 +128,7 @@ def _of_unexpected(before: list[Token], here: Token, behind: Token, may: list[st
         return 'There are no numbers below 0: values have 16 bits, and `(0 - 1)` is 65535.'
     if word == '/' and behind.text in ('*', '/') or word == '*' and last and last.text == '/':
         return 'A comment begins with `//`, and ends with the line.'
-    if word == '=' and '`==`' in may:
+    if word == '=' and '`==`' in may or word == '==' and may == ['`=`']:
         return '`=` assigns; `==` compares.'
     if word in OPERATORS:
         return None
@@ -129,6 +138,10 @@ def _of_unexpected(before: list[Token], here: Token, behind: Token, may: list[st
         return '`%s` is a word of the notation; another name, such as `my_%s`, may stand here.' % (word, word)
     if word == ';' and may == ['`=`']:
         return 'A variable begins with a number: `var x = 0;`.'
+    if word == 'timer' and '`etimer`' in may:
+        return 'There are two kinds: an `etimer` posts an event to its process, a `ctimer` has a block that it calls.'
+    if word == 'to' and '`;`' in may:
+        return 'A packet goes to all who hear it: for whom it is may stand in its value, as `send ((1 * 256) + x);`.'
     if word == 'var':
         return 'Variables are declared at the head of `code`, before its timers, threads and handlers.'
     if word == 'thread' or word in ('etimer', 'ctimer'):
@@ -166,7 +179,8 @@ def _of_unknown(before: list[Token], here: Token, may: list[str]) -> str | None:
     declared = {one.text for one in before if one.kind == 'name'}
     # (may lists the names of the kind that is wanted, in brackets after it)
     wanted = {name for it in may if '(' in it for name in it[it.index('(') + 1:].rstrip(')').split(', ')}
-    known = (wanted | (set(STATEMENTS) if begins else {'data', 'from', 'now', 'self'})) - {'none is declared here'}
+    ticked = {it.strip('`') for it in may if it.startswith('`')}
+    known = (wanted | (set(STATEMENTS) if begins else ticked)) - {'none is declared here'}
     like = nearest(here.text, known) or nearest(here.text, declared & known)
     if like:
         return 'Did you mean `%s`?' % like
@@ -175,11 +189,24 @@ def _of_unknown(before: list[Token], here: Token, may: list[str]) -> str | None:
     return None
 
 
-def of_scenario(tables: dict[str, object] | None, fault: ScenarioFault) -> str | None:
+def _of_no_toml(text: str, fault: ScenarioFault, place: tuple[int, int]) -> str | None:
+    """A hint on a text that is no TOML, with the place up to which it is."""
+    row = text.split('\n')[place[0] - 1]
+    if row[place[1]:place[1] + 1] in QUOTES and place[1] < len(row):
+        return OF_QUOTES
+    opened = last_outside(text)
+    if NO_END.search(fault.may) and any(it in text.split('\n')[opened - 1] for it in LONG_QUOTES):
+        return 'The text that begins on line %d has no end: the three quotes that close it are missing.' % opened
+    if row.lstrip().startswith('[') and 'overwrite' in fault.may:
+        return NO_TOML['twice']
+    return next((hint for said, hint in NO_TOML.items() if said in fault.may), None)
+
+
+def of_scenario(tables: dict[str, object] | None, fault: ScenarioFault, text: str) -> str | None:
     """A hint on a fault of a scenario. Its tables are None where the text is no TOML."""
     line, name = fault.told, str(fault.path[-1]) if fault.path else ''
     if line == 'scenario fault 1' and fault.line:
-        return next((hint for said, hint in NO_TOML.items() if said in fault.may), None)
+        return _of_no_toml(text, fault, fault.line)
     if line == 'scenario fault 2' and tables is not None:
         return _of_missing(tables, fault)
     if line == 'scenario fault 3':
@@ -205,18 +232,28 @@ def _at(tables: object, path: tuple[str | int, ...]) -> object:
     return tables
 
 
-def _of_missing(tables: dict[str, object], fault: ScenarioFault) -> str | None:
-    """A key that is missing, beside one that is like it."""
+def like_of_missing(tables: object, fault: ScenarioFault) -> str | None:
+    """A key that isn't known and is like the one that is missing beside it."""
     wanted = fault.may.split('`')[1] if '`' in fault.may else ''
     table = _at(tables, fault.path)
-    if isinstance(table, dict):
-        like = nearest(wanted, [it for it in table if it not in {**TOP, **MEDIUM, **LOSS, **MOTE}])
-        if like:
-            return 'It has `%s`: did you mean `%s`?' % (like, wanted)
+    if not isinstance(table, dict):
+        return None
+    return nearest(wanted, [it for it in table if it not in {**TOP, **MEDIUM, **LOSS, **MOTE}])
+
+
+def _of_missing(tables: dict[str, object], fault: ScenarioFault) -> str | None:
+    """What most likely stands for a key that is missing."""
+    wanted = fault.may.split('`')[1] if '`' in fault.may else ''
+    like = like_of_missing(tables, fault)
+    if like:
+        return 'It has `%s`: did you mean `%s`?' % (like, wanted)
     if wanted == 'collide':
         return 'Version 2 says whether packets collide: `collide = true` or `collide = false` in `[medium]`.'
-    if wanted == 'mote' and isinstance(tables.get('motes'), list):
-        return 'Each mote is a table `[[mote]]`.'
+    if not tables:
+        return 'The text has no key and no table. examples/print_then_yield.toml is a small scenario to begin with.'
+    behind = next((name for name, table in tables.items() if isinstance(table, dict) and wanted in table), None)
+    if not fault.path and behind:
+        return 'The `%s` that is there belongs to `[%s]`, as it stands below that name: move it up.' % (wanted, behind)
     return None
 
 

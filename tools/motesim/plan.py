@@ -28,7 +28,8 @@ class Plan:
         for key in tables.top:
             if key not in TOP:
                 known = ', '.join('`%s`' % it for it in TOP)
-                raise tables.fault((key,), 'A plan has no key of this name.', known, False)
+                more = ' Is this a scenario? ./run takes it as it is.' if key == 'version' else ''
+                raise tables.fault((key,), 'A plan has no key of this name.' + more, known, False)
         self.tables = tables
         self.parameters = self._parameters()
 

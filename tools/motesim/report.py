@@ -29,6 +29,7 @@ class ReportFault(Fault):
         shown = 'the text ends'
         if found is not None:
             shown = 'there is %r' % (found if len(found) <= 80 else found[:80] + '..')
+            shown += ' (a line of a report ends with LF alone, and not as on Windows)' if found.endswith('\r') else ''
         where = 'the report is cut off at line %d' % row if is_cut else 'line %d' % row
         super().__init__('%s: expected %s, but %s' % (where, expected, shown))
 

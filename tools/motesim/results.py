@@ -62,8 +62,11 @@ class CsvFile:
         self.rows: list[Row] = rows
 
     def _append(self, text: str) -> None:
-        self.file.write(text.encode())
-        self.file.flush()
+        try:
+            self.file.write(text.encode())
+            self.file.flush()
+        except OSError as fault:
+            raise Fault('%s: %s' % (self.path, fault.strerror)) from None
 
     def _drop_broken_end(self) -> None:
         data = self.path.read_bytes()

@@ -19,12 +19,14 @@ What can go wrong is a `motesim.faults.Fault`, whose text can be shown as it is:
 """
 from __future__ import annotations
 
+import re
 import subprocess
 import sys
 from pathlib import Path
 from typing import NamedTuple
 
 from motesim.belongs import check_scenario as check_scenario
+from motesim.encodings import command_for, encoding_of, shown
 from motesim.faults import Fault
 from motesim.programs import TOP as TOP
 from motesim.programs import ProgramFault as ProgramFault
@@ -33,6 +35,9 @@ from motesim.report import Report, ReportFault
 from motesim.scenario import Scenario, ScenarioFault
 
 SECONDS = 600
+# How a report begins, and how a scenario: by a comment, a table or a key.
+OF_REPORT = re.compile(rb'mote 0 ')
+OF_SCENARIO = re.compile(rb'(?:\xef\xbb\xbf)?\s*(?:#|\[|[A-Za-z0-9_"\'-]+\s*=)')
 
 
 class NoReport(ProgramFault):
@@ -77,23 +82,41 @@ def run_program(scenario: bytes, *words: str) -> bytes:
 
 def read_file(path: str | Path) -> bytes:
     """The bytes of a file, or of standard input for the name `-`."""
+    if str(path) == '-' and sys.stdin is None:
+        raise Fault('standard input is closed')
     try:
         return sys.stdin.buffer.read() if str(path) == '-' else Path(path).read_bytes()
     except OSError as fault:
         raise Fault('%s: %s' % (path, fault.strerror)) from None
 
 
+def is_report(data: bytes) -> bool:
+    """Whether a text begins as a report."""
+    return OF_REPORT.match(data) is not None
+
+
+def is_scenario(path: str | Path, data: bytes) -> bool:
+    """Whether a file holds a scenario, and no report: by its first line, or else by its name."""
+    return not is_report(data) and (str(path).endswith('.toml') or OF_SCENARIO.match(data) is not None)
+
+
 def read_run(path: str | Path, scenario: str | Path | None = None) -> Run:
     """A report from a file, with the scenario from another where it is named.
 
-    A file NAME.toml is a scenario, and is run. The name `-` is a report on standard input.
+    A scenario is run: a text that begins as one, or else a file NAME.toml. The name `-` is standard input.
     """
-    if str(path).endswith('.toml') and scenario is not None:
-        raise Fault('%s is a scenario itself, and takes no other' % path)
     data = read_file(path)
-    at, found = path, None
+    is_run, at, found = is_scenario(path, data), path, None
+    if is_run and scenario is not None:
+        raise Fault('%s is a scenario itself, and takes no other' % path)
+    if not (is_run or data.strip()):
+        raise Fault('%s is empty: a report or a scenario is wanted' % (
+            'standard input' if str(path) == '-' else path))
+    encoding = None if is_run else encoding_of(data)
+    if encoding:
+        raise Fault('%s Save it as UTF-8: %s' % (shown(str(path), encoding), command_for(str(path), encoding)))
     try:
-        if str(path).endswith('.toml'):
+        if is_run:
             found = Scenario.parse(data)
             return Run(str(path), Report.parse(run_program(data)), found)
         report = Report.parse(data)
@@ -102,7 +125,7 @@ def read_run(path: str | Path, scenario: str | Path | None = None) -> Run:
             found = Scenario.parse(read_file(scenario))
             check_scenario(report, found)
     except (ReportFault, ScenarioFault, ProgramFault) as fault:
-        is_explained = str(path).endswith('.toml') and isinstance(fault, (ScenarioFault, NoReport))
+        is_explained = is_run and isinstance(fault, (ScenarioFault, NoReport))
         fault.args = ('%s: %s%s' % (at, fault, ' (tools/explain %s says more)' % at if is_explained else ''),)
         raise
     return Run(str(path), report, found)

@@ -60,6 +60,12 @@ class ScenarioFault(Exception):
             return False
         return self.told not in ('scenario fault 2', 'scenario fault 3')
 
+    @property
+    def lacks(self) -> str | None:
+        """The key or the table that the scenario lacks at its top, which has no place."""
+        is_missing = self.told == 'scenario fault 2' and not self.path
+        return self.may.split('`')[1] if is_missing else None
+
     def place(self, text: str) -> Place:
         """Where the fault is."""
         if self.line:
@@ -305,6 +311,16 @@ def places(text: str) -> dict[Path, Place]:
             for length in range(1, len(names) + 1):
                 found.setdefault(table + names[:length], Place(number, entry.start(1), len(entry[1])))
     return found
+
+
+def last_outside(text: str) -> int:
+    """The last line that begins outside of a text of several lines: of one that has no end, its first."""
+    return max((number for number, _ in _lines(text)), default=1)
+
+
+def first_table(text: str) -> int | None:
+    """The line on which the first table is named."""
+    return next((number for number, line in _lines(text) if HEADER.match(line)), None)
 
 
 def place_of(text: str, path: Path) -> Place:

@@ -12,6 +12,7 @@ from collections.abc import Callable
 from dataclasses import dataclass
 
 from motesim.faults import Fault
+from motesim.hints import nearest
 from motesim.notation import SYSTEM
 from motesim.report import FIELDS, MOST_MOMENT, MOST_WORD
 from motesim.scenario import Scenario
@@ -25,13 +26,22 @@ COMPARES = {
 }
 
 
+def meant(rest: str, wanted: list[str]) -> str | None:
+    """The word that was most likely meant by the first of these, of those that may stand there."""
+    word = re.match(r'[A-Za-z_]\w{2,}', rest)
+    names = [name for it in wanted for name in re.findall(r'\w+', it.partition('(')[2] or it.split()[0])]
+    return nearest(word[0], names) if word else None
+
+
 class SentenceFault(Fault):
     """A sentence that can't be read: the place of the first word that can't stand, and what may."""
 
     def __init__(self, sentence: str, place: int, wanted: list[str]):
         self.sentence, self.place, self.wanted = sentence, place, wanted
         may = textwrap.wrap('Here may stand: ' + ', '.join(wanted), WIDTH, break_on_hyphens=False)
+        like = meant(sentence[place:], wanted)
         lines = ['a sentence that is not known', sentence, ' ' * place + '^', *may]
+        lines += ['Did you mean: %s' % like] if like else []
         super().__init__('\n  '.join(lines))
 
 
@@ -42,13 +52,18 @@ class Names:
     motes: int | None = None
 
 
+def processes_of(program: object) -> list[str]:
+    """The processes that a program's text declares."""
+    plain = re.sub(r'//[^\n]*', '', program) if isinstance(program, str) else ''
+    head = re.search(r'\bprocess\s([^;]*);', plain)
+    return re.findall(r'\w+', head[1]) if head else []
+
+
 def names_of(scenario: Scenario) -> Names:
     """What a sentence on this scenario may name."""
     found: dict[str, None] = dict.fromkeys(SYSTEM)
     for text in scenario.programs.values():
-        plain = re.sub(r'//[^\n]*', '', text) if isinstance(text, str) else ''
-        head = re.search(r'\bprocess\s([^;]*);', plain)
-        found.update(dict.fromkeys(re.findall(r'\w+', head[1]) if head else []))
+        found.update(dict.fromkeys(processes_of(text)))
     return Names(tuple(found), scenario.motes)
 
 

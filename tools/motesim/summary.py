@@ -1,7 +1,7 @@
 """Counts what a report tells, by mote, for the net, and by link: tools/summary REPORT [--scenario FILE]
 
-REPORT is a file with a report, `-` for standard input, or a scenario NAME.toml, which is run. `--scenario FILE` names
-the scenario of a report: then links that carried nothing are shown too.
+REPORT is a file with a report, or with a scenario, which is run; `-` is standard input. `--scenario FILE` names the
+scenario of a report: then links that carried nothing are shown too.
 
 Of a mote and of the net
   sent      packets that it sent
@@ -48,7 +48,7 @@ from typing import Any, Iterator
 
 from motesim.faults import command
 from motesim.flows import NAMES as FLOW_NAMES
-from motesim.flows import flow_rows
+from motesim.flows import flow_rows, silent
 from motesim.report import Report
 from motesim.run import Run, read_run
 from motesim.scenario import Scenario
@@ -148,8 +148,11 @@ def write_csv(rows: list[Row], names: list[str]) -> None:
     writer.writerows(rows)
 
 
-def show_flow(rows: list[Row], words: argparse.Namespace) -> int:
-    """Shows the rows of a flow, in the form that is asked for."""
+def show_flow(run: Run, words: argparse.Namespace) -> int:
+    """Shows the rows of a flow, in the form that is asked for, and says why there is nothing in them."""
+    rows = flow_rows(run.report, run.scenario, words.flow)
+    for line in silent(run.report, run.scenario, words.flow):
+        print('summary: %s' % line, file=sys.stderr)
     if words.json:
         print(json.dumps({'flow': words.flow, 'origins': rows[:-1], 'net': rows[-1]}, indent=1))
     elif words.csv:
@@ -162,7 +165,7 @@ def show_flow(rows: list[Row], words: argparse.Namespace) -> int:
 @command('summary')
 def main() -> int:
     words = words_of(__doc__)
-    words.add_argument('report', metavar='REPORT', help='a report, or a scenario NAME.toml')
+    words.add_argument('report', metavar='REPORT', help='a report, or a scenario; - is standard input')
     words.add_argument('--scenario', metavar='FILE', help="the report's scenario")
     form = words.add_mutually_exclusive_group()
     form.add_argument('--csv', action='store_true', help='for a spreadsheet')
@@ -174,7 +177,7 @@ def main() -> int:
     asked = words.parse_args()
     run = read_run(asked.report, asked.scenario)
     if asked.flow is not None:
-        return show_flow(flow_rows(run.report, run.scenario, asked.flow), asked)
+        return show_flow(run, asked)
     motes, net, links = summary(run)
     names, of_links = list(net), LINK_NAMES
     if asked.json:

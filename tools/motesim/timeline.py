@@ -222,9 +222,9 @@ def write_page(path: str | Path, title: str, runs: Sequence[Run], start: int | N
 @command('timeline')
 def main() -> int:
     words = words_of('Makes an HTML page of a run: a map of the motes, and a lane for each over time.\n'
-                     'FILE.toml is a scenario, which is run; any other FILE is a report.', 'timeline')
+                     'FILE holds a scenario, which is run, or a report.', 'timeline')
     words.add_argument('file', metavar='FILE',
-                       help='a scenario (NAME.toml) or a report; - is a report on standard input')
+                       help='a scenario or a report; - is standard input')
     words.add_argument('--scenario', metavar='FILE', help='the scenario of a report: it has the places of the motes')
     words.add_argument('-o', dest='page', metavar='PAGE',
                        help='the page to write; else NAME.html in the current folder')

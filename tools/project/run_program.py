@@ -3,7 +3,8 @@
 Where a source is newer than the program, or there is none, it is built first: that proves it and each crate that it
 stands on. With --unproved among the words it is compiled without any proof, once, and kept. Words that the program
 doesn't know, and a file that can't be read, are refused before that. The environment variable MOTESIM names another
-program. On a terminal a line more says how to learn why there is no report.
+program. On a terminal a line more says how to learn why there is no report. With --help the options of ./run come
+below the program's.
 """
 from __future__ import annotations
 
@@ -24,8 +25,9 @@ NAME = PROGRAM.name
 # (the program's own text, for which it needn't be built)
 HELP = Path(__file__).with_name('help.txt')
 HELP_OF_RUN = """
-  --unproved         (of ./run) Compiles the program without any proof, in a minute or two, keeps it and runs it
-  --version          (of ./run) Says which version this is"""
+Options of ./run itself, which builds the program where it isn't built:
+      --unproved     Compiles the program without any proof, in a minute or two, keeps it and runs it
+      --version      Says which version this is, and which kit it was proved with"""
 FAILED, MISUSED = 1, 2
 
 
@@ -67,10 +69,15 @@ def say_version(is_unproved: bool) -> NoReturn:
     os.execv(tool, [tool, '--version'])
 
 
+def say_help_of_run() -> None:
+    """The options of ./run, beside the program's own text: where that goes to a terminal, below it, else on standard
+    error, so that standard output is the program's."""
+    print(HELP_OF_RUN, file=sys.stdout if os.isatty(1) else sys.stderr)
+
+
 def say_help() -> NoReturn:
-    print(HELP.read_text('utf-8'), end='')
-    if os.isatty(1):
-        print(HELP_OF_RUN)
+    print(HELP.read_text('utf-8'), end='', flush=True)
+    say_help_of_run()
     sys.exit(0)
 
 
@@ -121,12 +128,11 @@ def run_words(program: Path, asked: Asked) -> NoReturn:
     """Runs the words, with the lines more of a terminal."""
     if asked.file is None and not asked.wants_help and os.isatty(0):
         say('waiting for a scenario on standard input, which ends with Ctrl-D (./run FILE reads a file)')
-    has_help = asked.wants_help and os.isatty(1)
-    if not (has_help or (asked.file and os.isatty(2))):
+    if not (asked.wants_help or (asked.file and os.isatty(2))):
         os.execv(program, [NAME, *asked.words])
     status = attend(program, [NAME, *asked.words])
-    if status == 0 and has_help:
-        print(HELP_OF_RUN)
+    if status == 0 and asked.wants_help:
+        say_help_of_run()
     if status == FAILED:
         say_more(asked.file)
     sys.exit(status)

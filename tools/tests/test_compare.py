@@ -225,6 +225,11 @@ class Command(unittest.TestCase):
                 self.assertEqual(done.stderr.count('\n'), int(status == 2))
                 self.assertEqual(bool(done.stdout), status != 2)
 
+    def test_standard_input_is_one_of_them_alone(self):
+        done = subprocess.run([str(TOOLS / 'compare'), '-', '-'], input=A, capture_output=True, text=True)
+        self.assertEqual((done.returncode, done.stdout), (2, ''))
+        self.assertEqual(done.stderr, "compare: A and B can't both be standard input: one of them is a file\n")
+
     def test_a_page_shows_both(self):
         with tempfile.TemporaryDirectory() as folder:
             paths = [Path(folder) / name for name in ('a', 'b', 'page.html')]

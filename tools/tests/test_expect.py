@@ -253,6 +253,18 @@ class Files(unittest.TestCase):
         self.assertIn("holds   the scenario is refused with 'scenario fault 5'", out)
         self.assertIn('broken  no mote halts\n          the scenario is refused: motesim: scenario fault 5', out)
         self.assertEqual(code, 1)
+        # (what tools/explain would say is of the scenario as it is)
+        self.assertNotIn('explain', out)
+
+    def test_where_the_scenario_is_refused_tools_explain_is_named(self):
+        self.scenario.write_text(self.scenario.read_text().replace('end = 100', 'end = 2000000'))
+        out, _, code = self.said('expect = ["some mote halts", "no mote halts"]')
+        self.assertEqual(out.splitlines()[-2:], [
+            'tools/explain %s shows where the fault is, and what may stand there' % self.scenario,
+            '0 passed, 2 failed'])
+        self.assertEqual(code, 1)
+        out, _, code = self.said('expect = ["the scenario is refused with \'scenario fault 5\'"]')
+        self.assertEqual((out.count('explain'), code), (0, 0))
 
     def test_a_whole_report(self):
         whole = 'report = """\n%s"""'
@@ -262,11 +274,22 @@ class Files(unittest.TestCase):
         self.assertEqual(code, 1)
         self.assertIn('expected: the end', self.said(whole % REPORT.replace('left 1\n', ''))[0])
 
+    def test_a_file_of_expectations_that_is_not_there_is_told(self):
+        self.scenario = self.scenario.rename(self.scenario.with_name('other.toml'))
+        told = 'expect: there is no file %s beside %s: name another, tools/expect SCENARIO EXPECTATIONS\n' % (
+            self.scenario.with_name('other.expect.toml'), self.scenario)
+        self.assertEqual(self.said('expect = ["mote 0 sends"]'), ('', told, 2))
+
     def test_faults_have_status_2(self):
         change = 'expect = ["mote 0 sends"]\n[[change]]\nexpect = ["mote 0 sends"]\n'
         for text, told in [
-            ('expect = ["mote 9 halts"]', 'sentence 1 is not known'), ('expect = [', 'is no TOML'),
+            ('expect = ["mote 9 halts"]', 'sentence 1 is not known'),
+            ('expect = ["mote 0 prnts x 1"]', 'Did you mean: prints\n'),
+            ('expect = ["evry mote halts"]', 'Did you mean: every\n'),
+            ('expect = ["mote 0 sends twise"]', 'Did you mean: twice\n'), ('expect = [', 'is no TOML'),
             ('', 'expects nothing'), ('expect = "x"', 'is not an array'), ('wanted = []', 'has a key wanted'),
+            ('expct = []', 'did you mean expect?'),
+            ('version = 1', 'has a key version, as a scenario has;'),
             ('expect = [1]', 'something else'),
             (change, 'has no table replace'), (change + 'replace = { "no such text" = "" }', 'has no text'),
         ]:

@@ -5,12 +5,14 @@ import os
 import re
 import sys
 import tempfile
+import tomllib
 import unittest
 from pathlib import Path
 from unittest import mock
 
 from here import TOP
-from motesim import explain, program_faults, scenario_faults
+from motesim import encodings, explain, missing, program_faults, scenario_faults
+from motesim.scenario import Scenario
 
 SCENARIO = """version = 1
 end = 5
@@ -61,11 +63,33 @@ PROGRAMS = [
     ('process a;\ncode a { body { if is(timer) { } else { } post a msg 1 into', 2, 2, 59, '', 'a variable'),
 ]
 
+# What the scenario lacks at its top, with how it begins where that is shown, and more that is said of it.
+LACKS = [
+    ({'version = 1\n': ''}, '.. has no key `version`. Above the first table (line 2) there may stand:', 'version = 1',
+     'Here may stand: the key `version`: a whole number, 1 to 2'),
+    ({'end = 5\n': ''}, '.. has no key `end`. Above the first table (line 2) there may stand:', 'end = 100',
+     'Here may stand: the key `end`: a whole number, 0 to 1,000,000'),
+    ({'end = 5\n': '', 'range = 10': 'range = 10\nend = 5'},
+     '.. has no key `end`. Above the first table (line 2) there may stand:', 'end = 100',
+     'Hint: The `end` that is there belongs to `[medium]`, as it stands below that name: move it up.'),
+    ({'[medium]\nrange = 10\nbase = 1\nper = 100\n': ''},
+     '.. has no table `[medium]`. At the end of the text, or above any other table, there may stand:', '[medium]',
+     '`per`: a whole number, 1 to 1,000,000'),
+    ({SCENARIO[SCENARIO.index('[programs]'):SCENARIO.index('[[mote]]')]: ''},
+     '.. has no table `[programs]`. At the end of the text, or above any other table, there may stand:', '[programs]',
+     'a key for each program'),
+    ({SCENARIO[SCENARIO.index('[[mote]]'):]: ''},
+     '.. has no table `[[mote]]`. Each mote is one; at the end of the text there may stand:', '[[mote]]',
+     '`y`: a whole number, -30,000 to 30,000'),
+    ({SCENARIO: ''}, '.. has no key `version`. There may stand:', 'version = 1',
+     'Hint: The text has no key and no table. examples/print_then_yield.toml is a small scenario'),
+    ({'[medium]': '[medum]'}, '.., line 3:', '[medum]', 'Hint: It has `medum`: did you mean `medium`?'),
+]
+
 # Changes to the scenario, each with what is told, and the line and the text that are marked.
 SCENARIOS = [
     ({'end = 5': 'end ='}, 'scenario fault 1', 2, ''),
     ({'end = 5': 'end = 9223372036854775808'}, 'scenario fault 1', 2, '9223372036854775808'),
-    ({'end = 5\n': ''}, 'scenario fault 2', 1, 'version = 1'),
     ({'y = 0\nprogram = "p"\n[[loss]]': 'program = "p"\n[[loss]]'}, 'scenario fault 2', 16, '[[mote]]'),
     ({'version = 1': 'version = 2'}, 'scenario fault 2', 3, '[medium]'),
     ({'end = 5': 'end = 5\nspeed = 1'}, 'scenario fault 3', 3, 'speed'),
@@ -136,6 +160,53 @@ class Scenarios(unittest.TestCase):
                 self.assertEqual((found[0], found[1].strip()), (line, marked))
                 self.assertTrue(any(it.startswith('Here may stand: ') for it in lines))
 
+    def test_what_is_lacking_at_the_top_is_shown_and_nothing_is_marked(self):
+        for changes, head, begin, more in LACKS:
+            with self.subTest(head + more):
+                text = changed(changes)
+                lines = explain.explanation('..', text.encode(), 'motesim: scenario fault 2')
+                self.assertEqual(lines[:2], [head, '  ' + begin])
+                self.assertIn(more, ' '.join(line.strip() for line in lines))
+                self.assertEqual(sum('^' in line for line in lines), head.endswith('line 3:'))
+                self.assertTrue(all(len(line) < 120 for line in lines))
+
+    def test_what_is_shown_mends_the_scenario(self):
+        for version, collide in ('1', ''), ('2', 'collide = true\n'):
+            text = changed({'version = 1': 'version = ' + version, 'per = 100\n': 'per = 100\n' + collide})
+            whole = tomllib.loads(text[:text.index('[[loss]]')])
+            for name in missing.WRITTEN:
+                tables = {key: table for key, table in whole.items() if key != name}
+                shown = tomllib.loads('\n'.join(missing.written(name, tables)))
+                Scenario({**tables, **shown})
+                self.assertEqual(list(shown), [name])
+
+    def test_a_report_is_named(self):
+        lines = explain.explanation('r', b'mote 0 p\nmedium\nleft 0\n', 'motesim: scenario fault 1')
+        self.assertIn('Hint: This is a report, and no scenario', lines[-1])
+
+    def test_a_text_in_another_encoding_is_named(self):
+        for codec, name, taken, why in [
+                ('utf-16', 'UTF-16', 'UTF-16', 'by the byte order mark'),
+                ('utf-16-le', 'UTF-16', 'UTF-16LE', 'as every second'),
+                ('utf-16-be', 'UTF-16', 'UTF-16BE', 'as every second'),
+                ('utf-32', 'UTF-32', 'UTF-32', 'by the byte order mark')]:
+            data = SCENARIO.encode(codec)
+            lines = explain.explanation('s.toml', data, 'motesim: ' + scenario_faults.find_fault(data).told)
+            self.assertTrue(lines[0].startswith('s.toml looks like a text in %s, %s' % (name, why)), lines)
+            self.assertIn('`iconv -f %s -t UTF-8 s.toml >NEW`' % taken, ' '.join(line.strip() for line in lines))
+            self.assertFalse(any('\0' in line or '^' in line for line in lines))
+        self.assertIsNone(encodings.encoding_of(b'\xef\xbb\xbf' + SCENARIO.encode()))
+
+    def test_a_byte_of_latin_1_is_named(self):
+        data = SCENARIO.replace('version', '# Zürich\nversion', 1).encode('cp1252')
+        lines = explain.explanation('s.toml', data, 'motesim: scenario is not UTF-8')
+        self.assertEqual(mark_of(lines)[0], 1)
+        self.assertIn('this byte is `ü`', lines[-1])
+
+    def test_no_sign_that_a_terminal_takes_for_a_command_is_shown(self):
+        lines = explain.explanation('s.toml', b'\x1b[2J = 5\n', 'motesim: scenario fault 1')
+        self.assertEqual(lines[1], '  \ufffd[2J = 5')
+
     def test_bytes_that_are_no_text(self):
         lines = explain.explanation('s', b'version = 1\nx = "\xff"\n', 'motesim: scenario is not UTF-8')
         self.assertEqual(mark_of(lines)[0], 2)
@@ -190,10 +261,10 @@ class Cases(unittest.TestCase):
                 with self.subTest(case=name):
                     count += 1
                     lines = explain.explanation(name, data, line)
-                    number, _ = mark_of(lines)
-                    self.assertGreater(number, 0)
+                    if not re.search(r' has no (key|table) `', lines[0]):
+                        self.assertGreater(mark_of(lines)[0], 0)
                     rule = explain.rule_of(line.removeprefix('motesim: '))
-                    self.assertIn(rule.split()[-1], ' '.join(lines[3:]).split())
+                    self.assertIn(rule.split()[-1], ' '.join(lines[1:]).split())
                     self.assertTrue(any(it.startswith('Here may stand: ') for it in lines))
         self.assertGreater(count, 80)
 

@@ -53,6 +53,16 @@ class Ends(unittest.TestCase):
         os.close(its)
         self.assertEqual((done.returncode, done.stderr), (2, 'thing: standard output was closed before all of it was written\n'))
 
+    def test_a_stream_that_is_closed_from_the_start_is_told(self):
+        report = TOP / 'tests/cases/nets/two_senders.expected'
+        for words, status, told in [
+                ('%s %s >&-' % (TOOLS / 'summary', report), 2, 'summary: standard output is closed\n'),
+                ('%s - <&-' % (TOOLS / 'summary'), 2, 'summary: standard input is closed\n'),
+                ('%s %s >/dev/null 2>&-' % (TOOLS / 'summary', report), 0, ''),
+                ('%s none.toml 2>&-' % (TOOLS / 'summary'), 2, '')]:
+            done = subprocess.run(['sh', '-c', words], capture_output=True, text=True)
+            self.assertEqual((done.returncode, done.stdout, done.stderr), (status, '', told), words)
+
     def test_an_interrupt_ends_with_130(self):
         words = [sys.executable, '-B', '-c', COMMAND % (str(TOOLS), "print('begun', flush=True); time.sleep(60)")]
         with subprocess.Popen(words, stdout=subprocess.PIPE, stderr=subprocess.PIPE, text=True) as running:

@@ -34,7 +34,9 @@ BODIES = [
     ('print 1\n print 2;', 'missing after `1` on line 1'), ('int x;', 'var x = 0;'), ('x = 1;', '`var x = 0;`'),
     ('while true { }', '`1` is true'), ('print Seq;', 'small letters'), ('sleep 3;', 'yield_until'),
     ('yield_untl fired(t);', '`yield_until`'), ('var z = 0;', 'head of `code`'), ('set tt 4;', '`t`'),
-    ('seq = [1];', 'arrays'), ('seq = (seq & 1);', 'bits'), ('seq = 1.5;', 'whole'), ('seq = 01;', '`1`'),
+    ('seq == 1;', '`=` assigns'), ('send 1 to 2;', 'all who hear it'), ('yield_until is(packt);', '`packet`'),
+    ('print\u00a01;', 'U+00A0'), ('print \u201cx\u201d;', 'U+201C'), ('seq = [1];', 'arrays'),
+    ('seq = (seq & 1);', 'bits'), ('seq = 1.5;', 'whole'), ('seq = 01;', '`1`'),
 ]
 
 SCENARIO = """version = %s
@@ -63,7 +65,7 @@ def scenario(version: str = '1', medium: str = '', program: str = CODE % 'set t 
 
 def hint_of(text: str) -> str:
     fault = scenario_faults.find_fault(text.encode())
-    return hints.of_scenario(explain.tables_or_none(text), fault) or ''
+    return hints.of_scenario(explain.tables_or_none(text), fault, text) or ''
 
 
 class Hints(unittest.TestCase):
@@ -75,7 +77,8 @@ class Hints(unittest.TestCase):
 
     def test_a_declaration(self) -> None:
         for text, wanted in ('process a; code a { var count = 0; body { } }', '`count` is a word'), (
-                'process a; code a { var x; body { } }', '`var x = 0;`'):
+                'process a; code a { var x; body { } }', '`var x = 0;`'), (
+                'process a; code a { timer t; body { } }', '`etimer`'):
             self.assertIn(wanted, hints.of_program(text, find_fault(text)) or '')
 
     def test_a_scenario(self) -> None:
@@ -89,6 +92,10 @@ class Hints(unittest.TestCase):
             (scenario().replace('[medium]', '[medium'), '`[medium]`'), (scenario().replace('[[mote]]', '[[mote]'), '`[[mote]]`'),
             (scenario().replace('end = 9', 'end 9'), '`end = 5`'), (scenario().replace('end = 9', 'end = 9 x = 1'), 'of their own'),
             (scenario().replace('end = 9', 'end = 9\nend = 9'), 'once'), (scenario() + '[medium]\n', 'once'),
+            (scenario().replace('[[mote]]', '[mote]', 1), '`[[mote]]`'),
+            (scenario().replace('program = "source"', 'program = \u201csource\u201d'), 'quotes of another kind'),
+            (scenario().replace('"process', "'''\nprocess").replace(' }"\n', ' }\n'), 'begins on line 9 has no end'),
+            (scenario().replace('"process', '"""process').replace(' }"\n', ' }\n'), 'begins on line 9 has no end'),
         ]:
             with self.subTest(text):
                 self.assertIn(wanted, hint_of(text))

@@ -195,6 +195,7 @@ FAULTS = [
     ('end = 160\n', '', 1, '[medium]', '`end`: a whole number, 0 to 1,000,000'),
     ('end = 160', 'end = 1_000_001', 1, '1_000_001', 'out of range'),
     ('end = 160', 'end = 160\nspeed = 1', 2, 'speed', 'no key of this name'),
+    ('end = 160', 'version = 1\nend = 160', 1, 'version', 'Is this a scenario?'),
     ('base = 2', 'base = 0', 4, '0', '1 to 1,000,000'),
     ('range = 10\n', '', 2, '[medium]', 'needs the key `range`'),
     ('columns = 5', 'colums = 5', 11, 'colums', '`columns`'),

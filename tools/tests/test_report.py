@@ -248,6 +248,27 @@ class Runs(unittest.TestCase):
             found = read_run(scenario)
         self.assertEqual((found.report.text(), found.scenario.end), (EXAMPLE_REPORT, 20))
 
+    def test_a_scenario_and_a_report_are_told_by_their_first_line(self):
+        report = self.write('r.toml', EXAMPLE_REPORT)
+        self.assertIsNone(read_run(report).scenario)
+        with self.as_program('#!/bin/sh\ncat >/dev/null\ncat %s\n' % report):
+            for begin in '', '# A net\n', '\n\n  ', '\ufeff':
+                for name in 'net', 'net.txt', 'net.toml':
+                    self.assertEqual(read_run(self.write(name, begin + EXAMPLE)).scenario.end, 20)
+        for text in '[medium]\n', '"end" = 5\n', 'end=5\n':
+            with self.assertRaisesRegex(ScenarioFault, r'net.txt: the scenario has no key .* \(tools/explain '):
+                read_run(self.write('net.txt', text))
+        for text in 'mote 1 a\n', '0 start etimer\n':
+            with self.assertRaisesRegex(ReportFault, 'net.txt: line 1: expected'):
+                read_run(self.write('net.txt', text))
+        with self.assertRaisesRegex(ReportFault, 'net.txt: line 1: .* ends with LF alone, and not as on Windows'):
+            read_run(self.write('net.txt', EXAMPLE_REPORT.replace('\n', '\r\n')))
+        self.write('net.txt', '').write_bytes(EXAMPLE_REPORT.encode('utf-16'))
+        with self.assertRaisesRegex(Fault, 'net.txt looks like a text in UTF-16, .* as UTF-8: iconv -f UTF-16'):
+            read_run(Path(self.folder.name) / 'net.txt')
+        with self.assertRaisesRegex(Fault, 'net.txt is empty: a report or a scenario is wanted'):
+            read_run(self.write('net.txt', '\n'))
+
     def test_what_can_not_be_run_or_read_has_a_fault(self):
         scenario = self.write('a.toml', EXAMPLE)
         with self.as_program('#!/bin/sh\necho motesim: medium fault 2 >&2\nexit 1\n'):
@@ -258,8 +279,9 @@ class Runs(unittest.TestCase):
                 read_run(scenario)
         with self.assertRaisesRegex(Fault, 'no.report: No such file'):
             read_run('no.report')
-        with self.assertRaisesRegex(Fault, 'a.toml is a scenario itself'):
-            read_run(scenario, scenario)
+        for name in 'a.toml', 'a.txt':
+            with self.assertRaisesRegex(Fault, '%s is a scenario itself' % name):
+                read_run(self.write(name, EXAMPLE), scenario)
         with self.assertRaisesRegex(ReportFault, 'b.report: line 1: expected'):
             read_run(self.write('b.report', 'x\n'))
 

@@ -453,6 +453,12 @@ class Page(unittest.TestCase):
             self.browser.size(width, 900)
             self.browser.settle()
             self.assertLessEqual(self.value('document.documentElement.scrollWidth'), width)
+            cut = self.value('''Array.from(document.querySelectorAll(
+              "#search button, .tools button, header button, #tabs button")).filter(it => {
+                const box = it.getBoundingClientRect();
+                return !box.width || box.left < 0 || box.right > innerWidth || it.scrollWidth > it.clientWidth;
+              }).map(it => it.id || it.textContent)''')
+            self.assertEqual(cut, [], width)
         unnamed = self.value('''Array.from(document.querySelectorAll("button, input, select, canvas, textarea"))
           .filter(it => !(it.textContent.trim() && it.matches("button")) && !it.getAttribute("aria-label") &&
           !(it.labels && it.labels.length) && !it.closest(".CodeMirror")).map(it => it.outerHTML)''')

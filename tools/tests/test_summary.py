@@ -2,6 +2,7 @@
 import csv
 import io
 import json
+import re
 import subprocess
 import sys
 import tempfile
@@ -10,6 +11,8 @@ from pathlib import Path
 
 from here import TOOLS
 from motesim import summary
+from motesim.faults import Fault
+from motesim.flows import flow_rows
 from motesim.report import Report
 from motesim.run import Run
 from motesim.scenario import Scenario
@@ -158,6 +161,31 @@ from to copies received lost ring collided halted late ratio delay
         net = {name: value for name, value in NET.items() if name not in ('mote', 'program')}
         self.assertEqual(json.loads(self.say('--json')), {'motes': MOTES, 'net': net, 'links': LINKS})
         self.assertEqual(json.loads(self.say('--json', '--links')), {'links': LINKS})
+
+    def test_a_flow_that_shows_nothing_says_why(self):
+        for words, told in [
+                ('print hearr', '`print hearr V`, so nothing was delivered; did you mean hearer?'),
+                ('print Hearer', '`print Hearer V`, so nothing was delivered; did you mean hearer?'),
+                ('print x -> print hearer', '`print x V`, so no message began; it has: hearer, talker'),
+                ('print talker', '`print talker V`, so nothing was delivered')]:
+            done = self.run_it('--flow', words)
+            self.assertEqual((done.returncode, done.stderr), (0, 'summary: the report has no line %s\n' % told))
+            self.assertTrue(done.stdout.startswith('origin sent'))
+        self.say('--flow', 'recv')
+
+    def test_a_flow_of_a_process_that_the_scenario_lacks_is_refused(self):
+        programs = 'talker = "process a, b; code a"', 'hearer = "process hearer; // process no;"'
+        scenario = Scenario.parse(SCENARIO.replace('talker = ""', programs[0]).replace('hearer = ""', programs[1]))
+        for words, told in [('print haerer', '; did you mean hearer?'), ('print xyz', '; it has: a, b, hearer'),
+                            ('print a -> print no', '; it has: a, b, hearer')]:
+            with self.assertRaisesRegex(Fault, 'no flow: the scenario has no process .*' + re.escape(told)):
+                flow_rows(Report.parse(REPORT), scenario, words)
+        for words in ('print hearer', 'print b', 'print a -> print hearer', 'print radio', 'send -> recv',
+                      'print talker'):
+            flow_rows(Report.parse(REPORT), scenario, words)
+        talker = Report.parse(REPORT.replace('talker', 'a').replace('mote 0 a', 'mote 0 talker'))
+        with self.assertRaisesRegex(Fault, 'has no process talker; talker is a program, with: a, b$'):
+            flow_rows(talker, scenario, 'print talker')
 
     def test_what_is_no_report_has_status_2(self):
         self.path.write_text(REPORT[:-2], encoding='ascii')

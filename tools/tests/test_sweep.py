@@ -305,6 +305,11 @@ class SweepTest(Bed):
         self.assertGreaterEqual(len(rows), 4)
         self.assertEqual(sorted(row['prints'] for row in rows if row['name'] == 'a'), ['1', '2', '3', '4'])
 
+    @unittest.skipUnless(Path('/dev/full').exists(), 'there is no /dev/full here')
+    def test_results_that_find_the_disk_full_are_named(self):
+        with self.assertRaisesRegex(Fault, '^/dev/full: No space left on device$'):
+            CsvFile(Path('/dev/full'), ['a'])
+
     def test_two_sweeps_do_not_write_one_file(self) -> None:
         file = CsvFile(self.folder / 'both.csv', ['a'])
         with self.assertRaisesRegex(Fault, 'another sweep'):

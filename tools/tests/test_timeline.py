@@ -365,7 +365,7 @@ class Pages(unittest.TestCase):
         run = small_network()
         self.open(run)
         lines = run.report.text().count('\n')
-        self.assertIn('%d lines' % lines, self.value('document.getElementById("about").textContent'))
+        self.assertIn('a report of %d lines' % lines, self.value('document.getElementById("about").textContent'))
 
     def test_labels_are_apart_where_the_page_is_narrow(self):
         self.open(small_network())
@@ -402,10 +402,30 @@ class Pages(unittest.TestCase):
           !(it.labels && it.labels.length)).length''')
         self.assertEqual(unnamed, 0)
 
+    def test_the_names_beside_low_lanes_are_whole(self):
+        """What is drawn after a name doesn't cover it, and moment 0 has its number on the axis."""
+        self.open(Run('many', Report.parse(many(60, 4)), None))
+        for lane in 40, 11, 7, 3:
+            told = self.value('''(() => {
+              const c = pane.context, {fillText, fillRect} = c, drawn = [];
+              c.fillText = (text, x, y, wide) => { drawn.push({text, x, y}); fillText.call(c, text, x, y, wide); };
+              c.fillRect = (x, y, w, h) => { drawn.push({x, y, w, h}); fillRect.call(c, x, y, w, h); };
+              pane.lane = %d;
+              pane.top = 0;
+              m.drawAll();
+              delete c.fillText;
+              delete c.fillRect;
+              const place = drawn.findIndex(it => it.x === 6 && /^(mote )?0$/.test(it.text)), name = drawn[place];
+              const covered = drawn.slice(place + 1).some(it => it.w > 4 && it.x < 10 && it.y < name.y + 5 &&
+                it.y + it.h > name.y - 5);
+              return [place >= 0 && !covered, drawn.some(it => it.text === '0' && it.x > pane.gutter)];
+            })()''' % lane)
+            self.assertEqual(told, [True, True], lane)
+
     def test_many_lanes_are_drawn_as_colours_and_what_is_not_drawn_is_said(self):
         self.open(Run('many', Report.parse(many(900, 40)), None))
         said = self.value('document.getElementById("drawn").textContent')
-        self.assertIn('All 900 lanes, 108,900 lines of the report.', said)
+        self.assertIn('All 900 lanes, 108,900 lines of traces.', said)
         self.assertIn('each pixel has the colour', said)
         self.value('pane.zoomLanes(20 / pane.lane)')
         self.value('m.drawAll()')

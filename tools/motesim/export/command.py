@@ -5,7 +5,7 @@
   tools/export net.toml --to perfetto   net.perfetto.json: a trace (ui.perfetto.dev)
   tools/export net.toml --to csv        net.lines.csv, net.packets.csv, net.copies.csv (pandas, R)
 
-REPORT is a report, or a scenario NAME.toml, which is run. A moment counts as a millisecond. docs/use/EXPORTS.md has
+REPORT is a report, or a scenario, which is run. A moment counts as a millisecond. docs/use/EXPORTS.md has
 the formats, and how the files are opened. Ends with status 0, or with 2 where a file can't be read or written.
 """
 from __future__ import annotations
@@ -54,7 +54,7 @@ def write(path: Path, parts: Iterable[bytes]) -> None:
 @command('export')
 def main() -> int:
     words = words_of(__doc__)
-    words.add_argument('report', metavar='REPORT', help='a report, or a scenario NAME.toml; - is standard input')
+    words.add_argument('report', metavar='REPORT', help='a report, or a scenario; - is standard input')
     words.add_argument('--to', required=True, choices=list(ENDS), help='the form')
     words.add_argument('-o', dest='output', metavar='FILE',
                        help='the file to write, of CSV the beginning of the names; else as that of REPORT')

@@ -52,7 +52,9 @@ def place16(text: str, offset: int) -> list[int]:
 
 def unwrapped(lines: list[str]) -> list[str]:
     """An explanation whose rules stand each on one line, however long, below the place with its mark."""
-    head = 3 if lines and lines[0].endswith(':') else 0
+    head = 0
+    if lines and lines[0].endswith(':'):
+        head = next((row for row, line in enumerate(lines) if row and not line.startswith('  ')), len(lines))
     found = lines[:head]
     for line in lines[head:]:
         if line.startswith('  ') and len(found) > head:

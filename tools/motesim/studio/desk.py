@@ -89,7 +89,7 @@ def document(where: str, name: str, data: bytes) -> Document:
     try:
         text = data.decode('utf-8')
     except UnicodeDecodeError:
-        raise Fault('%s is not UTF-8' % name) from None
+        raise Fault('%s is not UTF-8 (tools/explain %s says more)' % (name, name)) from None
     mark, text = text.startswith(MARK), text.removeprefix(MARK)
     returns = '\r\n' in text and text.count('\r\n') == text.count('\n') == text.count('\r')
     return Document(where, name, text.replace('\r\n', '\n') if returns else text, stamp_of(data), returns, mark)

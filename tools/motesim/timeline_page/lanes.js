@@ -44,8 +44,9 @@ function drawAxis(pane) {
     c.fillStyle = colours.edge;
     if (x >= pane.gutter) c.fillRect(Math.round(x), AXIS - 5, 1, 5);
     c.fillStyle = colours.quiet;
-    const at = pane.x(moment + middle), half = c.measureText(String(moment)).width / 2;
-    if (at - half > pane.gutter && at + half < pane.width - 2) c.fillText(String(moment), at, AXIS / 2);
+    const half = c.measureText(String(moment)).width / 2;
+    const at = Math.max(pane.x(moment + middle), pane.gutter + half + 1);
+    if (x >= pane.gutter && at + half < pane.width - 2) c.fillText(String(moment), at, AXIS / 2);
   }
   c.textAlign = 'left';
   c.fillStyle = colours.panel;
@@ -365,14 +366,19 @@ function drawHeads(pane) {
   for (let g = 0; g < run.groups.length; g++) drawHead(pane, g, most, bin);
 }
 
-/** The names of the motes at the left. */
-function drawNames(pane, from, to) {
-  const {run, context: c} = pane;
+/** The column at the left in which the motes have their names. */
+function drawColumn(pane, from, to) {
+  const {context: c} = pane;
   c.fillStyle = colours.panel;
   for (let place = from; place < to; place++) c.fillRect(0, pane.laneTopOfPlace(place), pane.gutter - 1,
     Math.max(1, pane.lane + 0.5));
   c.fillStyle = colours.edge;
   c.fillRect(pane.gutter - 1, AXIS, 1, pane.height);
+}
+
+/** The names of the motes at the left. */
+function drawNames(pane, from, to) {
+  const {run, context: c} = pane;
   const step = pane.lane >= 11 ? 1 : niceStep(13 / pane.lane), several = run.programs.length > 1;
   c.textBaseline = 'middle';
   for (let place = from; place < to; place++) {
@@ -466,8 +472,10 @@ function drawPane(pane) {
   drawFound(pane, from, to);
   for (const draw of overlays) draw(pane);
   c.restore();
-  drawNames(pane, from, to);
+  drawColumn(pane, from, to);
   drawHeads(pane);
+  // (over the heads: the name beside a low lane is taller than the lane)
+  drawNames(pane, from, to);
   drawAxis(pane);
   drawCursorHead(pane);
   pane.lanes = [from, to];
@@ -483,7 +491,7 @@ function sayDrawn(panes) {
     const which = to - from >= run.begins.length ? `All ${count(run.begins.length, 'lane')}` :
       `${to - from} of ${count(run.begins.length, 'lane')}`;
     const where = panes.length === 1 ? '' : pane.number ? 'Below: ' : 'Above: ';
-    shown.push(`${where}${which}, ${count(said.lines, 'line')} of the report.`);
+    shown.push(`${where}${which}, ${count(said.lines, 'line')} of traces.`);
     if (said.asColours)
       shown.push('Lanes are too low for forms: each pixel has the colour of the most notable line in it ' +
         '(T makes lanes taller).');
@@ -500,5 +508,6 @@ function sayDrawn(panes) {
     } else if (said.copies) shown.push(`Copies of packets: ${said.copies.toLocaleString('en')}, each with its arrow.`);
     parts.push(shown.join(' '));
   }
-  document.getElementById('drawn').textContent = parts.join(' ');
+  const drawn = document.getElementById('drawn');
+  drawn.textContent = drawn.title = parts.join(' ');
 }

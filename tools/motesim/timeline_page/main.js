@@ -268,10 +268,11 @@ function addPane(run, number, several) {
 
 /** Says how much there is to see. */
 function sayAbout() {
-  document.getElementById('about').textContent = panes.map(({run}) => `${run.name}: ` +
+  const about = document.getElementById('about');
+  about.textContent = about.title = panes.map(({run}) => `${run.name}: ` +
     `${count(run.begins.length, 'mote')}, ${count(run.end + 1, 'moment')}, ${count(run.packets, 'packet')}, ` +
     // (the heads of the motes, the packets, and the words `medium` and `left` have lines of the report too)
-    count(run.count + run.begins.length + run.packets + 2, 'line')).join('; ');
+    `a report of ${count(run.count + run.begins.length + run.packets + 2, 'line')}`).join('; ');
   document.getElementById('now').max = time.end;
 }
 

@@ -1,0 +1,61 @@
+"""Texts that aren't UTF-8: which encoding they seem to have, and how they are saved as UTF-8."""
+from __future__ import annotations
+
+import codecs
+from typing import NamedTuple
+
+MARKS = [(codecs.BOM_UTF32_LE, 'UTF-32'), (codecs.BOM_UTF32_BE, 'UTF-32'), (codecs.BOM_UTF16_LE, 'UTF-16'),
+         (codecs.BOM_UTF16_BE, 'UTF-16')]
+LOOKED_AT = 4_096
+
+
+class Encoding(NamedTuple):
+    """An encoding: its name, the one that iconv takes, and by what the text seems to have it."""
+    name: str
+    of_iconv: str
+    sign: str
+
+
+def _has_zeros(data: bytes) -> bool:
+    return data.count(0) * 10 > len(data) * 8
+
+
+def encoding_of(data: bytes) -> Encoding | None:
+    """The encoding that a text seems to have, where that is another than UTF-8 and one can tell."""
+    for mark, name in MARKS:
+        if data.startswith(mark):
+            return Encoding(name, name, 'by the byte order mark that it begins with')
+    even, odd = data[0:LOOKED_AT:2], data[1:LOOKED_AT:2]
+    for ours, other, end in (odd, even, 'LE'), (even, odd, 'BE'):
+        if len(data) >= 4 and _has_zeros(ours) and not other.count(0):
+            return Encoding('UTF-16', 'UTF-16' + end, 'as every second byte is 0')
+    return None
+
+
+def shown(file: str, found: Encoding) -> str:
+    """That a file has another encoding."""
+    return '%s looks like a text in %s, %s.' % (file, found.name, found.sign)
+
+
+def command_for(file: str, found: Encoding) -> str:
+    """A command that saves a file of another encoding as UTF-8."""
+    return 'iconv -f %s -t UTF-8 %s >NEW' % (found.of_iconv, file)
+
+
+def hint(file: str, found: Encoding) -> str:
+    """How a file of another encoding is saved as UTF-8."""
+    return 'Save it as UTF-8: an editor has that under "Save as" or "Encoding". On a command line: `%s`.' % (
+        command_for(file, found))
+
+
+def hint_of_byte(data: bytes) -> str | None:
+    """What the first byte that isn't UTF-8 may be, as editors on Windows once wrote it."""
+    try:
+        data.decode('utf-8')
+        return None
+    except UnicodeDecodeError as fault:
+        byte = data[fault.start:fault.start + 1]
+    sign = byte.decode('cp1252', 'replace')
+    if not sign.isalpha():
+        return None
+    return 'In Latin-1 (Windows-1252) this byte is `%s`: save the file as UTF-8, or write plain letters.' % sign
