@@ -34,8 +34,8 @@ fn write_item(text: &mut String, item: Item) {
 // Takes the next item `count` times, and writes down how many are known before each, and what came.
 fn write_nexts<R: Wait>(rt: &R, text: &mut String, inbox: &Inbox, taker: &mut Taker, count: u8)
     requires { taker.old.inbox ≡ inbox.now }
-    ensures { (taker.new.inbox ≡ inbox.now) × (taker.new.state.made ≡ taker.old.state.made)
-        × (taker.new.state.gathered ≡ taker.old.state.gathered) }
+    ensures { (taker.new.inbox ≡ inbox.now) × (taker.new.state.marked ≡ taker.old.state.marked)
+        × (taker.new.state.made ≡ taker.old.state.made) × (taker.new.state.gathered ≡ taker.old.state.gathered) }
 {
     for _ in 0..count {
         write_known(text, inbox, taker);

@@ -50,17 +50,21 @@ fn refused_one_stays(timers: &mut Timers) -> bool
     let fresh = timers.expired(0);
     timers.set(0, OWN, 1, 0);
     timers.set(1, Proc::Ctimer, 1, 0);
-    let refused = timers.next_due(1, None);
-    let behind = timers.next_due(1, Some(1));
+    let Some((refused, owner)) = timers.next_due(1, None) else {
+        return false;
+    };
+    let behind = timers.next_due(1, Some(refused));
     timers.restart(1, OWN, 5);
     let at_5 = timers.next_due(5, None);
     let at_6 = timers.next_due(6, None);
     timers.stop(1);
+    let at_the_end = timers.next_due(6, None);
     let own = Some((0, OWN));
+    let walked = (refused, owner) == (1, Proc::Ctimer);
     fresh
+        && walked
         && timers.expired(1)
-        && [refused, behind, at_5, at_6, timers.next_due(6, None)]
-            == [Some((1, Proc::Ctimer)), own, own, Some((1, OWN)), own]
+        && [behind, at_5, at_6, at_the_end] == [own, own, Some((1, OWN)), own]
 }
 
 /// Whether two new callbacks answer as they should: each is looked up, the second is put twice, both are looked up
