@@ -6,8 +6,8 @@ report and status 0, or with `motesim: out of memory`, status 1 and a beginning 
 `motesim: run fault 5`, status 1 and no report; and each has to end. The words after FILE are the program's, as
 `--workers 2 --sync marks`. Without FILE small scenarios are tried, on one thread and by two and three workers of both
 kinds: packets that meet and are heard, a full ring, a full queue, a refused timer, and a scenario with a fault. So is
-the program of crates/refused_calls, which asks kernels and motes what they answer once they are out of memory: it has
-to print the same, or to end with status 1 where it has no kernel or mote to ask.
+a test of crates/part_tests, as `rt ci` builds it, which asks kernels and motes what they answer once they are out of
+memory: it has to pass, or to end with an error of its own where it has no kernel or mote to ask.
 
 What refuses is a library in C that stands before the C library. `cc` compiles it, or else the compiler of the Rattle
 kit; where there is neither, nothing is tried and all fails. Ends with a line `N passed, M failed`, and with status 1
@@ -37,7 +37,10 @@ WORKERS = [['--workers', workers, '--sync', sync] for sync in ('joins', 'marks')
 SMALL = [(TOP / file, words) for words in ([], *WORKERS)
          for file in (FILES if words in ([], WORKERS[0]) else FILES[:-1])]
 REFUSES = TOP / 'tools/project/refuses.c'
-CALLS = TOP / 'crates/refused_calls'
+CALLS = TOP / 'crates/part_tests'
+CALLS_TEST = 'tests::refused::once_out_of_memory'
+# The status of a test that returns an error; one whose assertion fails is stopped by a signal.
+RETURNED_ERROR = 101
 SECONDS = 60
 AT_ONCE = 16
 MOST_SHOWN = 10
@@ -104,22 +107,25 @@ class Scenario:
 
 
 class Calls(Scenario):
-    """The program that asks kernels and motes what they answer once they are out of memory."""
+    """The test that asks kernels and motes what they answer once they are out of memory."""
 
     def __init__(self, refuses: Path) -> None:
-        super().__init__(str(CALLS / 'out/refused_calls'), Path(os.devnull), [], refuses)
+        tests = CALLS / 'out' / (CALLS.name + '_tests')
+        super().__init__(str(tests), Path(os.devnull), [CALLS_TEST], refuses)
 
     def kind_of(self, got: Answer, wanted: Answer) -> str | None:
-        if got == Answer(1, b'', b''):
+        if wanted.status != 0:
+            return None
+        if got.status == RETURNED_ERROR:
             return 'nothing to ask'
-        return 'the same answer' if got == wanted and wanted.status == 0 else None
+        return 'the same answer' if got == wanted else None
 
 
 def calls_tried(refuses: Path) -> bool:
-    """Whether that program is built, and each refusal is answered as it should be."""
+    """Whether that test is built, and each refusal is answered as it should be."""
     calls = Calls(refuses)
     if not Path(calls.program).is_file():
-        print('%s is not built' % CALLS.relative_to(TOP))
+        print('the tests of %s are not built' % CALLS.relative_to(TOP))
         return False
     return tried(calls)
 
@@ -135,8 +141,9 @@ def tried(scenario: Scenario) -> bool:
         fault = got.fault[:100].decode('utf-8', 'backslashreplace').strip()
         print('request %d refused: status %s, %s' % (number, got.status, fault or 'no fault line'))
     shown = ', '.join('%d times %s' % (number, kind) for kind, number in sorted(counts.items())) or 'none'
-    path = scenario.path.relative_to(TOP) if TOP in scenario.path.parents else scenario.path
-    name = ' '.join([str(path), *scenario.words]) if path != Path(os.devnull) else str(CALLS.relative_to(TOP))
+    path = scenario.path if scenario.path != Path(os.devnull) else CALLS
+    shown_path = path.relative_to(TOP) if TOP in path.parents else path
+    name = ' '.join([str(shown_path), *scenario.words])
     print('%s: %d requests, each refused in turn: %s' % (name, len(answers), shown), flush=True)
     # (a program that asks for no memory at all isn't reached by the allocator)
     return not wrong and bool(answers)

@@ -151,27 +151,35 @@ class Small(unittest.TestCase):
         for wanted, number in [('', 5), ('--workers 2 --sync joins', 5), ('--workers 3 --sync joins', 4),
                                ('--workers 2 --sync marks', 4), ('--workers 3 --sync marks', 4)]:
             self.assertEqual(words.count(wanted), number)
-        # (and the program of crates/refused_calls)
+        # (and the test of crates/part_tests)
         self.assertIn("tools/refuse_memory program %d\n" % (len(words) + 1), (TOP / 'test').read_text('utf-8'))
         self.assertTrue(all(path.is_file() for path, _ in refuse.SMALL))
 
 
 class Calls(unittest.TestCase):
     def test_what_may_be_answered(self):
-        calls, wanted = refuse.Calls(Path('refuses.so')), refuse.Answer(0, b'[true, true, true, true]\n', b'')
+        calls, wanted = refuse.Calls(Path('refuses.so')), refuse.Answer(0, b'\ntest result: ok', b'')
         self.assertEqual(calls.kind_of(wanted, wanted), 'the same answer')
-        self.assertEqual(calls.kind_of(refuse.Answer(1, b'', b''), wanted), 'nothing to ask')
-        for got in [refuse.Answer(0, b'[true, false, true, true]\n', b''), refuse.Answer(None, b'', b''),
-                    refuse.Answer(1, b'', NO_MEMORY), refuse.Answer(-11, b'', b'')]:
+        no_memory = b'error: Memory\nthe test failed: its result gives status 1\n'
+        self.assertEqual(calls.kind_of(refuse.Answer(101, b'', no_memory), wanted), 'nothing to ask')
+        for got in [refuse.Answer(0, b'', b''), refuse.Answer(None, b'', b''), refuse.Answer(1, b'', NO_MEMORY),
+                    refuse.Answer(-6, b'', b'assertion failed: all_fail_for_good(..)?'), refuse.Answer(-11, b'', b'')]:
             self.assertIsNone(calls.kind_of(got, wanted))
-        broken = refuse.Answer(0, b'[true, true, true, false]\n', b'')
-        self.assertEqual(calls.kind_of(broken, wanted), None)
+        broken = refuse.Answer(-6, b'', b'assertion failed: all_fail_for_good(..)?')
+        self.assertIsNone(calls.kind_of(broken, broken))
+        # (a test that returns an error where nothing is refused: no such test, say)
+        unasked = refuse.Answer(101, b'', b'')
+        self.assertIsNone(calls.kind_of(unasked, unasked))
 
-    def test_a_program_that_is_missing(self):
+    def test_the_test_is_there(self):
+        module = refuse.CALLS_TEST.split('::')
+        source = refuse.CALLS / 'src' / '/'.join(module[:-1])
+        self.assertIn('fn %s(' % module[-1], source.with_suffix('.rt').read_text('utf-8'))
+
+    def test_tests_that_are_missing(self):
         with mock.patch.object(refuse, 'CALLS', TOP / 'crates/no_such_calls'), contextlib.redirect_stdout(io.StringIO()) as said:
             self.assertFalse(refuse.calls_tried(Path('refuses.so')))
-        self.assertIn('crates/no_such_calls is not built', said.getvalue())
-
+        self.assertIn('the tests of crates/no_such_calls are not built', said.getvalue())
 
 
 if __name__ == '__main__':

@@ -11,9 +11,9 @@ mod marks;
 mod medium;
 mod motes;
 mod protothreads;
-mod queues;
+mod refused;
 mod reports;
-mod timers;
+mod small;
 mod workers;
 mod writers;
 

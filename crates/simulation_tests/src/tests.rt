@@ -270,7 +270,7 @@ const SYNCS: &[SyncKind] = &[SyncKind::Joins, SyncKind::Marks];
 #[derive(Clone, Copy)]
 struct Trials<'a> {
     trial: Trial<'a>,
-    workers: &'a [u16],
+    workers: &'a [Option<u16>],
     cuts: &'a [CutKind],
     syncs: &'a [SyncKind],
     want: &'a str,
@@ -285,7 +285,7 @@ where
         for cut in trials.cuts {
             for sync in trials.syncs {
                 let options = Options {
-                    workers: Some(*workers),
+                    workers: *workers,
                     cut: *cut,
                     sync: *sync,
                 };

@@ -7,7 +7,7 @@ mod marks;
 mod nets;
 mod overlaps;
 mod polled;
-mod residents;
+mod lent_motes;
 mod runs;
 mod shares;
 

@@ -1,4 +1,4 @@
-//! Runs of an inbox, in one thread and in several.
+//! Inboxes without marks, in one thread.
 
 ghost use Rattle.std.specs.Prelude.{◌≡◌, false, [], IfOk};
 ghost use Rattle.copy_inbox.specs.Views.{make_taker_state, make_sender_state};
@@ -9,8 +9,6 @@ use radio_packet::RadioCopy;
 use std::alloc::Global;
 use std::sync::Wait;
 use std::test::*;
-use std::thread;
-use std::thread::Threads;
 use test_helpers::{same_text, write_copies};
 
 pub(crate) fn copy(sender: u16, number: u64) -> RadioCopy {
@@ -135,22 +133,8 @@ fn write_of_two<R: Wait>(
     Ok(())
 }
 
-// A sender that is made after another was gathered pushes after it. Writes down what is known and taken.
-fn write_late_sender<R: Wait>(rt: &R, alloc: Global, text: &mut String) -> Result<(), InboxError> {
-    let (inbox, mut taker, mut first) = with_one(alloc, false)?;
-    push(rt, &inbox, &mut first, copy(0, 7));
-    inbox.gather(rt, &mut taker, first);
-    let mut second = inbox.sender(&mut taker)?;
-    push(rt, &inbox, &mut second, copy(1, 8));
-    write_taken(rt, text, &inbox, &mut taker, 1);
-    inbox.gather(rt, &mut taker, second);
-    write_known(text, &inbox, &taker);
-    write_rest(rt, text, inbox, taker);
-    Ok(())
-}
-
 // Copies that two senders push, by their senders and numbers, and how many are taken at most after each is gathered.
-const OF_TWO: &[(&str, &[(u16, u64)], (u64, u64))] = &[
+static OF_TWO: [(&str, &[(u16, u64)], (u64, u64)); 3] = [
     // Two copies of each sender: three are drained, and closing the inbox gives the last.
     ("", &[(0, 0), (1, 0), (1, 1), (0, 1)], (0, 3)),
     // A copy lies in the inbox before its sender is gathered: the taker takes it, though only the other sender's copy
@@ -159,20 +143,20 @@ const OF_TWO: &[(&str, &[(u16, u64)], (u64, u64))] = &[
     ("of nobody|", &[], (0, 0)),
 ];
 
+// Writes down what comes of each row.
 fn write_in_one_thread<R: Wait>(
     rt: &R,
     alloc: Global,
     text: &mut String,
 ) -> Result<(), InboxError> {
-    for (name, copies, most) in OF_TWO {
+    for (name, copies, most) in OF_TWO.as_slice() {
         let _ = text.push_str(name);
         write_of_two(rt, alloc, text, copies, *most)?;
     }
-    let _ = text.push_str("one behind the other|");
-    write_late_sender(rt, alloc, text)
+    Ok(())
 }
 
-/// What is known and taken when senders push, are gathered and are made, all in one thread.
+/// What is known and taken when senders push and are gathered, all in one thread.
 #[test]
 fn in_one_thread(rt: HostRuntime) -> Result<(), Fail> {
     let mut text = String::new(rt.alloc());
@@ -180,127 +164,6 @@ fn in_one_thread(rt: HostRuntime) -> Result<(), Fail> {
     same_text(
         text.as_str(),
         "known 0|known 2|known 2|known 4|5 1 0 0 9|5 1 1 0 9|5 1 1 1 9|known 1|5 1 0 1 9|of both|known 0|known 1|\
-         5 1 1 8 9|known 1|known 1|known 1|5 1 0 7 9|of nobody|known 0|known 0|known 0|known 0|known 0|\
-         one behind the other|known 1|5 1 0 7 9|known 0|known 1|5 1 1 8 9|",
+         5 1 1 8 9|known 1|known 1|known 1|5 1 0 7 9|of nobody|known 0|known 0|known 0|known 0|known 0|",
     )
-}
-
-// Pushes copies numbered from 0, until one comes back.
-fn push_all<R: Wait>(rt: &R, inbox: &Inbox, mut sender: Sender, mote: u16, count: u64) -> Sender
-    requires { sender.inbox ≡ inbox.now }
-    ensures { (result.inbox ≡ inbox.now) × (result.state.number ≡ sender.state.number) }
-{
-    for number in 0..count {
-        if inbox
-            .push_copy(rt, &mut sender, copy(mote, number))
-            .is_err()
-        {
-            break;
-        }
-    }
-    sender
-}
-
-// Two threads push copies.
-fn push_both<R: Threads + Wait + Sync>(
-    rt: &R,
-    inbox: &Inbox,
-    first: Sender,
-    second: Sender,
-    count: u64,
-) -> (Sender, Sender)
-    requires { (first.inbox ≡ inbox.now) × (second.inbox ≡ inbox.now) }
-    ensures first { (result.0.inbox ≡ inbox.now) × (result.0.state.number ≡ first.state.number) }
-    ensures second { (result.1.inbox ≡ inbox.now) × (result.1.state.number ≡ second.state.number) }
-{
-    thread::join(
-        rt,
-        move ||
-            requires { first.inbox ≡ inbox.now }
-            ensures { (result.inbox ≡ inbox.entry.now) × (result.state.number ≡ first.state.number) }
-        { push_all(rt, inbox, first, 0, count) },
-        move ||
-            requires { second.inbox ≡ inbox.now }
-            ensures { (result.inbox ≡ inbox.entry.now) × (result.state.number ≡ second.state.number) }
-        { push_all(rt, inbox, second, 1, count) },
-    )
-}
-
-// Whether these are so many copies of each of two senders, each sender's in order.
-fn are_in_order(copies: &[RadioCopy], counts: [u64; 2]) -> bool {
-    let mut next = [0u64; 2];
-    for copied in copies {
-        let mote = usize::from(copied.sender);
-        if mote >= 2 || *copied != copy(copied.sender, next[mote]) {
-            return false;
-        }
-        next[mote] = next[mote].wrapping_add(1);
-    }
-    next == counts
-}
-
-// Two threads push `count` copies each: all come out when the inbox is closed, each sender's in order.
-fn two_come_out<R: Threads + Wait + Sync>(
-    rt: &R,
-    alloc: Global,
-    count: u64,
-) -> Result<bool, InboxError> {
-    let (inbox, mut taker, first, second) = with_two(alloc, false)?;
-    let (first, second) = push_both(rt, &inbox, first, second, count);
-    inbox.gather(rt, &mut taker, second);
-    inbox.gather(rt, &mut taker, first);
-    let copies = inbox.close(rt, taker)?;
-    Ok(are_in_order(copies.as_slice(), [count; 2]))
-}
-
-// Takes all known copies. Whether they are `count` copies of sender 0, in order.
-fn takes_known<R: Wait>(rt: &R, inbox: &Inbox, mut taker: Taker, count: u64) -> bool
-    requires { (taker.inbox ≡ inbox.now) × (taker.state.marked ≡ false) }
-{
-    let known = inbox.known(&taker);
-    match inbox.drain(rt, &mut taker, known) {
-        Ok(copies) => are_in_order(copies.as_slice(), [count, 0]),
-        Err(_) => false,
-    }
-}
-
-// The same while another thread pushes more.
-fn takes_beside<R: Threads + Wait + Sync>(
-    rt: &R,
-    inbox: &Inbox,
-    taker: Taker,
-    second: Sender,
-    count: u64,
-) -> bool
-    requires { (taker.inbox ≡ inbox.now) × (taker.state.marked ≡ false) × (second.inbox ≡ inbox.now) }
-{
-    let (_second, taken) = thread::join(
-        rt,
-        move ||
-            requires { second.inbox ≡ inbox.now }
-        { push_all(rt, inbox, second, 1, count) },
-        move ||
-            requires { (taker.inbox ≡ inbox.now) × (taker.state.marked ≡ false) }
-        { takes_known(rt, inbox, taker, count) },
-    );
-    taken
-}
-
-// The taker takes the known copies of one sender while another sender pushes more.
-fn first_comes_out<R: Threads + Wait + Sync>(
-    rt: &R,
-    alloc: Global,
-    count: u64,
-) -> Result<bool, InboxError> {
-    let (inbox, mut taker, first, second) = with_two(alloc, false)?;
-    let first = push_all(rt, &inbox, first, 0, count);
-    inbox.gather(rt, &mut taker, first);
-    Ok(takes_beside(rt, &inbox, taker, second, count))
-}
-
-/// Each thread pushes 1,000 copies.
-#[test]
-fn between_threads(rt: HostRuntime) -> Result<(), Fail> {
-    assert!(rt; two_come_out(&rt, rt.alloc(), 1000)? && first_comes_out(&rt, rt.alloc(), 1000)?);
-    Ok(())
 }

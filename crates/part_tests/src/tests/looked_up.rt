@@ -3,7 +3,7 @@
 ghost use Rattle.std.specs.Prelude.{◌<◌, length};
 ghost use Rattle.program_tree.specs.Program.{tree_of};
 
-use mote_program::laws::names_are_declared;
+use mote_program::name_laws::names_are_declared;
 use mote_program::read;
 use program_tree::{Action, Program, Stmt};
 use std::test::Fail;

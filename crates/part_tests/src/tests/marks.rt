@@ -1,4 +1,4 @@
-//! Inboxes with marks, in one thread and in two.
+//! Inboxes with marks, in one thread and in two, and inboxes between threads.
 
 ghost use Rattle.std.specs.Prelude.{◌≡◌, true};
 
@@ -31,13 +31,14 @@ fn write_item(text: &mut String, item: Item) {
     };
 }
 
-// Takes the next item `count` times, and writes down what came.
+// Takes the next item `count` times, and writes down how many are known before each, and what came.
 fn write_nexts<R: Wait>(rt: &R, text: &mut String, inbox: &Inbox, taker: &mut Taker, count: u8)
     requires { taker.old.inbox ≡ inbox.now }
-    ensures { (taker.new.inbox ≡ inbox.now) × (taker.new.state.made ≡ taker.old.state.made)
-        × (taker.new.state.gathered ≡ taker.old.state.gathered) }
+    ensures { (taker.new.inbox ≡ inbox.now) × (taker.new.state.marked ≡ taker.old.state.marked)
+        × (taker.new.state.made ≡ taker.old.state.made) × (taker.new.state.gathered ≡ taker.old.state.gathered) }
 {
     for _ in 0..count {
+        write_known(text, inbox, taker);
         match inbox.take_next(rt, taker) {
             None => {
                 let _ = text.push_str("none|");
@@ -47,152 +48,120 @@ fn write_nexts<R: Wait>(rt: &R, text: &mut String, inbox: &Inbox, taker: &mut Ta
     }
 }
 
-// What two senders pushed is taken in order, each item with its sender's number, though none is known; then the inbox
-// is empty, and nothing is left at the end.
+// What two senders push is taken item by item, each with its sender's number, whether it is known or not. The second
+// sender is made once the first one is gathered. At the end nothing is left.
 #[tactic(auto, using(copy_inbox::proofs::Counts::none_left))]
-fn write_marked<R: Wait>(rt: &R, alloc: Global, text: &mut String) -> Result<(), InboxError> {
-    let (inbox, mut taker, mut first, mut second) = with_two(alloc, true)?;
+fn write_items<R: Wait>(rt: &R, alloc: Global, text: &mut String) -> Result<(), InboxError> {
+    let (inbox, mut taker, mut first) = with_one(alloc, true)?;
     push(rt, &inbox, &mut first, copy(0, 7));
     push_mark(rt, &inbox, &mut first, 0);
-    push_mark(rt, &inbox, &mut second, 0);
-    write_nexts(rt, text, &inbox, &mut taker, 4);
+    write_nexts(rt, text, &inbox, &mut taker, 1);
     inbox.gather(rt, &mut taker, first);
+    let mut second = inbox.sender(&mut taker)?;
+    push_mark(rt, &inbox, &mut second, 0);
+    push(rt, &inbox, &mut second, copy(1, 8));
+    write_nexts(rt, text, &inbox, &mut taker, 2);
     inbox.gather(rt, &mut taker, second);
+    write_nexts(rt, text, &inbox, &mut taker, 2);
     if inbox.known(&taker) == 0 {
         write_rest(rt, text, inbox, taker);
-    } else {
-        let _ = text.push_str("some are known|");
     }
     Ok(())
 }
 
-// Marks and copies that weren't taken are known once their sender is gathered, and are taken then.
-fn write_known_marks<R: Wait>(rt: &R, alloc: Global, text: &mut String) -> Result<(), InboxError> {
-    let (inbox, mut taker, mut only) = with_one(alloc, true)?;
-    push_mark(rt, &inbox, &mut only, 0);
-    push(rt, &inbox, &mut only, copy(0, 0));
-    push_mark(rt, &inbox, &mut only, 1);
-    write_known(text, &inbox, &taker);
-    inbox.gather(rt, &mut taker, only);
-    write_known(text, &inbox, &taker);
-    write_nexts(rt, text, &inbox, &mut taker, 1);
-    write_known(text, &inbox, &taker);
-    write_nexts(rt, text, &inbox, &mut taker, 3);
-    write_known(text, &inbox, &taker);
-    Ok(())
-}
-
-// An inbox without marks gives its copies one by one too.
-fn write_one_by_one<R: Wait>(rt: &R, alloc: Global, text: &mut String) -> Result<(), InboxError> {
-    let (inbox, mut taker, mut first, mut second) = with_two(alloc, false)?;
-    write_nexts(rt, text, &inbox, &mut taker, 1);
-    push(rt, &inbox, &mut second, copy(1, 0));
-    push(rt, &inbox, &mut first, copy(0, 0));
-    write_nexts(rt, text, &inbox, &mut taker, 3);
-    Ok(())
-}
-
-fn write_items<R: Wait>(rt: &R, alloc: Global, text: &mut String) -> Result<(), InboxError> {
-    write_marked(rt, alloc, text)?;
-    let _ = text.push_str("known marks|");
-    write_known_marks(rt, alloc, text)?;
-    let _ = text.push_str("no marks|");
-    write_one_by_one(rt, alloc, text)
-}
-
-/// What is taken of inboxes with marks and without, and what is known of it.
+/// Before each item, and at the end, stands how many are known.
 #[test]
 fn items_one_by_one(rt: HostRuntime) -> Result<(), Fail> {
     let mut text = String::new(rt.alloc());
     write_items(&rt, rt.alloc(), &mut text)?;
     same_text(
         text.as_str(),
-        "of 0 5 1 0 7 9|of 0 mark 0|of 1 mark 0|none|known marks|known 0|known 3|of 0 mark 0|known 2|of 0 5 1 0 0 9|\
-         of 0 mark 1|none|known 0|no marks|none|of 1 5 1 1 0 9|of 0 5 1 0 0 9|none|",
+        "known 0|of 0 5 1 0 7 9|known 1|of 0 mark 0|known 0|of 1 mark 0|known 1|of 1 5 1 1 8 9|known 0|none|",
     )
 }
 
-// Pushes three copies and the mark of each window.
-fn push_windows<R: Wait>(rt: &R, inbox: &Inbox, mut sender: Sender, windows: u64)
+// Pushes three copies of a mote and the mark of each window.
+fn push_windows<R: Wait>(rt: &R, inbox: &Inbox, mut sender: Sender, mote: u16, windows: u64)
     requires inbox { sender.inbox ≡ inbox.now }
     requires marked { sender.state.marked ≡ true }
 {
     for window in 0..windows {
-        push(rt, inbox, &mut sender, copy(0, 0));
-        push(rt, inbox, &mut sender, copy(0, 1));
-        push(rt, inbox, &mut sender, copy(0, 2));
+        for number in 0..3 {
+            push(rt, inbox, &mut sender, copy(mote, number));
+        }
         push_mark(rt, inbox, &mut sender, window);
     }
 }
 
-// What was taken of the windows.
-#[derive(Clone, Copy)]
-struct Heard {
-    /// How many windows had three copies before their mark.
-    full: u64,
-    /// How many copies of the window were taken.
-    copies: u64,
-    /// How many marks were taken, if none is missing.
-    marks: u64,
-}
-
-// What was taken, this item included.
-fn after(heard: Heard, what: Carried) -> Heard {
-    match what {
-        Carried::Packet(copied) => Heard {
-            copies: heard
-                .copies
-                .wrapping_add(u64::from(copied.number == heard.copies)),
-            ..heard
-        },
-        Carried::Mark(window) => Heard {
-            full: heard.full.wrapping_add(u64::from(heard.copies == 3)),
-            copies: 0,
-            marks: window.wrapping_add(1),
-        },
+// Whether this is what its sender pushed at this position.
+fn is_pushed(item: Item, position: u64) -> bool {
+    match item.what {
+        Carried::Packet(copied) => {
+            u64::from(copied.sender) == item.sender
+                && position % 4 < 3
+                && copied == copy(copied.sender, position % 4)
+        }
+        Carried::Mark(window) => position % 4 == 3 && window == position / 4,
     }
 }
 
-// Takes items until the mark of the last window has come, and yields the processor while the inbox is empty. Returns
-// in how many windows three copies came before the mark.
-fn take_windows<R: Wait>(rt: &R, inbox: &Inbox, mut taker: Taker, windows: u64) -> u64
+// Takes what two senders push in so many windows each, and yields the processor while the inbox is empty. Returns
+// whether all came, and each sender's in order.
+fn take_windows<R: Wait>(rt: &R, inbox: &Inbox, mut taker: Taker, windows: u64) -> bool
     requires { taker.inbox ≡ inbox.now }
 {
-    let mut heard = Heard {
-        full: 0,
-        copies: 0,
-        marks: 0,
-    };
+    let all = [windows.wrapping_mul(4); 2];
+    let mut next = [0u64; 2];
     for _ in rt.forever() {
-        if heard.marks == windows {
-            return heard.full;
+        if next == all {
+            return true;
         }
         match inbox.take_next(rt, &mut taker) {
             None => thread::yield_now(),
-            Some(item) => heard = after(heard, item.what),
+            Some(item) => {
+                let index = item.sender as usize;
+                if index >= 2 || !is_pushed(item, next[index]) {
+                    return false;
+                }
+                next[index] = next[index].wrapping_add(1);
+            }
         }
     }
     unreachable!()
 }
 
-fn both<R: Threads + Wait + Sync>(rt: &R, alloc: Global, windows: u64) -> Result<u64, InboxError> {
-    let (inbox, taker, sender) = with_one(alloc, true)?;
-    let shared = &inbox;
-    let ((), full) = thread::join(
-        rt,
-        move ||
-            requires { (sender.inbox ≡ shared.now) × (sender.state.marked ≡ true) }
-        { push_windows(rt, shared, sender, windows) },
-        move ||
-            requires { taker.inbox ≡ shared.now }
-        { take_windows(rt, shared, taker, windows) },
-    );
-    Ok(full)
+// Pushes the second sender's windows, and takes both senders'.
+fn push_and_take<R: Wait>(rt: &R, inbox: &Inbox, taker: Taker, second: Sender, windows: u64) -> bool
+    requires taker { taker.inbox ≡ inbox.now }
+    requires second { (second.inbox ≡ inbox.now) × (second.state.marked ≡ true) }
+{
+    push_windows(rt, inbox, second, 1, windows);
+    take_windows(rt, inbox, taker, windows)
 }
 
-/// One thread pushes copies and marks while another takes them: before each mark come all copies of its window.
+fn all_come<R: Threads + Wait + Sync>(
+    rt: &R,
+    alloc: Global,
+    windows: u64,
+) -> Result<bool, InboxError> {
+    let (inbox, taker, first, second) = with_two(alloc, true)?;
+    let shared = &inbox;
+    let ((), all) = thread::join(
+        rt,
+        move ||
+            requires { (first.inbox ≡ shared.now) × (first.state.marked ≡ true) }
+        { push_windows(rt, shared, first, 0, windows) },
+        move ||
+            requires { (taker.inbox ≡ shared.now) × (second.inbox ≡ shared.now) × (second.state.marked ≡ true) }
+        { push_and_take(rt, shared, taker, second, windows) },
+    );
+    Ok(all)
+}
+
+/// Two threads push copies and marks at once, and one of them then takes what both push: before each mark come all
+/// copies of its window.
 #[test]
-fn marks_between_threads(rt: HostRuntime) -> Result<(), Fail> {
-    assert!(rt; both(&rt, rt.alloc(), 1000)? == 1000);
+fn between_threads(rt: HostRuntime) -> Result<(), Fail> {
+    assert!(rt; all_come(&rt, rt.alloc(), 1000)?);
     Ok(())
 }

@@ -2,7 +2,7 @@
 
 use super::{PRINT_THEN_YIELD, Sink, Source, front_of};
 use simulation::{RunError, SimError, run_command, status_of};
-use std::alloc::AllocError;
+use std::alloc::{AllocError, Global};
 use std::random::RandomSource;
 use std::rt::Files;
 use std::sync::Wait;
@@ -20,20 +20,14 @@ static FAULTS: [RunError; 6] = [
     RunError::Stopped,
 ];
 
-#[test]
-fn faults_of_the_run(rt: HostRuntime) -> Result<(), Fail> {
-    let mut text = String::new(rt.alloc());
+/// Writes down the program's status and line for each of them.
+fn write_faults(alloc: Global, text: &mut String) -> Result<(), AllocError> {
     for fault in FAULTS.as_slice() {
-        let mut errors = Sink::new(rt.alloc(), usize::MAX, usize::MAX, true);
+        let mut errors = Sink::new(alloc, usize::MAX, usize::MAX, true);
         let status = status_of(Err(SimError::Run(*fault)), &mut errors);
         write!(text, "{status} {}", errors.text)?;
     }
-    same_text(
-        text.as_str(),
-        "\
-            1 motesim: run fault 1\n1 motesim: run fault 2\n1 motesim: run fault 3\n1 motesim: out of memory\n\
-            1 motesim: run fault 5\n1 motesim: run fault 6\n",
-    )
+    Ok(())
 }
 
 /// The scenario; after how many calls the reader, the report's writer and the faults' writer fail; and whether the two
@@ -100,15 +94,17 @@ static FAILING: [Streams<'static>; 6] = [
 ];
 
 #[test]
-fn failing_streams(rt: HostRuntime) -> Result<(), Fail> {
+fn faults_and_failing_streams(rt: HostRuntime) -> Result<(), Fail> {
     let mut text = String::new(rt.alloc());
+    write_faults(rt.alloc(), &mut text)?;
     for streams in FAILING.as_slice() {
         write_command(&rt, &mut text, *streams)?;
     }
     same_text(
         text.as_str(),
         "\
-            0 Some(89) |1 Some(0) motesim: read fault\n|1 Some(7) motesim: write fault\n\
+            1 motesim: run fault 1\n1 motesim: run fault 2\n1 motesim: run fault 3\n1 motesim: out of memory\n\
+            1 motesim: run fault 5\n1 motesim: run fault 6\n0 Some(89) |1 Some(0) motesim: read fault\n|1 Some(7) motesim: write fault\n\
             |1 Some(7) motesim: write fault\n|1 Some(0) |1 Some(0) motesim|",
     )
 }

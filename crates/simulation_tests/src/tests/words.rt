@@ -37,21 +37,6 @@ static ASKED: [&[&str]; 10] = [
     &["motesim", "--sync", "x"],
 ];
 
-#[test]
-fn what_the_words_ask_for(rt: HostRuntime) -> Result<(), Fail> {
-    let mut text = String::new(rt.alloc());
-    for words in ASKED.as_slice() {
-        write_asked(rt.alloc(), &mut text, words)?;
-    }
-    same_text(
-        text.as_str(),
-        "\
-            None None Block Joins|None Some(2) Block Joins|None None Block Joins|None None Stripe Joins|\
-            Some(\"a.toml\") None Block Joins|Some(\"a.toml\") Some(16) Stripe Joins|None None Block Joins|\
-            None None Block Marks|Some(\"a.toml\") Some(4) Block Marks|a fault|",
-    )
-}
-
 /// Streams that give and take all bytes in one call.
 const WIDE: Trial<'static> = Trial {
     gives: usize::MAX,
@@ -94,14 +79,20 @@ static RUNS: [&[&str]; 9] = [
 /// With joins each worker is started in each of two windows, with marks once. Of sixteen workers, blocks give the
 /// motes to 0, 5 and 10, and stripes to 0, 1 and 2; of three or four workers either cut gives them to 0, 1 and 2.
 #[test]
-fn runs_by_the_words(rt: HostRuntime) -> Result<(), Fail> {
+fn what_the_words_ask_for(rt: HostRuntime) -> Result<(), Fail> {
     let mut text = String::new(rt.alloc());
+    for words in ASKED.as_slice() {
+        write_asked(rt.alloc(), &mut text, words)?;
+    }
     for words in RUNS.as_slice() {
         write_run(&rt, &mut text, words)?;
     }
     same_text(
         text.as_str(),
         "\
+            None None Block Joins|None Some(2) Block Joins|None None Block Joins|None None Stripe Joins|\
+            Some(\"a.toml\") None Block Joins|Some(\"a.toml\") Some(16) Stripe Joins|None None Block Joins|\
+            None None Block Marks|Some(\"a.toml\") Some(4) Block Marks|a fault|\
             None Ok(()) Some(405) 0 0 0|None Ok(()) Some(405) 0 0 0|None Ok(()) Some(405) 0 0 0|\
             Some(1) Ok(()) Some(405) 2 1 3|Some(3) Ok(()) Some(405) 6 4 0|Some(16) Ok(()) Some(405) 32 1 3|\
             Some(4) Ok(()) Some(405) 8 4 0|Some(3) Ok(()) Some(405) 3 4 0|Some(16) Ok(()) Some(405) 16 4 0|",

@@ -1,7 +1,7 @@
 //! Simulations by workers: who takes which turn, how many threads there are, and what happens when one isn't started.
 
-use super::{CUTS, PRINTING, SENDING, SYNCS, Told, Trial, Trials, Way, all_tell, tells};
-use simulation::{CutKind, Options, SyncKind};
+use super::{CUTS, PRINTING, SENDING, SYNCS, Told, Trial, Trials, all_tell};
+use simulation::{CutKind, SyncKind};
 use std::test::Fail;
 
 /// Four motes that don't hear one another, with one turn each.
@@ -38,14 +38,16 @@ const FOUR_MOTES: Told = Told {
         0 start etimer\n0 start ctimer\n0 start radio\n0 start a\n0 print a 1\nmedium\nleft 0\n",
 };
 
-static TURNS: [Trials<'static>; 2] = [
+/// Trials by workers, and what is written down of each.
+static TRIALS: [Trials<'static>; 21] = [
+    // Each turn is taken by the worker of its mote, in one window with a start for each of two workers.
     Trials {
         trial: Trial {
             told: FOUR_MOTES,
             of: &[0, 0, 1, 1],
             ..PRINTING
         },
-        workers: &[2],
+        workers: &[Some(2)],
         cuts: &[CutKind::Block],
         syncs: SYNCS,
         want: "Ok(()) Some(314) 2 4 0|",
@@ -56,51 +58,38 @@ static TURNS: [Trials<'static>; 2] = [
             of: &[0, 1, 0, 1],
             ..PRINTING
         },
-        workers: &[2],
+        workers: &[Some(2)],
         cuts: &[CutKind::Stripe],
         syncs: SYNCS,
         want: "Ok(()) Some(314) 2 4 0|",
     },
-];
-
-/// Each turn is taken by the worker of its mote, in one window with a start for each of two workers.
-#[test]
-fn turns_by_the_cuts(rt: HostRuntime) -> Result<(), Fail> {
-    all_tell(&rt, TURNS.as_slice())
-}
-
-/// Without workers no start is asked for, and the gate sees no turn.
-#[test]
-fn no_workers(rt: HostRuntime) -> Result<(), Fail> {
-    let options = Options {
-        workers: None,
-        cut: CutKind::Stripe,
-        sync: SyncKind::Marks,
-    };
-    let none = Options::default();
-    tells(&rt, SENDING, Way::With(options), "Ok(()) Some(405) 0 0 0|")?;
-    tells(&rt, PRINTING, Way::With(none), "Ok(()) Some(89) 0 0 0|")
-}
-
-/// Runs of one mote with one turn, and so one window, and then runs of two windows.
-static STARTS: [Trials<'static>; 9] = [
+    // Without workers no start is asked for, and the gate sees no turn.
+    Trials {
+        trial: SENDING,
+        workers: &[None],
+        cuts: CUTS,
+        syncs: SYNCS,
+        want: "Ok(()) Some(405) 0 0 0|",
+    },
+    // With joins each worker is started in each window, with marks once: first runs of one mote with one turn, and so
+    // one window, and then runs of two windows.
     Trials {
         trial: PRINTING,
-        workers: &[1],
+        workers: &[Some(1)],
         cuts: CUTS,
         syncs: SYNCS,
         want: "Ok(()) Some(89) 1 1 0|",
     },
     Trials {
         trial: PRINTING,
-        workers: &[3],
+        workers: &[Some(3)],
         cuts: CUTS,
         syncs: SYNCS,
         want: "Ok(()) Some(89) 3 1 0|",
     },
     Trials {
         trial: PRINTING,
-        workers: &[16],
+        workers: &[Some(16)],
         cuts: CUTS,
         syncs: SYNCS,
         want: "Ok(()) Some(89) 16 1 0|",
@@ -110,7 +99,7 @@ static STARTS: [Trials<'static>; 9] = [
             of: &[0, 0, 1],
             ..SENDING
         },
-        workers: &[2],
+        workers: &[Some(2)],
         cuts: &[CutKind::Block],
         syncs: &[SyncKind::Joins],
         want: "Ok(()) Some(405) 4 4 0|",
@@ -120,14 +109,14 @@ static STARTS: [Trials<'static>; 9] = [
             of: &[0, 1, 0],
             ..SENDING
         },
-        workers: &[2],
+        workers: &[Some(2)],
         cuts: &[CutKind::Stripe],
         syncs: &[SyncKind::Joins],
         want: "Ok(()) Some(405) 4 4 0|",
     },
     Trials {
         trial: SENDING,
-        workers: &[3],
+        workers: &[Some(3)],
         cuts: &[CutKind::Stripe],
         syncs: &[SyncKind::Joins],
         want: "Ok(()) Some(405) 6 4 0|",
@@ -137,7 +126,7 @@ static STARTS: [Trials<'static>; 9] = [
             of: &[0, 0, 1],
             ..SENDING
         },
-        workers: &[2],
+        workers: &[Some(2)],
         cuts: &[CutKind::Block],
         syncs: &[SyncKind::Marks],
         want: "Ok(()) Some(405) 2 4 0|",
@@ -147,34 +136,26 @@ static STARTS: [Trials<'static>; 9] = [
             of: &[0, 1, 0],
             ..SENDING
         },
-        workers: &[2],
+        workers: &[Some(2)],
         cuts: &[CutKind::Stripe],
         syncs: &[SyncKind::Marks],
         want: "Ok(()) Some(405) 2 4 0|",
     },
     Trials {
         trial: SENDING,
-        workers: &[3],
+        workers: &[Some(3)],
         cuts: &[CutKind::Stripe],
         syncs: &[SyncKind::Marks],
         want: "Ok(()) Some(405) 3 4 0|",
     },
-];
-
-/// With joins each worker is started in each window, with marks once.
-#[test]
-fn starts_by_windows(rt: HostRuntime) -> Result<(), Fail> {
-    all_tell(&rt, STARTS.as_slice())
-}
-
-/// One worker isn't allowed to start.
-static REFUSED: [Trials<'static>; 4] = [
+    // One worker isn't allowed to start, and no start is asked for after that. With marks the workers that were
+    // started wait for one that wasn't, and still end.
     Trials {
         trial: Trial {
             shut: Some(0),
             ..SENDING
         },
-        workers: &[2],
+        workers: &[Some(2)],
         cuts: CUTS,
         syncs: SYNCS,
         want: "Err(Run(Thread)) Some(0) 1|",
@@ -184,7 +165,7 @@ static REFUSED: [Trials<'static>; 4] = [
             shut: Some(1),
             ..SENDING
         },
-        workers: &[2],
+        workers: &[Some(2)],
         cuts: CUTS,
         syncs: SYNCS,
         want: "Err(Run(Thread)) Some(0) 2|",
@@ -194,7 +175,7 @@ static REFUSED: [Trials<'static>; 4] = [
             shut: Some(1),
             ..SENDING
         },
-        workers: &[3],
+        workers: &[Some(3)],
         cuts: CUTS,
         syncs: SYNCS,
         want: "Err(Run(Thread)) Some(0) 2|",
@@ -204,24 +185,15 @@ static REFUSED: [Trials<'static>; 4] = [
             shut: Some(2),
             ..SENDING
         },
-        workers: &[3],
+        workers: &[Some(3)],
         cuts: CUTS,
         syncs: SYNCS,
         want: "Err(Run(Thread)) Some(0) 3|",
     },
-];
-
-/// No start is asked for after one that is refused. With marks the workers that were started wait for one that wasn't,
-/// and still end.
-#[test]
-fn refused_starts(rt: HostRuntime) -> Result<(), Fail> {
-    all_tell(&rt, REFUSED.as_slice())
-}
-
-static WRONG_NUMBERS: [Trials<'static>; 3] = [
+    // A wrong number of workers is refused after the faults of reading the scenario.
     Trials {
         trial: PRINTING,
-        workers: &[0, 17, 65535],
+        workers: &[Some(0), Some(17), Some(65535)],
         cuts: &[CutKind::Stripe],
         syncs: SYNCS,
         want: "Err(Run(Workers)) Some(0) 0|",
@@ -231,7 +203,7 @@ static WRONG_NUMBERS: [Trials<'static>; 3] = [
             instead: Some(b"end = \xff"),
             ..PRINTING
         },
-        workers: &[0, 17, 65535],
+        workers: &[Some(0), Some(17), Some(65535)],
         cuts: &[CutKind::Stripe],
         syncs: SYNCS,
         want: "Err(NotText) Some(0) 0|",
@@ -241,15 +213,36 @@ static WRONG_NUMBERS: [Trials<'static>; 3] = [
             instead: Some(b"end ="),
             ..PRINTING
         },
-        workers: &[0, 17, 65535],
+        workers: &[Some(0), Some(17), Some(65535)],
         cuts: &[CutKind::Stripe],
         syncs: SYNCS,
         want: "Err(Scenario(Toml)) Some(0) 0|",
     },
+    // A failing reader is reported before anything is started, and a failing writer once the run is done.
+    Trials {
+        trial: Trial {
+            reads: 3,
+            ..PRINTING
+        },
+        workers: &[Some(2)],
+        cuts: &[CutKind::Block],
+        syncs: SYNCS,
+        want: "Err(Read) Some(0) 0|",
+    },
+    Trials {
+        trial: Trial {
+            writes: 7,
+            ..PRINTING
+        },
+        workers: &[Some(2)],
+        cuts: &[CutKind::Block],
+        syncs: SYNCS,
+        want: "Err(Print(Write)) Some(7) 2|",
+    },
 ];
 
-/// A wrong number of workers is refused after the faults of reading the scenario.
+/// Who takes which turn, how many threads are started, and what is reported where something fails.
 #[test]
-fn wrong_numbers_of_workers(rt: HostRuntime) -> Result<(), Fail> {
-    all_tell(&rt, WRONG_NUMBERS.as_slice())
+fn trials_by_workers(rt: HostRuntime) -> Result<(), Fail> {
+    all_tell(&rt, TRIALS.as_slice())
 }

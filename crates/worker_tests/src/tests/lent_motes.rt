@@ -2,7 +2,7 @@
 
 ghost use Rattle.std.specs.Prelude.{◌≡◌, ◌≤◌, ◌<◌, ℕ, true, length, IfOk};
 ghost use Rattle.mote_net.specs.Net.{net_of};
-ghost use Rattle.worker_window.specs.Shares.{AreGoingOn, AreInNet, ResidentGoesOn};
+ghost use Rattle.worker_window.specs.Shares.{AreGoingOn, AreInNet, LentMoteGoesOn};
 ghost use Rattle.worker_window.specs.MoteWindow.{is_rising};
 
 use super::BUSY_PAIR;
@@ -17,24 +17,24 @@ use std::sync::atomic::AtomicU64;
 use std::sync::atomic::Ordering::SeqCst;
 use std::test::Fail;
 use test_helpers::{TWO_SENDERS, same_text, write_lines, write_sends};
-use worker_window::{Gate, NoGate, Resident, Residents, WindowOut, WindowRoom, run_share};
+use worker_window::{Gate, NoGate, LentMote, LentMotes, WindowOut, WindowRoom, run_share};
 
 /// A new mote of a net, with the copies that come to it.
-fn resident(
+fn lent_mote(
     alloc: Global,
     net: &Net,
     number: u16,
     copies: Vec<RadioCopy>,
-) -> Result<Resident, Refused>
+) -> Result<LentMote, Refused>
     requires there { number < length (net_of net.now).motes }
     requires rising { is_rising copies.items ≡ true }
-    ensures number { IfOk result (λ resident. resident.number ≡ number) }
-    ensures goes_on { IfOk result (λ resident. (until : ℕ) → ResidentGoesOn (net_of net.now) until resident) }
+    ensures number { IfOk result (λ lent. lent.number ≡ number) }
+    ensures goes_on { IfOk result (λ resident. (until : ℕ) → LentMoteGoesOn (net_of net.now) until lent) }
 {
     let Ok(mote) = Mote::new(alloc, number, net.program(number), 32) else {
         return Err(Refused::Memory);
     };
-    Ok(Resident {
+    Ok(LentMote {
         number,
         mote,
         copies,
@@ -43,18 +43,18 @@ fn resident(
 }
 
 /// One worker with motes 0 and 1 of a net, and the copies that come to mote 1.
-fn share_of_two(alloc: Global, net: &Net, copies: Vec<RadioCopy>) -> Result<Residents, Refused>
+fn share_of_two(alloc: Global, net: &Net, copies: Vec<RadioCopy>) -> Result<LentMotes, Refused>
     requires there { 2 ≤ length (net_of net.now).motes }
     requires rising { is_rising copies.items ≡ true }
-    ensures there { IfOk result (λ share. AreInNet (net_of net.now) share.residents.items) }
-    ensures go_on { IfOk result (λ share. (until : ℕ) → AreGoingOn (net_of net.now) until share.residents.items) }
+    ensures there { IfOk result (λ share. AreInNet (net_of net.now) share.lent_motes.items) }
+    ensures go_on { IfOk result (λ share. (until : ℕ) → AreGoingOn (net_of net.now) until share.lent_motes.items) }
 {
-    let mut residents = Vec::with_capacity(alloc, 2)?;
-    residents.push_reserved(resident(alloc, net, 0, Vec::new(alloc))?);
-    residents.push_reserved(resident(alloc, net, 1, copies)?);
-    Ok(Residents {
+    let mut lent_motes = Vec::with_capacity(alloc, 2)?;
+    lent_motes.push_reserved(lent_mote(alloc, net, 0, Vec::new(alloc))?);
+    lent_motes.push_reserved(lent_mote(alloc, net, 1, copies)?);
+    Ok(LentMotes {
         worker: 0,
-        residents,
+        lent_motes,
     })
 }
 

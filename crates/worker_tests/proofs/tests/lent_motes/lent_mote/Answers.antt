@@ -2,7 +2,7 @@ use Rattle.std.specs.List.{slice_get}
 use Rattle.program_tree.specs.Program.{tree_of}
 use Rattle.mote_net.specs.Net.{net_of}
 use Rattle.worker_tests.proofs.NewMotes.{new_goes_on}
-use Rattle.worker_tests.proofs.tests.residents.resident.Goals as goal
+use Rattle.worker_tests.proofs.tests.lent_motes.lent_mote.Goals as goal
 
 pub returns-clause-goes_on : goal.returns-clause-goes_on
 returns-clause-goes_on c = λ until.
