@@ -383,7 +383,7 @@ impl Inbox {
         Ok(copies)
     }
 
-    /// Ends the inbox, and returns all that is left in it. If an allocation fails, that is lost.
+    /// Ends the inbox, and returns all that is left in it. If an allocation fails, it is given up.
     pub fn close<R: Wait>(self, rt: &R, taker: Taker) -> Result<Vec<RadioCopy>, InboxError>
         requires inbox { taker.inbox ≡ self }
         requires gathered { AllGathered taker.state }

@@ -19,7 +19,7 @@ pub struct Posted {
     pub event: Event,
 }
 
-/// What a full queue returns (`PROCESS_ERR_FULL` of `process.h`). The event that was posted is lost.
+/// What a full queue returns (`PROCESS_ERR_FULL` of `process.h`). Nobody gets the event that was posted.
 #[derive(Clone, Copy, Debug, PartialEq, Eq)]
 pub struct Full;
 

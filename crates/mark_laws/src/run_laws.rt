@@ -1,4 +1,5 @@
-//! The laws. Each is a theorem, stated as the contract of an empty function.
+//! Laws of the threads: what they promise is a run of the protocol. Each is a theorem, stated as the contract of an
+//! empty function.
 
 ghost use Rattle.mark_laws.specs.RunLaws.{EachRunHasAll, RunsEndAtEnd, MarksLeadOn, SendersAreApart};
 ghost use Rattle.mark_laws.specs.RunLaws.{NoCopyIsUnexpected};

@@ -61,7 +61,7 @@ IsDue s id moment = IsTrue (is_member id s.listed) × (expiration (timer_at s.ti
 abbrev pub ListedOnce : Type 0
 ListedOnce = (n : ℕ) (calls : List TimerCall) → IsDistinct nat_eq (after_calls (new_timers n) calls).listed
 
--- no call makes a timer or loses one
+-- no call adds a timer or takes one away
 abbrev pub KeepsTimers : Type 0
 KeepsTimers = (s : TimerLists) (calls : List TimerCall) → length (after_calls s calls).timers ≡ length s.timers
 

@@ -8,7 +8,7 @@ pub fn listed_once()
     ensures { ListedOnce }
 {}
 
-/// No call makes a timer or loses one: the numbers that a caller may use stay the same.
+/// No call adds a timer or takes one away: the numbers that a caller may use stay the same.
 pub fn timers_stay()
     ensures { KeepsTimers }
 {}

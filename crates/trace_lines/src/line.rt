@@ -11,7 +11,7 @@ pub enum What {
     Leave(Proc),
     /// An event was accepted, with this serial: whom it goes to, its number and its word.
     Post(u64, Target, u8, u16),
-    /// The queue was full, and the event is lost.
+    /// The queue was full: nobody gets the event.
     Full(Target, u8, u16),
     /// The event with this serial reaches a process.
     Take(u64, Proc),

@@ -7,8 +7,8 @@ use Rattle.trace_printer.specs.Output.{AppendsFront}
 use Rattle.trace_printer.specs.Page.{Written}
 use Rattle.trace_printer.specs.TraceLines.{part_text}
 use Rattle.trace_printer.proofs.TraceLines.{drop_drop, part_sum}
-use Rattle.trace_printer.specs.declared.work.Part.{Part}
-use Rattle.trace_printer.specs.declared.work.Traces.{Traces}
+use Rattle.trace_printer.specs.declared.part.Part.{Part}
+use Rattle.trace_printer.specs.declared.part.Traces.{Traces}
 use Rattle.trace_printer.specs.Parts.{Adjoin, HasTraces, IsPut, lines_told, page_of}
 
 -- a text is written to its end

@@ -3,8 +3,8 @@ use Rattle.std.specs.Prelude.{◌≡◌, ℕ, ◌+◌, List, [], ◌∷◌, leng
 use Rattle.mote_net.specs.Net.{net_of}
 use Rattle.mote_net.specs.Report.{lines_in}
 use Rattle.trace_printer.specs.TraceLines.{lines_of, part_text}
-use Rattle.trace_printer.specs.declared.work.Part.{Part}
-use Rattle.trace_printer.specs.declared.work.Traces.{Traces}
+use Rattle.trace_printer.specs.declared.part.Part.{Part}
+use Rattle.trace_printer.specs.declared.part.Traces.{Traces}
 
 -- there is one trace for each mote
 abbrev pub HasTraces : Traces → Type 0

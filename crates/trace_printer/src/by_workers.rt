@@ -10,11 +10,11 @@ ghost use Rattle.trace_printer.specs.TraceLines.{lines_of};
 ghost use Rattle.trace_printer.specs.Parts.{HasTraces, lines_told};
 
 use crate::error::PrintError;
+use crate::numbered::count_lines;
 use crate::page::Page;
-use crate::part::count_lines;
+use crate::part::Traces;
 use crate::report::{write_medium, write_report};
 use crate::round::write_round;
-use crate::work::Traces;
 use mote_net::{Net, Report};
 use std::alloc::Global;
 use std::io::Write;

@@ -7,10 +7,10 @@ ghost use Rattle.trace_printer.specs.TraceLines.{part_text};
 ghost use Rattle.trace_printer.specs.Parts.{Adjoin, HasTraces, lines_told, page_of};
 
 use crate::error::PrintError;
+use crate::numbered::put_part;
 use crate::output::WriteFault;
 use crate::page::Page;
-use crate::part::put_part;
-use crate::work::{Part, Traces};
+use crate::part::{Part, Traces};
 use fork_join::{Refused, fork_join};
 use std::alloc::{AllocError, Global};
 use std::io::Write;

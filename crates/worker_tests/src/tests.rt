@@ -3,11 +3,11 @@
 
 mod held_back;
 mod inboxes;
+mod lent_motes;
 mod marks;
 mod nets;
 mod overlaps;
 mod polled;
-mod lent_motes;
 mod runs;
 mod shares;
 

@@ -17,7 +17,7 @@ use std::sync::atomic::AtomicU64;
 use std::sync::atomic::Ordering::SeqCst;
 use std::test::Fail;
 use test_helpers::{TWO_SENDERS, same_text, write_lines, write_sends};
-use worker_window::{Gate, NoGate, LentMote, LentMotes, WindowOut, WindowRoom, run_share};
+use worker_window::{Gate, LentMote, LentMotes, NoGate, WindowOut, WindowRoom, run_share};
 
 /// A new mote of a net, with the copies that come to it.
 fn lent_mote(

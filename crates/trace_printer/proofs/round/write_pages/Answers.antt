@@ -3,7 +3,7 @@ use Rattle.std.specs.List.{flat_map}
 use Rattle.std.proofs.lemmas.Result.{err_from_is_err_and}
 use Rattle.trace_printer.proofs.Pieces.{flat_map-drop}
 use Rattle.trace_printer.proofs.Written.{printed_next, stopped_next}
-use Rattle.trace_printer.specs.declared.work.Part.{Part}
+use Rattle.trace_printer.specs.declared.part.Part.{Part}
 use Rattle.trace_printer.specs.Parts.{page_of}
 use Rattle.trace_printer.proofs.Rounds.{written_all, written_front_of}
 use Rattle.trace_printer.proofs.round.write_pages.Goals as goal

@@ -5,7 +5,7 @@ use Rattle.trace_printer.specs.ReportText.{line_text}
 use Rattle.trace_printer.specs.TraceLines.{part_text}
 use Rattle.trace_printer.specs.Words.{line_of}
 use Rattle.trace_printer.proofs.TraceLines.{part_first, part_later}
-use Rattle.trace_printer.proofs.part.put_mote_part.Goals as goal
+use Rattle.trace_printer.proofs.numbered.put_mote_part.Goals as goal
 
 pub returns-then-skip-gt0 : goal.returns-then-skip-gt0
 returns-then-skip-gt0 c =

@@ -2,7 +2,7 @@ use Rattle.std.proofs.Common.{◌≡◌, ◌++◌, drop, map}
 use Rattle.mote_net.specs.Net.{net_of}
 use Rattle.mote_net.specs.Report.{lines_in}
 use Rattle.trace_printer.specs.TraceLines.{lines_from, lines_of, part_text}
-use Rattle.trace_printer.proofs.part.put_part.Given as goal
+use Rattle.trace_printer.proofs.numbered.put_part.Given as goal
 
 -- the page, followed by the part of the remaining motes' lines, is the final page
 abbrev pub invariant-loop-mote : goal.invariant-loop-mote

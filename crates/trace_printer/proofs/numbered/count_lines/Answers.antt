@@ -3,7 +3,7 @@ use Rattle.std.specs.List.{sum_by}
 use Rattle.std.proofs.Math.ListN.{drop_of_length-le}
 use Rattle.trace_lines.specs.declared.line.Line.{Line}
 use Rattle.trace_printer.proofs.TraceLines.{lines_counted}
-use Rattle.trace_printer.proofs.part.count_lines.Goals as goal
+use Rattle.trace_printer.proofs.numbered.count_lines.Goals as goal
 
 pub returns : goal.returns
 returns c net same =

@@ -1,6 +1,6 @@
 use Rattle.std.proofs.Common.{◌≡◌, ◌+◌, length, drop}
 use Rattle.std.specs.List.{sum_by}
-use Rattle.trace_printer.proofs.part.count_lines.Given as goal
+use Rattle.trace_printer.proofs.numbered.count_lines.Given as goal
 
 -- the count, with the lines of the remaining traces, is that of all
 abbrev pub invariant-loop-trace : goal.invariant-loop-trace

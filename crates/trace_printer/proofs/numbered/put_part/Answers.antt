@@ -7,7 +7,7 @@ use Rattle.trace_printer.specs.ReportText.{line_text}
 use Rattle.trace_printer.specs.TraceLines.{lines_from}
 use Rattle.trace_printer.specs.Words.{line_of}
 use Rattle.trace_printer.proofs.TraceLines.{lines_next, part_next}
-use Rattle.trace_printer.proofs.part.put_part.Goals as goal
+use Rattle.trace_printer.proofs.numbered.put_part.Goals as goal
 
 pub loop-mote-preserved : goal.loop-mote-preserved
 loop-mote-preserved c =

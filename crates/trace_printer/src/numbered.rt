@@ -1,0 +1,104 @@
+//! A part of the traces' text: some of their lines, numbered through.
+ghost use Rattle.std.specs.Prelude.{◌≡◌, [], ◌∷◌, ◌++◌, length, map, take, drop, codes, decimal, IfSome, OnOk};
+ghost use Rattle.std.specs.List.{flat_map};
+ghost use Rattle.program_tree.specs.Program.{tree_of};
+ghost use Rattle.mote_net.specs.Net.{NetTold, net_of};
+ghost use Rattle.mote_net.specs.Report.{lines_in};
+ghost use Rattle.trace_printer.specs.ReportText.{line_text};
+ghost use Rattle.trace_printer.specs.TraceLines.{part_text, lines_of};
+ghost use Rattle.trace_printer.specs.Words.{line_of};
+
+use crate::lines::{put_head, put_trace_line};
+use crate::page::Page;
+use mote_net::Net;
+use program_tree::Program;
+use std::alloc::AllocError;
+use trace_lines::Line;
+
+/// How many lines the motes with these traces show: those of each trace, and one before them. `None` if the count
+/// overflows.
+pub fn count_lines(traces: &[Vec<Line>]) -> Option<usize>
+    ensures { (net : NetTold) → length traces.now ≡ length net.motes
+        → IfSome result (λ count. length (lines_of net (map lines_in traces.now)) ≡ count) }
+{
+    let mut count: usize = 0;
+    for trace in traces {
+        count = count.checked_add(trace.len() + 1)?;
+    }
+    Some(count)
+}
+
+/// At most `count` lines of a trace, after the first `skip`.
+fn some_of(trace: &[Line], skip: usize, count: usize) -> &[Line]
+    ensures { result.now ≡ take count (drop skip trace.now) }
+{
+    let rest = &trace[skip.min(trace.len())..];
+    &rest[..count.min(rest.len())]
+}
+
+/// Puts lines of the trace of a mote with this program.
+fn put_lines(page: &mut Page, program: &Program, lines: &[Line]) -> Result<(), AllocError>
+    ensures { OnOk result (page.new ≡ page.old ++ flat_map (line_text (tree_of program.now)) lines.now) }
+{
+    for line in lines {
+        put_trace_line(page, program, line)?;
+    }
+    Ok(())
+}
+
+/// Puts at most `count` of the lines that a mote shows, after the first `skip`.
+fn put_mote_part(
+    page: &mut Page,
+    mote: u16,
+    name: &str,
+    program: &Program,
+    trace: &[Line],
+    skip: usize,
+    count: usize,
+) -> Result<(), AllocError>
+    ensures { let head = line_of (codes "mote") (decimal mote ∷ name.now ∷ [])
+        in let lines = head ∷ map (line_text (tree_of program.now)) trace.now
+        in OnOk result (page.new ≡ page.old ++ part_text lines skip count) }
+{
+    if skip > 0 {
+        return put_lines(page, program, some_of(trace, skip - 1, count));
+    }
+    if count == 0 {
+        return Ok(());
+    }
+    put_head(page, mote, name)?;
+    put_lines(page, program, some_of(trace, 0, count - 1))
+}
+
+/// Puts at most `count` of the lines that the motes show, after the first `skip`.
+pub fn put_part(
+    page: &mut Page,
+    net: &Net,
+    traces: &[Vec<Line>],
+    skip: usize,
+    count: usize,
+) -> Result<(), AllocError>
+    requires { length traces.now ≡ length (net_of net.now).motes }
+    ensures { let lines = lines_of (net_of net.now) (map lines_in traces.now)
+        in OnOk result (page.new ≡ page.old ++ part_text lines skip count) }
+{
+    let mut before = skip;
+    let mut left = count;
+    for mote in 0..net.motes() {
+        let trace = &traces[usize::from(mote)];
+        let program = net.program(mote);
+        put_mote_part(
+            page,
+            mote,
+            net.program_name(mote),
+            program,
+            trace,
+            before,
+            left,
+        )?;
+        let lines = trace.len() + 1;
+        left = left.saturating_sub(lines.saturating_sub(before));
+        before = before.saturating_sub(lines);
+    }
+    Ok(())
+}
