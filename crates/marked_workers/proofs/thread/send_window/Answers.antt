@@ -9,12 +9,12 @@ returns-clause-sends g c =
     let n = net_of c.args.run.now.net.now in
     let of = c.args.run.now.of.now in
     let none = c.new-none.ensures.items in
-    let window = rw none at c.in-Ok.ensures.window in
+    let window = rw none at c.in_ok-outgoing.ensures.window in
     record {
-      outgoing = c.in-Ok.outgoing.items;
+      outgoing = c.in_ok-outgoing.outgoing.items;
       runs = λ worker from motes taken keeps up short.
-          subst (λ (l : List RadioCopy). RunsWindow n of worker from c.args.until motes l c.run_window-ran.new.self c.in-Ok.outgoing.items) (append-nil taken) (window worker from motes taken keeps up short tt);
-      out = c.in-Ok.ensures.out;
-      pushes = rw c.deref.ensures.value at c.in-Ok-deliver_window.ensures.pushes;
-      marks = c.in-Ok-deliver_window.ensures.counts;
+          subst (λ (l : List RadioCopy). RunsWindow n of worker from c.args.until motes l c.run_window.new.self c.in_ok-outgoing.outgoing.items) (append-nil taken) (window worker from motes taken keeps up short tt);
+      out = c.in_ok-outgoing.ensures.out;
+      pushes = rw c.deref.ensures.value at c.in-Ok.ensures.pushes;
+      marks = c.in-Ok.ensures.counts;
     }
