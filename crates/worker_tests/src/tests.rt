@@ -139,6 +139,15 @@ const STARTS: Watch = Watch::Starts(None);
 /// asks for no such limit.
 type Case<'a> = (Watch, u16, &'a [u16], u32);
 
+/// Runs of one scenario, and what is written down of them with joins and with marks.
+#[derive(Clone, Copy)]
+struct Trials<'a> {
+    scenario: &'a str,
+    cases: &'a [Case<'a>],
+    joins: &'a str,
+    marks: &'a str,
+}
+
 /// Writes down whether a report is that of one thread, and how many copies are left in it.
 fn write_report(
     alloc: Global,
@@ -221,28 +230,33 @@ fn told_by_one_thread(alloc: Global, net: &Net) -> Result<String, Fail> {
     Ok(format!(in alloc; "{report:?}")?)
 }
 
-/// Fails unless `joins` is written of these runs of a scenario with joins, and `marks` of those with marks.
-fn tells<R>(
-    rt: &R,
-    scenario: &str,
-    cases: &[Case<'_>],
-    joins: &str,
-    marks: &str,
-) -> Result<(), Fail>
+/// Fails unless what is wanted is written of these runs, with joins and with marks.
+fn tells<R>(rt: &R, runs: &Trials<'_>) -> Result<(), Fail>
 where
     R: Threads + Wait + Sync + RandomSource + AllocGlobal,
 {
-    let net = read_scenario(rt.alloc(), scenario)?;
+    let net = read_scenario(rt.alloc(), runs.scenario)?;
     let one = told_by_one_thread(rt.alloc(), &net)?;
     let scene = Scene {
         net: &net,
         one: one.as_str(),
         sync: SyncKind::Joins,
     };
-    tells_by(rt, scene, cases, joins)?;
+    tells_by(rt, scene, runs.cases, runs.joins)?;
     let scene = Scene {
         sync: SyncKind::Marks,
         ..scene
     };
-    tells_by(rt, scene, cases, marks)
+    tells_by(rt, scene, runs.cases, runs.marks)
+}
+
+/// Fails unless that is so of each of them.
+fn all_tell<R>(rt: &R, table: &[Trials<'_>]) -> Result<(), Fail>
+where
+    R: Threads + Wait + Sync + RandomSource + AllocGlobal,
+{
+    for runs in table {
+        tells(rt, runs)?;
+    }
+    Ok(())
 }

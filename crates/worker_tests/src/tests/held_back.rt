@@ -1,13 +1,12 @@
 //! That no window is longer than was asked for, by workers of either kind: no worker comes to its next window while
 //! another is in this one.
 
-use super::{BUSY_PAIR, Case, Scene, Watch, tells, write_run};
+use super::{Scene, write_run};
 use std::alloc::{AllocError, AllocGlobal};
 use std::random::RandomSource;
 use std::sync::Wait;
 use std::sync::atomic::AtomicU64;
 use std::sync::atomic::Ordering::SeqCst;
-use std::test::Fail;
 use std::thread::Threads;
 use window_workers::{Cut, Gate};
 
@@ -53,13 +52,4 @@ where
     };
     write_run(rt, scene, workers, cut, &gate, text)?;
     write!(text, " {}|", gate.seen.load(SeqCst))
-}
-
-/// A run by windows of one moment.
-const AHEAD: [Case<'static>; 1] = [(Watch::Ahead, 2, &[0, 1], 1)];
-
-/// The motes don't hear one another, so one window would do for all; windows of one moment are asked for.
-#[test]
-fn windows_hold_the_faster_back(rt: HostRuntime) -> Result<(), Fail> {
-    tells(&rt, BUSY_PAIR, &AHEAD, "Same(0) 0|", "Same(0) 0|")
 }

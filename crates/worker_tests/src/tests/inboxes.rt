@@ -2,13 +2,12 @@
 ghost use Rattle.std.specs.List.{AllByRecursion as Each};
 ghost use Rattle.copy_exchange.specs.Inboxes.{IsSettled};
 
-use super::{BUSY_TRIO, COPY_PAST_THE_END, Case, Scene, Watch, tells, write_told};
+use super::{Scene, write_told};
 use copy_exchange::make_inboxes;
 use copy_inbox::{Inbox, InboxError, Taker};
 use std::alloc::AllocGlobal;
 use std::random::RandomSource;
 use std::sync::Wait;
-use std::test::Fail;
 use std::thread::Threads;
 use window_workers::{Cut, Gate, run_inboxes};
 
@@ -63,37 +62,4 @@ where
         }
         Err(error) => Ok(write!(text, "Fault({error:?})|")?),
     }
-}
-
-/// A run of two workers with a mote each.
-const ONE_EACH: [Case<'static>; 1] = [(Watch::Inboxes, 2, &[0, 1], 0)];
-
-/// The copy that would arrive after the end lies in the inbox of its receiver's worker; with marks that worker has
-/// taken it out.
-#[test]
-fn a_copy_left_in_its_inbox(rt: HostRuntime) -> Result<(), Fail> {
-    let joins = "Same(1)|0 []|1 [RadioCopy { at: 5, to: 1, sender: 0, number: 0, value: 9 }]|";
-    tells(
-        &rt,
-        COPY_PAST_THE_END,
-        &ONE_EACH,
-        joins,
-        "Same(1)|0 []|0 []|",
-    )
-}
-
-/// Cuts of three motes, of which only the last fits.
-const REFUSED: [Case<'static>; 5] = [
-    (Watch::Inboxes, 0, &[0, 0, 1], 0),
-    (Watch::Inboxes, 17, &[0, 0, 1], 0),
-    (Watch::Inboxes, 1, &[0, 0, 1], 0),
-    (Watch::Inboxes, 2, &[0, 0], 0),
-    (Watch::Inboxes, 2, &[0, 0, 1], 0),
-];
-
-/// Each worker of the cut must have an inbox.
-#[test]
-fn refused_inboxes(rt: HostRuntime) -> Result<(), Fail> {
-    let want = "Fault(Workers)|Fault(Workers)|Fault(CutWorker)|Fault(CutLength)|Same(0)|0 []|0 []|";
-    tells(&rt, BUSY_TRIO, &REFUSED, want, want)
 }

@@ -110,19 +110,6 @@ fn give<R: Wait + RandomSource + AllocGlobal>(rt: &R, net: &Net, want: &str) -> 
     outs_tell(rt.alloc(), outs.as_slice(), want)
 }
 
-#[test]
-fn a_share_of_two_motes(rt: HostRuntime) -> Result<(), Fail> {
-    let net = read_scenario(rt.alloc(), TWO_SENDERS)?;
-    give(
-        &rt,
-        &net,
-        "\
-            mote|0 Start(Etimer)|0 Start(Ctimer)|0 Start(Radio)|0 Start(Own(0))|0 Send(0, 5)|0 Leave(Own(0))|\
-            sent 0 0 0 5|mote|0 Start(Etimer)|0 Start(Ctimer)|0 Start(Radio)|0 Start(Own(0))|2 Recv(0, 0, 5)|\
-            2 Post(0, One(Own(0)), 138, 5)|2 Take(0, Own(0))|2 Print(Own(0), 0)|2 Print(Own(0), 5)|",
-    )
-}
-
 /// Writes down the motes in the order of their turns, each as a digit.
 #[derive(Drop)]
 struct Diary {
@@ -160,9 +147,18 @@ fn alternate<R: Wait + RandomSource + AllocGlobal>(rt: &R, net: &Net) -> Result<
     Err(Fail::new(format_args!("otherwise")))
 }
 
-/// The motes of one worker take their turns alternately.
+/// What two motes of one worker give if a copy comes to one of them, and that they take their turns alternately.
 #[test]
-fn motes_alternate(rt: HostRuntime) -> Result<(), Fail> {
-    let net = read_scenario(rt.alloc(), BUSY_PAIR)?;
-    alternate(&rt, &net)
+fn a_share_of_two_motes(rt: HostRuntime) -> Result<(), Fail> {
+    let net = read_scenario(rt.alloc(), TWO_SENDERS)?;
+    give(
+        &rt,
+        &net,
+        "\
+            mote|0 Start(Etimer)|0 Start(Ctimer)|0 Start(Radio)|0 Start(Own(0))|0 Send(0, 5)|0 Leave(Own(0))|\
+            sent 0 0 0 5|mote|0 Start(Etimer)|0 Start(Ctimer)|0 Start(Radio)|0 Start(Own(0))|2 Recv(0, 0, 5)|\
+            2 Post(0, One(Own(0)), 138, 5)|2 Take(0, Own(0))|2 Print(Own(0), 0)|2 Print(Own(0), 5)|",
+    )?;
+    let busy = read_scenario(rt.alloc(), BUSY_PAIR)?;
+    alternate(&rt, &busy)
 }

@@ -97,16 +97,6 @@ fn tells(alloc: Global, scenario: &str, want: &str) -> Result<(), Fail> {
     same_text(text.as_str(), want)
 }
 
-#[test]
-fn values_of_nets(rt: HostRuntime) -> Result<(), Fail> {
-    tells(rt.alloc(), PRINT_THEN_YIELD, "1 5 false 6|p 1 32|")?;
-    tells(
-        rt.alloc(),
-        THREE_MOTES,
-        "3 7 true 4|q 2 3|p 1 32|q 2 3|0 to 1 4|1 to 0 4|",
-    )
-}
-
 /// A comment of 1,048,577 bytes.
 fn long_comment(alloc: Global) -> Result<String, AllocError> {
     let mut text = String::from_str(alloc, "\n")?;
@@ -116,9 +106,15 @@ fn long_comment(alloc: Global) -> Result<String, AllocError> {
     Ok(text)
 }
 
-/// A text that is one byte too long is refused for that, before anything that it lacks.
+/// Two nets, and a text that is one byte too long: it is refused for that, before anything that it lacks.
 #[test]
-fn text_too_long(rt: HostRuntime) -> Result<(), Fail> {
-    let text = long_comment(rt.alloc())?;
-    tells(rt.alloc(), text.as_str(), "1048577 5|")
+fn values_of_nets(rt: HostRuntime) -> Result<(), Fail> {
+    tells(rt.alloc(), PRINT_THEN_YIELD, "1 5 false 6|p 1 32|")?;
+    tells(
+        rt.alloc(),
+        THREE_MOTES,
+        "3 7 true 4|q 2 3|p 1 32|q 2 3|0 to 1 4|1 to 0 4|",
+    )?;
+    let long = long_comment(rt.alloc())?;
+    tells(rt.alloc(), long.as_str(), "1048577 5|")
 }

@@ -2,7 +2,7 @@
 //! a turn, so with a lock held around each turn none of them would meet.
 
 use super::inboxes::write_inboxes;
-use super::{BUSY_PAIR, BUSY_TRIO, Case, Scene, Watch, tells, write_run};
+use super::{BUSY_PAIR, BUSY_TRIO, Scene, Trials, Watch, all_tell, write_run};
 use std::alloc::AllocGlobal;
 use std::random::RandomSource;
 use std::sync::Wait;
@@ -88,23 +88,34 @@ const MEETINGS: Watch = Watch::Meetings {
 /// The same over inboxes that the caller makes.
 const MEETINGS_OVER_INBOXES: Watch = Watch::Meetings { over_inboxes: true };
 
-/// Two workers with a mote each.
-const TWO: [Case<'static>; 2] = [
-    (MEETINGS, 2, &[0, 1], 1),
-    (MEETINGS_OVER_INBOXES, 2, &[0, 1], 1),
-];
+const TWO: &str = "Same(0)|2 2 2 Same(0)|0 []|0 []|2 2 2 ";
 
-/// Three workers with a mote each.
-const THREE: [Case<'static>; 2] = [
-    (MEETINGS, 3, &[0, 1, 2], 1),
-    (MEETINGS_OVER_INBOXES, 3, &[0, 1, 2], 1),
+const THREE: &str = "Same(0)|3 3 3 Same(0)|0 []|0 []|0 []|3 3 3 ";
+
+/// Two workers with a mote each, and three.
+static MEETING: [Trials<'static>; 2] = [
+    Trials {
+        scenario: BUSY_PAIR,
+        cases: &[
+            (MEETINGS, 2, &[0, 1], 1),
+            (MEETINGS_OVER_INBOXES, 2, &[0, 1], 1),
+        ],
+        joins: TWO,
+        marks: TWO,
+    },
+    Trials {
+        scenario: BUSY_TRIO,
+        cases: &[
+            (MEETINGS, 3, &[0, 1, 2], 1),
+            (MEETINGS_OVER_INBOXES, 3, &[0, 1, 2], 1),
+        ],
+        joins: THREE,
+        marks: THREE,
+    },
 ];
 
 /// Two workers meet in each of three windows, and so do three.
 #[test]
 fn turns_of_workers_overlap(rt: HostRuntime) -> Result<(), Fail> {
-    let two = "Same(0)|2 2 2 Same(0)|0 []|0 []|2 2 2 ";
-    tells(&rt, BUSY_PAIR, &TWO, two, two)?;
-    let three = "Same(0)|3 3 3 Same(0)|0 []|0 []|0 []|3 3 3 ";
-    tells(&rt, BUSY_TRIO, &THREE, three, three)
+    all_tell(&rt, MEETING.as_slice())
 }

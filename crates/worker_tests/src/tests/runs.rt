@@ -1,8 +1,8 @@
 //! Runs by any cut: what comes of them, how often threads are started, and who takes the turns.
 
 use super::{
-    BUSY_PAIR, BUSY_TRIO, COPY_PAST_THE_END, Case, PACKET_AFTER_TIMER, STARTS, Scene, Watch, tells,
-    write_case, write_run,
+    BUSY_PAIR, BUSY_TRIO, COPY_PAST_THE_END, Case, PACKET_AFTER_TIMER, STARTS, Scene, Trials,
+    Watch, all_tell, write_case, write_run,
 };
 use net_scenario::{Net, read_scenario};
 use std::alloc::{AllocError, AllocGlobal, Global};
@@ -64,66 +64,144 @@ where
     write!(text, " {asked} {turns}|")
 }
 
-/// Cuts of three motes that fit.
-const CUTS: [Case<'static>; 8] = [
-    (STARTS, 1, &[0, 0, 0], 0),
-    (STARTS, 2, &[0, 0, 1], 0),
-    (STARTS, 2, &[0, 1, 0], 0),
-    (STARTS, 2, &[1, 1, 0], 0),
-    (STARTS, 3, &[0, 1, 2], 0),
-    (STARTS, 3, &[2, 1, 0], 0),
-    (STARTS, 4, &[0, 1, 2], 1),
-    (STARTS, 16, &[0, 5, 10], 0),
-];
-
-/// Each of these cuts gives the report of one thread: in blocks and in stripes, with workers that have no mote, and
-/// with the motes the other way round. With joins each worker is started in each of two windows, with marks once.
-#[test]
-fn cuts_of_two_senders(rt: HostRuntime) -> Result<(), Fail> {
-    let joins = "\
-            Same(0) 2 4|Same(0) 4 4|Same(0) 4 4|Same(0) 4 4|Same(0) 6 4|Same(0) 6 4|Same(0) 8 4|Same(0) 32 4|";
-    let marks = "\
-            Same(0) 1 4|Same(0) 2 4|Same(0) 2 4|Same(0) 2 4|Same(0) 3 4|Same(0) 3 4|Same(0) 4 4|Same(0) 16 4|";
-    tells(&rt, TWO_SENDERS, &CUTS, joins, marks)
-}
-
-/// Cuts of three motes, of which only the last fits.
-const REFUSED: [Case<'static>; 8] = [
-    (STARTS, 0, &[0, 0, 0], 0),
+/// Windows of any length, and of at most 1, 2 and 3 moments.
+const LENGTHS: [Case<'static>; 5] = [
     (STARTS, 2, &[0, 1], 0),
-    (STARTS, 16, &[0, 16, 0], 0),
-    (STARTS, 17, &[0, 0, 0], 0),
-    (STARTS, 2, &[0, 1, 0, 1], 0),
-    (STARTS, 17, &[0, 17], 0),
-    (STARTS, 2, &[0, 2], 0),
-    (STARTS, 16, &[0, 15, 0], 0),
+    (STARTS, 2, &[0, 1], 1),
+    (STARTS, 2, &[0, 1], 2),
+    (STARTS, 2, &[0, 1], 3),
+    (STARTS, 3, &[2, 0], 2),
 ];
 
-/// Of several faults the first is reported, in the order of the first three here, before anything is started.
-#[test]
-fn refused_workers_and_cuts(rt: HostRuntime) -> Result<(), Fail> {
-    let want = "\
-            Fault(Workers) 0 0|Fault(CutLength) 0 0|Fault(CutWorker) 0 0|Fault(Workers) 0 0|Fault(CutLength) 0 0|\
-            Fault(Workers) 0 0|Fault(CutLength) 0 0|Same(0) 16 9|";
-    tells(&rt, BUSY_TRIO, &REFUSED, want, want)
-}
+/// Sixteen workers, of whom three have a mote, by windows of one moment.
+const SPARSE: Case<'static> = (STARTS, 16, &[0, 5, 10], 1);
 
-/// Runs in which a worker isn't allowed to start.
-const SHUT: [Case<'static>; 5] = [
-    (Watch::Starts(Some(0)), 1, &[0, 0, 0], 0),
-    (Watch::Starts(Some(0)), 2, &[0, 0, 1], 0),
-    (Watch::Starts(Some(1)), 2, &[0, 0, 1], 0),
-    (Watch::Starts(Some(1)), 3, &[0, 1, 2], 0),
-    (Watch::Starts(Some(2)), 3, &[0, 1, 2], 0),
+/// Runs by any cut, with what is watched in them.
+static RUNS: [Trials<'static>; 10] = [
+    // Each of these cuts gives the report of one thread: in blocks and in stripes, with workers that have no mote, and
+    // with the motes the other way round. With joins each worker is started in each of two windows, with marks once.
+    Trials {
+        scenario: TWO_SENDERS,
+        cases: &[
+            (STARTS, 1, &[0, 0, 0], 0),
+            (STARTS, 2, &[0, 0, 1], 0),
+            (STARTS, 2, &[0, 1, 0], 0),
+            (STARTS, 2, &[1, 1, 0], 0),
+            (STARTS, 3, &[0, 1, 2], 0),
+            (STARTS, 3, &[2, 1, 0], 0),
+            (STARTS, 4, &[0, 1, 2], 1),
+            (STARTS, 16, &[0, 5, 10], 0),
+        ],
+        joins: "Same(0) 2 4|Same(0) 4 4|Same(0) 4 4|Same(0) 4 4|Same(0) 6 4|Same(0) 6 4|Same(0) 8 4|Same(0) 32 4|",
+        marks: "Same(0) 1 4|Same(0) 2 4|Same(0) 2 4|Same(0) 2 4|Same(0) 3 4|Same(0) 3 4|Same(0) 4 4|Same(0) 16 4|",
+    },
+    // Cuts of three motes, of which only the last fits. Of several faults the first is reported, in the order of the
+    // first three here, before anything is started.
+    Trials {
+        scenario: BUSY_TRIO,
+        cases: &[
+            (STARTS, 0, &[0, 0, 0], 0),
+            (STARTS, 2, &[0, 1], 0),
+            (STARTS, 16, &[0, 16, 0], 0),
+            (STARTS, 17, &[0, 0, 0], 0),
+            (STARTS, 2, &[0, 1, 0, 1], 0),
+            (STARTS, 17, &[0, 17], 0),
+            (STARTS, 2, &[0, 2], 0),
+            (STARTS, 16, &[0, 15, 0], 0),
+        ],
+        joins: REFUSED_CUTS,
+        marks: REFUSED_CUTS,
+    },
+    // A worker that isn't allowed to start is reported, and no worker after it is asked for. With marks the workers
+    // before it wait for it in vain, and still end.
+    Trials {
+        scenario: TWO_SENDERS,
+        cases: &[
+            (Watch::Starts(Some(0)), 1, &[0, 0, 0], 0),
+            (Watch::Starts(Some(0)), 2, &[0, 0, 1], 0),
+            (Watch::Starts(Some(1)), 2, &[0, 0, 1], 0),
+            (Watch::Starts(Some(1)), 3, &[0, 1, 2], 0),
+            (Watch::Starts(Some(2)), 3, &[0, 1, 2], 0),
+        ],
+        joins: REFUSED_STARTS,
+        marks: REFUSED_STARTS,
+    },
+    // With joins each window starts all workers: turns at 0, 2 and 5 are in two windows of three moments, or in three
+    // shorter ones. With marks each worker is started once.
+    Trials {
+        scenario: PACKET_AFTER_TIMER,
+        cases: &LENGTHS,
+        joins: "Same(0) 4 4|Same(0) 6 4|Same(0) 6 4|Same(0) 4 4|Same(0) 9 4|",
+        marks: "Same(0) 2 4|Same(0) 2 4|Same(0) 2 4|Same(0) 2 4|Same(0) 3 4|",
+    },
+    // The same if the end comes before the packet, which is left: turns at 0 and 2 are in one window, or in two.
+    Trials {
+        scenario: COPY_PAST_THE_END,
+        cases: &LENGTHS,
+        joins: "Same(1) 2 3|Same(1) 4 3|Same(1) 4 3|Same(1) 2 3|Same(1) 6 3|",
+        marks: "Same(1) 2 3|Same(1) 2 3|Same(1) 2 3|Same(1) 2 3|Same(1) 3 3|",
+    },
+    // Each of 16 workers is started, also the 13 that have no mote: with joins in each of three windows of one moment,
+    // or in the only window, and with marks once.
+    Trials {
+        scenario: BUSY_TRIO,
+        cases: &[SPARSE, (STARTS, 16, &[0, 5, 10], 0)],
+        joins: "Same(0) 48 9|Same(0) 16 9|",
+        marks: "Same(0) 16 9|Same(0) 16 9|",
+    },
+    // The first of these runs, ten times: with marks no worker stops because another has ended.
+    Trials {
+        scenario: BUSY_TRIO,
+        cases: &[SPARSE; 10],
+        joins: "Same(0) 48 9|Same(0) 48 9|Same(0) 48 9|Same(0) 48 9|Same(0) 48 9|Same(0) 48 9|Same(0) 48 9|\
+                Same(0) 48 9|Same(0) 48 9|Same(0) 48 9|",
+        marks: "Same(0) 16 9|Same(0) 16 9|Same(0) 16 9|Same(0) 16 9|Same(0) 16 9|Same(0) 16 9|Same(0) 16 9|\
+                Same(0) 16 9|Same(0) 16 9|Same(0) 16 9|",
+    },
+    // A run by windows of one moment. The motes don't hear one another, so one window would do for all.
+    Trials {
+        scenario: BUSY_PAIR,
+        cases: &[(Watch::Ahead, 2, &[0, 1], 1)],
+        joins: "Same(0) 0|",
+        marks: "Same(0) 0|",
+    },
+    // The copy that would arrive after the end lies in the inbox of its receiver's worker; with marks that worker has
+    // taken it out.
+    Trials {
+        scenario: COPY_PAST_THE_END,
+        cases: &[(Watch::Inboxes, 2, &[0, 1], 0)],
+        joins: "Same(1)|0 []|1 [RadioCopy { at: 5, to: 1, sender: 0, number: 0, value: 9 }]|",
+        marks: "Same(1)|0 []|0 []|",
+    },
+    // Each worker of the cut must have an inbox: of these cuts of three motes only the last fits.
+    Trials {
+        scenario: BUSY_TRIO,
+        cases: &[
+            (Watch::Inboxes, 0, &[0, 0, 1], 0),
+            (Watch::Inboxes, 17, &[0, 0, 1], 0),
+            (Watch::Inboxes, 1, &[0, 0, 1], 0),
+            (Watch::Inboxes, 2, &[0, 0], 0),
+            (Watch::Inboxes, 2, &[0, 0, 1], 0),
+        ],
+        joins: REFUSED_INBOXES,
+        marks: REFUSED_INBOXES,
+    },
 ];
 
-/// The worker that isn't allowed to start is reported, and no worker after it is asked for. With marks the workers
-/// before it wait for it in vain, and still end.
+const REFUSED_CUTS: &str =
+    "Fault(Workers) 0 0|Fault(CutLength) 0 0|Fault(CutWorker) 0 0|Fault(Workers) 0 0|\
+    Fault(CutLength) 0 0|Fault(Workers) 0 0|Fault(CutLength) 0 0|Same(0) 16 9|";
+
+const REFUSED_STARTS: &str =
+    "Fault(Thread) 1 0|Fault(Thread) 1 0|Fault(Thread) 2 2|Fault(Thread) 2 1|Fault(Thread) 3 2|";
+
+const REFUSED_INBOXES: &str =
+    "Fault(Workers)|Fault(Workers)|Fault(CutWorker)|Fault(CutLength)|Same(0)|0 []|0 []|";
+
+/// What comes of runs, how often threads are started, who takes the turns, and what lies in the inboxes.
 #[test]
-fn a_start_that_is_refused(rt: HostRuntime) -> Result<(), Fail> {
-    let want =
-        "Fault(Thread) 1 0|Fault(Thread) 1 0|Fault(Thread) 2 2|Fault(Thread) 2 1|Fault(Thread) 3 2|";
-    tells(&rt, TWO_SENDERS, &SHUT, want, want)
+fn runs_by_any_cut(rt: HostRuntime) -> Result<(), Fail> {
+    all_tell(&rt, RUNS.as_slice())
 }
 
 /// Fails if an error is reported that is neither the refused start of worker 1 nor a failed allocation.
@@ -154,58 +232,6 @@ fn the_lowest_workers_error(rt: HostRuntime) -> Result<(), Fail> {
     let net = read_scenario(rt.alloc(), BUSY_PAIR)?;
     lowest_error(&rt, &net, SyncKind::Joins)?;
     lowest_error(&rt, &net, SyncKind::Marks)
-}
-
-/// Windows of any length, and of at most 1, 2 and 3 moments.
-const LENGTHS: [Case<'static>; 5] = [
-    (STARTS, 2, &[0, 1], 0),
-    (STARTS, 2, &[0, 1], 1),
-    (STARTS, 2, &[0, 1], 2),
-    (STARTS, 2, &[0, 1], 3),
-    (STARTS, 3, &[2, 0], 2),
-];
-
-/// With joins each window starts all workers: turns at 0, 2 and 5 are in two windows of three moments, or in three
-/// shorter ones. With marks each worker is started once.
-#[test]
-fn starts_are_counted(rt: HostRuntime) -> Result<(), Fail> {
-    let joins = "Same(0) 4 4|Same(0) 6 4|Same(0) 6 4|Same(0) 4 4|Same(0) 9 4|";
-    let marks = "Same(0) 2 4|Same(0) 2 4|Same(0) 2 4|Same(0) 2 4|Same(0) 3 4|";
-    tells(&rt, PACKET_AFTER_TIMER, &LENGTHS, joins, marks)
-}
-
-/// The same if the end comes before the packet, which is left: turns at 0 and 2 are in one window, or in two.
-#[test]
-fn longest_windows(rt: HostRuntime) -> Result<(), Fail> {
-    let joins = "Same(1) 2 3|Same(1) 4 3|Same(1) 4 3|Same(1) 2 3|Same(1) 6 3|";
-    let marks = "Same(1) 2 3|Same(1) 2 3|Same(1) 2 3|Same(1) 2 3|Same(1) 3 3|";
-    tells(&rt, COPY_PAST_THE_END, &LENGTHS, joins, marks)
-}
-
-/// Sixteen workers, of whom three have a mote.
-const SPARSE: [Case<'static>; 2] = [(STARTS, 16, &[0, 5, 10], 1), (STARTS, 16, &[0, 5, 10], 0)];
-
-/// Each of 16 workers is started, also the 13 that have no mote: with joins in each of three windows of one moment, or
-/// in the only window, and with marks once.
-#[test]
-fn workers_without_motes_are_started(rt: HostRuntime) -> Result<(), Fail> {
-    let joins = "Same(0) 48 9|Same(0) 16 9|";
-    tells(&rt, BUSY_TRIO, &SPARSE, joins, "Same(0) 16 9|Same(0) 16 9|")
-}
-
-/// The first of these runs, ten times.
-const REPEATED: [Case<'static>; 10] = [(STARTS, 16, &[0, 5, 10], 1); 10];
-
-/// Repeated runs by many workers, most of which have no mote: with marks none of them stops because another has ended.
-#[test]
-fn no_run_is_stopped(rt: HostRuntime) -> Result<(), Fail> {
-    let joins = "\
-            Same(0) 48 9|Same(0) 48 9|Same(0) 48 9|Same(0) 48 9|Same(0) 48 9|Same(0) 48 9|Same(0) 48 9|\
-            Same(0) 48 9|Same(0) 48 9|Same(0) 48 9|";
-    let marks = "\
-            Same(0) 16 9|Same(0) 16 9|Same(0) 16 9|Same(0) 16 9|Same(0) 16 9|Same(0) 16 9|Same(0) 16 9|\
-            Same(0) 16 9|Same(0) 16 9|Same(0) 16 9|";
-    tells(&rt, BUSY_TRIO, &REPEATED, joins, marks)
 }
 
 /// Writes down the worker of each mote, and how long windows are at most.
