@@ -30,8 +30,8 @@ from motesim.words import words_of
 from project import kit
 from project.tree import TOP, program_of, take_program
 
-FILES = ['tests/cases/nets/two_senders.toml', 'tests/cases/nets/ring_overflows.toml', 'tests/cases/queues/full_queue.toml',
-         'tests/cases/queues/refused_timer_waits.toml', 'examples/wrong.toml']
+FILES = ['tests/cases/nets/two_senders.toml', 'tests/cases/nets/ring_overflows.toml',
+         'tests/cases/queues/full_queue.toml', 'tests/cases/queues/refused_timer_waits.toml', 'examples/wrong.toml']
 WORKERS = [['--workers', workers, '--sync', sync] for sync in ('joins', 'marks') for workers in '23']
 # (the last has a fault, which is found before there are workers)
 SMALL = [(TOP / file, words) for words in ([], *WORKERS)

@@ -121,13 +121,15 @@ class Runs(unittest.TestCase):
 
     @unittest.skipUnless(shutil.which('cc'), 'there is no C compiler cc here')
     def test_a_start_is_refused(self):
-        # (a start asks for a stack, and for memory of the thread's own; the second one takes those of a thread that has ended)
+        # (a start asks for a stack, and for memory of the thread's own; the second one takes those of a thread that has
+        # ended)
         for joins, shown in (0, '4 times no thread'), (1, '2 times no thread, 1 times the same answer'):
             with self.subTest(joins=joins), tempfile.TemporaryDirectory() as room:
                 scenario, source, program = (Path(room) / name for name in ('s.toml', 'p.c', 'p'))
                 scenario.write_text('')
                 source.write_text(STARTS)
-                subprocess.run(['cc', '-O0', '-DJOINS=%d' % joins, '-o', str(program), str(source), '-pthread'], check=True)
+                subprocess.run(['cc', '-O0', '-DJOINS=%d' % joins, '-o', str(program), str(source), '-pthread'],
+                               check=True)
                 said, code = self.run_with('--program', str(program), str(scenario), '--workers', '2')
                 self.assertIn(': %s\n' % shown, said)
                 self.assertEqual((said.splitlines()[-1], code), ('1 passed, 0 failed', 0))
@@ -137,7 +139,8 @@ class Runs(unittest.TestCase):
         with tempfile.TemporaryDirectory() as room, mock.patch.object(refuse, 'SECONDS', 1):
             scenario, source, program = (Path(room) / name for name in ('s.toml', 'p.c', 'p'))
             scenario.write_text('')
-            source.write_text(PROGRAM.replace('if (!part && n != CALM)', 'while (!part && n == CALM) pause(); if (!part)'))
+            source.write_text(PROGRAM.replace('if (!part && n != CALM)',
+                                              'while (!part && n == CALM) pause(); if (!part)'))
             subprocess.run(['cc', '-O0', '-DCALM=2', '-o', str(program), str(source)], check=True)
             said, code = self.run_with('--program', str(program), str(scenario))
         self.assertIn('request 2 refused: status None, no answer in 1 seconds', said)
@@ -177,7 +180,8 @@ class Calls(unittest.TestCase):
         self.assertIn('fn %s(' % module[-1], source.with_suffix('.rt').read_text('utf-8'))
 
     def test_tests_that_are_missing(self):
-        with mock.patch.object(refuse, 'CALLS', TOP / 'crates/no_such_calls'), contextlib.redirect_stdout(io.StringIO()) as said:
+        said = io.StringIO()
+        with mock.patch.object(refuse, 'CALLS', TOP / 'crates/no_such_calls'), contextlib.redirect_stdout(said):
             self.assertFalse(refuse.calls_tried(Path('refuses.so')))
         self.assertIn('the tests of crates/no_such_calls are not built', said.getvalue())
 

@@ -10,7 +10,8 @@ use Rattle.mote_net.specs.Net.{MoteSetup}
 use Rattle.worker_window.specs.MoteWindow.{opened}
 use Rattle.worker_window.specs.Turns.{CanGoOn}
 
-pub new_goes_on : (o : Option MoteSetup) (t : Tree) (until number queue : ℕ) (copies : List RadioCopy) (mote : Mote) → option_map (λ (m : MoteSetup). m.tree) o ≡ Some t → node_in t mote ≡ Some (new_node t number queue)
+pub new_goes_on : (o : Option MoteSetup) (t : Tree) (until number queue : ℕ) (copies : List RadioCopy) (mote : Mote)
+    → option_map (λ (m : MoteSetup). m.tree) o ≡ Some t → node_in t mote ≡ Some (new_node t number queue)
     → IfSome o (λ m. CanGoOn (opened m.tree until copies (node_in m.tree mote)))
 unfolding new_node
 new_goes_on None t until number queue copies mote e f = tt

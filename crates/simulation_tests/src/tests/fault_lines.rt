@@ -104,7 +104,8 @@ fn faults_and_failing_streams(rt: HostRuntime) -> Result<(), Fail> {
         text.as_str(),
         "\
             1 motesim: run fault 1\n1 motesim: run fault 2\n1 motesim: run fault 3\n1 motesim: out of memory\n\
-            1 motesim: run fault 5\n1 motesim: run fault 6\n0 Some(89) |1 Some(0) motesim: read fault\n|1 Some(7) motesim: write fault\n\
+            1 motesim: run fault 5\n1 motesim: run fault 6\n\
+            0 Some(89) |1 Some(0) motesim: read fault\n|1 Some(7) motesim: write fault\n\
             |1 Some(7) motesim: write fault\n|1 Some(0) |1 Some(0) motesim|",
     )
 }
