@@ -1,5 +1,5 @@
 //! Tests of the parts of a mote, from the reader of its program to its turns, and of those of a net: of `mote_program`,
-//! `program_name_laws`, `protothread`, `mote_timers`, `process_kernel`, `mote_node`, `radio_medium`, `copy_inbox`,
+//! `protothread`, `event_queue`, `mote_timers`, `process_kernel`, `mote_node`, `radio_medium`, `copy_inbox`,
 //! `fork_join` and `trace_printer`. They stand in a crate above these, since a crate with tests is proved twice, and in
 //! one, since each crate of tests is loaded, compiled and linked by itself.
 #![tactic(auto)]
