@@ -65,17 +65,17 @@ loop-out-init g c =
       motes = lent.places ∙ kept.places;
       traces = kept.traces_kept;
       worker = refl;
-      wakes = sym (zip_length (IsWakeOf c.args.until) _ _ lent.told) ∙ zip_length (LentMoteGives n c.args.until) _ _ c.in_ok-outs.ensures;
+      wakes = sym (zip_length (IsWakeOf c.args.until) _ _ lent.told) ∙ zip_length (LentMoteGives n c.args.until) _ _ c.in_ok-outs.ensures.gives;
       fits =
           all_fit n c.args.of.now c.args.self.now (kept_of c.requires.ready) c.args.arrived.items c.requires.to_own c.requires.of c.args.until c.in_ok-calls.calls.copies.items (c.in_ok-calls.ensures.taken _ base)
-          c.lend.new.motes.items c.in_ok-lent_motes.lent_motes.items c.lend.new.wakes.items lent c.requires.ready.order c.in_ok-outs.outs.items c.in_ok-outs.ensures;
+          c.lend.new.motes.items c.in_ok-lent_motes.lent_motes.items c.lend.new.wakes.items lent c.requires.ready.order c.in_ok-outs.outs.items c.in_ok-outs.ensures.gives;
       go_out = subst (AllByRecursion (IsOutgoing n c.args.of.now c.args.self.now.worker)) (sym c.new-outgoing.ensures.items) tt;
       coming = λ worker from motes taken keeps le short come.
           let at = subst (λ l. Holds c.put_copies.new.self.buckets (keeps.agenda.items ++ map Packet l)) c.deref.ensures.value (c.in_ok-put_copies.ensures keeps.agenda.items keeps.agenda.holds) in
           subst (λ l. Coming n c.args.of.now worker from c.args.until motes (taken ++ c.args.arrived.items) (window_copies n c.args.of.now worker from c.args.until motes taken c.args.arrived.items c.args.self.now keeps le come) share c.in_ok-outs.outs.items c.lend.new.wakes.items l)
           (sym c.new-outgoing.ensures.items)
           (starts n c.args.of.now worker from c.args.until motes taken c.args.arrived.items c.args.self.now share keeps le come c.requires.of c.in_ok-calls.calls.copies.items c.in_ok-lent_motes.lent_motes.items c.lend.new.wakes.items
-          (c.in_ok-calls.ensures.taken _ at) (c.in_ok-calls.ensures.rest _ at) lent c.in_ok-outs.outs.items c.in_ok-outs.ensures (refl, refl, refl));
+          (c.in_ok-calls.ensures.taken _ at) (c.in_ok-calls.ensures.rest _ at) lent c.in_ok-outs.outs.items c.in_ok-outs.ensures.gives (refl, refl, refl));
     }
 
 pub last_wake-pending-requires : goal.last_wake-pending-requires
