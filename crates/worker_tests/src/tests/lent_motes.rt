@@ -29,7 +29,7 @@ fn lent_mote(
     requires there { number < length (net_of net.now).motes }
     requires rising { is_rising copies.items ≡ true }
     ensures number { IfOk result (λ lent. lent.number ≡ number) }
-    ensures goes_on { IfOk result (λ resident. (until : ℕ) → LentMoteGoesOn (net_of net.now) until lent) }
+    ensures goes_on { IfOk result (λ lent. (until : ℕ) → LentMoteGoesOn (net_of net.now) until lent) }
 {
     let Ok(mote) = Mote::new(alloc, number, net.program(number), 32) else {
         return Err(Refused::Memory);
