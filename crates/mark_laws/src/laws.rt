@@ -1,5 +1,5 @@
-//! Laws of the protocol: of all workers of a run, in any order of their steps. Each is a theorem, stated as the contract
-//! of an empty function.
+//! Laws of the protocol: of all workers of a run, in any order of their steps. Each is a theorem, stated as the
+//! contract of an empty function.
 
 ghost use Rattle.mark_laws.specs.Laws.{AllStand, OneWindowAhead, SomeoneGoesOn, StuckIsAtEnd, EndIsStuck};
 ghost use Rattle.mark_laws.specs.Laws.{RunsAreBounded, FullRunsAreOfOneLength, EveryRunCanEnd, NobodyIsHeldUp};

@@ -4,7 +4,8 @@ use Rattle.trace_lines.specs.declared.line.Line.{Line}
 use Rattle.radio_packet.specs.declared.sent.Sent.{Sent}
 use Rattle.mote_node.specs.Node.{is_past}
 use Rattle.mote_node.specs.Wake.{wake_of}
-use Rattle.worker_window.specs.MoteWindow.{LoneNode, Window, WindowRun, EndsAs, HasTurn, IsNext, number_of, window_after_turn}
+use Rattle.worker_window.specs.MoteWindow.{LoneNode, Window, WindowRun, EndsAs, HasTurn, IsNext}
+use Rattle.worker_window.specs.MoteWindow.{number_of, window_after_turn}
 
 -- a window has one end
 abbrev pub EndIsOne : Type 0

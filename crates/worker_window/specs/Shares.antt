@@ -35,7 +35,8 @@ GivesList n until lent_motes outs = AllZip (LentMoteGives n until) lent_motes ou
 
 -- a lent mote, which is this mote of the net, has not failed, and what comes to it next comes after its last turn
 abbrev pub LentMoteGoesOn : NetTold → (until : ℕ) → LentMote → Type 0
-LentMoteGoesOn n until lent_mote = IfSome (slice_get n.motes lent_mote.number) (λ m. CanGoOn (window_of until m lent_mote))
+LentMoteGoesOn n until lent_mote =
+    IfSome (slice_get n.motes lent_mote.number) (λ m. CanGoOn (window_of until m lent_mote))
 
 -- the same of all lent motes
 abbrev pub AreGoingOn : NetTold → (until : ℕ) → List LentMote → Type 0
