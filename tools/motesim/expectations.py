@@ -5,7 +5,6 @@
 from __future__ import annotations
 
 import itertools
-import tomllib
 from dataclasses import dataclass, replace
 from pathlib import Path
 from typing import Any, NamedTuple
@@ -18,6 +17,7 @@ from motesim.run import Answer, answer, read_file
 from motesim.scenario import Scenario, ScenarioFault
 from motesim.scenario_faults import TOP
 from motesim.sentences import Names, Refused, Sentence, SentenceFault, lacking, names_of, read_sentence
+from motesim.toml import NoToml, read_toml
 
 LONGEST_SHOWN = 150
 REFUSED = 'the scenario is refused'
@@ -80,8 +80,8 @@ def part_of(table: dict[str, Any], name: str, keys: set[str]) -> Part:
 def parts_of(text: str, name: str) -> list[Part]:
     """What a file expects: first of the scenario as it is, then of each change."""
     try:
-        tables = tomllib.loads(text)
-    except tomllib.TOMLDecodeError as fault:
+        tables = read_toml(text)
+    except NoToml as fault:
         raise Fault('%s is no TOML: %s' % (name, fault)) from None
     parts = [part_of(tables, name, {'expect', 'report', 'change'})]
     for number, table in enumerate(tables.get('change', []), 1):

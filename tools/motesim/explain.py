@@ -10,7 +10,6 @@ from __future__ import annotations
 
 import re
 import textwrap
-import tomllib
 from typing import Any
 
 from motesim import encodings, hints, missing, program_faults, scenario_faults
@@ -20,6 +19,7 @@ from motesim.report import Report
 from motesim.run import Answer, answer, is_report, read_file
 from motesim.scenario import Scenario
 from motesim.scenario_faults import Place, ScenarioFault
+from motesim.toml import NoToml, read_toml
 from motesim.words import words_of
 
 WIDTH = 112
@@ -115,14 +115,14 @@ def hinted(hint: str | None) -> list[str]:
 
 
 def tables_of(text: str) -> dict[str, Any]:
-    return tomllib.loads(text.removeprefix('\ufeff'))
+    return read_toml(text)
 
 
 def tables_or_none(text: str) -> dict[str, Any] | None:
     """The tables of a text that may be no TOML."""
     try:
         return tables_of(text)
-    except (tomllib.TOMLDecodeError, RecursionError):
+    except NoToml:
         return None
 
 
@@ -166,8 +166,8 @@ def warned(name: str, text: str, warning: Warned) -> list[str]:
     lines = wrapped('Warning: %s.' % warning.text)
     if warning.program is not None and warning.token is not None:
         return lines + shown_program(name, text, warning.program, warning.token)
-    if warning.mote is not None:
-        return lines + shown_place(name, text, scenario_faults.place_of(text, ('mote', warning.mote)))
+    if warning.path is not None:
+        return lines + shown_place(name, text, scenario_faults.place_of(text, warning.path))
     return lines
 
 

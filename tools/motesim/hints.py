@@ -66,6 +66,8 @@ QUOTES = '\u2018\u2019\u201a\u201b\u201c\u201d\u201e\u201f\u00ab\u00bb\u00b4`'
 OF_QUOTES = 'These are quotes of another kind, as text programs make them: plain ones are wanted, `"` or `\'`.'
 # What Python says of a text of several lines that has no end.
 NO_END = re.compile('Expected "\'\'\'"|Unterminated string')
+# Letters that look like digits.
+DIGITS = str.maketrans('OoIl', '0011')
 # Keys that stand for a wish that the medium can't meet.
 CHANCE = ('probability', 'prob', 'p', 'rate', 'loss_rate', 'random', 'seed', 'noise', 'per_link', 'chance')
 
@@ -83,7 +85,7 @@ def of_program(text: str, fault: ProgramFault) -> str | None:
     before, here = tokens[:at], fault.token
     behind = tokens[at + 1] if at + 1 < len(tokens) else here
     if fault.kind == 1:
-        return _of_sign(here, behind)
+        return _of_letter(before, here) or _of_sign(here, behind)
     if fault.kind == 2:
         return _of_unexpected(before, here, behind, fault.may) or _of_operator(tokens, at, fault.may)
     if fault.kind == 3:
@@ -91,6 +93,18 @@ def of_program(text: str, fault: ProgramFault) -> str | None:
     if fault.kind == 6:
         return 'A callback can\'t wait, but may wake a process that does: `poll P;` or `post P msg 0;`.'
     return None
+
+
+def _of_letter(before: list[Token], here: Token) -> str | None:
+    """A number in which letters are written that look like digits."""
+    last = before[-1] if before else here
+    is_behind = last.line == here.line and last.column + len(last.text) == here.column
+    word = (last.text if is_behind and last.text.isdecimal() else '') + here.text
+    number = word.translate(DIGITS)
+    if not (word[:1].isdigit() and number.isdecimal()) or number == word:
+        return None
+    letter = next(it for it in word if not it.isdigit())
+    return 'A letter `%s` is in the number: was `%s` meant?' % (letter, number.lstrip('0') or '0')
 
 
 def _of_sign(here: Token, behind: Token) -> str | None:

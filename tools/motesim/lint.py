@@ -14,11 +14,19 @@ from motesim.scenario import Scenario
 
 
 class Warned(NamedTuple):
-    """A warning in words. It stands at a token of a program, at a mote, or at nothing in particular."""
+    """A warning in words. Its place is a token of a program, a mote, a loss, or nothing in particular."""
     text: str
     program: str | None = None
     token: Token | None = None
     mote: int | None = None
+    loss: int | None = None
+
+    @property
+    def path(self) -> tuple[str, int] | None:
+        """The table of the scenario that the warning is about."""
+        if self.loss is not None:
+            return 'loss', self.loss
+        return None if self.mote is None else ('mote', self.mote)
 
 
 class Program:
@@ -101,9 +109,10 @@ def of_net(scenario: Scenario, programs: dict[str, Program], report: Report | No
             what = 'sends, and nobody hears it' if number in speaks else 'hears nobody'
             if number in speaks or 'packet' in programs[scenario.places[number].program].words:
                 yield Warned('mote %d %s: no mote stands within `range`' % (number, what), mote=number)
-    for (s, r), every in scenario.losses.items():
+    for number, (s, r) in enumerate(scenario.losses):
         if not scenario.hears(r, s):
-            yield Warned('a loss from mote %d to mote %d, which doesn\'t hear it, loses nothing' % (s, r), mote=s)
+            what = 'a loss from mote %d to mote %d, which doesn\'t hear it, loses nothing' % (s, r)
+            yield Warned(what, loss=number)
     if report is not None:
         for mote in report.motes:
             halted = mote.halted()

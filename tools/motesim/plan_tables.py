@@ -6,7 +6,6 @@ stand for a number or for `true` and `false`.
 from __future__ import annotations
 
 import re
-import tomllib
 from collections.abc import Mapping
 from copy import copy
 from dataclasses import dataclass
@@ -15,6 +14,7 @@ from typing import Any, NoReturn
 from motesim.explain import shown_place, wrapped
 from motesim.faults import Fault
 from motesim.scenario_faults import Path, Place, place_of, value_of
+from motesim.toml import NoToml, read_toml
 
 PARAMETER = re.compile(r'\$\{([^}\n]*)\}')
 NAME = re.compile('[a-z][a-z0-9_]{0,31}')
@@ -106,9 +106,9 @@ class Tables:
         self.name, self.text, self.shown_as = name, text, shown_as
         self.parameters: dict[str, Value] = {}
         try:
-            self.top: Table = tomllib.loads(text.removeprefix('\ufeff'))
-        except (tomllib.TOMLDecodeError, RecursionError) as fault:
-            self._no_toml(str(fault))
+            self.top: Table = read_toml(text)
+        except NoToml as fault:
+            self._no_toml(fault)
 
     def with_parameters(self, parameters: Mapping[str, Value]) -> Tables:
         """The same tables where parameters have these values."""
@@ -116,12 +116,10 @@ class Tables:
         made.parameters = dict(parameters)
         return made
 
-    def _no_toml(self, said: str) -> NoReturn:
-        found, lines = re.search(r' \(at line (\d+), column (\d+)\)$', said), self.text.split('\n')
-        place = Place(int(found[1]), int(found[2]) - 1, 1) if found else Place(len(lines), len(lines[-1]), 1)
-        what = re.sub(r' \(at .*\)$', '', said)
+    def _no_toml(self, fault: NoToml) -> NoReturn:
+        place = Place(fault.line, fault.column, 1)
         raise PlanFault(shown(self.shown_as, self.text, place, 'A plan is a TOML document, and this text is none.',
-                              'TOML (Python says: %s)' % what))
+                              'TOML (Python says: %s)' % fault.said))
 
     def fault(self, path: Path, rule: str, may: str = '', is_value: bool = True) -> PlanFault:
         """A fault at a key or a table; `is_value` marks what stands after the key."""

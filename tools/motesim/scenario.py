@@ -1,11 +1,11 @@
 """Reads scenarios: docs/use/SCENARIO.md says what a scenario is. A text that is none is a `ScenarioFault`."""
 from __future__ import annotations
 
-import tomllib
 from functools import cached_property
 from typing import Any, Iterator, NamedTuple
 
 from motesim.faults import Fault
+from motesim.toml import NoToml, read_toml
 
 
 class ScenarioFault(Fault):
@@ -71,10 +71,10 @@ class Scenario:
         try:
             if isinstance(text, bytes):
                 text = text.decode('utf-8')
-            return cls(tomllib.loads(text.removeprefix('\ufeff')))
+            return cls(read_toml(text))
         except UnicodeDecodeError:
             raise ScenarioFault('the scenario is not UTF-8') from None
-        except tomllib.TOMLDecodeError as fault:
+        except NoToml as fault:
             raise ScenarioFault('the scenario is no TOML: %s' % fault) from None
 
     @property

@@ -6,13 +6,13 @@
 from __future__ import annotations
 
 import re
-import tomllib
 from collections.abc import Iterator
 from dataclasses import dataclass
 from typing import Any
 
 from motesim.program_faults import ProgramFault
 from motesim.program_faults import find_fault as find_program_fault
+from motesim.toml import NoToml, read_toml
 
 LONGEST_TEXT = 1_048_576
 # A table or a key: the names and the numbers that lead to it.
@@ -206,13 +206,10 @@ def _read(data: bytes) -> dict[str, Any]:
         line = data.count(b'\n', 0, begin) + 1, len(data[begin:fault.start].decode('utf-8'))
         raise ScenarioFault('scenario is not UTF-8', line=line, may='text in UTF-8') from None
     try:
-        tables = tomllib.loads(text.removeprefix('\ufeff'))
-    except (tomllib.TOMLDecodeError, RecursionError) as fault:
-        place = re.search(r' \(at line (\d+), column (\d+)\)$', str(fault))
-        lines = text.split('\n')
-        line = (int(place[1]), int(place[2]) - 1) if place else (len(lines), len(lines[-1]))
-        what = re.sub(r' \(at .*\)$', '', str(fault))
-        raise ScenarioFault('scenario fault 1', line=line, may='TOML (Python says: %s)' % what) from None
+        tables = read_toml(text)
+    except NoToml as fault:
+        raise ScenarioFault('scenario fault 1', line=(fault.line, fault.column),
+                            may='TOML (Python says: %s)' % fault.said) from None
     for path in _too_large(tables, ()):
         raise ScenarioFault('scenario fault 1', path, may='a whole number of 64 bits')
     return tables

@@ -58,7 +58,7 @@ class Sweeper:
         self.program = program_path().resolve()
         self.made: Row = {
             'plan': self.plan.name, 'program': program_version(self.program),
-            'program_sha256': program_digest(self.program), 'kit': kit_version(),
+            'program_sha256': program_digest(self.program), 'kit': kit_version(self.program),
             'parameters': ' '.join(self.plan.parameters),
             'measures_sha256': hashlib.sha256(repr((sweep.measures, sorted(self.sources.items()))).encode()
                                               ).hexdigest()[:DIGITS]}

@@ -16,6 +16,8 @@ from motesim.scenario import Scenario
 from motesim.sentences import Names, SentenceFault, names_of
 
 MOST_RUNS = 1_000_000
+# How many runs are tried to find one whose plan makes a scenario.
+MOST_TRIED = 40
 SECONDS, MOST_SECONDS, MOST_BYTES = 60, 86_400, 200_000_000
 RANGE = re.compile(r'(-?[0-9]{1,9})\.\.(-?[0-9]{1,9})(?:\.\.([0-9]{1,9}))?')
 SWEEP = {'vary': optional(dict, {}), 'measure': optional(list, []), 'seconds': optional(int, SECONDS, 1, MOST_SECONDS)}
@@ -65,6 +67,14 @@ class Sweep:
         for values in itertools.product(*self.vary.values()):
             yield self.plan.with_given(dict(zip(self.vary, values)))
 
+    def run_at(self, place: int) -> dict[str, Value]:
+        """The values of all parameters in the run at a place of that order."""
+        found: dict[str, Value] = {}
+        for name, values in reversed(self.vary.items()):
+            place, at = divmod(place, len(values))
+            found[name] = values[at]
+        return self.plan.with_given(found)
+
 
 def sweep_of(plan: Plan, vary: Sequence[str], measures: Sequence[str], seconds: float | None) -> Sweep:
     """What the plan's table `sweep` and the command line ask for."""
@@ -110,18 +120,28 @@ def sources_of(plan: Plan, measures: Sequence[str]) -> dict[str, str]:
         raise Fault('a file of measures is not UTF-8: %s' % fault) from None
 
 
+def some_runs(sweep: Sweep) -> Iterator[dict[str, Value]]:
+    """The first run, the last, and others between them, each as far from those before as may be."""
+    count = sweep.runs()
+    places = dict.fromkeys([0, count - 1])
+    step = count
+    while step > 1 and len(places) < MOST_TRIED:
+        step = (step + 1) // 2
+        places.update(dict.fromkeys(range(0, count, step)))
+    for place in list(places)[:MOST_TRIED]:
+        yield sweep.run_at(place)
+
+
 def known_names(sweep: Sweep) -> Names:
-    """What sentences may name. A plan that makes no scenario, first or last, has its fault told."""
-    runs = list(itertools.islice(sweep.given(), 1))
-    last = dict(zip(sweep.vary, (values[-1] for values in sweep.vary.values())))
-    runs.append(sweep.plan.with_given(last))
-    faults = []
-    for given in runs:
+    """The names that sentences may have. If none of the runs that are tried makes a scenario, the first fault."""
+    first: Fault | None = None
+    for given in some_runs(sweep):
         try:
             return names_of(Scenario.parse(sweep.plan.scenario(given)))
         except Fault as fault:
-            faults.append(fault)
-    raise faults[0]
+            first = first or fault
+    assert first
+    raise first
 
 
 def columns_of(sweep: Sweep, names: Names, sources: Mapping[str, str]) -> list[str]:

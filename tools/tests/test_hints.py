@@ -75,6 +75,14 @@ class Hints(unittest.TestCase):
             with self.subTest(body):
                 self.assertIn(wanted, hints.of_program(text, find_fault(text)) or '')
 
+    def test_letters_in_a_number(self) -> None:
+        for written, meant in ('1O', '10'), ('1o', '10'), ('l0', '10'), ('3I', '31'), ('2l', '21'):
+            text = CODE % ('print %s;' % written)
+            fault = find_fault(text)
+            if fault and fault.kind == 1:
+                with self.subTest(written):
+                    self.assertIn('was `%s` meant?' % meant, hints.of_program(text, fault) or '')
+
     def test_a_declaration(self) -> None:
         for text, wanted in ('process a; code a { var count = 0; body { } }', '`count` is a word'), (
                 'process a; code a { var x; body { } }', '`var x = 0;`'), (
@@ -133,6 +141,13 @@ class Warnings(unittest.TestCase):
                 continue
             with self.subTest(path.name):
                 self.assertEqual([it.text for it in warnings(Scenario.parse(path.read_bytes()))], [])
+
+    def test_a_loss_that_loses_nothing_is_shown_at_the_loss(self) -> None:
+        text = scenario(x=50) + '[[loss]]\nfrom = 0\nto = 1\nevery = 2\n'
+        found = next(it for it in warnings(Scenario.parse(text)) if 'loses nothing' in it.text)
+        shown = explain.warned('a.toml', text, found)
+        self.assertIn('a.toml, line %d:' % (text.split('\n').index('[[loss]]') + 1), shown)
+        self.assertIn('  [[loss]]', shown)
 
     def test_explain_shows_them(self) -> None:
         text = scenario(program='process a; code a { body { print 1; } }')

@@ -255,6 +255,30 @@ class Page(unittest.TestCase):
         self.assertIn('Mote 1 stands at', self.shown('map-said'))
         self.assertEqual(self.value('run.hearers[0].length'), 0)
 
+    def shown_on_map(self, mote):
+        """Where a mote is seen in the window: the map's picture, as large as the page shows it."""
+        self.on_map(mote)
+        return self.value('''(() => {
+          const {canvas} = m.maps[0], box = canvas.getBoundingClientRect(), dots = window.devicePixelRatio;
+          return [box.x + canvas.clientLeft + m.maps[0].x(%d) * dots * canvas.clientWidth / canvas.width,
+            box.y + canvas.clientTop + m.maps[0].y(%d) * dots * canvas.clientHeight / canvas.height];
+        })()''' % (mote, mote))
+
+    def test_the_map_is_as_large_as_it_is_shown_and_the_mouse_finds_a_mote_at_its_centre(self):
+        self.open()
+        for width in 1400, 1000:
+            self.browser.size(width, 900)
+            x, y = self.shown_on_map(2)
+            drawn, shown = self.value('[[m.maps[0].canvas.width, m.maps[0].canvas.height], '
+                                      '[m.maps[0].canvas.clientWidth, m.maps[0].canvas.clientHeight]]')
+            self.assertEqual(drawn, shown)
+            self.browser.drag(x, y, x - 30, y - 10)
+            self.wait('m.studio.judged === m.studio.number && run.places[2][0] < 100')
+            self.assertEqual(self.value('[m.maps[0].dx, m.maps[0].dy]'), [0, 0])
+            self.assertIn('Mote 2 stands at', self.shown('map-said'))
+            self.value('m.editor().replace(text, %s)' % json.dumps(NET))
+            self.wait('m.studio.judged === m.studio.number && run.places[2][0] === 100')
+
     def test_motes_are_added_and_removed(self):
         self.open()
         self.value('document.getElementById("add").click()')

@@ -282,6 +282,16 @@ class SweepTest(Bed):
             self.assertIn(told, done.stderr)
             self.assertFalse((self.folder / 'net.csv').exists())
 
+    def test_runs_that_make_no_scenario_are_rows_wherever_they_are(self) -> None:
+        done = self.sweep('--vary', 'motes=0,3,5000', '--measure', 'motes: every mote prints a', '-o', 'odd.csv')
+        self.assertEqual(done.returncode, 1, done.stderr)
+        self.assertIn('odd.csv: 3 runs, 3 of them now, 2 with a fault', done.stdout)
+        self.assertEqual([bool(row['fault']) for row in self.rows('odd.csv')], [True, False, True])
+
+    def test_a_program_that_is_not_this_trees_names_no_kit(self) -> None:
+        self.sweep(*self.words)
+        self.assertEqual({row['kit'] for row in self.rows()}, {''})
+
     def test_what_the_plan_says_itself(self) -> None:
         sweep = '[sweep]\nvary = { period = "1..2", motes = [2, 3] }\nmeasure = ["prints"]\n'
         (self.folder / 'net.plan.toml').write_text(PLAN + sweep)

@@ -87,8 +87,8 @@ def warned(done: Finished) -> list[dict[str, Any]]:
         place = None
         if it.program is not None and it.token is not None:
             place = place_of_token(done.text, it.program, it.token)
-        elif it.mote is not None:
-            place = place_of(done.text, ('mote', it.mote))
+        elif it.path is not None:
+            place = place_of(done.text, it.path)
         found.append({'text': it.text, 'place': stretch16(done.text, place) if place else None})
     return found
 

@@ -8,11 +8,11 @@ The text is read before and after: an edit that would change anything else, or n
 from __future__ import annotations
 
 import copy
-import tomllib
 from typing import Any, NamedTuple
 
 from motesim.faults import Fault
 from motesim.scenario_faults import Place, places, value_of
+from motesim.toml import NoToml, read_toml
 
 MOST_PLACE, MOST_MOTES, MOST_EVERY = 30_000, 1_000, 1_000_000
 
@@ -37,8 +37,8 @@ class Text:
     def __init__(self, text: str):
         self.text = text
         try:
-            self.tables = tomllib.loads(text)
-        except (tomllib.TOMLDecodeError, RecursionError):
+            self.tables: dict[str, Any] = read_toml(text)
+        except NoToml:
             raise Fault('The text has a fault. Mend it first; then the map can change it.') from None
         self.rows = text.split('\n')
         self.places = places(text)
@@ -191,8 +191,8 @@ def edit(source: str, wish: dict[str, Any]) -> tuple[list[Change], str]:
     except (KeyError, TypeError, AttributeError, IndexError):
         raise Fault('The text has a fault. Mend it first; then the map can change it.') from None
     try:
-        got = tomllib.loads(applied(source, changes))
-    except tomllib.TOMLDecodeError:
+        got: dict[str, Any] | None = read_toml(applied(source, changes))
+    except NoToml:
         got = None
     if not wanted.get('loss', True):
         del wanted['loss']

@@ -63,11 +63,13 @@ class MapView {
   }
 
   resize() {
-    const dots = window.devicePixelRatio || 1, width = Math.max(120, this.canvas.parentElement.clientWidth - 24);
+    // (as wide as it is shown: a map that is stretched has its motes elsewhere than the mouse finds them)
+    const dots = window.devicePixelRatio || 1, width = this.canvas.clientWidth || 120;
     const ratio = this.spanX > 0 ? Math.min(1, Math.max(0.3, (this.spanY + this.spanX * 0.1) / this.spanX)) : 0.6;
     this.width = width;
     this.height = Math.round(Math.min(440, Math.max(110, width * ratio)));
-    this.canvas.style.height = this.height + 'px';
+    const border = this.canvas.offsetHeight - this.canvas.clientHeight;
+    this.canvas.style.height = this.height + border + 'px';
     this.canvas.width = width * dots;
     this.canvas.height = this.height * dots;
     this.context.setTransform(dots, 0, 0, dots, 0, 0);
@@ -290,6 +292,11 @@ class MapView {
   }
 
   listen() {
+    new ResizeObserver(() => {
+      if (!this.canvas.clientWidth || this.canvas.clientWidth === this.width) return;
+      this.resize();
+      redraw();
+    }).observe(this.canvas);
     this.canvas.setAttribute('role', 'img');
     this.canvas.setAttribute('aria-label',
       'Map of the motes: who hears whom, and the packets on their way at the moment that is played');
