@@ -1,6 +1,6 @@
 """Checks that the commands of the tutorial give what the page shows: tools/check_tutorial [--write] [PROGRAM]
 
-The pages are those of docs/use/ that show commands (PAGES). Their blocks of commands begin with ```sh, and what these
+The pages are those of docs/use/. Their blocks of commands begin with ```sh, and what these
 print stands in the block right after, which begins with ```. Where no block is right after, they print nothing. A block
 that begins with ```console has commands that open a window, and is not run. A block that begins with ```toml NAME,
 ```mote NAME or ```python NAME is a file that the reader saves under that name. The commands of a page are run in a
@@ -25,8 +25,7 @@ from motesim.faults import Fault, command
 from motesim.words import words_of
 from project.tree import TOP, program_of
 
-PAGES = ['docs/use/TUTORIAL.md', 'docs/use/TOOLS.md', 'docs/use/EXPECTATIONS.md', 'docs/use/EXPLAIN.md',
-         'docs/use/EXPERIMENTS.md', 'docs/use/REPORT.md', 'docs/use/TIMELINE.md', 'docs/use/EXPORTS.md']
+PAGES = sorted(TOP.glob('docs/use/*.md'))
 FENCE = '```'
 SECONDS = 300
 
@@ -138,7 +137,7 @@ def main() -> int:
     asked = words.parse_args()
     program = Path(program_of(asked.program))
     passed = failed = 0
-    for page in map(Path, asked.page or [TOP / it for it in PAGES]):
+    for page in map(Path, asked.page or PAGES):
         text = page.read_text(encoding='utf-8')
         checked = check(page.name, text, program)
         passed += checked.passed

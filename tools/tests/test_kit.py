@@ -19,7 +19,7 @@ class AtHand(unittest.TestCase):
         self.assertIsNone(kit.another())
 
     def test_the_readme_names_it(self):
-        self.assertIn('`%s`' % KIT, (here.TOP / 'README.md').read_text('utf-8'))
+        self.assertIn('`%s`' % LOGIC.split()[-1], (here.TOP / 'README.md').read_text('utf-8'))
 
     def test_it_has_all_that_is_taken(self):
         self.assertEqual(kit.lacking_in(kit.rt()), [])
