@@ -1,4 +1,4 @@
-"""Measures the program: tools/bench [NAME ..] [--against PROGRAM] [--rounds N]
+"""Measures the program: tools/dev/bench [NAME ..] [--against PROGRAM] [--rounds N]
 
 Runs the program on the scenarios of bench/, on one thread and by workers of both kinds, each in turn with an earlier
 program where --against names one, and prints of each way to run: the seconds of the processor (user time, the best

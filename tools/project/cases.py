@@ -1,4 +1,4 @@
-"""Runs the built program on the cases of tests/cases and compares what it writes: tools/run_cases [--program FILE]
+"""Runs the built program on the cases of tests/cases and compares what it writes: tools/dev/run_cases [--program FILE]
 [NAME ..]
 
 NAME is a case, `nets/two_senders`, or a folder of cases, `nets`; without a name all are run. A case is made of the

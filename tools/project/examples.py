@@ -1,4 +1,4 @@
-"""Checks that each example shows what is said of it: tools/check_examples [PROGRAM]
+"""Checks that each example shows what is said of it: tools/dev/check_examples [PROGRAM]
 
 For each scenario of examples/ the sentences of NAME.expect.toml have to hold, as tools/expect tells them; what
 README.md and the pages of docs/ quote of an example must stand in it or in its report. PROGRAM is a built motesim;
@@ -12,11 +12,11 @@ import re
 from collections.abc import Callable
 from pathlib import Path
 
-from motesim.expectations import beside, expect
+from motesim.judge.expectations import beside, expect
 from motesim.faults import Fault, command
-from motesim.judge import Judge
+from motesim.judge.judge import Judge
 from motesim.report import Report
-from motesim.run import Run, read_run
+from motesim.runner.run import Run, read_run
 from motesim.words import words_of
 from project.tree import TOP, program_of
 

@@ -1,4 +1,4 @@
-"""Checks the format of all sources, definitions and proofs: tools/check_format
+"""Checks the format of all sources, definitions and proofs: tools/dev/check_format
 
 Prints what is formatted otherwise, and ends with status 1 where something is; `rt fmt` in a crate's folder formats it.
 """

@@ -1,4 +1,4 @@
-"""Prints what the functions of a crate take of its check, dearest first: tools/function_times CRATE [HOW MANY]
+"""Prints what the functions of a crate take of its check, dearest first: tools/dev/function_times CRATE [HOW MANY]
 
 A check writes each module that it has checked into the crate's out/incremental, and the times of these files tell how
 long each took. So the crate is checked from nothing first, with one job and nothing beside it:

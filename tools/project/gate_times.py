@@ -1,4 +1,4 @@
-"""Notes what each crate costs while a command checks the repository: tools/gate_times -- rt ci
+"""Notes what each crate costs while a command checks the repository: tools/dev/gate_times -- rt ci
 
 Runs the command as it is, ends with its status, and changes nothing of it: four times a second it looks at the
 processes below it and notes the processor time of each `rattle`: of which crate, and whether it is a proof, a check
@@ -6,8 +6,8 @@ of tests or one of a wrong body. (What a process used after the last look isn't 
 nothing beside it, it proves delivery_laws from nothing, as the measure of the machine. The figures go to
 out/gate_times.json, and one line of them to standard error.
 
-tools/gate_times --show    prints the last run's table by crate, and its line for the table by landing
-tools/gate_times --write   writes the table by crate into docs/dev/GATE.md, and what proofs take into
+tools/dev/gate_times --show    prints the last run's table by crate, and its line for the table by landing
+tools/dev/gate_times --write   writes the table by crate into docs/dev/GATE.md, and what proofs take into
                            tools/project/crate_seconds.json, by which a build is estimated; and prints the line
 """
 from __future__ import annotations
@@ -203,7 +203,7 @@ def main() -> int:
         status, run = measured(words[1:])
         KEPT.parent.mkdir(exist_ok=True)
         KEPT.write_text(json.dumps(run, indent=1), 'utf-8')
-        print('gate_times: %s (tools/gate_times --show: by crate)' % summary(run), file=sys.stderr, flush=True)
+        print('gate_times: %s (tools/dev/gate_times --show: by crate)' % summary(run), file=sys.stderr, flush=True)
         return status if status >= 0 else 128 - status
     if words not in (['--show'], ['--write']):
         print(__doc__, end='')

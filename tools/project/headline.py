@@ -1,4 +1,4 @@
-"""Lists the files of specs/ on which the headline rests, in docs/proof/HEADLINE.md: tools/headline_files [--write |
+"""Lists the files of specs/ on which the headline rests, in docs/proof/HEADLINE.md: tools/dev/headline_files [--write |
 --check]
 
 The headline is the contract of `simulate`, crates/simulation/specs/Simulation*.antt. A file rests on each file of
@@ -22,7 +22,7 @@ PAGE = Path('docs/proof/HEADLINE.md')
 HEADLINE = 'crates/simulation/specs/Simulation*.antt'
 WIDTH = 112
 CONSTANTS = 'TheConstants'
-BEGIN, END = '<!-- the files: written by tools/headline_files -->', '<!-- end of the files -->'
+BEGIN, END = '<!-- the files: written by tools/dev/headline_files -->', '<!-- end of the files -->'
 IMPORT = re.compile(r'^(?:pub )?use ([\w.]+?)(?:\.\{| as |\.?$)', re.M)
 DECLARED = re.compile(r'^(?:pub )?use Rattle\.(\w+)\.specs\.declared\.([\w.]+?)\.([A-Z]\w*)(?:\.|\s|$)', re.M)
 
@@ -205,7 +205,7 @@ def main() -> int:
     elif between == text:
         print('%s has the files on which the headline rests' % PAGE)
     else:
-        print('%s has another list; tools/headline_files --write renews it' % PAGE)
+        print('%s has another list; tools/dev/headline_files --write renews it' % PAGE)
         return 1
     return 0
 

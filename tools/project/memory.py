@@ -1,4 +1,4 @@
-"""Refuses each request for memory of a run in turn: tools/refuse_memory [--program PROGRAM] [FILE [WORD ..]]
+"""Refuses each request for memory of a run in turn: tools/dev/refuse_memory [--program PROGRAM] [FILE [WORD ..]]
 
 The program simulates a scenario, and is refused its first request, in the next run its second, and so on until a run
 needs no more of them. The start of a thread is a request too, for its stack. Each run has to end with the whole

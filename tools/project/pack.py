@@ -18,7 +18,7 @@ import tarfile
 from pathlib import Path
 
 from motesim.faults import Fault, command
-from motesim.programs import PROVED, TOP, is_program
+from motesim.runner.programs import PROVED, TOP, is_program
 from motesim.version import KIT, VERSION
 from motesim.words import words_of
 from project import kit

@@ -1,4 +1,4 @@
-"""Checks that the commands of the tutorial give what the page shows: tools/check_tutorial [--write] [PROGRAM]
+"""Checks that the commands of the tutorial give what the page shows: tools/dev/check_tutorial [--write] [PROGRAM]
 
 The pages are those of docs/use/. Their blocks of commands begin with ```sh, and what these
 print stands in the block right after, which begins with ```. Where no block is right after, they print nothing. A block

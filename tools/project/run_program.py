@@ -16,7 +16,7 @@ import sys
 from pathlib import Path
 from typing import NoReturn
 
-from motesim.programs import is_program
+from motesim.runner.programs import is_program
 from project.asked import Asked, asked_by
 from project.attended import as_another_program, attend
 from project.tree import PROGRAM, TOP, is_built

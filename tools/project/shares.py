@@ -1,6 +1,6 @@
 """What each crate costs, in processor seconds, and how long a build from nothing takes: crate_seconds.json.
 
-`tools/gate_times --write` writes the seconds, and makes the table of docs/dev/GATE.md of them. The minutes of a build
+`tools/dev/gate_times --write` writes the seconds, and makes the table of docs/dev/GATE.md of them. The minutes of a build
 from nothing, by how many processors there were, are put there by hand, as they were measured; README.md gives them.
 """
 from __future__ import annotations
@@ -13,7 +13,7 @@ from project.tree import TOP
 
 KEPT = TOP / 'tools/project/crate_seconds.json'
 PAGE = TOP / 'docs/dev/GATE.md'
-BEGIN, END = '<!-- by crate: written by tools/gate_times -->', '<!-- end -->'
+BEGIN, END = '<!-- by crate: written by tools/dev/gate_times -->', '<!-- end -->'
 HEAD = '| Crate | Proof | Tests | Wrong bodies |\n|---|---|---|---|\n'
 
 

@@ -1,4 +1,4 @@
-"""Runs the built program on a scenario with one byte spoiled, each in turn, and on its fronts: tools/spoil_bytes
+"""Runs the built program on a scenario with one byte spoiled, each in turn, and on its fronts: tools/dev/spoil_bytes
 [--program FILE]
 
 The scenario is tests/cases/motes/print_then_yield.toml. Each of its bytes is replaced by each of the bytes in

@@ -6,7 +6,7 @@ import os
 from pathlib import Path
 
 from motesim.faults import Fault
-from motesim.programs import is_program, program_path
+from motesim.runner.programs import is_program, program_path
 
 TOP = Path(__file__).resolve().parent.parent.parent
 PROGRAM = TOP / 'crates/motesim/out/motesim'

@@ -1,6 +1,6 @@
 """When each wrong body was last tried, and over which texts: log/wrong_bodies.tsv.
 
-tools/wrong_bodies notes what it tries. A line has the wrong body, the day, `refused` or `open`, and a digest of all that
+tools/dev/wrong_bodies notes what it tries. A line has the wrong body, the day, `refused` or `open`, and a digest of all that
 the answer rests on, by which it can be told whether any of that has changed since: the wrong body, its crate, the code
 and the definitions of the crates below, and the kit's logic. Lines that are comments alone don't count.
 """
@@ -72,7 +72,7 @@ def note(answers: Mapping[str, tuple[bool, str]], is_known: Callable[[str], bool
     KEPT.parent.mkdir(exist_ok=True)
     rows = ['%s\t%s\t%s\t%s\n' % (name, it.day, 'refused' if it.is_refused else 'open', it.digest)
             for name, it in sorted(kept.items())]
-    KEPT.write_text('# written by tools/wrong_bodies: wrong body, day, answer, digest\n' + ''.join(rows), 'utf-8')
+    KEPT.write_text('# written by tools/dev/wrong_bodies: wrong body, day, answer, digest\n' + ''.join(rows), 'utf-8')
 
 
 def refused(names: Mapping[str, str]) -> set[str]:

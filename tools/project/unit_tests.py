@@ -1,4 +1,4 @@
-"""Runs the tests of the tools: tools/test_tools [NAME ..]
+"""Runs the tests of the tools: tools/dev/test_tools [NAME ..]
 
 NAME is a file of tools/tests, test_report, or a part of its name; without one all are run. Prints each test that
 fails, with what it says, and each that is skipped, with why. The last line is `N passed, M failed, K skipped`, and

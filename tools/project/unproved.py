@@ -19,7 +19,7 @@ from pathlib import Path
 from typing import Iterator
 
 from motesim.faults import Fault, command
-from motesim.programs import TOP, UNPROVED, is_program, say_unproved, unproved_path
+from motesim.runner.programs import TOP, UNPROVED, is_program, say_unproved, unproved_path
 from motesim.version import VERSION
 from project import kit
 from project.progress import Line

@@ -1,4 +1,4 @@
-"""Compares runs by workers with the run on one thread: tools/compare_workers [--program PROGRAM] [FILE or FOLDER ..]
+"""Compares runs by workers with the run on one thread: tools/dev/compare_workers [--program PROGRAM] [FILE or FOLDER ..]
 
 Each scenario is run on one thread, and then by 1, 2, 3, 7 and 16 workers with both cuts, joined after each window and
 with marks; status, report and fault line have to be the same. Of a folder all files NAME.toml are taken, those of its

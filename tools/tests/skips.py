@@ -1,13 +1,13 @@
-"""What a test needs beyond Python: where it isn't there, the test is skipped, and tools/test_tools says why."""
+"""What a test needs beyond Python: where it isn't there, the test is skipped, and tools/dev/test_tools says why."""
 from __future__ import annotations
 
 import shutil
 import sys
 import unittest
 
-from motesim import packages
+from motesim.experiments import packages
 from motesim.faults import Fault
-from motesim.run import program_path
+from motesim.runner.run import program_path
 
 
 def interpreter_with(test: unittest.TestCase, module: str) -> str:

@@ -21,7 +21,7 @@ from unittest import mock
 
 from here import TOOLS
 from motesim.scenario import Scenario
-from motesim.scenario_faults import find_fault
+from motesim.scenario.faults import find_fault
 
 STARTS = ['0 start %s' % name for name in ('etimer', 'ctimer', 'radio')]
 

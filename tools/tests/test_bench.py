@@ -1,4 +1,4 @@
-"""The scenarios of bench/, and what tools/bench says of runs. The program is a stand-in."""
+"""The scenarios of bench/, and what tools/dev/bench says of runs. The program is a stand-in."""
 import contextlib
 import io
 import subprocess
@@ -9,7 +9,7 @@ from pathlib import Path
 from unittest import mock
 
 from here import TOP
-from motesim.program_faults import find_fault
+from motesim.notation.faults import find_fault
 from motesim.scenario import Scenario
 from project import bench
 

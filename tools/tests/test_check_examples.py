@@ -6,7 +6,7 @@ from unittest import mock
 
 import here  # (it puts tools/ on the path)
 from motesim.report import Report
-from motesim.run import Run
+from motesim.runner.run import Run
 from motesim.scenario import Scenario
 from project import examples as check_examples
 

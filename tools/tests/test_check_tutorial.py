@@ -32,7 +32,7 @@ done
 This prints nothing:
 
 ```sh
-test -e tools/run_cases -a -e examples/tdma.toml
+test -e tools/dev/run_cases -a -e examples/tdma.toml
 ```
 
 And a block that is no output:
@@ -76,7 +76,7 @@ class Pages(unittest.TestCase):
     def test_the_command_counts_and_writes(self):
         page = Path(self.folder.name) / 'PAGE.md'
         page.write_text(PAGE.replace('\ndone\n', '\nover\n'), encoding='utf-8')
-        words = [sys.executable, '-B', str(TOOLS / 'check_tutorial'), '--page', str(page), str(self.program)]
+        words = [sys.executable, '-B', str(TOOLS / 'dev/check_tutorial'), '--page', str(page), str(self.program)]
         for more, status, last in ([], 1, '1 passed, 1 failed'), (['--write'], 0, '1 passed, 1 failed'), \
                 ([], 0, '2 passed, 0 failed'):
             done = subprocess.run(words + more, capture_output=True, text=True)

@@ -6,9 +6,10 @@ import unittest
 from pathlib import Path
 
 from here import TOOLS
-from motesim import compare, scenario_differences
+from motesim.comparison import reports as compare
+from motesim.comparison import scenarios as scenario_differences
 from motesim.report import Report
-from motesim.run import Run
+from motesim.runner.run import Run
 from motesim.scenario import Scenario
 
 # Motes 0 and 2 send to mote 1 in turn. The event of the second timer of mote 2 is posted at 6.

@@ -4,7 +4,7 @@ import re
 import unittest
 
 from here import TOOLS, TOP
-from motesim.notation import RESERVED
+from motesim.notation.keywords import RESERVED
 
 FOLDER = TOOLS / 'editor'
 

@@ -10,12 +10,12 @@ from pathlib import Path
 from unittest import mock
 
 from here import TOOLS
-from motesim import expect as command
-from motesim.expectations import expect, parts_of
-from motesim.judge import Judge
+from motesim.commands import expect as command
+from motesim.judge.expectations import expect, parts_of
+from motesim.judge.judge import Judge
 from motesim.report import Report
 from motesim.scenario import Scenario
-from motesim.sentences import Count, Names, Refused, SentenceFault, names_of, read_sentence
+from motesim.judge.sentences import Count, Names, Refused, SentenceFault, names_of, read_sentence
 
 # Four motes in a row, each in range of those beside it; mote 2 loses all that mote 3 sends.
 SCENARIO = """

@@ -11,7 +11,11 @@ from pathlib import Path
 from unittest import mock
 
 from here import TOP
-from motesim import encodings, explain, missing, program_faults, scenario_faults
+from motesim.explain import explanation as explain
+from motesim.explain import missing
+from motesim.notation import faults as program_faults
+from motesim.scenario import encodings
+from motesim.scenario import faults as scenario_faults
 from motesim.scenario import Scenario
 
 SCENARIO = """version = 1

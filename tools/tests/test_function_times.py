@@ -1,4 +1,4 @@
-"""Tests of how tools/function_times reads a check's modules: python3 -B -m unittest discover tools/tests"""
+"""Tests of how tools/dev/function_times reads a check's modules: python3 -B -m unittest discover tools/tests"""
 import unittest
 
 import here  # (it puts tools/ on the path)

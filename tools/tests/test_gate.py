@@ -21,7 +21,7 @@ class Gate(unittest.TestCase):
         self.room = Path(room.name)
         shutil.copy(TOP / 'test', self.room / 'test')
         for name in TOOLS:
-            self.put('tools/' + name, 'echo "2 passed, 0 failed"')
+            self.put('tools/dev/' + name, 'echo "2 passed, 0 failed"')
         for name in 'rt', 'nproc':
             self.put('bin/' + name, 'echo 1')
         self.put('crates/motesim/out/motesim', 'true')
@@ -44,19 +44,19 @@ class Gate(unittest.TestCase):
         self.assertEqual((lines[-1], status), ('12 passed, 0 failed, 0 skipped', 0))
 
     def test_what_fails_and_what_is_skipped_counts(self):
-        self.put('tools/test_tools', 'echo "skipped: test_a.B.c: no browser"; echo "5 passed, 1 failed, 3 skipped"; exit 1')
-        self.put('tools/headline_files', 'exit 1')
-        self.put('tools/spoil_bytes', 'echo "2 passed, 0 failed"; exit 3')
+        self.put('tools/dev/test_tools', 'echo "skipped: test_a.B.c: no browser"; echo "5 passed, 1 failed, 3 skipped"; exit 1')
+        self.put('tools/dev/headline_files', 'exit 1')
+        self.put('tools/dev/spoil_bytes', 'echo "2 passed, 0 failed"; exit 3')
         lines, status = self.run_it()
         self.assertEqual((lines[-1], status), ('21 passed, 3 failed, 3 skipped', 1))
 
     def test_what_can_not_be_run_fails_unless_it_may_be_skipped(self):
-        (self.room / 'tools/refuse_memory').unlink()
+        (self.room / 'tools/dev/refuse_memory').unlink()
         number = re.search(r'refuse_memory program (\d+)', (TOP / 'test').read_text('utf-8'))[1]
         self.assertEqual(self.run_it()[0][-1], '18 passed, %s failed, 0 skipped' % number)
         lines, status = self.run_it('--may-skip', 'refuse_memory')
         self.assertEqual((lines[-1], status), ('18 passed, 0 failed, %s skipped' % number, 0))
-        self.assertIn('== skipped: tools/refuse_memory: it is not here', lines)
+        self.assertIn('== skipped: tools/dev/refuse_memory: it is not here', lines)
 
     def test_without_python_and_compiler_the_steps_fail(self):
         bare = self.room / 'bare'
@@ -66,7 +66,7 @@ class Gate(unittest.TestCase):
         lines, status = self.run_it('--quick', path=str(bare))
         self.assertEqual(status, 1)
         self.assertTrue(lines[-1].startswith('0 passed, '))
-        self.assertIn('== tools/run_cases was not run, and counts as failed: it takes Python 3.11', lines)
+        self.assertIn('== tools/dev/run_cases was not run, and counts as failed: it takes Python 3.11', lines)
         lines, _ = self.run_it(path=str(bare))
         self.assertIn('== rt_ci was not run, and counts as failed: the command rt of the Rattle kit is not here', lines)
         self.assertRegex(lines[-1], r'^\d+ passed, \d+ failed, \d+ skipped$')

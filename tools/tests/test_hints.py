@@ -8,13 +8,16 @@ from pathlib import Path
 from unittest import mock
 
 from here import TOP
-from motesim import expectations, explain, grade, hints, scenario_faults
+from motesim.explain import explanation as explain
+from motesim.explain import hints
+from motesim.judge import expectations, grade
+from motesim.scenario import faults as scenario_faults
 from motesim.faults import Fault
-from motesim.flows import FlowFault, flow_rows, read_flow
-from motesim.lint import warnings
-from motesim.program_faults import find_fault
+from motesim.summary.flows import FlowFault, flow_rows, read_flow
+from motesim.explain.lint import warnings
+from motesim.notation.faults import find_fault
 from motesim.report import Report
-from motesim.run import Answer
+from motesim.runner.run import Answer
 from motesim.scenario import Scenario
 
 CODE = 'process a; autostart a; code a { var seq = 0; var seen = 0; etimer t; body { %s } }'

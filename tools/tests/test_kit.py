@@ -34,7 +34,7 @@ class AtHand(unittest.TestCase):
             self.assertEqual(kit.guarded()[-1:] == ['nice'], does)
 
     def test_the_program_stands_on_the_crates_that_the_tools_find(self):
-        from motesim.programs import crates_of_program
+        from motesim.runner.programs import crates_of_program
         program = kit.crate_named('motesim', here.TOP)
         self.assertEqual(sorted(it.name for it in [*program.below(), program]), crates_of_program(here.TOP))
 

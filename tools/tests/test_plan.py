@@ -8,12 +8,13 @@ import unittest
 from pathlib import Path
 
 from here import TOOLS, TOP
-from motesim import places, scenario_faults
-from motesim.chance import Chance
+from motesim.plan import places
+from motesim.scenario import faults as scenario_faults
+from motesim.plan.chance import Chance
 from motesim.faults import Fault
-from motesim.plan import Plan
-from motesim.plan_files import Files
-from motesim.run import run_program
+from motesim.plan.plan import Plan
+from motesim.plan.files import Files
+from motesim.runner.run import run_program
 from motesim.scenario import Scenario
 from skips import need_program
 

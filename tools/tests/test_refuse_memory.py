@@ -155,7 +155,7 @@ class Small(unittest.TestCase):
                                ('--workers 2 --sync marks', 4), ('--workers 3 --sync marks', 4)]:
             self.assertEqual(words.count(wanted), number)
         # (and the test of crates/part_tests)
-        self.assertIn("tools/refuse_memory program %d\n" % (len(words) + 1), (TOP / 'test').read_text('utf-8'))
+        self.assertIn("tools/dev/refuse_memory program %d\n" % (len(words) + 1), (TOP / 'test').read_text('utf-8'))
         self.assertTrue(all(path.is_file() for path, _ in refuse.SMALL))
 
 

@@ -9,7 +9,7 @@ from unittest import mock
 from here import TOP
 from motesim.faults import Fault
 from motesim.report import Copy, Packet, Report, ReportFault
-from motesim.run import ProgramFault, check_scenario, read_run
+from motesim.runner.run import ProgramFault, check_scenario, read_run
 from motesim.scenario import Scenario, ScenarioFault
 
 # Two motes: the second one halts at 9, when its neighbour's last packet but one is on its way.

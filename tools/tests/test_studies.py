@@ -8,9 +8,9 @@ import unittest
 from pathlib import Path
 
 from here import TOOLS, TOP
-from motesim import packages
-from motesim.plan import Plan
-from motesim.plot import wishes_of
+from motesim.experiments import packages
+from motesim.plan.plan import Plan
+from motesim.experiments.plot import wishes_of
 from skips import need_program
 
 STUDIES = TOP / 'examples/studies'

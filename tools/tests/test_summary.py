@@ -10,11 +10,11 @@ import unittest
 from pathlib import Path
 
 from here import TOOLS
-from motesim import summary
+from motesim.summary import counts as summary
 from motesim.faults import Fault
-from motesim.flows import flow_rows
+from motesim.summary.flows import flow_rows
 from motesim.report import Report
-from motesim.run import Run
+from motesim.runner.run import Run
 from motesim.scenario import Scenario
 
 # What becomes of the six packets of mote 0 at mote 1: received, lost by the medium, collided with one of mote 2, found

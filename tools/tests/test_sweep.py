@@ -12,18 +12,18 @@ from pathlib import Path
 from unittest import mock
 
 from here import TOOLS
-from motesim import packages
+from motesim.experiments import packages
 from motesim.faults import Fault
-from motesim.measures import Bench, Cell, MeasureFault, read_measure
-from motesim.one_run import run_job
-from motesim.plan import Plan
+from motesim.experiments.measures import Bench, Cell, MeasureFault, read_measure
+from motesim.experiments.one_run import run_job
+from motesim.plan.plan import Plan
 from motesim.report import Report
-from motesim.results import CsvFile, cell, read_results
-from motesim.run import Run
+from motesim.experiments.results import CsvFile, cell, read_results
+from motesim.runner.run import Run
 from motesim.scenario import Scenario
-from motesim.sentences import names_of
-from motesim.sweep import Sweeper
-from motesim.sweep_asked import sweep_of, values_of
+from motesim.judge.sentences import names_of
+from motesim.experiments.sweep import Sweeper
+from motesim.experiments.asked import sweep_of, values_of
 from skips import interpreter_with
 from stub import write_stub
 
@@ -328,7 +328,7 @@ class SweepTest(Bed):
 
     def test_progress_is_on_standard_error(self) -> None:
         source = '''import sys, time
-from motesim import sweep_progress
+from motesim.experiments import progress as sweep_progress
 sweep_progress.SHOWN_EVERY = 0
 progress = sweep_progress.Progress(3)
 progress.begin -= 60

@@ -15,9 +15,9 @@ from here import TOP
 from browser import Browser
 from motesim.faults import Fault
 from motesim.report import Report
-from motesim.run import Run
+from motesim.runner.run import Run
 from motesim.scenario import Scenario
-from motesim.timeline import KINDS, SCRIPTS, data_of, page_of, write_page
+from motesim.timeline.html import KINDS, SCRIPTS, data_of, page_of, write_page
 
 CONTROL = 2
 SHIFT = 8
@@ -115,7 +115,7 @@ class Data(unittest.TestCase):
             self.assertNotIn(word, page.replace(packed, ''))
 
     def test_the_page_is_put_together_from_all_its_scripts(self):
-        self.assertEqual(sorted(SCRIPTS), sorted(path.name for path in (TOP / 'tools/motesim/timeline_page').glob('*.js')))
+        self.assertEqual(sorted(SCRIPTS), sorted(path.name for path in (TOP / 'tools/motesim/timeline/page').glob('*.js')))
 
 
 class Command(unittest.TestCase):

@@ -1,4 +1,4 @@
-"""Tests of how tools/wrong_bodies reads source files and what a check says: python3 -B -m unittest discover tools/tests"""
+"""Tests of how tools/dev/wrong_bodies reads source files and what a check says: python3 -B -m unittest discover tools/tests"""
 import contextlib
 import io
 import re

@@ -17,7 +17,7 @@ from pathlib import Path
 from motesim.export import pcapng, perfetto, tables, vcd
 from motesim.faults import Fault, command
 from motesim.report import Report
-from motesim.run import read_run
+from motesim.runner.run import read_run
 from motesim.words import words_of
 
 ENDS = {'vcd': '.vcd', 'pcapng': '.pcapng', 'perfetto': '.perfetto.json', 'csv': ''}

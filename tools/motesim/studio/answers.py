@@ -4,16 +4,16 @@ from __future__ import annotations
 import re
 from typing import Any, NamedTuple
 
-from motesim import expectations
-from motesim.compare import MEDIUM, compared, differences, packet_of
-from motesim.explain import explanation, place_of_fault, place_of_token
+from motesim.judge import expectations
+from motesim.comparison.reports import MEDIUM, compared, differences, packet_of
+from motesim.explain.explanation import explanation, place_of_fault, place_of_token
 from motesim.faults import Fault
-from motesim.lint import warnings
+from motesim.explain.lint import warnings
 from motesim.report import Report
-from motesim.run import Run
+from motesim.runner.run import Run
 from motesim.scenario import Scenario
-from motesim.scenario_faults import Place, place_of
-from motesim.summary import LINK_NAMES, summary
+from motesim.scenario.faults import Place, place_of
+from motesim.summary.counts import LINK_NAMES, summary
 
 NOTE = re.compile(r'//[^\n]*')
 CODE_OR_PRINT = re.compile(r'\bcode\s+([a-z][a-z0-9_]*)|\bprint\s+([^;{}]+);')

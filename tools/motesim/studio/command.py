@@ -17,7 +17,7 @@ from collections.abc import Iterator
 from pathlib import Path
 
 from motesim.faults import Fault, command, in_words
-from motesim.programs import program_path
+from motesim.runner.programs import program_path
 from motesim.studio.desk import Desk
 from motesim.studio.runs import Limits, Runs
 from motesim.studio.server import Server

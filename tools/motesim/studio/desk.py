@@ -13,7 +13,7 @@ from pathlib import Path
 from typing import Any, NamedTuple
 
 from motesim.faults import Fault, in_words
-from motesim.programs import TOP
+from motesim.runner.programs import TOP
 
 LONGEST = 1_048_576
 NAME = re.compile(r'[A-Za-z0-9_][A-Za-z0-9_. -]{0,80}\.toml')

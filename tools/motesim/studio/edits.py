@@ -11,7 +11,7 @@ import copy
 from typing import Any, NamedTuple
 
 from motesim.faults import Fault
-from motesim.scenario_faults import Place, places, value_of
+from motesim.scenario.faults import Place, places, value_of
 from motesim.toml import NoToml, read_toml
 
 MOST_PLACE, MOST_MOTES, MOST_EVERY = 30_000, 1_000, 1_000_000

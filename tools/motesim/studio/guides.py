@@ -5,7 +5,7 @@ import re
 from pathlib import Path
 from typing import Any
 
-from motesim.programs import TOP
+from motesim.runner.programs import TOP
 
 PAGE = TOP / 'docs/use/EXAMPLES.md'
 LINK = re.compile(r'\[([^]]*)\]\([^)]*\)')

@@ -15,8 +15,8 @@ from io import BufferedReader, BufferedWriter
 from typing import NamedTuple
 
 from motesim.faults import Fault
-from motesim.programs import ProgramFault, program_path
-from motesim.run import Answer
+from motesim.runner.programs import ProgramFault, program_path
+from motesim.runner.run import Answer
 
 CHUNK = 1 << 16
 MEGABYTE = 1 << 20

@@ -18,8 +18,8 @@ from typing import Any
 
 from motesim.faults import Fault
 from motesim.studio.session import HTML, JSON, Session, told
-from motesim.timeline import PAGE as TIMELINE
-from motesim.timeline import SHARED
+from motesim.timeline.html import PAGE as TIMELINE
+from motesim.timeline.html import SHARED
 
 PAGE = Path(__file__).resolve().parent / 'page'
 CODEMIRROR = Path('/usr/share/javascript/codemirror')

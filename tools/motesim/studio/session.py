@@ -17,7 +17,7 @@ from motesim.studio import answers, guides
 from motesim.studio.desk import Changed, Desk, Document
 from motesim.studio.edits import edit
 from motesim.studio.runs import LimitMet, Runs, Superseded
-from motesim.timeline import Columns, page_of, said_of
+from motesim.timeline.html import Columns, page_of, said_of
 
 MOST_KEPT = 4
 JSON, BYTES, HTML = 'application/json', 'application/octet-stream', 'text/html; charset=utf-8'

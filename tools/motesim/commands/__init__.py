@@ -1,0 +1,1 @@
+"""Commands without a library of their own: a module for each, which reads the arguments and prints."""

@@ -1,0 +1,1 @@
+"""Two runs beside one another: where reports diverge, and in what scenarios differ."""

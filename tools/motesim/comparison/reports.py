@@ -1,0 +1,319 @@
+"""Says whether two reports are the same, and else where they part first: tools/compare A B [--rows N] [--html FILE]
+
+A and B are files with reports, or with scenarios, which are run. The first difference is the one at the least
+moment, not the one on the least line. It is shown with the mote, the moment, the line of each side, and the last
+packets and events of that mote before. Of two scenarios it says in what they differ. Then come the first collision
+that only one of the two has, and how many lines differ, by mote and by kind. `--html FILE` writes a page with both
+timelines above one another.
+
+Ends with status 0 where the reports are the same, 1 where they differ, and 2 where one can't be read.
+"""
+from __future__ import annotations
+
+from collections import Counter
+from itertools import compress, count
+from operator import ne
+from typing import Any, Iterator, NamedTuple
+
+from motesim.comparison import scenarios as scenario_differences
+from motesim.faults import Fault, command
+from motesim.report import FIELDS, Line, Packet, Report
+from motesim.runner.run import Run, read_run
+from motesim.timeline.html import write_page
+from motesim.words import words_of
+
+LETTERS = 'AB'
+PACKETS_BEFORE, EVENTS_BEFORE = 3, 4
+OF_PACKETS = ('send', 'recv', 'lost', 'collide', 'deaf')
+MEDIUM = -1
+
+
+Pair = tuple[Report, Report]
+# How many lines, by mote and kind, only the one and only the other has.
+Counts = tuple[Counter[tuple[int, str]], Counter[tuple[int, str]]]
+Met = dict[tuple[int, int], list[tuple[int, int]]]
+
+
+class Difference(NamedTuple):
+    """Where two lists of lines part: the moment, the mote or MEDIUM, and the place in the lists."""
+    at: int
+    mote: int
+    place: int
+
+
+class Collision(NamedTuple):
+    """Packets that met at a mote, on one side or with others on the other."""
+    at: int
+    mote: int
+    packets: tuple[list[tuple[int, int]], list[tuple[int, int]]]
+
+
+def number_of(n: int, what: str) -> str:
+    return '%d %s%s' % (n, what, '' if n == 1 else 's')
+
+
+def part(a: list[Any], b: list[Any]) -> int | None:
+    """The first place at which two lists differ, or None."""
+    if a == b:
+        return None
+    return next(compress(count(), map(ne, a, b)), min(len(a), len(b)))
+
+
+def lists_of(report: Report) -> dict[int, list[Any]]:
+    """The lines of each mote, and those of the medium."""
+    return {**{mote.number: mote.lines for mote in report.motes}, MEDIUM: report.medium}
+
+
+def differences(a: Report, b: Report) -> list[Difference]:
+    """Where the traces of each mote part, and the logs of the medium, in the order of moments.
+
+    At one moment the motes stand in their order, and the medium behind them.
+    """
+    ours, others, found = lists_of(a), lists_of(b), []
+    for mote in sorted(ours | others):
+        pair = ours.get(mote, []), others.get(mote, [])
+        index = part(*pair)
+        if index is not None:
+            found.append(Difference(min(lines[index].at for lines in pair if index < len(lines)), mote, index))
+    return sorted(found, key=lambda it: (it.at, it.mote == MEDIUM, it.mote))
+
+
+def heads(a: Report, b: Report) -> list[str]:
+    """The motes that run something else, or that only one report has."""
+    found = []
+    for number in range(max(len(a.motes), len(b.motes))):
+        names = [it.motes[number].program if number < len(it.motes) else None for it in (a, b)]
+        if names[0] != names[1]:
+            found.append('mote %d %s' % (number, ' and '.join(
+                'runs %s in %s' % (name, letter) if name else 'is not in %s' % letter
+                for name, letter in zip(names, LETTERS))))
+    return found
+
+
+def collisions(report: Report) -> Met:
+    """The packets that met, by moment and mote."""
+    found: Met = {}
+    for line in report.lines():
+        if line.kind == 'collide' and line.packet:
+            found.setdefault((line.at, line.mote), []).append(line.packet)
+    return found
+
+
+def first_collision(ours: Met, others: Met) -> Collision | None:
+    """The first collision that one report has and the other hasn't."""
+    for at, mote in sorted(ours | others):
+        packets = ours.get((at, mote), []), others.get((at, mote), [])
+        if packets[0] != packets[1]:
+            return Collision(at, mote, packets)
+    return None
+
+
+def sent(report: Report, packet: tuple[int, int]) -> str:
+    """A packet in words."""
+    found = report.packets.get(packet)
+    return 'packet %d of mote %d%s' % (packet[1], packet[0], ' (sent at %d)' % found.at if found else '')
+
+
+def joined(texts: list[str]) -> str:
+    """Texts with a comma between each two of them, and an `and` before the last."""
+    return texts[0] if len(texts) == 1 else '%s and %s' % (', '.join(texts[:-1]), texts[-1])
+
+
+def collision_in_words(found: Collision, reports: Pair, first: Difference) -> list[str]:
+    """What a collision loses, and whether it is the first difference or comes behind it."""
+    sides = [side for side in (0, 1) if found.packets[side]]
+    whose = 'only %s has' % LETTERS[sides[0]] if len(sides) == 1 else 'is another in A than in B'
+    is_first = (found.at, found.mote) == (first.at, first.mote)
+    lines = ['The first collision that %s%s:' % (whose, ', which is the first difference' if is_first else '')]
+    for side in sides:
+        texts = [sent(reports[side], packet) for packet in found.packets[side]]
+        lines.append('  %s: at moment %d mote %d loses %s' % (LETTERS[side], found.at, found.mote, joined(texts)))
+    return lines
+
+
+def origin(line: Line | Packet, report: Report) -> str:
+    """Where what a line tells comes from: the packet's way, or the post of the event."""
+    if isinstance(line, Packet):
+        return ''
+    if line.kind in OF_PACKETS and line.kind != 'send' and line.packet in report.packets:
+        packet = report.packets[line.packet]
+        return 'packet %d of mote %d was sent at %d with value %d' % (
+            packet.number, packet.sender, packet.at, packet.value)
+    if line.kind in ('take', 'drop'):
+        for other in report.motes[line.mote].lines:
+            if other.kind == 'post' and other.serial == line.serial:
+                return 'event %s was posted at %d: %s %s' % (line.serial, other.at, other.event, other.word)
+    return ''
+
+
+def row_of(report: Report, mote: int, index: int) -> int:
+    return (report.medium_row if mote == MEDIUM else report.motes[mote].row) + 1 + index
+
+
+def side_in_words(letter: str, report: Report, it: Difference) -> list[str]:
+    """What one side has where they part."""
+    lines = lists_of(report).get(it.mote)
+    if lines is None:
+        return ['  %s has no such mote' % letter]
+    if it.place >= len(lines):
+        return ['  %s has no line more of it' % letter]
+    line = lines[it.place]
+    shown = ['  %s, line %d: %s' % (letter, row_of(report, it.mote, it.place), line)]
+    why = origin(line, report)
+    return shown + (['      (%s)' % why] if why else [])
+
+
+def before(lines: list[Line]) -> list[Line]:
+    """The last packets and the last other lines, in their order."""
+    kept, left = [], {True: PACKETS_BEFORE, False: EVENTS_BEFORE}
+    for line in reversed(lines):
+        is_packet = line.kind in OF_PACKETS
+        if left[is_packet]:
+            left[is_packet] -= 1
+            kept.append(line)
+        elif not left[not is_packet]:
+            break
+    return kept[::-1]
+
+
+def packet_of(reports: Pair, it: Difference) -> Packet:
+    """The packet by which two logs of the medium part first."""
+    found = [report.medium[it.place] for report in reports if it.place < len(report.medium)]
+    return min(found, key=lambda packet: packet[:3])
+
+
+def led_to(reports: Pair, it: Difference) -> list[str]:
+    """What a mote did before a difference, the same on both sides. In the log of the medium the mote is the sender."""
+    mote, index, report = it.mote, it.place, reports[0]
+    if mote == MEDIUM:
+        packet = packet_of(reports, it)
+        mote = packet.sender
+        report = next(one for one in reports if packet in one.medium[index:index + 1])
+        lines = report.motes[mote].lines
+        index = next((at for at, line in enumerate(lines) if line.kind == 'send' and line.number == packet.number), 0)
+    if mote >= len(report.motes) or not index:
+        return []
+    kept = before(report.motes[mote].lines[:index])
+    return ['Before it, the last packets and events of mote %d:' % mote, *('  ' + str(line) for line in kept)]
+
+
+def first_in_words(reports: Pair, found: list[Difference], which: str = 'The first difference') -> Iterator[str]:
+    """The first of these differences."""
+    it = found[0]
+    where = 'in the log of the medium' if it.mote == MEDIUM else 'in the trace of mote %d' % it.mote
+    yield '%s is at moment %d, %s:' % (which, it.at, where)
+    for letter, report in zip(LETTERS, reports):
+        yield from side_in_words(letter, report, it)
+    yield from led_to(reports, it)
+    same = [other.mote for other in found[1:] if other.at == it.at and other.mote != MEDIUM]
+    if same:
+        yield 'At the same moment %s.' % ('mote %d differs too' % same[0] if len(same) == 1 else
+                                         'motes %s differ too' % few(same))
+    if it.mote == MEDIUM and len(found) > 1:
+        yield ''
+        yield from first_in_words(reports, found[1:], 'The first difference in a trace')
+
+
+def few(numbers: list[int]) -> str:
+    return ', '.join(map(str, numbers[:8])) + (' and %d more' % (len(numbers) - 8) if len(numbers) > 8 else '')
+
+
+def only_in(reports: Pair, found: list[Difference]) -> Counts:
+    """How many lines only the one and only the other has, by mote (or MEDIUM) and kind."""
+    counts: Counts = (Counter(), Counter())
+    ours, others = map(lists_of, reports)
+    for it in found:
+        left, right = (Counter(lists.get(it.mote, [])[it.place:]) for lists in (ours, others))
+        for into, lines in (counts[0], left - right), (counts[1], right - left):
+            for line, number in lines.items():
+                into[it.mote, 'medium' if it.mote == MEDIUM else line.kind] += number
+    return counts
+
+
+def table(name: str, rows: list[tuple[str, int, int]], most: int) -> Iterator[str]:
+    """A table of what only A and only B has, and at most so many rows of it."""
+    shown = rows[:most]
+    if len(rows) > most:
+        rest = rows[most:]
+        shown.append(('%d more' % len(rest), sum(row[1] for row in rest), sum(row[2] for row in rest)))
+    width = max(len(it) for it in [name, *(row[0] for row in shown)])
+    yield '  %-*s  %8s  %8s' % (width, name, 'only A', 'only B')
+    for row in shown:
+        yield '  %-*s  %8d  %8d' % (width, *row)
+
+
+def counted(counts: Counts, most: int) -> Iterator[str]:
+    """How many lines differ, by mote and by kind."""
+    by_mote: dict[int, list[int]] = {}
+    by_kind: dict[str, list[int]] = {}
+    for side, counter in enumerate(counts):
+        for (mote, kind), number in counter.items():
+            by_mote.setdefault(mote, [0, 0])[side] += number
+            by_kind.setdefault(kind, [0, 0])[side] += number
+    totals = tuple(sum(sums[side] for sums in by_kind.values()) for side in (0, 1))
+    if not any(totals):
+        yield 'Both have the same lines, in another order within a moment.'
+        return
+    yield 'Lines that differ: %d only in A, %d only in B' % totals
+    motes = [('mote %d' % mote, it[0], it[1]) for mote, it in sorted(by_mote.items()) if mote != MEDIUM]
+    if motes:
+        yield from table('by mote', motes, most)
+    kinds = [(kind, by_kind[kind][0], by_kind[kind][1]) for kind in (*FIELDS, 'medium') if kind in by_kind]
+    yield from table('by kind', kinds, len(kinds))
+
+
+def compared(a: Run, b: Run, most: int) -> tuple[list[str], Difference | None, bool]:
+    """The lines that say how two reports differ, their first difference, and whether they are the same."""
+    reports = a.report, b.report
+    lines = ['%s: %s' % (letter, run.name) for letter, run in zip(LETTERS, (a, b))]
+    if a.scenario and b.scenario:
+        lines += scenario_differences.told(a.scenario, b.scenario, most)
+    found, others = differences(*reports), heads(*reports)
+    if not found and not others and a.report.left == b.report.left:
+        return lines + ['The reports are the same: %s, %s.' % (
+            number_of(len(a.report.motes), 'mote'),
+            number_of(row_of(a.report, MEDIUM, len(a.report.medium)), 'line'))], None, True
+    lines += ['', 'The reports differ.']
+    lines += ['  ' + it for it in others[:most]]
+    if len(others) > most:
+        lines += ['  and %d motes more' % (len(others) - most)]
+    if found:
+        lines += ['', *first_in_words(reports, found)]
+    met = tuple(map(collisions, reports))
+    collision = first_collision(*met)
+    if collision:
+        lines += ['', *collision_in_words(collision, reports, found[0])]
+        totals = tuple(sum(map(len, it.values())) for it in met)
+        lines += ['  copies that met others, in all: %d in A, %d in B' % totals]
+    if found:
+        lines += ['', *counted(only_in(reports, found), most)]
+    if a.report.left != b.report.left:
+        lines += ['', 'Copies that would come after the end: %d in A, %d in B' % (a.report.left, b.report.left)]
+    return lines, found[0] if found else None, False
+
+
+def write_html(path: str, a: Run, b: Run, first: Difference | None) -> None:
+    """Writes both timelines above one another, from the first difference on."""
+    mote = first.mote if first else None
+    if first and first.mote == MEDIUM:
+        mote = packet_of((a.report, b.report), first).sender
+    write_page(path, '%s and %s' % (a.name, b.name), [a, b], first.at if first else None, mote)
+
+
+@command('compare')
+def main() -> int:
+    words = words_of(__doc__)
+    words.add_argument('a', metavar='A', help='a report, or a scenario')
+    words.add_argument('b', metavar='B', help='another')
+    words.add_argument('--rows', type=int, default=20, metavar='N', help='at most so many motes in the table (20)')
+    words.add_argument('--html', metavar='FILE', help='write both timelines to this page, which opens where they part')
+    asked = words.parse_args()
+    if asked.a == asked.b == '-':
+        raise Fault('A and B can\'t both be standard input: one of them is a file')
+    a, b = read_run(asked.a), read_run(asked.b)
+    lines, first, is_same = compared(a, b, max(1, asked.rows))
+    if asked.html:
+        write_html(asked.html, a, b, first)
+    print('\n'.join(lines))
+    return 0 if is_same else 1
+

@@ -1,0 +1,1 @@
+"""Sweeps over the parameters of a plan: runs, measures, results and plots."""

@@ -1,0 +1,159 @@
+"""What a sweep is asked to do: the values of the parameters, and the measures."""
+from __future__ import annotations
+
+import itertools
+import re
+from collections import Counter
+from collections.abc import Iterator, Mapping, Sequence
+from dataclasses import dataclass
+
+from motesim.faults import Fault
+from motesim.experiments.measures import file_of, read_measure
+from motesim.plan.plan import Plan
+from motesim.plan.tables import Value, optional, text_of_value, value_of_text
+from motesim.runner.run import read_file
+from motesim.scenario import Scenario
+from motesim.judge.sentences import Names, SentenceFault, names_of
+
+MOST_RUNS = 1_000_000
+# How many runs are tried to find one whose plan makes a scenario.
+MOST_TRIED = 40
+SECONDS, MOST_SECONDS, MOST_BYTES = 60, 86_400, 200_000_000
+RANGE = re.compile(r'(-?[0-9]{1,9})\.\.(-?[0-9]{1,9})(?:\.\.([0-9]{1,9}))?')
+SWEEP = {'vary': optional(dict, {}), 'measure': optional(list, []), 'seconds': optional(int, SECONDS, 1, MOST_SECONDS)}
+# The columns that say what made a row.
+MADE = ('fault', 'plan', 'plan_sha256', 'scenario_sha256', 'report_sha256', 'program', 'program_sha256', 'kit',
+        'measures_sha256', 'parameters')
+
+
+def values_of(words: str) -> list[Value]:
+    """The values of a parameter: `10,20,40`, `1..30`, `0..100..25`, or texts."""
+    found: list[Value] = []
+    for part in words.split(','):
+        numbers = RANGE.fullmatch(part.strip())
+        if not numbers:
+            found.append(value_of_text(part.strip()))
+            continue
+        begin, end, step = int(numbers[1]), int(numbers[2]), int(numbers[3] or 1)
+        if begin > end or step < 1 or (end - begin) // step >= MOST_RUNS:
+            raise Fault('%s are no values: a range goes upwards, and has at most 1,000,000 values' % part)
+        found += range(begin, end + 1, step)
+    counts = Counter(map(text_of_value, found))
+    if '' in counts:
+        raise Fault('%s has an empty value' % words)
+    twice = next((value for value, count in counts.items() if count > 1), None)
+    if twice is not None:
+        raise Fault('%s has a value twice: %s' % (words, twice))
+    return found
+
+
+@dataclass
+class Sweep:
+    """A plan, the values of the parameters that vary, and the measures."""
+    plan: Plan
+    vary: dict[str, list[Value]]
+    measures: list[str]
+    seconds: float
+    most_bytes: int = MOST_BYTES
+
+    def runs(self) -> int:
+        count = 1
+        for values in self.vary.values():
+            count *= len(values)
+        return count
+
+    def given(self) -> Iterator[dict[str, Value]]:
+        """The values of all parameters, run by run. The last of those that vary changes first."""
+        for values in itertools.product(*self.vary.values()):
+            yield self.plan.with_given(dict(zip(self.vary, values)))
+
+    def run_at(self, place: int) -> dict[str, Value]:
+        """The values of all parameters in the run at a place of that order."""
+        found: dict[str, Value] = {}
+        for name, values in reversed(self.vary.items()):
+            place, at = divmod(place, len(values))
+            found[name] = values[at]
+        return self.plan.with_given(found)
+
+
+def sweep_of(plan: Plan, vary: Sequence[str], measures: Sequence[str], seconds: float | None) -> Sweep:
+    """What the plan's table `sweep` and the command line ask for."""
+    table = plan.tables.read(plan.tables.top.get('sweep', {}), ('sweep',), SWEEP, 'A sweep')
+    asked: dict[str, list[Value]] = {}
+    for name, values in table['vary'].items():
+        asked[name] = _values_in_plan(plan, name, values)
+    for words in vary:
+        name, sign, text = words.partition('=')
+        if not sign:
+            raise Fault('--vary takes NAME=VALUES, and not %r' % words)
+        asked[name] = values_of(text)
+    plan.with_given({name: values[0] for name, values in asked.items()})
+    if not all(type(it) is str for it in table['measure']):
+        raise plan.tables.fault(('sweep', 'measure'), 'A measure is a text.', 'an array of texts')
+    sweep = Sweep(plan, asked, [*table['measure'], *measures], seconds or table['seconds'])
+    if not sweep.measures:
+        raise Fault('there is nothing to measure: --measure sent, or `measure = ["sent"]` in the table `sweep` of the '
+                    'plan')
+    if sweep.runs() > MOST_RUNS:
+        raise Fault('these are %s runs, and at most 1,000,000 are made' % '{:,}'.format(sweep.runs()))
+    return sweep
+
+
+def _values_in_plan(plan: Plan, name: str, values: object) -> list[Value]:
+    path = 'sweep', 'vary', name
+    if name not in plan.parameters:
+        raise plan.tables.fault(path, 'The plan has no parameter of this name.',
+                                ', '.join('`%s`' % it for it in plan.parameters) or 'none', False)
+    if type(values) is str:
+        return values_of(values)
+    if type(values) is not list or not values or not all(type(it) in (int, str, bool) for it in values):
+        raise plan.tables.fault(path, 'These are no values.', '`"10,20,40"`, `"1..30"` or an array')
+    return list(values)
+
+
+def sources_of(plan: Plan, measures: Sequence[str]) -> dict[str, str]:
+    """The users' files that the measures take, by their names."""
+    names = sorted({file_of(words) for words in measures} - {''})
+    try:
+        return {name: read_file(plan.files.folder / name).decode('utf-8') for name in names}
+    except UnicodeDecodeError as fault:
+        raise Fault('a file of measures is not UTF-8: %s' % fault) from None
+
+
+def some_runs(sweep: Sweep) -> Iterator[dict[str, Value]]:
+    """The first run, the last, and others between them, each as far from those before as may be."""
+    count = sweep.runs()
+    places = dict.fromkeys([0, count - 1])
+    step = count
+    while step > 1 and len(places) < MOST_TRIED:
+        step = (step + 1) // 2
+        places.update(dict.fromkeys(range(0, count, step)))
+    for place in list(places)[:MOST_TRIED]:
+        yield sweep.run_at(place)
+
+
+def known_names(sweep: Sweep) -> Names:
+    """The names that sentences may have. If none of the runs that are tried makes a scenario, the first fault."""
+    first: Fault | None = None
+    for given in some_runs(sweep):
+        try:
+            return names_of(Scenario.parse(sweep.plan.scenario(given)))
+        except Fault as fault:
+            first = first or fault
+    assert first
+    raise first
+
+
+def columns_of(sweep: Sweep, names: Names, sources: Mapping[str, str]) -> list[str]:
+    """The columns of the results. A measure that can't be read is told."""
+    measures = []
+    for words in sweep.measures:
+        try:
+            measures.append(read_measure(words, names, sources).name)
+        except SentenceFault as fault:
+            raise Fault('in the measure %r\n%s' % (words, str(fault).split('\n', 1)[1])) from None
+    columns = [*sweep.plan.parameters, *measures, *MADE]
+    twice = [it for number, it in enumerate(columns) if it in columns[:number]]
+    if twice:
+        raise Fault('two columns would have the name %s: `other_name = MEASURE` names one' % twice[0])
+    return columns

@@ -1,0 +1,248 @@
+"""Measures of a run: a number, a text or nothing. docs/use/EXPERIMENTS.md has all forms.
+
+    measure = read_measure('delay = moment: every mote prints flood 1', names)
+    measure.of(Bench(run))
+"""
+from __future__ import annotations
+
+import re
+from collections.abc import Callable, Mapping
+from dataclasses import dataclass
+from functools import cached_property
+from pathlib import PurePath
+from typing import Any
+
+from motesim.judge import judge as judges
+from motesim.summary import counts as summary
+from motesim.faults import Fault
+from motesim.summary.flows import NAMES as FLOW_NAMES
+from motesim.summary.flows import FlowFault, flow_rows, read_flow
+from motesim.judge.judge import Event, Judge
+from motesim.runner.run import Run
+from motesim.judge.sentences import Copies, Does, Names, Packets, Refused, Sentence, read_sentence
+
+Cell = int | float | str | None
+
+SUMMARY = ('sent', 'copies', *summary.BECAME.values(), 'ratio', *summary.COUNTED.values(), 'halt')
+FLOWS = tuple(FLOW_NAMES[1:])
+KINDS = ('holds', 'moment', 'last', 'count', 'motes', 'delay')
+NAMED = re.compile(r'\s*([A-Za-z][A-Za-z0-9_ -]{0,39}?)\s*=(?!=)\s*(.*)', re.S)
+OF_SUMMARY = re.compile(r'([a-z]+)(?:\s+of\s+mote\s+([0-9]{1,4}))?')
+OF_FLOW = re.compile(r'flow\s+([a-z]+)\s*:(.*)', re.S)
+OF_SENTENCE = re.compile(r'(%s)\s*:(.*)' % '|'.join(KINDS), re.S)
+OF_PYTHON = re.compile(r'python\s*:\s*([^:]+?)\s*:\s*([A-Za-z_]\w*)')
+
+
+class MeasureFault(Fault):
+    """Words that are no measure, or a measure that can't be taken."""
+
+
+class Bench:
+    """A run on which measures are taken."""
+
+    def __init__(self, run: Run) -> None:
+        self.run = run
+
+    @cached_property
+    def judge(self) -> Judge:
+        if self.run.scenario is None:
+            raise MeasureFault('the scenario of the report is not known')
+        return Judge(self.run.report, self.run.scenario)
+
+    @cached_property
+    def summary(self) -> tuple[list[dict[str, Any]], dict[str, Any]]:
+        """The rows of tools/summary: those of the motes, and that of the net."""
+        motes, net, _ = summary.summary(self.run)
+        return motes, net
+
+
+@dataclass(frozen=True)
+class Measure:
+    """A measure: the name of its column, and its words."""
+    name: str
+    words: str
+    of: Callable[[Bench], Cell]
+    file: str = ''
+
+
+def _of_summary(name: str, mote: str | None) -> Callable[[Bench], Cell]:
+    def of(bench: Bench) -> Cell:
+        motes, net = bench.summary
+        if mote is not None and int(mote) >= len(motes):
+            raise MeasureFault('there is no mote %s' % mote)
+        found: Cell = (net if mote is None else motes[int(mote)])[name]
+        return found
+
+    return of
+
+
+def _of_flow(name: str, words: str) -> Callable[[Bench], Cell]:
+    read_flow(words)
+    return lambda bench: flow_rows(bench.run.report, bench.run.scenario, words)[-1][name]
+
+
+def _events(judge: Judge, it: Does, motes: tuple[int, ...]) -> list[Event]:
+    """The lines that a sentence speaks of, in the order of their moments."""
+    found = judge.within(judge.done(it.deed, motes), it.window, motes)
+    return sorted(found, key=lambda event: event.line.at)
+
+
+def _moment(judge: Judge, it: Does) -> int | None:
+    """The first moment at which a sentence is fulfilled, or None where it never is."""
+    wanted, chosen = max(1, it.count.least), judge.chosen(it.motes)
+    groups = [chosen] if it.motes.kind == 'together' else [(mote,) for mote in chosen]
+    found = [events[wanted - 1].line.at for events in (_events(judge, it, group) for group in groups)
+             if len(events) >= wanted]
+    if it.motes.kind == 'some':
+        return min(found, default=None)
+    return max(found) if found and len(found) == len(groups) else None
+
+
+def _last(judge: Judge, it: Does) -> int | None:
+    return max((event.line.at for mote in judge.chosen(it.motes) for event in _events(judge, it, (mote,))),
+               default=None)
+
+
+def _count(judge: Judge, it: Does) -> int:
+    return sum(len(_events(judge, it, (mote,))) for mote in judge.chosen(it.motes))
+
+
+def _motes(judge: Judge, it: Does) -> int:
+    wanted = max(1, it.count.least)
+    return sum(len(_events(judge, it, (mote,))) >= wanted for mote in judge.chosen(it.motes))
+
+
+def _count_rows(judge: Judge, it: Copies | Packets) -> int:
+    """How many copies or packets a sentence speaks of."""
+    if isinstance(it, Copies) and it.outcome == 'left':
+        return judge.report.left
+    rows = judge.of_copies(it) if isinstance(it, Copies) else judge.of_packets()
+    spans = ((row.at, judge.spans(it.window, (row.mote,))) for row in rows)
+    return sum(any(begin <= at and (end is None or at <= end) for begin, end in its) for at, its in spans)
+
+
+def _plain(sentence: Sentence, words: str) -> Does:
+    """A sentence that has a moment: motes that have lines of a form."""
+    kinds = 'each', 'together', 'some'
+    if not isinstance(sentence, Does) or sentence.deed.way != 'any' or sentence.than:
+        raise MeasureFault('%r has no moment: such are `mote 3 prints flood 1` and `every mote sends`' % words)
+    if sentence.motes.kind not in kinds or sentence.count.compare in ('at most', 'fewer than'):
+        raise MeasureFault('%r has no moment: it speaks of what is not to be' % words)
+    return sentence
+
+
+def _guarded(work: Callable[[Judge], Cell]) -> Callable[[Bench], Cell]:
+    """Nothing, where a sentence speaks of hops to a mote that can't be reached."""
+    def of(bench: Bench) -> Cell:
+        try:
+            return work(bench.judge)
+        except judges._Apart:
+            return None
+
+    return of
+
+
+def _of_sentence(kind: str, words: str, names: Names) -> Callable[[Bench], Cell]:
+    parts = [part.strip() for part in words.split('->')]
+    if len(parts) != (2 if kind == 'delay' else 1):
+        raise MeasureFault('delay takes two sentences, `A -> B`; the others take one' if '->' in words else
+                           'delay takes two sentences, `A -> B`')
+    sentences = [read_sentence(part, names) for part in parts]
+    first = sentences[0]
+    if isinstance(first, Refused):
+        raise MeasureFault('a run without a report has a fault in place of measures')
+    if kind == 'holds':
+        return lambda bench: int(bench.judge.broken(first) is None)
+    if kind == 'count' and isinstance(first, Copies | Packets):
+        rows = first
+        return _guarded(lambda judge: _count_rows(judge, rows))
+    its = [_plain(sentence, part) for sentence, part in zip(sentences, parts)]
+    if kind == 'delay':
+        def delay(judge: Judge) -> Cell:
+            begin, end = _moment(judge, its[0]), _moment(judge, its[1])
+            return None if begin is None or end is None else end - begin
+
+        return _guarded(delay)
+    work: dict[str, Callable[[Judge, Does], Cell]] = {
+        'moment': _moment, 'last': _last, 'count': _count, 'motes': _motes}
+    return _guarded(lambda judge: work[kind](judge, its[0]))
+
+
+def _checked(value: object, name: str) -> Cell:
+    """What a user's function gives."""
+    if value is None or type(value) in (int, float):
+        return value  # type: ignore[return-value]
+    if type(value) is bool:
+        return int(value)
+    if type(value) is str:
+        return ' '.join(value.split())
+    item = getattr(value, 'item', None)
+    if callable(item):
+        # (a number of numpy)
+        return _checked(item(), name)
+    raise MeasureFault('%s gives no number, text or None, but %s' % (name, type(value).__name__))
+
+
+def _of_python(file: str, function: str, sources: Mapping[str, str]) -> Callable[[Bench], Cell]:
+    if file not in sources:
+        raise MeasureFault('there is no file %s' % file)
+    space: dict[str, Any] = {'__name__': PurePath(file).stem, '__file__': file}
+    try:
+        exec(compile(sources[file], file, 'exec'), space)
+    except Exception as fault:
+        raise MeasureFault('%s: %s' % (file, _said(fault, file))) from None
+    if not callable(space.get(function)):
+        raise MeasureFault('%s has no function %s' % (file, function))
+    work: Callable[[Run], object] = space[function]
+
+    def of(bench: Bench) -> Cell:
+        try:
+            return _checked(work(bench.run), function)
+        except (MeasureFault, MemoryError, TimeoutError):
+            raise
+        except Exception as fault:
+            raise MeasureFault('%s of %s: %s' % (function, file, _said(fault, file))) from None
+
+    return of
+
+
+def _said(fault: Exception, file: str) -> str:
+    """What went wrong in a user's file, with the line there."""
+    line, at = (fault.lineno, None) if isinstance(fault, SyntaxError) else (None, fault.__traceback__)
+    while at:
+        if at.tb_frame.f_code.co_filename == file:
+            line = at.tb_lineno
+        at = at.tb_next
+    where = 'line %d: ' % line if line else ''
+    what = fault.msg if isinstance(fault, SyntaxError) else str(fault)
+    return '%s%s: %s' % (where, type(fault).__name__, ' '.join(what.split()))
+
+
+def file_of(words: str) -> str:
+    """The user's file that a measure takes, or an empty text."""
+    named = NAMED.fullmatch(words)
+    found = OF_PYTHON.fullmatch((named[2] if named else words).strip())
+    return found[1] if found else ''
+
+
+def read_measure(words: str, names: Names = Names(), sources: Mapping[str, str] = {}) -> Measure:
+    """A measure from its words, with the sources of users' files."""
+    named = NAMED.fullmatch(words)
+    text = (named[2] if named else words).strip()
+    name = named[1] if named else ' '.join(text.split())
+    python, flow, sentence = OF_PYTHON.fullmatch(text), OF_FLOW.fullmatch(text), OF_SENTENCE.fullmatch(text)
+    try:
+        if python:
+            name = named[1] if named else python[2]
+            return Measure(name, text, _of_python(python[1], python[2], sources), python[1])
+        if flow and flow[1] in FLOWS:
+            return Measure(name, text, _of_flow(flow[1], flow[2]))
+        if sentence:
+            return Measure(name, text, _of_sentence(sentence[1], sentence[2], names))
+    except FlowFault as fault:
+        raise MeasureFault(str(fault)) from None
+    plain = OF_SUMMARY.fullmatch(text)
+    if plain and plain[1] in SUMMARY:
+        return Measure(name, text, _of_summary(plain[1], plain[2]))
+    raise MeasureFault('no measure: %r. It is one of %s, or begins with %s, python: or flow NAME:' % (
+        text, ', '.join(SUMMARY), ', '.join(kind + ':' for kind in KINDS)))

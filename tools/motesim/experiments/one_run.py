@@ -1,0 +1,148 @@
+"""One run of a sweep: the scenario is made, the program runs on it, and the measures are taken.
+
+`run_job(job)` needs nothing but the job and the program, so that it can be called in another process, or on another
+machine.
+"""
+from __future__ import annotations
+
+import gc
+import hashlib
+import os
+import signal
+import threading
+from collections.abc import Iterator
+from contextlib import contextmanager
+from functools import lru_cache
+from pathlib import Path
+from types import FrameType
+from typing import NamedTuple
+
+from motesim.faults import Fault
+from motesim.runner.limited import answer_within
+from motesim.experiments.measures import Bench, Cell, read_measure
+from motesim.plan.plan import Plan
+from motesim.plan.files import Files
+from motesim.plan.tables import Value
+from motesim.report import Report
+from motesim.runner.run import ProgramFault, Run
+from motesim.scenario import Scenario
+from motesim.judge.sentences import names_of
+
+DIGITS = 16
+LONGEST_FAULT = 400
+
+
+class Work(NamedTuple):
+    """What all runs of a sweep have in common.
+
+    files     the files beside the plan, by name; what isn't there is read from the folder
+    measures  their words, with the sources of users' files
+    program   the program's path, and its SHA-256: another one there is a fault
+    """
+    plan: str
+    text: str
+    folder: str
+    measures: tuple[str, ...]
+    sources: tuple[tuple[str, str], ...]
+    program: str
+    program_digest: str
+    seconds: float
+    most_bytes: int
+
+
+class Job(NamedTuple):
+    """A run: its place in the sweep, its parameters, and the files that its scenario is made from."""
+    place: int
+    given: tuple[tuple[str, Value], ...]
+    files: tuple[tuple[str, bytes], ...]
+    work: Work
+
+
+class Result(NamedTuple):
+    """What came of a run: the measures by name, digests of scenario and report, and a fault, or an empty text."""
+    place: int
+    measures: dict[str, Cell]
+    scenario: str
+    report: str
+    fault: str
+
+
+def digest(data: bytes) -> str:
+    """The beginning of the SHA-256."""
+    return hashlib.sha256(data).hexdigest()[:DIGITS]
+
+
+@lru_cache(maxsize=4)
+def _digest_of_file(path: str, size: int, changed: int) -> str:
+    return digest(Path(path).read_bytes())
+
+
+def program_digest(path: Path) -> str:
+    """The digest of the program; its bytes are read once, unless they change."""
+    about = path.stat()
+    return _digest_of_file(str(path), about.st_size, about.st_mtime_ns)
+
+
+def program_here(work: Work) -> Path:
+    """The program: the one that MOTESIM names here, or that of the job; it has to be the sweep's."""
+    path = Path(os.environ.get('MOTESIM') or work.program)
+    try:
+        if program_digest(path) != work.program_digest:
+            raise ProgramFault('%s is another program than the sweep\'s' % path)
+    except OSError as fault:
+        raise ProgramFault('%s: %s' % (path, fault.strerror)) from None
+    return path
+
+
+@contextmanager
+def limited(seconds: float) -> Iterator[None]:
+    """Ends what is in it by a TimeoutError after so many seconds, where this is the process's main thread."""
+    if threading.current_thread() is not threading.main_thread():
+        yield
+        return
+
+    def stop(signal_number: int, frame: FrameType | None) -> None:
+        raise TimeoutError('no end in %g seconds' % seconds)
+
+    before = signal.signal(signal.SIGALRM, stop)
+    signal.setitimer(signal.ITIMER_REAL, seconds)
+    try:
+        yield
+    finally:
+        signal.setitimer(signal.ITIMER_REAL, 0)
+        signal.signal(signal.SIGALRM, before)
+
+
+def one_line(text: str) -> str:
+    """A fault in one line."""
+    line = ' | '.join(' '.join(it.split()) for it in text.split('\n') if it.strip(' ^'))
+    return line if len(line) <= LONGEST_FAULT else line[:LONGEST_FAULT] + '..'
+
+
+def run_job(job: Job) -> Result:
+    """Runs a job. What goes wrong is in the result."""
+    gc.disable()
+    scenario = report = fault = ''
+    measures: dict[str, Cell] = {}
+    work = job.work
+    try:
+        with limited(work.seconds):
+            plan = Plan(work.plan, work.text, Files(Path(work.folder), dict(job.files)))
+            text = plan.scenario(dict(job.given))
+            scenario = digest(text.encode())
+            got = answer_within(program_here(work), text.encode(), work.seconds, work.most_bytes)
+            if got.status:
+                raise ProgramFault(got.fault.decode('utf-8', 'backslashreplace').strip() or 'status %d' % got.status)
+            report = digest(got.report)
+            known = Scenario.parse(text)
+            bench = Bench(Run(work.plan, Report.parse(got.report), known))
+            for words in work.measures:
+                measure = read_measure(words, names_of(known), dict(work.sources))
+                measures[measure.name] = measure.of(bench)
+    except Fault as told:
+        fault = one_line(str(told))
+    except TimeoutError as told:
+        fault = str(told)
+    except MemoryError:
+        fault = 'out of memory'
+    return Result(job.place, {} if fault else measures, scenario, report, fault)

@@ -1,0 +1,1 @@
+"""Explanations of faults, with hints, and warnings of what is legal and hardly meant."""

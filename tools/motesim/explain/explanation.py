@@ -1,0 +1,199 @@
+"""Explains why a scenario has no report: tools/explain FILE
+
+Runs the program on the scenario. Where it reports a fault, this shows that line, the line of the scenario or of the
+program's text with a mark under the word, the rule in plain words, what may stand there, and, where it is known, a hint
+on what was meant. Where the scenario has a report, this warns of what is legal and surely not meant. Ends with status 0
+where the scenario has a report, 1 where a fault is explained, and 2 where the file can't be read or the program isn't
+built (the environment variable MOTESIM names another one).
+"""
+from __future__ import annotations
+
+import re
+import textwrap
+from typing import Any
+
+from motesim.explain import hints, missing
+from motesim.notation import faults as program_faults
+from motesim.scenario import encodings
+from motesim.scenario import faults as scenario_faults
+from motesim.faults import command
+from motesim.explain.lint import Warned, warnings
+from motesim.report import Report
+from motesim.runner.run import Answer, answer, is_report, read_file
+from motesim.scenario import Scenario
+from motesim.scenario.faults import Place, ScenarioFault
+from motesim.toml import NoToml, read_toml
+from motesim.words import words_of
+
+WIDTH = 112
+# (what a terminal would take for a command)
+CONTROL = re.compile(r'[\x00-\x08\x0b-\x1f\x7f-\x9f]')
+OF_REPORT = 'This is a report, and no scenario: tools/summary, tools/compare and tools/timeline read it.'
+PROGRAM = re.compile(r'program (\S+) fault (\d+) line (\d+)')
+
+
+def told(got: Answer) -> str | None:
+    """The fault line of an answer, or None where it is a report."""
+    if got.status == 0:
+        return None
+    return got.fault.decode('utf-8', 'backslashreplace').rstrip('\n') or 'motesim: status %d' % got.status
+
+
+def marked(line: str, column: int, length: int) -> list[str]:
+    """A line with a mark under a part of it; of a long line, what is around that part."""
+    begin = max(0, column - WIDTH // 2) if len(line) > WIDTH else 0
+    shown, before = CONTROL.sub('\ufffd', line[begin:begin + WIDTH]), column - begin
+    blank = re.sub(r'[^\t]', ' ', shown[:before])
+    return ['  ' + shown, '  ' + blank + '^' * max(1, min(length, len(shown) - before))]
+
+
+def shown_place(name: str, text: str, place: Place) -> list[str]:
+    """A place of the scenario."""
+    lines = text.split('\n')
+    line = lines[place.line - 1].rstrip('\r') if place.line <= len(lines) else ''
+    return ['%s, line %d:' % (name, place.line), *marked(line, place.column, place.length)]
+
+
+def program_line(text: str, program: str, token: program_faults.Token) -> str:
+    """The line of a program's text on which a token stands."""
+    source: str = tables_of(text)['programs'][program]
+    return source.split('\n')[token.line - 1].rstrip('\r')
+
+
+def place_of_token(text: str, program: str, token: program_faults.Token) -> Place | None:
+    """Where a token of a program's text stands in the scenario, if its line is found there."""
+    line, rows = program_line(text, program, token), text.split('\n')
+    inner = line.strip()
+    begin = scenario_faults.place_of(text, ('programs', program)).line + token.line - 1
+    # (a text of several lines begins on the line of its quotes, or on the one below)
+    for row in begin, begin + 1:
+        if inner and inner in ''.join(rows[row - 1:row]):
+            before = len(line) - len(line.lstrip())
+            return Place(row, rows[row - 1].index(inner) + token.column - before, len(token.text))
+    return None
+
+
+def place_of_scenario(text: str, fault: ScenarioFault) -> Place | None:
+    """Where a fault of the scenario's own is; of what it lacks at its top a table that is named nearly so, or None."""
+    if fault.lacks is None:
+        return fault.place(text)
+    like = hints.like_of_missing(tables_or_none(text), fault)
+    return scenario_faults.place_of(text, (like,)) if like else None
+
+
+def place_of_fault(data: bytes, line: str) -> Place | None:
+    """Where in the scenario the fault is that the program tells by a line, or None where that isn't known."""
+    fault, text = scenario_faults.find_fault(data), data.decode('utf-8', 'replace')
+    if fault is None or fault.told != line.removeprefix('motesim: '):
+        return None
+    if not fault.program:
+        return place_of_scenario(text, fault)
+    found = place_of_token(text, str(fault.path[1]), fault.program.token)
+    return found or scenario_faults.place_of(text, fault.path)
+
+
+def shown_program(name: str, text: str, program: str, token: program_faults.Token) -> list[str]:
+    """The place of a fault in a program's text, with its line in the scenario where that is found."""
+    found = place_of_token(text, program, token)
+    row = 'line %d, which is ' % found.line if found else ''
+    where = '%s, %sline %d of program %s:' % (name, row, token.line, program)
+    return [where, *marked(program_line(text, program, token), token.column, len(token.text))]
+
+
+def wrapped(text: str) -> list[str]:
+    return textwrap.wrap(text, WIDTH, subsequent_indent='  ', break_long_words=False, break_on_hyphens=False)
+
+
+def of_program(name: str, text: str, program: str, its: program_faults.ProgramFault) -> list[str]:
+    """The words on a fault in a program's text."""
+    title, rule = program_faults.RULES[its.kind]
+    end = 'The text ends here. ' if its.token.kind == 'end' else ''
+    lines = shown_program(name, text, program, its.token)
+    lines += wrapped('%s: %s%s' % (title, end, rule)) + wrapped('Here may stand: %s' % ', '.join(its.may))
+    return lines + hinted(hints.of_program(tables_of(text)['programs'][program], its))
+
+
+def hinted(hint: str | None) -> list[str]:
+    return wrapped('Hint: %s' % hint) if hint else []
+
+
+def tables_of(text: str) -> dict[str, Any]:
+    return read_toml(text)
+
+
+def tables_or_none(text: str) -> dict[str, Any] | None:
+    """The tables of a text that may be no TOML."""
+    try:
+        return tables_of(text)
+    except NoToml:
+        return None
+
+
+def rule_of(line: str) -> str:
+    """The rule behind a fault's line, whatever the scenario."""
+    program = PROGRAM.fullmatch(line)
+    if program and int(program[2]) in program_faults.RULES:
+        return '%s: %s' % program_faults.RULES[int(program[2])]
+    return scenario_faults.RULES.get('program' if program else line, 'docs/use/SCENARIO.md has the faults.')
+
+
+def explanation(name: str, data: bytes, line: str) -> list[str]:
+    """What is shown below a fault's line."""
+    what, fault = line.removeprefix('motesim: '), scenario_faults.find_fault(data)
+    if fault is None or fault.told != what:
+        # (as of memory, and of texts that are TOML to Python alone)
+        return wrapped(rule_of(what)) + ['Where it is, this tool does not know.']
+    text = data.decode('utf-8', 'replace')
+    if fault.program:
+        return of_program(name, text, str(fault.path[1]), fault.program)
+    encoding = encodings.encoding_of(data) if fault.line else None
+    if encoding:
+        return (wrapped(encodings.shown(name, encoding)) + wrapped(rule_of(what))
+                + wrapped('Here may stand: text in UTF-8') + hinted(encodings.hint(name, encoding)))
+    may = missing.may_stand(fault.lacks) if fault.lacks else fault.may
+    hint = OF_REPORT if is_report(data) else (
+        hints.of_scenario(tables_or_none(text), fault, text) or encodings.hint_of_byte(data))
+    return where_told(name, text, fault) + wrapped(rule_of(what)) + wrapped('Here may stand: %s' % may) + hinted(hint)
+
+
+def where_told(name: str, text: str, fault: ScenarioFault) -> list[str]:
+    """The place of a fault of the scenario's own, or what it lacks."""
+    place = place_of_scenario(text, fault)
+    if place or not fault.lacks:
+        return shown_place(name, text, place or Place(1, 0, 1))
+    return missing.shown(name, fault.lacks, tables_or_none(text) or {}, scenario_faults.first_table(text))
+
+
+def warned(name: str, text: str, warning: Warned) -> list[str]:
+    """A warning, with its place."""
+    lines = wrapped('Warning: %s.' % warning.text)
+    if warning.program is not None and warning.token is not None:
+        return lines + shown_program(name, text, warning.program, warning.token)
+    if warning.path is not None:
+        return lines + shown_place(name, text, scenario_faults.place_of(text, warning.path))
+    return lines
+
+
+def all_warnings(name: str, data: bytes, report: bytes) -> list[str]:
+    """What is surely not meant in a scenario that has a report."""
+    text = data.decode('utf-8')
+    lines = []
+    for warning in warnings(Scenario.parse(data), Report.parse(report)):
+        lines += ['', *warned(name, text, warning)]
+    return lines
+
+
+@command('explain')
+def main() -> int:
+    words = words_of(__doc__)
+    words.add_argument('file', metavar='FILE', help='a scenario; - is standard input')
+    name = words.parse_args().file
+    data = read_file(name)
+    got = answer(data)
+    line = told(got)
+    if line is None:
+        print('\n'.join(['%s has a report, and no fault' % name, *all_warnings(name, data, got.report)]))
+        return 0
+    print('\n'.join([line, *explanation(name, data, line)]))
+    return 1
+

@@ -1,0 +1,291 @@
+"""Hints on faults: what the writer most likely meant, and how it is written here.
+
+`of_program(text, fault)` and `of_scenario(tables, fault, text)` give one sentence, or None where nothing better is
+known than the rule. They go by the word that can't stand and the words before it; whether a hint is right, the next
+run shows.
+"""
+from __future__ import annotations
+
+import difflib
+import re
+from collections.abc import Iterable
+
+from motesim.notation.keywords import RESERVED
+from motesim.notation.parentheses import written
+from motesim.notation.faults import OPERATORS, STATEMENTS, ProgramFault, Token, tokens_of
+from motesim.scenario.faults import LONG_QUOTES, LOSS, MEDIUM, MOTE, TOP, ScenarioFault, last_outside
+
+# What people write who know other languages, and what stands for it here.
+WISHES = {
+    'for': 'There is no `for`: write `i = 0; while (i < n) { .. i = (i + 1); }`.',
+    'do': 'There is no `do`: a `while` tests before each turn.',
+    'switch': 'There is no `switch`: write an `if` in the `else` block of another.',
+    'elif': 'There is no `elif`: put the next `if` into the `else` block, `else { if .. { .. } }`.',
+    'elseif': 'There is no `elseif`: put the next `if` into the `else` block, `else { if .. { .. } }`.',
+    'then': 'There is no `then`: the block stands right after the test, `if (x == 1) { .. }`.',
+    'return': 'There is no `return`: `exit;` ends the process or the thread.',
+    'break': 'There is no `break`: let the test of the `while` become false.',
+    'int': 'A variable has 16 bits and no type: `var x = 0;`, at the head of its `code`.',
+    'let': 'A variable is declared at the head of its `code`: `var x = 0;`.',
+    'const': 'There are no constants: a variable that nothing assigns serves, `var period = 40;`.',
+    'function': 'There are no functions: a `thread` is run by `spawn`, and shares the variables of its process.',
+    'fn': 'There are no functions: a `thread` is run by `spawn`, and shares the variables of its process.',
+    'def': 'There are no functions: a `thread` is run by `spawn`, and shares the variables of its process.',
+    'true': 'There are no truth values: `1` is true, and `0` is false.',
+    'false': 'There are no truth values: `1` is true, and `0` is false.',
+    'and': 'Write `&&`, in parentheses: `((a == 1) && (b == 2))`.',
+    'or': 'Write `||`, in parentheses: `((a == 1) || (b == 2))`.',
+    'not': 'Write `!`: `!fired(t)`.',
+    'sleep': 'A process waits by an event timer: `set t 40; yield_until fired(t);`.',
+    'delay': 'A process waits by an event timer: `set t 40; yield_until fired(t);`.',
+    'wait': 'Write `wait_until` or `yield_until` and a test, `pause`, or `acquire` and a semaphore.',
+    'printf': 'A program prints numbers: `print x;`.',
+    'println': 'A program prints numbers: `print x;`.',
+    'random': 'There is no chance in a mote: each run is the same. A seed of its own serves, as '
+              '`seed = ((seed * 25173) + 13849); send (seed % 100);`, begun with `self` so that motes differ.',
+    'id': 'A mote\'s number is `self`.',
+    'time': 'The current moment is `now` (its low 16 bits).',
+    'clock': 'The current moment is `now` (its low 16 bits).',
+    'receive': 'A packet is an event: name the process by `receiver P;`, and wait by `yield_until is(packet);`.',
+    'recv': 'A packet is an event: name the process by `receiver P;`, and wait by `yield_until is(packet);`.',
+    'sender': 'The sender of a packet is `from`.',
+    'value': 'The value of a packet or an event is `data`.',
+}
+WISHES.update({word: WISHES['random'] for word in ('rand', 'rnd')})
+# What Python says of a text that is no TOML, and what is most likely meant.
+NO_TOML = {
+    "']'": 'A table is named in brackets, `[medium]`; of motes and losses each is a table in two, `[[mote]]`.',
+    "']]'": 'Each mote and each loss is a table of its own, named in two brackets: `[[mote]]`, `[[loss]]`.',
+    "'='": 'A key and its value stand on a line: `end = 5`.',
+    'newline': 'Each key and its value stand on a line of their own.',
+    'twice': 'A table stands once; only motes and losses are many, and each of them is a table `[[mote]]`, `[[loss]]`.',
+    'overwrite': 'A key stands once in its table.',
+    '': 'Texts stand in quotes, programs of several lines in three: p = """ .. """.',
+}
+QUOTES = '\u2018\u2019\u201a\u201b\u201c\u201d\u201e\u201f\u00ab\u00bb\u00b4`'
+OF_QUOTES = 'These are quotes of another kind, as text programs make them: plain ones are wanted, `"` or `\'`.'
+# What Python says of a text of several lines that has no end.
+NO_END = re.compile('Expected "\'\'\'"|Unterminated string')
+# Letters that look like digits.
+DIGITS = str.maketrans('OoIl', '0011')
+# Keys that stand for a wish that the medium can't meet.
+CHANCE = ('probability', 'prob', 'p', 'rate', 'loss_rate', 'random', 'seed', 'noise', 'per_link', 'chance')
+
+
+def nearest(word: str, known: Iterable[str]) -> str | None:
+    """The known word that this one is most like, where one is near."""
+    found = difflib.get_close_matches(word.lower(), list(known), 1, 0.6)
+    return found[0] if found and found[0] != word else None
+
+
+def of_program(text: str, fault: ProgramFault) -> str | None:
+    """A hint on a fault of a program's text."""
+    tokens = tokens_of(text)
+    at = next((index for index, it in enumerate(tokens) if it == fault.token), len(tokens) - 1)
+    before, here = tokens[:at], fault.token
+    behind = tokens[at + 1] if at + 1 < len(tokens) else here
+    if fault.kind == 1:
+        return _of_letter(before, here) or _of_sign(here, behind)
+    if fault.kind == 2:
+        return _of_unexpected(before, here, behind, fault.may) or _of_operator(tokens, at, fault.may)
+    if fault.kind == 3:
+        return _of_unknown(before, here, fault.may)
+    if fault.kind == 6:
+        return 'A callback can\'t wait, but may wake a process that does: `poll P;` or `post P msg 0;`.'
+    return None
+
+
+def _of_letter(before: list[Token], here: Token) -> str | None:
+    """A number in which letters are written that look like digits."""
+    last = before[-1] if before else here
+    is_behind = last.line == here.line and last.column + len(last.text) == here.column
+    word = (last.text if is_behind and last.text.isdecimal() else '') + here.text
+    number = word.translate(DIGITS)
+    if not (word[:1].isdigit() and number.isdecimal()) or number == word:
+        return None
+    letter = next(it for it in word if not it.isdigit())
+    return 'A letter `%s` is in the number: was `%s` meant?' % (letter, number.lstrip('0') or '0')
+
+
+def _of_sign(here: Token, behind: Token) -> str | None:
+    word = here.text
+    if word in ('"', "'"):
+        return 'There are no texts: a program prints numbers, `print 1;`. Who prints is in the line anyway.'
+    if word == '#':
+        return 'A comment begins with `//`.'
+    if word == '&' or word == '|':
+        return 'There are no operators on bits: `/` and `%` by powers of 2 take parts, `&&` is "and", `||` is "or".'
+    if word == '.':
+        return 'Numbers are whole, 0 to 65,535; there are no fields.'
+    if word in '[]':
+        return 'There are no arrays: a variable holds one number of 16 bits.'
+    if word.isupper():
+        return 'Names have small letters: `%s`.' % word.lower()
+    if word[:1].isdigit() and word.isdigit():
+        return 'Without the zeros in front: `%s`.' % (word.lstrip('0') or '0')
+    if word and ord(word[0]) > 127:
+        return 'This sign, U+%04X, is none of the notation: was a plain %s meant?' % (
+            ord(word[0]), 'space' if word[0].isspace() else 'letter, quote or dash')
+    return None
+
+
+def _of_unexpected(before: list[Token], here: Token, behind: Token, may: list[str]) -> str | None:
+    last = before[-1] if before else None
+    word = here.text
+    if last and last.text == 'else' and word == 'if':
+        return 'A block stands after `else`: put the `if` into it, `else { if .. { .. } }`.'
+    if word in ('+', '-') and behind.text == word or last and last.text == word and word in ('+', '-'):
+        return 'There is no `%s%s`: write `x = (x %s 1);`.' % (word, word, word)
+    if word in OPERATORS and behind.text == '=' and '`=`' in may:
+        return 'There is no `%s=`: write `x = (x %s 1);`.' % (word, word)
+    if word == '-' and '`(`' in may:
+        return 'There are no numbers below 0: values have 16 bits, and `(0 - 1)` is 65535.'
+    if word == '/' and behind.text in ('*', '/') or word == '*' and last and last.text == '/':
+        return 'A comment begins with `//`, and ends with the line.'
+    if word == '=' and '`==`' in may or word == '==' and may == ['`=`']:
+        return '`=` assigns; `==` compares.'
+    if word in OPERATORS:
+        return None
+    if word == ',' and '`;`' in may:
+        return 'A packet, an event and a print have one number. Two small ones make one: `((a * 256) + b)`.'
+    if 'a new name' in may and here.kind == 'keyword':
+        return '`%s` is a word of the notation; another name, such as `my_%s`, may stand here.' % (word, word)
+    if word == ';' and may == ['`=`']:
+        return 'A variable begins with a number: `var x = 0;`.'
+    if word == 'timer' and '`etimer`' in may:
+        return 'There are two kinds: an `etimer` posts an event to its process, a `ctimer` has a block that it calls.'
+    if word == 'to' and '`;`' in may:
+        return 'A packet goes to all who hear it: for whom it is may stand in its value, as `send ((1 * 256) + x);`.'
+    if word == 'var':
+        return 'Variables are declared at the head of `code`, before its timers, threads and handlers.'
+    if word == 'thread' or word in ('etimer', 'ctimer'):
+        return 'In a `code` stand variables, then `etimer`s, `ctimer`s, threads, `onpoll`, `onexit`, and the body.'
+    if '`;`' in may and last and here.line > last.line:
+        return 'A statement ends with `;`: one is missing after `%s` on line %d.' % (last.text, last.line)
+    if word in WISHES:
+        return WISHES[word]
+    if here.kind == 'name':
+        words = [it.strip('`') for it in may if it.startswith('`')]
+        like = nearest(word, words)
+        return 'Did you mean `%s`?' % like if like else None
+    if here.kind == 'end':
+        return 'A `}` may be missing: each block that was opened is closed.'
+    return None
+
+
+def _of_operator(tokens: list[Token], at: int, may: list[str]) -> str | None:
+    """An operator between two values that have no parentheses of their own."""
+    word = tokens[at].text
+    if word in OPERATORS and may == ['`)`']:
+        shown = written(tokens, at) or '((a == 1) && (b == 2))'
+        return 'Each operator and its two values have parentheses of their own: `%s`.' % shown
+    if word in OPERATORS and ('`;`' in may or '`{`' in may or '`into`' in may):
+        shown = written(tokens, at) or '(a %s b)' % word
+        return 'Two values with `%s` between them stand in parentheses: `%s`.' % (word, shown)
+    return None
+
+
+def _of_unknown(before: list[Token], here: Token, may: list[str]) -> str | None:
+    """A name that stands for nothing: one that was misspelt, or a wish."""
+    begins = not before or before[-1].text in ('{', '}', ';')
+    if here.text in WISHES:
+        return WISHES[here.text]
+    declared = {one.text for one in before if one.kind == 'name'}
+    # (may lists the names of the kind that is wanted, in brackets after it)
+    wanted = {name for it in may if '(' in it for name in it[it.index('(') + 1:].rstrip(')').split(', ')}
+    ticked = {it.strip('`') for it in may if it.startswith('`')}
+    known = (wanted | (set(STATEMENTS) if begins else ticked)) - {'none is declared here'}
+    like = nearest(here.text, known) or nearest(here.text, declared & known)
+    if like:
+        return 'Did you mean `%s`?' % like
+    if begins and here.text not in RESERVED:
+        return 'Variables are declared at the head of `code`: `var %s = 0;`.' % here.text
+    return None
+
+
+def _of_no_toml(text: str, fault: ScenarioFault, place: tuple[int, int]) -> str | None:
+    """A hint on a text that is no TOML, with the place up to which it is."""
+    row = text.split('\n')[place[0] - 1]
+    if row[place[1]:place[1] + 1] in QUOTES and place[1] < len(row):
+        return OF_QUOTES
+    opened = last_outside(text)
+    if NO_END.search(fault.may) and any(it in text.split('\n')[opened - 1] for it in LONG_QUOTES):
+        return 'The text that begins on line %d has no end: the three quotes that close it are missing.' % opened
+    if row.lstrip().startswith('[') and 'overwrite' in fault.may:
+        return NO_TOML['twice']
+    return next((hint for said, hint in NO_TOML.items() if said in fault.may), None)
+
+
+def of_scenario(tables: dict[str, object] | None, fault: ScenarioFault, text: str) -> str | None:
+    """A hint on a fault of a scenario. Its tables are None where the text is no TOML."""
+    line, name = fault.told, str(fault.path[-1]) if fault.path else ''
+    if line == 'scenario fault 1' and fault.line:
+        return _of_no_toml(text, fault, fault.line)
+    if line == 'scenario fault 2' and tables is not None:
+        return _of_missing(tables, fault)
+    if line == 'scenario fault 3':
+        return _of_key(fault.path, name, tables)
+    if line == 'scenario fault 4' and name in ('x', 'y', 'range', 'base', 'per', 'end'):
+        return 'Places, times and distances are whole numbers, without a point and without quotes.'
+    if line == 'scenario fault 5' and name == 'version':
+        return 'There are the versions 1 and 2; 2 has `collide` and the lengths of queues.'
+    if line == 'scenario fault 6' and tables is not None:
+        programs, named = tables.get('programs'), _at(tables, fault.path)
+        like = nearest(named if isinstance(named, str) else name, programs if isinstance(programs, dict) else ())
+        return 'Did you mean `%s`?' % like if like else None
+    return None
+
+
+def _at(tables: object, path: tuple[str | int, ...]) -> object:
+    """What a scenario holds at a path, or None."""
+    for name in path:
+        try:
+            tables = tables[name]  # type: ignore[index]
+        except (KeyError, IndexError, TypeError):
+            return None
+    return tables
+
+
+def like_of_missing(tables: object, fault: ScenarioFault) -> str | None:
+    """A key that isn't known and is like the one that is missing beside it."""
+    wanted = fault.may.split('`')[1] if '`' in fault.may else ''
+    table = _at(tables, fault.path)
+    if not isinstance(table, dict):
+        return None
+    return nearest(wanted, [it for it in table if it not in {**TOP, **MEDIUM, **LOSS, **MOTE}])
+
+
+def _of_missing(tables: dict[str, object], fault: ScenarioFault) -> str | None:
+    """What most likely stands for a key that is missing."""
+    wanted = fault.may.split('`')[1] if '`' in fault.may else ''
+    like = like_of_missing(tables, fault)
+    if like:
+        return 'It has `%s`: did you mean `%s`?' % (like, wanted)
+    if wanted == 'collide':
+        return 'Version 2 says whether packets collide: `collide = true` or `collide = false` in `[medium]`.'
+    if not tables:
+        return 'The text has no key and no table. examples/print_then_yield.toml is a small scenario to begin with.'
+    behind = next((name for name, table in tables.items() if isinstance(table, dict) and wanted in table), None)
+    if not fault.path and behind:
+        return 'The `%s` that is there belongs to `[%s]`, as it stands below that name: move it up.' % (wanted, behind)
+    return None
+
+
+def _of_key(path: tuple[str | int, ...], name: str, tables: dict[str, object] | None) -> str | None:
+    """A key that isn't known."""
+    if path[0] == 'programs':
+        return None
+    if name in ('collide', 'queue') and tables is not None and tables.get('version') == 1:
+        return '`%s` belongs to version 2: begin the scenario with `version = 2`.' % name
+    if name in CHANCE:
+        return 'Nothing happens by chance here: a loss `[[loss]]` from one mote to another loses every k-th packet ' \
+               '(`every = k`). tools/scenario makes nets, and losses by rule, from a seed.'
+    tables_of = {'medium': [*MEDIUM, 'collide'], 'loss': [*LOSS], 'mote': [*MOTE]}
+    like = nearest(name, tables_of.get(str(path[0]), [*TOP]) if len(path) > 1 else [*TOP, 'queue'])
+    if like:
+        return 'Did you mean `%s`?' % like
+    if len(path) == 1 and name in MEDIUM:
+        return '`%s` stands in the table `[medium]`.' % name
+    if len(path) > 1 and name in TOP:
+        return '`%s` stands at the top, before the first table.' % name
+    return None

@@ -1,0 +1,128 @@
+"""Warnings: what is legal in a scenario, and surely not meant.
+
+`warnings(scenario, report)` gives them in the order of the programs and motes, each with its place: a token of a
+program's text, or the number of a mote. A scenario with warnings is in order, and has its report.
+"""
+from __future__ import annotations
+
+from collections.abc import Iterator
+from typing import NamedTuple
+
+from motesim.notation.faults import WAITS, Token, tokens_of
+from motesim.report import Report
+from motesim.scenario import Scenario
+
+
+class Warned(NamedTuple):
+    """A warning in words. Its place is a token of a program, a mote, a loss, or nothing in particular."""
+    text: str
+    program: str | None = None
+    token: Token | None = None
+    mote: int | None = None
+    loss: int | None = None
+
+    @property
+    def path(self) -> tuple[str, int] | None:
+        """The table of the scenario that the warning is about."""
+        if self.loss is not None:
+            return 'loss', self.loss
+        return None if self.mote is None else ('mote', self.mote)
+
+
+class Program:
+    """What the tokens of a program's text say, as far as warnings need it. The text is a program."""
+
+    def __init__(self, name: str, text: str):
+        self.name, self.tokens = name, tokens_of(text)[:-1]
+        self.words = [it.text for it in self.tokens]
+        self.processes = self._names('process')
+        self.started = self._names('autostart') + self._names('start')
+        self.receivers = self._names('receiver')
+
+    def _names(self, word: str) -> list[Token]:
+        """The names after each of these words, up to a semicolon."""
+        found = []
+        for at, it in enumerate(self.words):
+            if it == word:
+                while self.words[at] != ';':
+                    at += 1
+                    found += [self.tokens[at]] if self.tokens[at].kind == 'name' else []
+        return found
+
+    def first(self, *words: str) -> Token | None:
+        """The first place at which these words stand one after another."""
+        for at in range(len(self.words) - len(words) + 1):
+            if self.words[at:at + len(words)] == list(words):
+                return self.tokens[at]
+        return None
+
+    def end_of_block(self, at: int) -> int:
+        """The place of the brace that closes the one at a place."""
+        level = 0
+        for behind in range(at, len(self.words)):
+            level += (self.words[behind] == '{') - (self.words[behind] == '}')
+            if level == 0:
+                return behind
+        return len(self.words) - 1
+
+    def endless_loops(self) -> Iterator[Token]:
+        """Each `while` of a number above 0 in which nothing waits, exits or begins again."""
+        for at, word in enumerate(self.words):
+            if word == 'while' and self.tokens[at + 1].kind == 'number' and self.words[at + 1] != '0':
+                block = self.words[at + 2:self.end_of_block(at + 2)]
+                if not any(it in WAITS for it in block):
+                    yield self.tokens[at]
+
+
+def of_program(program: Program) -> Iterator[Warned]:
+    """What is surely not meant in a program."""
+    name, started = program.name, {it.text for it in program.started}
+    if not program.first('autostart'):
+        yield Warned('no process starts at boot: an `autostart` with its names is missing', name, program.processes[0])
+    else:
+        for process in program.processes:
+            if process.text not in started:
+                yield Warned('the process `%s` is never started' % process.text, name, process)
+    packet = program.first('is', '(', 'packet', ')')
+    if packet and not program.receivers:
+        yield Warned('packets are waited for, and no process is the `receiver`: they are dropped', name, packet)
+    for loop in program.endless_loops():
+        what = 'a loop without an end, in which nothing waits: the mote halts when its work is used up'
+        yield Warned(what, name, loop)
+    for kind in 'etimer', 'ctimer':
+        for at, word in enumerate(program.words[:-1]):
+            if word == kind and program.tokens[at + 1].kind == 'name':
+                timer = program.tokens[at + 1]
+                if not any(program.first(it, timer.text) for it in ('set', 'restart_timer', 'reset')):
+                    yield Warned('the timer `%s` is never set' % timer.text, name, timer)
+
+
+def of_net(scenario: Scenario, programs: dict[str, Program], report: Report | None) -> Iterator[Warned]:
+    """What is surely not meant in the net."""
+    for name in scenario.programs:
+        if all(place.program != name for place in scenario.places):
+            yield Warned('no mote runs the program `%s`' % name, name, programs[name].tokens[0])
+    alone = [number for number in range(scenario.motes) if not scenario.hearers(number)]
+    speaks = [number for number in alone if 'send' in programs[scenario.places[number].program].words]
+    if scenario.motes > 1:
+        for number in alone:
+            what = 'sends, and nobody hears it' if number in speaks else 'hears nobody'
+            if number in speaks or 'packet' in programs[scenario.places[number].program].words:
+                yield Warned('mote %d %s: no mote stands within `range`' % (number, what), mote=number)
+    for number, (s, r) in enumerate(scenario.losses):
+        if not scenario.hears(r, s):
+            what = 'a loss from mote %d to mote %d, which doesn\'t hear it, loses nothing' % (s, r)
+            yield Warned(what, loss=number)
+    if report is not None:
+        for mote in report.motes:
+            halted = mote.halted()
+            if halted is not None:
+                yield Warned('mote %d halts at %d: a kernel run used up its 10,000 units of work' % (
+                    mote.number, halted), mote=mote.number)
+
+
+def warnings(scenario: Scenario, report: Report | None = None) -> list[Warned]:
+    """What is legal in a scenario, and surely not meant; with its report, what that shows too."""
+    programs = {name: Program(name, text) for name, text in scenario.programs.items()}
+    found = [it for program in programs.values() for it in of_program(program)]
+    return found + list(of_net(scenario, programs, report))

@@ -1,0 +1,56 @@
+"""What a scenario lacks at its top: how such a key or table is written, and where it may stand."""
+from __future__ import annotations
+
+from typing import Any
+
+from motesim.scenario.faults import MEDIUM, MOTE, TOP, Key, may_of
+
+# Of each key and table of the top a line or more that may stand for it.
+WRITTEN = {
+    'version': ['version = 1'],
+    'end': ['end = 100'],
+    'medium': ['[medium]', 'range = 10', 'base = 1', 'per = 100'],
+    'programs': ['[programs]', "p = '''", 'process a;', 'autostart a;', 'code a { body { print 1; } }', "'''"],
+    'mote': ['[[mote]]', 'x = 0', 'y = 0', 'program = "%s"'],
+}
+OF_PROGRAMS = 'a key for each program: its name, which has its text'
+
+
+def head_of(name: str) -> str:
+    """A key or a table as it is named in a text."""
+    return WRITTEN[name][0] if name in ('medium', 'programs', 'mote') else name
+
+
+def written(name: str, tables: dict[str, Any]) -> list[str]:
+    """How a key or a table that is lacking may be written in a scenario that has these tables."""
+    programs = tables.get('programs')
+    program = next(iter(programs), 'p') if isinstance(programs, dict) else 'p'
+    lines = [line % program if '%s' in line else line for line in WRITTEN[name]]
+    return lines + ['collide = false'] if name == 'medium' and tables.get('version') == 2 else lines
+
+
+def where(name: str, first_table: int | None) -> str:
+    """Where it may stand."""
+    if name == 'mote':
+        return 'Each mote is one; at the end of the text there may stand'
+    if name in ('medium', 'programs'):
+        return 'At the end of the text, or above any other table, there may stand'
+    return 'Above the first table (line %d) there may stand' % first_table if first_table else 'There may stand'
+
+
+def may_stand(name: str) -> str:
+    """What may stand, with its keys."""
+    if name == 'programs':
+        return 'the table `[programs]` with %s' % OF_PROGRAMS
+    keys: dict[str, Key] | None = {'medium': MEDIUM, 'mote': MOTE}.get(name)
+    if not keys:
+        return 'the key %s' % may_of(name, TOP[name])
+    count = 'the table' if name == 'medium' else '1 to 1,000 tables'
+    return '%s `%s` with %s' % (count, head_of(name), '; '.join(may_of(key, keys[key]) for key in keys))
+
+
+def shown(file: str, name: str, tables: dict[str, Any], first_table: int | None) -> list[str]:
+    """That a file lacks a key or a table, where it may stand, and how it is written."""
+    kind = 'table' if name in ('medium', 'programs', 'mote') else 'key'
+    head = '%s has no %s `%s`. %s:' % (file, kind, head_of(name), where(name, first_table))
+    return [head, *('  ' + line for line in written(name, tables))]

@@ -1,0 +1,211 @@
+"""Files of expectations: what they say, and which of their sentences hold of a scenario. tools/expect is the command.
+
+`expect(Path('a.toml'), Path('a.expect.toml'))` runs the program, prints what holds and what doesn't, and counts both.
+"""
+from __future__ import annotations
+
+import itertools
+from dataclasses import dataclass, replace
+from pathlib import Path
+from typing import Any, NamedTuple
+
+from motesim.faults import Fault
+from motesim.explain.hints import nearest
+from motesim.judge.judge import Broken, Judge
+from motesim.report import Report
+from motesim.runner.run import Answer, answer, read_file
+from motesim.scenario import Scenario, ScenarioFault
+from motesim.scenario.faults import TOP
+from motesim.judge.sentences import Names, Refused, Sentence, SentenceFault, lacking, names_of, read_sentence
+from motesim.toml import NoToml, read_toml
+
+LONGEST_SHOWN = 150
+REFUSED = 'the scenario is refused'
+WHOLE = 'the report is as it is written down'
+KEYS = {'expect': list, 'report': str, 'change': list, 'about': str, 'replace': dict}
+# What may stand at a key, and how it is written.
+WRITTEN = {
+    'expect': 'an array of sentences, as `expect = ["mote 0 sends twice"]`', 'report': 'a text',
+    'change': 'an array of tables: each begins with a line `[[change]]`', 'about': 'a text, as `about = "a late end"`',
+    'replace': 'a table, as `replace = { "end = 9" = "end = 99" }`',
+}
+
+
+def beside(scenario: Path) -> Path:
+    """The file of expectations that stands beside a scenario."""
+    return scenario.with_suffix('.expect.toml')
+
+
+def text_of(path: Path) -> str:
+    """The text of a file."""
+    try:
+        return read_file(path).decode('utf-8')
+    except UnicodeDecodeError:
+        raise Fault('%s is not UTF-8' % path) from None
+
+
+@dataclass(frozen=True)
+class Part:
+    """What is expected of the scenario, or of it with some text replaced by another."""
+    name: str
+    sentences: list[str]
+    report: str | None
+    replace: dict[str, str]
+
+
+class Told(NamedTuple):
+    """A sentence, whether it holds, and more to show where it doesn't."""
+    sentence: str
+    holds: bool
+    more: list[str]
+
+
+def part_of(table: dict[str, Any], name: str, keys: set[str]) -> Part:
+    """What a table of the file expects."""
+    for key, value in table.items():
+        if key not in keys:
+            like = nearest(key, keys)
+            more = ', as a scenario has' if key in TOP else '; did you mean %s?' % like if like else ''
+            raise Fault('%s has a key %s%s; there may stand: %s' % (name, key, more, ', '.join(sorted(keys))))
+        if type(value) is not KEYS[key]:
+            raise Fault('%s of %s is not %s' % (key, name, WRITTEN[key]))
+    sentences, replace = table.get('expect', []), table.get('replace', {})
+    if not all(type(it) is str for it in [*sentences, *replace.values()]):
+        raise Fault('%s holds something else than texts' % name)
+    if not sentences and 'report' not in table:
+        raise Fault('%s expects nothing' % name)
+    return Part(table.get('about', name), sentences, table.get('report'), replace)
+
+
+def parts_of(text: str, name: str) -> list[Part]:
+    """What a file expects: first of the scenario as it is, then of each change."""
+    try:
+        tables = read_toml(text)
+    except NoToml as fault:
+        raise Fault('%s is no TOML: %s' % (name, fault)) from None
+    parts = [part_of(tables, name, {'expect', 'report', 'change'})]
+    for number, table in enumerate(tables.get('change', []), 1):
+        if type(table) is not dict or not table.get('replace'):
+            raise Fault('change %d of %s has no table replace' % (number, name))
+        parts.append(part_of(table, 'change %d of %s' % (number, name), {'expect', 'report', 'about', 'replace'}))
+    return parts
+
+
+def changed(scenario: str, replace: dict[str, str]) -> str:
+    for old, new in replace.items():
+        if old not in scenario:
+            raise Fault('the scenario has no text %r to replace' % old)
+        scenario = scenario.replace(old, new)
+    return scenario
+
+
+def read_all(sentences: list[str], names: Names) -> list[Sentence]:
+    """The sentences of a part. The first that can't be read is told with its number."""
+    found = []
+    for number, sentence in enumerate(sentences, 1):
+        try:
+            found.append(read_sentence(sentence, names))
+        except SentenceFault as fault:
+            raise Fault('sentence %d is not known\n%s' % (number, str(fault).split('\n', 1)[1])) from None
+    return found
+
+
+def more_of(broken: Broken, rows: list[str]) -> list[str]:
+    """What is shown of a broken sentence."""
+    if broken.row is None:
+        return [broken.why]
+    row = rows[broken.row - 1]
+    return [broken.why, 'line %d: %s' % (broken.row, row if len(row) <= LONGEST_SHOWN else row[:LONGEST_SHOWN] + '..')]
+
+
+def same_report(rows: list[str], wanted: str) -> Told:
+    """Whether the report is the one that is written down."""
+    for number, (row, line) in enumerate(itertools.zip_longest(rows, wanted.splitlines(), fillvalue='the end'), 1):
+        if row != line:
+            return Told(WHOLE, False, ['line %d: %s' % (number, row), 'expected: %s' % line])
+    return Told(WHOLE, True, [])
+
+
+def refused(part: Part, sentences: list[Sentence], got: Answer) -> list[Told]:
+    """What is told of a scenario that has no report."""
+    line = got.fault.decode('utf-8', 'backslashreplace').strip() or 'status %d' % got.status
+    more, found = ['%s: %s' % (REFUSED, line)], []
+    for text, sentence in zip(part.sentences, sentences):
+        holds = isinstance(sentence, Refused) and got == Answer(1, b'', ('motesim: %s\n' % sentence.fault).encode())
+        found.append(Told(text, holds, more))
+    return found if part.report is None else found + [Told(WHOLE, False, more)]
+
+
+def of_report(part: Part, sentences: list[Sentence], judge: Judge) -> list[Told]:
+    """Which sentences of a part hold of a report."""
+    found = []
+    for text, sentence in zip(part.sentences, sentences):
+        broken = judge.broken(sentence)
+        found.append(Told(text, broken is None, more_of(broken, judge.rows) if broken else []))
+    return found + ([same_report(judge.rows, part.report)] if part.report is not None else [])
+
+
+def judged_by(part: Part, report: Report, scenario: Scenario) -> list[Told]:
+    """Which sentences of a part hold of a report that is there already, of the scenario as the part has changed it."""
+    return of_report(part, read_all(part.sentences, names_of(scenario)), Judge(report, scenario))
+
+
+def known_of(text: str) -> tuple[Scenario | None, Names]:
+    """A scenario, if the text is one, and what sentences may name of it."""
+    try:
+        known = Scenario.parse(text)
+        return known, names_of(known)
+    except ScenarioFault:
+        return None, Names()
+
+
+def judged_each(scenario: str, part: Part) -> tuple[list[Told], list[str]]:
+    """Which sentences of a part hold, and what each of them names that the scenario hasn't; such a one doesn't hold."""
+    names = known_of(scenario)[1]
+    lacks = [lacking(it, names) for it in part.sentences]
+    readable = [it for it, lack in zip(part.sentences, lacks) if not lack]
+    told = iter(judged(scenario, replace(part, sentences=readable)))
+    found = [Told(it, False, ['the scenario has %s' % lack]) if lack else next(told)
+             for it, lack in zip(part.sentences, lacks)]
+    return found + list(told), lacks
+
+
+def judged(scenario: str, part: Part) -> list[Told]:
+    """Which sentences of a part hold."""
+    text = changed(scenario, part.replace)
+    known, names = known_of(text)
+    sentences = read_all(part.sentences, names)
+    got = answer(text.encode())
+    if got.status:
+        return refused(part, sentences, got)
+    return of_report(part, sentences, Judge(Report.parse(got.report), known or Scenario.parse(text)))
+
+
+def is_refused(told: list[Told]) -> bool:
+    """Whether sentences are broken because the scenario has no report."""
+    return any(not it.holds and it.more and it.more[0].startswith(REFUSED) for it in told)
+
+
+def expect(scenario: Path, expectations: Path, is_quiet: bool = False) -> tuple[int, int]:
+    """Tells which sentences hold, or, quietly, which don't; and counts those that do and those that don't."""
+    text = text_of(scenario)
+    passed = failed = 0
+    has_fault = False
+    name = str(expectations)
+    for part in parts_of(text_of(expectations), name):
+        try:
+            told = judged(text, part)
+        except Fault as fault:
+            raise Fault('%s: %s' % (part.name, fault)) from None
+        if part.replace and not (is_quiet and all(it.holds for it in told)):
+            print('with %s:' % (part.name if part.name != name else 'a change'))
+        for it in told:
+            passed, failed = passed + it.holds, failed + (not it.holds)
+            if it.holds and not is_quiet:
+                print('holds   %s' % it.sentence)
+            elif not it.holds:
+                print('\n          '.join(['broken  %s' % it.sentence, *it.more]))
+        has_fault |= is_refused(told) and not part.replace
+    if has_fault:
+        print('tools/explain %s shows where the fault is, and what may stand there' % scenario)
+    return passed, failed

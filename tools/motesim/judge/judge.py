@@ -1,0 +1,307 @@
+"""Whether a report shows what a sentence says.
+
+`Judge(report, scenario).broken(sentence)` is None, or what breaks the sentence.
+"""
+from __future__ import annotations
+
+from functools import cached_property
+from typing import Iterator, NamedTuple
+
+from motesim.judge.sentences import (
+    Copies, Count, Deed, Does, Hears, Lines, MediumLine, Motes, Packets, Pattern, Refused, Sentence, Value, Window,
+)
+from motesim.report import FIELDS, Line, Report
+from motesim.scenario import Scenario
+
+BECAME = {'collided': 'collide', 'received': 'recv', 'full': 'lost'}
+
+# The first and the last moment of a time; None for no last one.
+Span = tuple[int, int | None]
+
+
+class Broken(NamedTuple):
+    """Why a sentence doesn't hold, and the row of the report that shows it first, counted from 1, or None."""
+    why: str
+    row: int | None = None
+
+
+class Event(NamedTuple):
+    """A line of a trace with its row."""
+    row: int
+    line: Line
+
+
+class Row(NamedTuple):
+    """A row of the report, with its moment and its mote."""
+    row: int
+    at: int
+    mote: int
+
+
+class _Apart(Exception):
+    """A mote isn't reached from another, so there are no hops between them."""
+
+
+def _within(at: int, span: Span) -> bool:
+    return span[0] <= at and (span[1] is None or at <= span[1])
+
+
+def _shown(span: Span) -> str:
+    if span[1] is None:
+        return ' from %d on' % span[0] if span[0] else ''
+    return ' at %d' % span[0] if span[0] == span[1] else ' from %d to %d' % (span[0], span[1])
+
+
+def _first_spare(rows: list[int], count: Count) -> int | None:
+    """The first of the rows that is one too many."""
+    return rows[max(count.most, 0)] if count.most is not None and len(rows) > max(count.most, 0) else None
+
+
+class Judge:
+    """A report beside its scenario."""
+
+    def __init__(self, report: Report, scenario: Scenario):
+        self.report, self.scenario = report, scenario
+        self.events = [list(map(Event._make, enumerate(mote.lines, mote.row + 1))) for mote in report.motes]
+        self.hops_from: dict[int, dict[int, int]] = {}
+
+    @cached_property
+    def rows(self) -> list[str]:
+        return list(self.report.rows())
+
+    def hears(self, r: int, s: int) -> bool:
+        """Whether mote r hears mote s by a link that doesn't lose all."""
+        return self.scenario.hears(r, s) and self.scenario.losses.get((s, r)) != 1
+
+    def heard(self, r: int) -> set[int]:
+        return {s for s in self.scenario.hearers(r) if self.hears(r, s)}
+
+    def hops(self, root: int, mote: int) -> int:
+        """The least number of hops from the root to a mote."""
+        if root not in self.hops_from:
+            hops, front = {root: 0}, [root]
+            for s in front:
+                for r in self.scenario.hearers(s):
+                    if r not in hops and self.hears(r, s):
+                        hops[r] = hops[s] + 1
+                        front.append(r)
+            self.hops_from[root] = hops
+        if mote not in self.hops_from[root]:
+            raise _Apart('mote %d is not reached from mote %d' % (mote, root))
+        return self.hops_from[root][mote]
+
+    def values(self, value: Value, mote: int) -> set[int]:
+        """The numbers that a value may be, for a mote."""
+        if value.kind == 'number':
+            return {value.number}
+        if value.kind == 'self':
+            return {mote}
+        if value.kind == 'distance':
+            return {self.hops(value.number, mote)}
+        heard = self.heard(mote)
+        if value.kind == 'nearer':
+            hops = self.hops(value.number, mote)
+            return {s for s in heard if self.hops(value.number, s) == hops - 1}
+        if value.kind == 'linked':
+            heard = {s for s in heard if self.hears(s, mote)}
+        return {sum(1 << s for s in heard - value.but)}
+
+    def matches(self, pattern: Pattern, mote: int) -> Iterator[Event]:
+        """The lines of a mote that have this pattern."""
+        tests = [(index, set(map(str, self.values(it, mote))) if isinstance(it, Value) else {it})
+                 for index, it in enumerate(pattern[1:], 2) if it is not None]
+        if len(pattern) > 1 + len(FIELDS[str(pattern[0])].split()):
+            return
+        for event in self.events[mote]:
+            if event.line.kind == pattern[0]:
+                if all(str(event.line[index]) in allowed for index, allowed in tests):
+                    yield event
+
+    def done(self, deed: Deed, motes: tuple[int, ...]) -> list[Event]:
+        """The lines of these motes that show a deed."""
+        found = {event for mote in motes for pattern in deed.patterns for event in self.matches(pattern, mote)}
+        return sorted(found, key=lambda event: event.row)
+
+    def spans(self, window: Window, motes: tuple[int, ...]) -> list[Span]:
+        """The moments that a window stands for, of these motes."""
+        begin, end, every = window.begin, window.end, window.every
+        if every and end is not None:
+            return [(at, min(at + every - 1, end)) for at in range(begin, end + 1, every)]
+        later = window.hop * self.hops(window.root, motes[0]) if window.root is not None else 0
+        return [(begin + later, None if end is None else end + later)]
+
+    def within(self, events: list[Event], window: Window, motes: tuple[int, ...]) -> list[Event]:
+        """The events that are in a window."""
+        spans = self.spans(window, motes)
+        return [event for event in events if any(_within(event.line.at, span) for span in spans)]
+
+    def name(self, motes: tuple[int, ...]) -> str:
+        if len(motes) == 1:
+            return 'mote %d' % motes[0]
+        return 'the motes together'
+
+    def counted(self, events: list[Event], count: Count, motes: tuple[int, ...], span: Span) -> Broken | None:
+        """Whether so many events are in a span."""
+        inside = [event for event in events if _within(event.line.at, span)]
+        if count.admits(len(inside)):
+            return None
+        why = '%s has %d such lines%s; wanted: %s' % (self.name(motes), len(inside), _shown(span), count)
+        spare = _first_spare([event.row for event in inside], count)
+        if spare is not None:
+            return Broken(why, spare)
+        later = [event for event in events if event.line.at > span[0] and not _within(event.line.at, span)]
+        return Broken(why + '; the next is', later[0].row) if later else Broken(why)
+
+    def ordered(self, deed: Deed, events: list[Event], motes: tuple[int, ...]) -> Broken | None:
+        """Whether the values of all lines are those of a list, in its order."""
+        for event, wanted in zip(events, deed.values):
+            if event.line.value != wanted:
+                why = '%s prints %s in the place of %d' % (self.name(motes), event.line.value, wanted)
+                return Broken(why, event.row)
+        if len(events) > len(deed.values):
+            return Broken('%s prints one value more' % self.name(motes), events[len(deed.values)].row)
+        if len(events) < len(deed.values):
+            return Broken('%s prints %d of these %d values' % (self.name(motes), len(events), len(deed.values)))
+        return None
+
+    def in_any_order(self, deed: Deed, events: list[Event], motes: tuple[int, ...]) -> Broken | None:
+        """Whether the values of all lines are those of a list, in any order."""
+        left = list(deed.values)
+        for event in events:
+            if event.line.value not in left:
+                return Broken('%s prints a value that is no more in the list' % self.name(motes), event.row)
+            left.remove(event.line.value)
+        return Broken('%s never prints %s' % (self.name(motes), ', '.join(map(str, left)))) if left else None
+
+    def last(self, deed: Deed, events: list[Event], motes: tuple[int, ...]) -> Broken | None:
+        """Whether the last line has the value."""
+        allowed = self.values(deed.value, motes[0]) if deed.value else set()
+        if not events:
+            return Broken('%s has no such line' % self.name(motes))
+        if events[-1].line.value in allowed:
+            return None
+        shown = ' or '.join(map(str, sorted(allowed))) or 'any value'
+        return Broken('the last such line of %s; wanted: %s' % (self.name(motes), shown), events[-1].row)
+
+    def than(self, it: Does, events: list[Event], motes: tuple[int, ...]) -> Broken | None:
+        """Whether there are so many times as many lines as of the others."""
+        others, window = it.than or (None, it.window)
+        other = events if others is None else self.done(it.deed, self.chosen(others))
+        one, two = self.within(events, it.window, motes), self.within(other, window, motes)
+        if it.count.admits(len(one), len(two)):
+            return None
+        why = '%s: %d lines beside %d; wanted: %s times as many' % (self.name(motes), len(one), len(two), it.count)
+        most = it.count.number * len(two)
+        return Broken(why, one[most].row if len(one) > most else one[-1].row if one else None)
+
+    def of_unit(self, it: Does, motes: tuple[int, ...]) -> Broken | None:
+        """Whether a mote, or several together, does what is said."""
+        try:
+            events = self.done(it.deed, motes)
+            if it.than:
+                return self.than(it, events, motes)
+            for span in self.spans(it.window, motes):
+                inside = [event for event in events if _within(event.line.at, span)]
+                if it.deed.way == 'finally':
+                    broken = self.last(it.deed, inside, motes)
+                elif it.deed.way == 'just':
+                    broken = self.ordered(it.deed, inside, motes)
+                elif it.deed.way == 'set':
+                    broken = self.in_any_order(it.deed, inside, motes)
+                else:
+                    broken = self.counted(events, it.count, motes, span)
+                if broken:
+                    return broken
+        except _Apart as apart:
+            return Broken(str(apart))
+        return None
+
+    def chosen(self, motes: Motes) -> tuple[int, ...]:
+        numbers = range(len(self.report.motes)) if motes.numbers is None else sorted(motes.numbers)
+        return tuple(mote for mote in numbers if mote not in motes.but)
+
+    def shown_by(self, it: Does, mote: int) -> int | None:
+        """The row of the line by which a mote does what is said."""
+        events = self.within(self.done(it.deed, (mote,)), it.window, (mote,))
+        return events[min(max(it.count.least, 1), len(events)) - 1].row if events else None
+
+    def does(self, it: Does) -> Broken | None:
+        chosen = self.chosen(it.motes)
+        if it.motes.kind == 'together':
+            return self.of_unit(it, chosen)
+        broken = {mote: self.of_unit(it, (mote,)) for mote in chosen}
+        doing = [mote for mote in chosen if broken[mote] is None]
+        if it.motes.kind == 'each':
+            return next((it for it in broken.values() if it), None)
+        if it.motes.kind == 'no':
+            return Broken('mote %d does' % doing[0], self.shown_by(it, doing[0])) if doing else None
+        if it.motes.kind == 'some':
+            return None if doing else Broken('no mote does')
+        assert it.motes.count
+        if it.motes.count.admits(len(doing)):
+            return None
+        why = '%s; wanted: %s' % ('1 mote does' if len(doing) == 1 else '%d motes do' % len(doing), it.motes.count)
+        spare = _first_spare(doing, it.motes.count)
+        return Broken(why, None if spare is None else self.shown_by(it, spare))
+
+    def of_copies(self, it: Copies) -> list[Row]:
+        """The rows that tell this outcome of copies, each as often as it does."""
+        motes = set(range(len(self.report.motes)) if it.motes is None else it.motes)
+        if it.outcome == 'lost':
+            return [row for row, packet in zip(self.of_packets(), self.report.medium)
+                    for copy in packet.copies if copy.at is None and copy.to in motes]
+        return [Row(row, line.at, mote) for mote in sorted(motes) for row, line in self.events[mote]
+                if line.kind == BECAME[it.outcome]]
+
+    def of_packets(self) -> list[Row]:
+        """The rows of the packets."""
+        medium = enumerate(self.report.medium, self.report.medium_row + 1)
+        return [Row(row, packet.at, packet.sender) for row, packet in medium]
+
+    def rows_in(self, what: str, found: list[Row], count: Count, window: Window) -> Broken | None:
+        """Whether so many of the rows are in a window, or in each of its parts."""
+        parts: dict[int, list[int]] = {index: [] for index in range(len(self.spans(window, (window.root or 0,))))}
+        try:
+            for row in found:
+                for index, span in enumerate(self.spans(window, (row.mote,))):
+                    if _within(row.at, span):
+                        parts[index].append(row.row)
+        except _Apart as apart:
+            return Broken(str(apart))
+        for rows in parts.values():
+            if not count.admits(len(rows)):
+                return Broken('there are %d %s; wanted: %s' % (len(rows), what, count), _first_spare(rows, count))
+        return None
+
+    def lines(self, count: Count) -> Broken | None:
+        if count.admits(len(self.rows)):
+            return None
+        return Broken('there are %d lines; wanted: %s' % (len(self.rows), count))
+
+    def left(self, count: Count) -> Broken | None:
+        if count.admits(self.report.left):
+            return None
+        return Broken('there are %d such copies; wanted: %s' % (self.report.left, count), len(self.rows))
+
+    def broken(self, it: Sentence) -> Broken | None:
+        """What breaks a sentence, or None."""
+        if isinstance(it, Does):
+            return self.does(it)
+        if isinstance(it, Copies):
+            if it.outcome == 'left':
+                return self.left(it.count)
+            return self.rows_in('such copies', self.of_copies(it), it.count, it.window)
+        if isinstance(it, Packets):
+            return self.rows_in('packets', self.of_packets(), it.count, it.window)
+        if isinstance(it, Lines):
+            return self.lines(it.count)
+        if isinstance(it, MediumLine):
+            rows = (row.split(' ') for row in self.rows[self.report.medium_row:-1])
+            if any(tuple(words[:len(it.words)]) == it.words for words in rows):
+                return None
+            return Broken('no line of the medium is so', self.report.medium_row)
+        if isinstance(it, Hears):
+            wrong = [mote for mote in sorted(it.motes) if self.hears(mote, it.other) != it.can]
+            return Broken('in the scenario mote %d %s' % (wrong[0], 'cannot' if it.can else 'can')) if wrong else None
+        assert isinstance(it, Refused)
+        return Broken('the program writes a report')

@@ -1,0 +1,549 @@
+"""Sentences on what a report shows, and how they are read: docs/use/EXPECTATIONS.md has their forms.
+
+`read_sentence('mote 6 prints flood 1 by 60', names)` gives what the sentence says, in the classes below. A sentence
+that can't be read is a `SentenceFault`, which says where it goes wrong and what may stand there.
+"""
+from __future__ import annotations
+
+import operator
+import re
+import textwrap
+from collections.abc import Callable
+from dataclasses import dataclass
+
+from motesim.faults import Fault
+from motesim.explain.hints import nearest
+from motesim.notation.keywords import SYSTEM
+from motesim.report import FIELDS, MOST_MOMENT, MOST_WORD
+from motesim.scenario import Scenario
+
+WIDTH = 110
+LONGEST_NUMBER, MOST, MOST_MOTES = 9, 999_999_999, 1_000
+TOKEN = re.compile(r"\s*('[^']*'|`[^`]*`|\d+|[A-Za-z_]\w*|[^\s])")
+COMPARES = {
+    'at least': operator.ge, 'at most': operator.le, 'exactly': operator.eq, 'more than': operator.gt,
+    'fewer than': operator.lt,
+}
+
+
+def meant(rest: str, wanted: list[str]) -> str | None:
+    """The word that was most likely meant by the first of these, of those that may stand there."""
+    word = re.match(r'[A-Za-z_]\w{2,}', rest)
+    names = [name for it in wanted for name in re.findall(r'\w+', it.partition('(')[2] or it.split()[0])]
+    return nearest(word[0], names) if word else None
+
+
+class SentenceFault(Fault):
+    """A sentence that can't be read: the place of the first word that can't stand, and what may."""
+
+    def __init__(self, sentence: str, place: int, wanted: list[str]):
+        self.sentence, self.place, self.wanted = sentence, place, wanted
+        may = textwrap.wrap('Here may stand: ' + ', '.join(wanted), WIDTH, break_on_hyphens=False)
+        like = meant(sentence[place:], wanted)
+        lines = ['a sentence that is not known', sentence, ' ' * place + '^', *may]
+        lines += ['Did you mean: %s' % like] if like else []
+        super().__init__('\n  '.join(lines))
+
+
+@dataclass(frozen=True)
+class Names:
+    """What a sentence may name: the processes of the programs and the count of motes; None where they aren't known."""
+    processes: tuple[str, ...] | None = None
+    motes: int | None = None
+
+
+def processes_of(program: object) -> list[str]:
+    """The processes that a program's text declares."""
+    plain = re.sub(r'//[^\n]*', '', program) if isinstance(program, str) else ''
+    head = re.search(r'\bprocess\s([^;]*);', plain)
+    return re.findall(r'\w+', head[1]) if head else []
+
+
+def names_of(scenario: Scenario) -> Names:
+    """What a sentence on this scenario may name."""
+    found: dict[str, None] = dict.fromkeys(SYSTEM)
+    for text in scenario.programs.values():
+        found.update(dict.fromkeys(processes_of(text)))
+    return Names(tuple(found), scenario.motes)
+
+
+@dataclass(frozen=True)
+class Count:
+    """How many: a comparison and a number."""
+    compare: str
+    number: int
+
+    def admits(self, found: int, times: int = 1) -> bool:
+        return bool(COMPARES[self.compare](found, self.number * times))
+
+    @property
+    def least(self) -> int:
+        return {'at least': self.number, 'exactly': self.number, 'more than': self.number + 1}.get(self.compare, 0)
+
+    @property
+    def most(self) -> int | None:
+        """The greatest number that is admitted, or None where each greater one is too."""
+        return {'at most': self.number, 'exactly': self.number, 'fewer than': self.number - 1}.get(self.compare)
+
+    def __str__(self) -> str:
+        return '%s %d' % (self.compare, self.number)
+
+
+@dataclass(frozen=True)
+class Window:
+    """The moments from `begin` to `end`.
+
+    Later by `hop` for each hop from `root`; or each `every` moments of them by themselves.
+    """
+    begin: int = 0
+    end: int | None = None
+    hop: int = 0
+    root: int | None = None
+    every: int | None = None
+
+
+@dataclass(frozen=True)
+class Value:
+    """A value: a number, or what is looked up for each mote.
+
+    kind   number, self, distance (hops from `number`), heard (the set of the motes that it hears), linked (of those
+           that hear it too), nearer (a mote that it hears, one hop nearer to `number`)
+    but    motes that aren't counted in a set
+    """
+    kind: str
+    number: int = 0
+    but: frozenset[int] = frozenset()
+
+
+# The words of a line behind its moment, as far as they matter. None is any word.
+Pattern = tuple[str | Value | None, ...]
+
+
+@dataclass(frozen=True)
+class Motes:
+    """Of which motes a sentence speaks.
+
+    kind     each (of them), together, no, some, count (so many of them, `count`)
+    numbers  None for all motes
+    """
+    kind: str
+    numbers: frozenset[int] | None = None
+    but: frozenset[int] = frozenset()
+    count: Count | None = None
+
+
+@dataclass(frozen=True)
+class Deed:
+    """What motes do: lines of one of these patterns.
+
+    way     any, finally (the last such line has `value`), just (the values of all such lines are `values`), set (in
+            any order)
+    """
+    patterns: tuple[Pattern, ...]
+    way: str = 'any'
+    value: Value | None = None
+    values: tuple[int, ...] = ()
+
+
+@dataclass(frozen=True)
+class Does:
+    """Motes do something, so many times, or so many times as often as others, or as at another time."""
+    motes: Motes
+    deed: Deed
+    count: Count
+    window: Window
+    than: tuple[Motes | None, Window] | None = None
+
+
+@dataclass(frozen=True)
+class Copies:
+    """So many copies of packets have this outcome, as motesim.report calls it."""
+    count: Count
+    outcome: str
+    motes: frozenset[int] | None
+    window: Window
+
+
+@dataclass(frozen=True)
+class Packets:
+    """So many packets are sent."""
+    count: Count
+    window: Window
+
+
+@dataclass(frozen=True)
+class Lines:
+    """The report has so many lines."""
+    count: Count
+
+
+@dataclass(frozen=True)
+class MediumLine:
+    """The log of the medium has a line with these words at its beginning."""
+    words: tuple[str, ...]
+
+
+@dataclass(frozen=True)
+class Hears:
+    """Each of the motes can hear, or can't hear, another: it is in range, and the link doesn't lose all."""
+    motes: frozenset[int]
+    can: bool
+    other: int
+
+
+@dataclass(frozen=True)
+class Refused:
+    """The program answers a fault's line in place of a report."""
+    fault: str
+
+
+Sentence = Does | Copies | Packets | Lines | MediumLine | Hears | Refused
+
+
+class _Reader:
+    """Reads a sentence from its first word to its last."""
+
+    def __init__(self, sentence: str, names: Names):
+        self.sentence, self.names = sentence, names
+        text = sentence.rstrip().removesuffix('.')
+        found = list(TOKEN.finditer(text))
+        self.words = [it[1] for it in found]
+        self.places = [it.start(1) for it in found] + [len(text)]
+        self.at, self.furthest = 0, 0
+        self.wanted: list[str] = []
+        self.is_one = True
+
+    def want(self, at: int, what: str) -> None:
+        """Notes what may stand at a word."""
+        if at > self.furthest:
+            self.furthest, self.wanted = at, []
+        if at == self.furthest and what not in self.wanted:
+            self.wanted.append(what)
+
+    def fault(self) -> SentenceFault:
+        return SentenceFault(self.sentence, self.places[min(self.furthest, len(self.places) - 1)], self.wanted)
+
+    def word(self, ahead: int = 0) -> str:
+        """The next word; behind the last, an empty one."""
+        return self.words[self.at + ahead] if self.at + ahead < len(self.words) else ''
+
+    def accept(self, *phrases: str) -> str:
+        """The first of these phrases if one stands here, and goes on behind it. An empty text where none does."""
+        for phrase in phrases:
+            words = phrase.split()
+            same = 0
+            while same < len(words) and self.word(same).lower() == words[same]:
+                same += 1
+            if same == len(words):
+                self.at += same
+                return phrase
+            self.want(self.at + same, phrase if same == 0 else ' '.join(words[same:]))
+        return ''
+
+    def need(self, *phrases: str) -> str:
+        found = self.accept(*phrases)
+        if not found:
+            raise self.fault()
+        return found
+
+    def verb(self, one: str, many: str) -> bool:
+        """A verb, of one or of many."""
+        if self.word().lower() in (one, many):
+            self.at += 1
+            return True
+        self.want(self.at, one if self.is_one else many)
+        return False
+
+    def maybe_number(self, what: str, most: int, least: int = 0) -> int | None:
+        word = self.word()
+        if word.isdecimal() and len(word) <= LONGEST_NUMBER and least <= int(word) <= most:
+            self.at += 1
+            return int(word)
+        self.want(self.at, '%s, %d to %d' % (what, least, most))
+        return None
+
+    def number(self, what: str, most: int = MOST, least: int = 0) -> int:
+        found = self.maybe_number(what, most, least)
+        if found is None:
+            raise self.fault()
+        return found
+
+    def moment(self, least: int = 0) -> int:
+        return self.number('a moment', MOST_MOMENT, least)
+
+    def mote(self, least: int = 0) -> int:
+        motes = MOST_MOTES if self.names.motes is None else self.names.motes
+        return self.number('a mote', motes - 1, least)
+
+    def ranges(self, one: Callable[[int], int]) -> list[int]:
+        """Numbers, and ranges of them, with commas or `and` between."""
+        found: list[int] = []
+        while True:
+            begin = one(0)
+            found += range(begin, one(begin) + 1) if self.accept('to') else [begin]
+            if not self.accept(',', 'and'):
+                return found
+
+    def mote_list(self) -> frozenset[int]:
+        return frozenset(self.ranges(self.mote))
+
+    def but(self) -> frozenset[int]:
+        if not self.accept('but'):
+            return frozenset()
+        self.accept('mote', 'motes')
+        return self.mote_list()
+
+    def quoted(self) -> tuple[str, ...]:
+        word = self.word()
+        if len(word) < 3 or word[0] not in '\'`' or word[-1] != word[0] or not word[1:-1].split():
+            self.want(self.at, "words in quotes, as 'print flood 1'")
+            raise self.fault()
+        self.at += 1
+        return tuple(word[1:-1].split())
+
+    def count(self) -> Count | None:
+        """How many times."""
+        compare = self.accept(*COMPARES)
+        word = self.accept('once', 'twice')
+        if word:
+            return Count(compare or 'exactly', 1 if word == 'once' else 2)
+        return Count(compare, self.number('a number')) if compare else None
+
+    def window(self) -> Window | None:
+        """When."""
+        if self.word() == 'at' and self.word(1) in ('least', 'most'):
+            return None
+        if self.accept('at'):
+            begin = self.moment()
+            if not self.accept('plus'):
+                return Window(begin, begin)
+            hop = self.number('a number of moments')
+            self.need('for each hop from mote')
+            return Window(begin, begin, hop, self.mote())
+        if self.accept('by'):
+            return Window(0, self.moment())
+        if self.accept('before'):
+            return Window(0, self.moment(1) - 1)
+        if self.accept('after'):
+            return Window(self.moment() + 1)
+        if self.accept('between'):
+            begin = self.moment()
+            self.need('and')
+            return Window(begin, self.moment(begin))
+        every = None
+        if self.accept('in each'):
+            every = self.number('a number of moments', MOST_MOMENT, 1)
+            self.need('from')
+        elif not self.accept('from'):
+            return None
+        begin = self.moment()
+        if every is None and self.accept('on'):
+            return Window(begin)
+        self.need('to')
+        return Window(begin, self.moment(begin), every=every)
+
+    def value(self) -> Value | None:
+        """A value, if one stands here."""
+        number = self.maybe_number('a value', MOST_WORD)
+        if number is not None:
+            return Value('number', number)
+        if self.accept('its number'):
+            return Value('self')
+        if self.accept('its distance from mote'):
+            return Value('distance', self.mote())
+        if self.accept('the set of motes that it hears'):
+            return Value('heard', but=self.but())
+        if self.accept('the set of motes linked with it'):
+            return Value('linked', but=self.but())
+        if self.accept('a mote that it hears , one hop nearer to mote'):
+            return Value('nearer', self.mote())
+        return None
+
+    def process(self) -> str | None:
+        """A process, if one stands here."""
+        known, word = self.names.processes, self.word()
+        if word in known if known is not None else re.fullmatch('[a-z][a-z0-9_]*', word):
+            self.at += 1
+            return word
+        self.want(self.at, 'a process' if known is None else 'a process (%s)' % ', '.join(known))
+        return None
+
+    def needed_process(self) -> str:
+        found = self.process()
+        if found is None:
+            raise self.fault()
+        return found
+
+    def pattern(self) -> Pattern:
+        """What stands in quotes behind `writes`: the words of a line from its kind on."""
+        words = self.quoted()
+        if words[0] not in FIELDS:
+            wanted = 'words in quotes that begin with one of %s' % ', '.join(FIELDS)
+            raise SentenceFault(self.sentence, self.places[self.at - 1], [wanted])
+        return words
+
+    def deed(self) -> Deed:
+        """What motes do, from the verb on."""
+        way = self.accept('finally') or 'any'
+        if self.verb('prints', 'print'):
+            return self.prints(way)
+        if way == 'finally':
+            raise self.fault()
+        if self.verb('sends', 'send'):
+            value = self.value()
+            return Deed((('send', None, value) if value else ('send',),))
+        if self.verb('receives', 'receive'):
+            value = self.value()
+            sender = Value('number', self.mote()) if self.accept('from mote') else None
+            return Deed((('recv', sender, None, value) if value else ('recv', sender),))
+        if self.verb('starts', 'start'):
+            return Deed((('start', self.needed_process()),))
+        if self.verb('leaves', 'leave'):
+            return Deed((('leave', self.needed_process()),))
+        if self.verb('halts', 'halt'):
+            return Deed((('halt',),))
+        if self.verb('writes', 'write'):
+            patterns = [self.pattern()]
+            while self.accept('or'):
+                patterns.append(self.pattern())
+            return Deed(tuple(patterns))
+        raise self.fault()
+
+    def prints(self, way: str) -> Deed:
+        if way == 'finally':
+            process, value = self.needed_process(), self.value()
+            if value is None:
+                raise self.fault()
+            return Deed((('print', process),), way, value)
+        if self.accept('just'):
+            process = self.needed_process()
+            values = self.ranges(lambda least: self.number('a value', MOST_WORD, least))
+            return Deed((('print', process),), 'set' if self.accept('in any order') else 'just', values=tuple(values))
+        printer = self.process()
+        if printer is None:
+            return Deed((('print',),))
+        value = self.value()
+        pattern: Pattern = ('print', printer)
+        if value:
+            pattern = ('print', printer, value)
+        return Deed((pattern,))
+
+    def motes(self) -> Motes | None:
+        """Of which motes the sentence speaks, where it begins with them."""
+        for kind, phrase in ('no', 'no mote'), ('some', 'some mote'), ('each', 'every mote'):
+            if self.accept(phrase):
+                return Motes(kind, None, self.but())
+        if self.accept('mote'):
+            return Motes('each', frozenset([self.mote()]))
+        self.is_one = False
+        if self.accept('all motes together'):
+            return Motes('together')
+        if self.accept('motes'):
+            numbers = self.mote_list()
+            return Motes('together' if self.accept('together') else 'each', numbers)
+        return None
+
+    def end(self) -> None:
+        if self.at < len(self.words):
+            self.want(self.at, 'the end')
+            raise self.fault()
+
+    def does(self, motes: Motes) -> Sentence:
+        """A sentence on motes, from the verb on."""
+        if motes.kind == 'each' and motes.numbers is not None:
+            can = self.accept('can hear mote', 'cannot hear mote')
+            if can:
+                return Hears(motes.numbers, can == 'can hear mote', self.mote())
+        never = motes.kind in ('each', 'together') and self.accept('never')
+        deed = self.deed()
+        window, count, than = self.window(), None, None
+        if deed.way == 'any' and not never:
+            count = self.count()
+        if count:
+            self.accept('times', 'time')
+            if self.accept('as often as'):
+                than = self.than(), self.window() or Window()
+        if window is None and than is None:
+            window = self.window()
+        is_apart = deed.way == 'finally' or (window is not None and window.root is not None)
+        if motes.kind == 'together' and is_apart:
+            place = self.places[self.words.index('together')]
+            raise SentenceFault(self.sentence, place, ['the verb, without `together`'])
+        count = Count('at most', 0) if never else count or Count('at least', 1)
+        return Does(motes, deed, count, window or Window(), than)
+
+    def than(self) -> Motes | None:
+        other = self.motes()
+        is_one = other is None or other.kind == 'together' or (other.kind == 'each' and len(other.numbers or ()) == 1)
+        if not is_one:
+            raise SentenceFault(self.sentence, self.places[self.at], ['together'])
+        return other
+
+    def copies(self, count: Count) -> Sentence:
+        """A sentence on copies, from the verb on."""
+        outcome = ''
+        for name, many in ('collided', 'collide'), ('received', 'arrive'), ('full', 'overflow'):
+            if not outcome and self.verb(many + 's', many):
+                outcome = name
+        if not outcome:
+            self.need('is' if self.is_one else 'are')
+            outcome = self.need('lost', 'left')
+        motes = None
+        if outcome != 'left' and (self.accept('at mote') or self.accept('at motes')):
+            motes = self.mote_list()
+        return Copies(count, outcome, motes, (self.window() if outcome != 'left' else None) or Window())
+
+    def things(self, count: Count, kinds: tuple[str, ...]) -> Sentence:
+        """A sentence on so many motes, copies or packets, from that word on."""
+        kind = self.need(*kinds)
+        self.is_one = kind in ('mote', 'copy', 'packet')
+        if kind in ('mote', 'motes'):
+            return self.does(Motes('count', None, self.but(), count))
+        if kind in ('copy', 'copies'):
+            return self.copies(count)
+        self.need('is sent' if self.is_one else 'are sent')
+        return Packets(count, self.window() or Window())
+
+    def sentence_here(self) -> Sentence:
+        motes = self.motes()
+        if motes is not None:
+            return self.does(motes)
+        for word, few in ('no', Count('at most', 0)), ('some', Count('at least', 1)):
+            if self.accept(word):
+                return self.things(few, ('copy', 'packet'))
+        if self.accept('the report has'):
+            count = self.count()
+            if count is None:
+                raise self.fault()
+            self.need('lines', 'line')
+            return Lines(count)
+        if self.accept('the medium writes'):
+            return MediumLine(self.quoted())
+        if self.accept('the scenario is refused with'):
+            return Refused(' '.join(self.quoted()))
+        count = self.count()
+        if count is None:
+            raise self.fault()
+        return self.things(count, ('mote', 'motes', 'copy', 'copies', 'packet', 'packets'))
+
+
+def read_sentence(sentence: str, names: Names = Names()) -> Sentence:
+    """What a sentence says."""
+    reader = _Reader(sentence, names)
+    found = reader.sentence_here()
+    reader.end()
+    return found
+
+
+def lacking(sentence: str, names: Names) -> str:
+    """What a sentence that can be read speaks of and a scenario with these names hasn't; nothing where it has all."""
+    try:
+        read_sentence(sentence, names)
+        return ''
+    except SentenceFault as fault:
+        found = TOKEN.match(sentence, fault.place)
+    word = found[1] if found else sentence
+    if word.isdecimal() and names.motes is not None:
+        return 'no mote %s (its motes are 0 to %d)' % (word, names.motes - 1)
+    own = ['`%s`' % it for it in names.processes or () if it not in SYSTEM]
+    return 'no process `%s` (%s)' % (word, 'it has %s' % ', '.join(own) if own else 'it has none')

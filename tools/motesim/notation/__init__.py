@@ -1,0 +1,1 @@
+"""The notation of programs: its words, its grammar, and the faults of a text."""

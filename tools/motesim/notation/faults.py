@@ -1,0 +1,383 @@
+"""Faults of program texts: where the fault is, the rule in plain words, and what may stand there.
+
+`find_fault(text)` reads a program text by the grammar of docs/use/NOTATION.md and gives its first `ProgramFault`, or
+None; motesim tells the same kind and line.
+"""
+from __future__ import annotations
+
+import re
+from dataclasses import dataclass, field
+
+from motesim.notation.keywords import RESERVED as KEYWORDS
+
+TOKEN = re.compile(r'[a-z0-9_]+|==|!=|<=|>=|&&|\|\||[{}();,=!+\-*/%<>]|.', re.S)
+BLANK = re.compile(r'(?:[ \t\r\n]|//[^\n]*)*')
+OPERATORS = ('+', '-', '*', '/', '%', '==', '!=', '<', '<=', '>', '>=', '&&', '||')
+CAST = ('continue', 'msg', 'com', 'packet')
+SENT = CAST + ('exit',)
+ANY = SENT + ('init', 'poll', 'exited', 'timer')
+WAITS = ('wait_until', 'wait_while', 'yield', 'yield_until', 'spawn', 'restart', 'exit', 'acquire', 'pause')
+LONGEST_NAME, MOST_NUMBER, MOST_LEVELS, MOST_STATEMENTS = 16, 65_535, 32, 4_096
+MOST = {'event': 117, 'semaphore': 64, 'process': 64, 'timer': 64, 'variable': 64, 'thread': 7}
+
+SIGNS = frozenset(OPERATORS) | frozenset('{};,=!()')
+STATEMENTS = (
+    'print', 'send', 'if', 'while', 'yield', 'yield_until', 'wait_until', 'wait_while', 'spawn', 'restart', 'exit',
+    'pause', 'acquire', 'signal', 'post', 'broadcast', 'synch', 'poll', 'start', 'kill', 'set', 'reset',
+    'restart_timer', 'stop')
+TESTS = {'fired': 'timer', 'expired': 'timer', 'gone': 'process', 'running': 'process', 'count': 'semaphore'}
+ARTICLES = {'event': 'an', 'semaphore': 'a', 'process': 'a', 'timer': 'a', 'variable': 'a', 'thread': 'a'}
+COUNTED = {
+    'event': 'declared events of a program', 'semaphore': 'semaphores of a program', 'thread': 'threads of a process',
+    'process': 'processes of a program', 'timer': 'timers of a program, of both kinds',
+    'variable': 'variables of a process',
+}
+
+# Of each kind its name in docs/use/NOTATION.md and its rule.
+RULES: dict[int, tuple[str, str]] = {
+    1: ('BadToken', 'A program is made of names, numbers, keywords and signs. A name begins with a letter, has small '
+        'letters, digits and `_`, and at most 16 of them; a number has no needless 0 in front.'),
+    2: ('Unexpected', 'No program goes on so from the words before this one.'),
+    3: ('UnknownName', 'Nothing has this name here. A name has to be declared before it is used; variables, timers '
+        'and threads are known in their own code only.'),
+    4: ('NameTwice', 'This name is known here already. No name is declared twice, and no process stands twice in '
+        '`autostart`.'),
+    5: ('NumberTooLarge', 'All numbers have 16 bits: none is above 65,535.'),
+    6: ('WaitInSimpleBlock', 'The blocks of `ctimer`, `onpoll` and `onexit` are run to their end at once, so no '
+        'statement in them may wait.'),
+    7: ('TooDeep', 'Blocks and expressions stand at most 32 deep in one another.'),
+    8: ('TooMany', 'There is one too many of these.'),
+    9: ('NoProcess', 'A program has at least one process.'),
+    10: ('BadTarget', 'This name is known, but stands for something else than this place takes; a thread never spawns '
+         'itself.'),
+    11: ('Memory', 'Memory ran out while the program was read. The text may be in order.'),
+}
+
+
+@dataclass(frozen=True)
+class Token:
+    """A word or a sign with its place: its line from 1, its column from 0. The end of the text is the token ''."""
+    text: str
+    line: int
+    column: int
+
+    @property
+    def kind(self) -> str:
+        """end, keyword, name, number, sign or bad."""
+        text = self.text
+        if not text:
+            return 'end'
+        if text in KEYWORDS:
+            return 'keyword'
+        if re.fullmatch('0|[1-9][0-9]*', text):
+            return 'number'
+        if re.fullmatch('[a-z][a-z0-9_]*', text):
+            return 'name' if len(text) <= LONGEST_NAME else 'bad'
+        return 'sign' if text in SIGNS else 'bad'
+
+
+@dataclass
+class ProgramFault(Exception):
+    """The first fault of a program text: its kind, the token that can't stand, and what may stand there."""
+    kind: int
+    token: Token
+    may: list[str] = field(default_factory=list)
+
+
+def tokens_of(text: str) -> list[Token]:
+    """The tokens of a text, and its end."""
+    found: list[Token] = []
+    at, line = 0, 1
+    while True:
+        blank = BLANK.match(text, at)
+        behind = blank.end() if blank else at
+        line += text.count('\n', at, behind)
+        begin = text.rfind('\n', 0, behind) + 1
+        if behind == len(text):
+            return found + [Token('', line, behind - begin)]
+        matched = TOKEN.match(text, behind)
+        word = matched[0] if matched else text[behind]
+        found.append(Token(word, line, behind - begin))
+        at = behind + len(word)
+
+
+class _Reader:
+    """Reads a program by its grammar, with the names in scope."""
+
+    def __init__(self, text: str):
+        self.tokens, self.at = tokens_of(text), 0
+        self.wanted: list[str] = []
+        self.names: dict[str, str] = {}
+        self.counts: dict[str, int] = {}
+        self.processes: list[str] = []
+        self.own_thread = ''
+        self.is_simple = False
+        self.level = self.statements = 0
+
+    @property
+    def token(self) -> Token:
+        return self.tokens[self.at]
+
+    def fault(self, kind: int, may: list[str]) -> ProgramFault:
+        """The fault of the next token, of this kind unless it is no token at all."""
+        if self.token.kind == 'bad':
+            return ProgramFault(1, self.token, list(dict.fromkeys(self.wanted + may)))
+        return ProgramFault(kind, self.token, may)
+
+    def unexpected(self) -> ProgramFault:
+        return self.fault(2, list(dict.fromkeys(self.wanted)))
+
+    def step(self) -> str:
+        """Goes on behind the next token."""
+        self.at, self.wanted = self.at + 1, []
+        return self.tokens[self.at - 1].text
+
+    def accept(self, *words: str) -> str:
+        """One of these words if it stands here."""
+        if self.token.text in words and self.token.kind != 'end':
+            return self.step()
+        self.wanted += ['`%s`' % word for word in words]
+        return ''
+
+    def need(self, *words: str) -> str:
+        found = self.accept(*words)
+        if not found:
+            raise self.unexpected()
+        return found
+
+    def is_name(self, what: str) -> bool:
+        if self.token.kind == 'name':
+            return True
+        self.wanted.append(what)
+        return False
+
+    def number(self) -> None:
+        if self.token.kind != 'number':
+            self.wanted.append('a number, 0 to 65,535')
+            raise self.unexpected()
+        self.checked_number()
+
+    def checked_number(self) -> None:
+        if len(self.token.text) > 5 or int(self.token.text) > MOST_NUMBER:
+            raise self.fault(5, ['a number, 0 to 65,535'])
+        self.step()
+
+    def declare(self, kind: str) -> str:
+        """A new name."""
+        if not self.is_name('a new name'):
+            raise self.unexpected()
+        if self.token.text in self.names:
+            raise self.fault(4, ['a name that is not declared yet'])
+        count = self.counts[kind] = self.counts.get(kind, 0) + 1
+        if count > MOST[kind]:
+            raise self.fault(8, ['at most %d: %s' % (MOST[kind], COUNTED[kind])])
+        self.names[self.token.text] = kind
+        return self.step()
+
+    def known(self, kind: str) -> list[str]:
+        """What may stand where the name of something is taken: the names of this kind."""
+        found = [name for name, its in self.names.items() if its == kind and name != self.own_thread]
+        return ['%s %s (%s)' % (ARTICLES[kind], kind, ', '.join(found) if found else 'none is declared here')]
+
+    def target(self, kind: str) -> str:
+        """A known name of this kind."""
+        if self.token.kind != 'name':
+            self.wanted += self.known(kind)
+            raise self.unexpected()
+        return self.checked_target(kind)
+
+    def checked_target(self, kind: str) -> str:
+        its = self.names.get(self.token.text)
+        if its is None:
+            raise self.fault(3, self.known(kind) + self.other_words())
+        if its != kind or self.token.text == self.own_thread:
+            raise self.fault(10, self.known(kind) + self.other_words())
+        return self.step()
+
+    def other_words(self) -> list[str]:
+        """What else may stand here besides a name."""
+        return list(dict.fromkeys(self.wanted))
+
+    def program(self) -> None:
+        while self.accept('event'):
+            self.declare('event')
+            self.need(';')
+        while self.accept('semaphore'):
+            self.declare('semaphore')
+            self.need('=')
+            self.number()
+            self.need(';')
+        if self.token.kind == 'end':
+            raise self.fault(9, ['`process` and the names of the processes'] + list(dict.fromkeys(self.wanted)))
+        self.need('process')
+        self.processes.append(self.declare('process'))
+        while self.need(',', ';') == ',':
+            self.processes.append(self.declare('process'))
+        if self.accept('autostart'):
+            self.autostart()
+        if self.accept('receiver'):
+            self.target('process')
+            self.need(';')
+        for process in self.processes:
+            self.need('code')
+            self.code(process)
+        if self.token.kind != 'end':
+            self.wanted.append('the end of the text: each process has its code')
+            raise self.unexpected()
+
+    def autostart(self) -> None:
+        started: set[str] = set()
+        while True:
+            if self.token.text in started:
+                left = [name for name in self.processes if name not in started]
+                shown = ', '.join(left) or 'there is none'
+                raise self.fault(4, ['a process that does not stand here yet (%s)' % shown])
+            started.add(self.target('process'))
+            if self.need(',', ';') == ';':
+                return
+
+    def code(self, process: str) -> None:
+        if self.token.text != process:
+            self.wanted.append('`%s`: each process has one code, in the order of the `process` line' % process)
+            raise self.unexpected()
+        self.step()
+        outer = dict(self.names)
+        self.counts['variable'] = self.counts['thread'] = 0
+        self.need('{')
+        while self.accept('var'):
+            self.declare('variable')
+            self.need('=')
+            self.number()
+            self.need(';')
+        while self.accept('etimer'):
+            self.declare('timer')
+            self.need(';')
+        while self.accept('ctimer'):
+            self.declare('timer')
+            self.block(True)
+        while self.accept('thread'):
+            self.own_thread = self.declare('thread')
+            self.block(False)
+            self.own_thread = ''
+        for word in 'onpoll', 'onexit':
+            if self.accept(word):
+                self.block(True)
+        self.need('body')
+        self.block(False)
+        self.need('}')
+        self.names = outer
+
+    def open(self, *words: str) -> str:
+        """A token that opens a level."""
+        if self.token.text in words and self.level == MOST_LEVELS:
+            raise self.fault(7, ['less: compute a part before, into a variable, or move it to a thread'])
+        found = self.need(*words)
+        self.level += 1
+        return found
+
+    def block(self, is_simple: bool | None = None) -> None:
+        if is_simple is not None:
+            self.is_simple = is_simple
+        self.open('{')
+        while not self.accept('}'):
+            self.statement()
+        self.level -= 1
+
+    def begins(self, *words: str) -> str:
+        """The first word of a statement."""
+        if self.token.text not in words or self.token.kind == 'end':
+            self.wanted += ['`%s`' % word for word in words if not (self.is_simple and word in WAITS)]
+            return ''
+        if self.is_simple and self.token.text in WAITS:
+            others = ', '.join('`%s`' % it for it in STATEMENTS if it not in WAITS)
+            raise self.fault(6, ['a statement that does not wait: ' + others])
+        self.count_statement()
+        return self.step()
+
+    def count_statement(self) -> None:
+        if self.statements == MOST_STATEMENTS:
+            raise self.fault(8, ['no more: a program has at most 4,096 statements'])
+        self.statements += 1
+
+    def statement(self) -> None:
+        word = self.begins(*STATEMENTS)
+        if not word:
+            if not self.is_name('a variable and `=`'):
+                raise self.unexpected()
+            if self.token.text in self.names:
+                self.count_statement()
+            self.checked_target('variable')
+            self.need('=')
+            self.expression()
+        elif word in ('if', 'while'):
+            self.expression()
+            self.block()
+            if word == 'if' and self.accept('else'):
+                self.block()
+            return
+        else:
+            self.rest_of(word)
+        self.need(';')
+
+    def rest_of(self, word: str) -> None:
+        """What stands behind the first word of a plain statement."""
+        if word in ('print', 'send', 'yield_until', 'wait_until', 'wait_while'):
+            self.expression()
+        elif word == 'spawn':
+            self.target('thread')
+        elif word in ('acquire', 'signal'):
+            self.target('semaphore')
+        elif word in ('post', 'synch', 'broadcast'):
+            if word != 'broadcast':
+                self.target('process')
+            self.event(CAST if word == 'broadcast' else SENT)
+            self.expression()
+            if word != 'synch' and self.accept('into'):
+                self.target('variable')
+        elif word in ('poll', 'start', 'kill'):
+            self.target('process')
+        elif word in ('set', 'reset', 'restart_timer', 'stop'):
+            self.target('timer')
+            if word == 'set':
+                self.expression()
+
+    def event(self, words: tuple[str, ...]) -> None:
+        if not self.accept(*words):
+            self.target('event')
+
+    def expression(self) -> None:
+        if self.token.kind == 'number':
+            self.checked_number()
+        elif self.token.text in ('(', '!'):
+            if self.open('(', '!') == '!':
+                self.expression()
+            else:
+                self.expression()
+                self.need(*OPERATORS)
+                self.expression()
+                self.need(')')
+            self.level -= 1
+        elif not self.accept('data', 'from', 'now', 'self'):
+            self.test_or_variable()
+
+    def test_or_variable(self) -> None:
+        word = self.accept('is', *TESTS)
+        if word:
+            self.need('(')
+            if word == 'is':
+                self.event(ANY)
+            else:
+                self.target(TESTS[word])
+            self.need(')')
+            return
+        self.wanted += ['a number', '`(`', '`!`']
+        self.target('variable')
+
+
+def find_fault(text: str) -> ProgramFault | None:
+    """The first fault of a program text, or None where it is a program."""
+    try:
+        _Reader(text).program()
+    except ProgramFault as fault:
+        return fault
+    return None

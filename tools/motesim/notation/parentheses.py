@@ -1,0 +1,72 @@
+"""An expression with all its parentheses: the notation has no order of operators, and people write as in C.
+
+`written(tokens, at)` gives the expression around a token, each operator with its two values in parentheses, by the
+order that operators have in C; or None where what stands there is no expression.
+"""
+from __future__ import annotations
+
+from collections.abc import Sequence
+
+from motesim.notation.faults import TESTS, Token
+
+# The operators, those that bind most first.
+ORDER = (('*', '/', '%'), ('+', '-'), ('<', '<=', '>', '>='), ('==', '!='), ('&&',), ('||',))
+OPERATORS = frozenset(sign for level in ORDER for sign in level)
+# Keywords that stand in an expression.
+INSIDE = frozenset(TESTS) | {'is', 'self', 'now', 'data', 'from'}
+ENDS = frozenset(';{}=,')
+MOST_TOKENS = 24
+
+
+def _is_outside(token: Token) -> bool:
+    return token.kind == 'end' or token.text in ENDS or (token.kind == 'keyword' and token.text not in INSIDE)
+
+
+def _reach(tokens: Sequence[Token], at: int, step: int, opens: str, closes: str) -> int:
+    """How far the expression around a token goes in one direction."""
+    depth = 0
+    while 0 <= at + step < len(tokens):
+        there = tokens[at + step]
+        if depth == 0 and (there.text == closes or _is_outside(there)):
+            break
+        depth += (there.text == opens) - (there.text == closes)
+        at += step
+    return at
+
+
+def _spelled(tokens: Sequence[Token]) -> str:
+    """Tokens with blanks around operators."""
+    return ''.join(' %s ' % it.text if it.text in OPERATORS else it.text for it in tokens)
+
+
+def _parts(tokens: Sequence[Token]) -> list[str]:
+    """The values and operators of an expression, in turn."""
+    parts: list[str] = []
+    value: list[Token] = []
+    depth = 0
+    for it in tokens:
+        depth += (it.text == '(') - (it.text == ')')
+        if depth == 0 and it.text in OPERATORS:
+            parts += [_spelled(value), it.text]
+            value = []
+        else:
+            value.append(it)
+    return [*parts, _spelled(value)]
+
+
+def written(tokens: Sequence[Token], at: int) -> str | None:
+    """The expression around a token, with all its parentheses."""
+    first, last = _reach(tokens, at, -1, ')', '('), _reach(tokens, at, 1, '(', ')')
+    if last - first >= MOST_TOKENS:
+        return None
+    parts = _parts(tokens[first:last + 1])
+    if len(parts) < 3 or not all(parts):
+        return None
+    for level in ORDER:
+        place = 1
+        while place < len(parts):
+            if parts[place] in level:
+                parts[place - 1:place + 2] = ['(%s)' % ' '.join(parts[place - 1:place + 2])]
+            else:
+                place += 2
+    return parts[0]

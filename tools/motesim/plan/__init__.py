@@ -1,0 +1,1 @@
+"""Plans: scenarios by rule, with parameters."""

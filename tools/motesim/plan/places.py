@@ -1,0 +1,152 @@
+"""Places of motes by a rule: grid, line, ring, random, clusters.
+
+Everything is done with whole numbers, so that the same words give the same places everywhere. docs/use/EXPERIMENTS.md
+has the rules.
+"""
+from __future__ import annotations
+
+from collections.abc import Callable, Iterable
+
+from motesim.plan.chance import Chance
+
+Point = tuple[int, int]
+
+# How often a place, and a whole net, is drawn anew before the rule counts as one that can't be met.
+TRIES_FOR_A_PLACE = 1_000
+TRIES_FOR_A_NET = 300
+
+BITS = 80
+TENTHS = 10 ** 40
+PI = 31_415_926_535_897_932_384_626_433_832_795_028_841_971
+
+
+class NoPlace(Exception):
+    """The rule can't be met: why, in a sentence."""
+
+
+class Crowd:
+    """Points by the squares in which they stand, to find those that are near."""
+
+    def __init__(self, side: int) -> None:
+        self.side = max(1, side)
+        self.squares: dict[Point, list[Point]] = {}
+
+    def square(self, point: Point) -> Point:
+        return point[0] // self.side, point[1] // self.side
+
+    def add(self, point: Point) -> None:
+        self.squares.setdefault(self.square(point), []).append(point)
+
+    def near(self, point: Point) -> Iterable[Point]:
+        """The points of the square and of those around it: all that are not farther than a side, and some that are."""
+        x, y = self.square(point)
+        for dx in (-1, 0, 1):
+            for dy in (-1, 0, 1):
+                yield from self.squares.get((x + dx, y + dy), ())
+
+
+def squared(one: Point, other: Point) -> int:
+    """The square of a distance."""
+    return (one[0] - other[0]) ** 2 + (one[1] - other[1]) ** 2
+
+
+def is_connected(points: list[Point], reach: int) -> bool:
+    """Whether each point is reached from the first, by steps that are not longer than `reach`."""
+    crowd = Crowd(reach)
+    for point in points:
+        crowd.add(point)
+    seen, reached = {points[0]}, [points[0]]
+    for point in reached:
+        for other in crowd.near(point):
+            if other not in seen and squared(point, other) <= reach * reach:
+                seen.add(other)
+                reached.append(other)
+    return len(seen) == len(set(points))
+
+
+def grid(columns: int, rows: int, step: int) -> list[Point]:
+    """Row after row, from left to right."""
+    return [(column * step, row * step) for row in range(rows) for column in range(columns)]
+
+
+def line(count: int, step: int) -> list[Point]:
+    return [(number * step, 0) for number in range(count)]
+
+
+def _series(angle: int, first: int) -> int:
+    """The sine of an angle up to a right one (`first` is 1) or its cosine (0), all times 2 to the power of BITS."""
+    term, total, number, sign = angle if first else 1 << BITS, 0, first, 1
+    while term:
+        total += sign * term
+        term = ((term * angle >> BITS) * angle >> BITS) // ((number + 1) * (number + 2))
+        number, sign = number + 2, -sign
+    return total
+
+
+def _rounded(length: int) -> int:
+    return (length + (1 << (BITS - 1))) >> BITS
+
+
+def ring(count: int, radius: int) -> list[Point]:
+    """Around the point (0, 0), beginning at the right."""
+    points = []
+    for number in range(count):
+        quarter, rest = divmod(4 * number, count)
+        angle = ((PI * rest) << BITS) // (2 * TENTHS * count)
+        x, y = _rounded(radius * _series(angle, 0)), _rounded(radius * _series(angle, 1))
+        points.append([(x, y), (-y, x), (-x, -y), (y, -x)][quarter])
+    return points
+
+
+def _net(draw: Callable[[int], Point], count: int, least: int) -> list[Point]:
+    """So many places as `draw` gives them by their numbers, none nearer to another than `least`."""
+    crowd = Crowd(least)
+    points: list[Point] = []
+    for number in range(count):
+        for _ in range(TRIES_FOR_A_PLACE):
+            point = draw(number)
+            if not least or all(squared(point, other) >= least * least for other in crowd.near(point)):
+                break
+        else:
+            raise NoPlace('For mote %d of %d no place was found in %d draws that is %d from all others.' % (
+                number, count, TRIES_FOR_A_PLACE, least))
+        crowd.add(point)
+        points.append(point)
+    return points
+
+
+def _drawn(net: Callable[[], list[Point]], reach: int | None) -> list[Point]:
+    """A net; with a reach the first of those drawn that is connected."""
+    for _ in range(TRIES_FOR_A_NET):
+        points = net()
+        if reach is None or is_connected(points, reach):
+            return points
+    raise NoPlace('None of %d nets that were drawn is connected, where a packet is heard up to %s away.' % (
+        TRIES_FOR_A_NET, reach))
+
+
+def scattered(count: int, width: int, height: int, seed: int, least: int, reach: int | None) -> list[Point]:
+    """Anywhere in an area, which includes its edges; with a reach the whole net is connected."""
+    chance = Chance(seed)
+
+    def anywhere(number: int) -> Point:
+        return chance.below(width + 1), chance.below(height + 1)
+
+    return _drawn(lambda: _net(anywhere, count, least), reach)
+
+
+def clusters(count: int, motes: int, spread: int, width: int, height: int, seed: int, least: int,
+             reach: int | None) -> list[Point]:
+    """So many motes around each of `count` centres, at most `spread` away from it to each side."""
+    chance = Chance(seed)
+
+    def net() -> list[Point]:
+        centres = [(chance.below(width + 1), chance.below(height + 1)) for _ in range(count)]
+
+        def around(number: int) -> Point:
+            x, y = centres[number // motes]
+            return x + chance.below(2 * spread + 1) - spread, y + chance.below(2 * spread + 1) - spread
+
+        return _net(around, count * motes, least)
+
+    return _drawn(net, reach)

@@ -1,0 +1,76 @@
+"""Scenarios from a plan: places, programs and losses by rule. docs/use/EXPERIMENTS.md has all that a plan may say.
+
+    plan = Plan.read('examples/studies/trickle.plan.toml')
+    text = plan.scenario({'seed': 7})       # parameters that aren't named have the plan's own values
+
+The same plan, files and parameters give the same bytes on any machine. What is wrong is a `PlanFault`, which shows the
+place in the plan or in the file beside it.
+"""
+from __future__ import annotations
+
+from collections.abc import Mapping
+from pathlib import Path
+
+from motesim.faults import Fault
+from motesim.plan.files import Files
+from motesim.plan.keys import TOP
+from motesim.plan.net import Builder, files_of
+from motesim.plan.tables import NAME, Tables, Value
+from motesim.runner.run import read_file
+
+
+class Plan:
+    """A plan's text, with the files beside it. Faults name it by `shown_as`, where that is given: the path as typed."""
+
+    def __init__(self, name: str, text: str, files: Files, shown_as: str = '') -> None:
+        self.name, self.text, self.files, self.shown_as = name, text, files, shown_as or name
+        tables = Tables(name, text, self.shown_as)
+        for key in tables.top:
+            if key not in TOP:
+                known = ', '.join('`%s`' % it for it in TOP)
+                more = ' Is this a scenario? ./run takes it as it is.' if key == 'version' else ''
+                raise tables.fault((key,), 'A plan has no key of this name.' + more, known, False)
+        self.tables = tables
+        self.parameters = self._parameters()
+
+    @classmethod
+    def read(cls, path: str | Path) -> Plan:
+        path = Path(path)
+        try:
+            return cls(path.name, read_file(path).decode('utf-8'), Files(path.parent), str(path))
+        except UnicodeDecodeError:
+            raise Fault('%s is not UTF-8' % path) from None
+
+    def _parameters(self) -> dict[str, Value]:
+        """The parameters with the values that they have where nothing else is said."""
+        table = self.tables.top.get('parameters', {})
+        if type(table) is not dict:
+            raise self.tables.fault(('parameters',), '`parameters` is a table.', '`[parameters]`')
+        for name, value in table.items():
+            path = 'parameters', name
+            if not NAME.fullmatch(name):
+                raise self.tables.fault(path, 'A parameter has another name.', 'a name of `a-z 0-9 _`', False)
+            if type(value) not in (int, bool, str):
+                raise self.tables.fault(path, 'A parameter has a value of another kind.',
+                                        'a whole number, a text, `true` or `false`')
+        return dict(table)
+
+    def with_given(self, given: Mapping[str, Value]) -> dict[str, Value]:
+        """All parameters, some of them with other values."""
+        for name in given:
+            if name not in self.parameters:
+                known = ', '.join(self.parameters) or 'none'
+                raise Fault('%s has no parameter %s; it has: %s' % (self.shown_as, name, known))
+        return {**self.parameters, **given}
+
+    def scenario(self, given: Mapping[str, Value]) -> str:
+        """The scenario's text."""
+        return Builder(self.tables.with_parameters(self.with_given(given)), self.files).scenario()
+
+    def used_files(self, given: Mapping[str, Value]) -> list[str]:
+        """The names of the files that the scenario is made from, as far as they can be told."""
+        return files_of(self.tables.with_parameters(self.with_given(given)), self.files)
+
+    def digest(self, given: Mapping[str, Value]) -> str:
+        """The SHA-256 of the plan and of the files that it takes."""
+        return self.files.digest(self.text, self.used_files(given))

@@ -1,0 +1,1 @@
+"""Runs of the program: which program, within which limits, and what it answers."""

@@ -1,0 +1,131 @@
+"""Runs the program, and reads what it answers.
+
+    from motesim.runner.run import read_run
+
+    run = read_run('examples/flooding.toml')       # runs the scenario; a file with a report is read as it is
+    for mote in run.report.motes:
+        sent = [line for line in mote.lines if line.kind == 'send']
+        print('mote', mote.number, 'runs', mote.program, 'and sends', len(sent), 'packets')
+    for packet in run.report.medium:
+        print(packet.sender, 'sent', packet.value, 'to', [copy.to for copy in packet.copies], 'at', packet.at)
+    print(run.scenario.hearers(0), 'hear mote 0')
+
+What can go wrong is a `motesim.faults.Fault`, whose text can be shown as it is:
+
+    ReportFault    a text is no report; its line is in it
+    ScenarioFault  a text is no scenario, or not that of the report
+    ProgramFault   the program is not built, or refuses a scenario (then it is a NoReport)
+    Fault          a file can't be read
+"""
+from __future__ import annotations
+
+import re
+import subprocess
+import sys
+from pathlib import Path
+from typing import NamedTuple
+
+from motesim.report.belongs import check_scenario as check_scenario
+from motesim.scenario.encodings import command_for, encoding_of, shown
+from motesim.faults import Fault
+from motesim.runner.programs import TOP as TOP
+from motesim.runner.programs import ProgramFault as ProgramFault
+from motesim.runner.programs import program_path as program_path
+from motesim.report import Report, ReportFault
+from motesim.scenario import Scenario, ScenarioFault
+
+SECONDS = 600
+# How a report begins, and how a scenario: by a comment, a table or a key.
+OF_REPORT = re.compile(rb'mote 0 ')
+OF_SCENARIO = re.compile(rb'(?:\xef\xbb\xbf)?\s*(?:#|\[|[A-Za-z0-9_"\'-]+\s*=)')
+
+
+class NoReport(ProgramFault):
+    """The program refuses a scenario."""
+
+
+class Answer(NamedTuple):
+    """What the program answers: its status, and what it writes to standard output and to standard error."""
+    status: int
+    report: bytes
+    fault: bytes
+
+
+class Run(NamedTuple):
+    """What a tool was given: a report, the scenario where it is known, and a name to show."""
+    name: str
+    report: Report
+    scenario: Scenario | None
+
+
+def answer(scenario: bytes, *words: str) -> Answer:
+    """What the program answers to a scenario on standard input, with these words on its command line."""
+    path = program_path()
+    try:
+        done = subprocess.run(['motesim', *words], executable=str(path.resolve()), input=scenario,
+                              capture_output=True, timeout=SECONDS)
+    except subprocess.TimeoutExpired:
+        raise ProgramFault('no answer in %d seconds' % SECONDS) from None
+    except OSError as fault:
+        raise ProgramFault('%s can\'t be run: %s' % (path, fault.strerror)) from None
+    return Answer(done.returncode, done.stdout, done.stderr)
+
+
+def run_program(scenario: bytes, *words: str) -> bytes:
+    """The report of a scenario; one that the program refuses has a `ProgramFault`."""
+    got = answer(scenario, *words)
+    if got.status:
+        told = got.fault.decode('utf-8', 'backslashreplace').strip() or 'status %d' % got.status
+        raise NoReport('the scenario has no report: %s' % told)
+    return got.report
+
+
+def read_file(path: str | Path) -> bytes:
+    """The bytes of a file, or of standard input for the name `-`."""
+    if str(path) == '-' and sys.stdin is None:
+        raise Fault('standard input is closed')
+    try:
+        return sys.stdin.buffer.read() if str(path) == '-' else Path(path).read_bytes()
+    except OSError as fault:
+        raise Fault('%s: %s' % (path, fault.strerror)) from None
+
+
+def is_report(data: bytes) -> bool:
+    """Whether a text begins as a report."""
+    return OF_REPORT.match(data) is not None
+
+
+def is_scenario(path: str | Path, data: bytes) -> bool:
+    """Whether a file holds a scenario, and no report: by its first line, or else by its name."""
+    return not is_report(data) and (str(path).endswith('.toml') or OF_SCENARIO.match(data) is not None)
+
+
+def read_run(path: str | Path, scenario: str | Path | None = None) -> Run:
+    """A report from a file, with the scenario from another where it is named.
+
+    A scenario is run: a text that begins as one, or else a file NAME.toml. The name `-` is standard input.
+    """
+    data = read_file(path)
+    is_run, at, found = is_scenario(path, data), path, None
+    if is_run and scenario is not None:
+        raise Fault('%s is a scenario itself, and takes no other' % path)
+    if not (is_run or data.strip()):
+        raise Fault('%s is empty: a report or a scenario is wanted' % (
+            'standard input' if str(path) == '-' else path))
+    encoding = None if is_run else encoding_of(data)
+    if encoding:
+        raise Fault('%s Save it as UTF-8: %s' % (shown(str(path), encoding), command_for(str(path), encoding)))
+    try:
+        if is_run:
+            found = Scenario.parse(data)
+            return Run(str(path), Report.parse(run_program(data)), found)
+        report = Report.parse(data)
+        if scenario is not None:
+            at = scenario
+            found = Scenario.parse(read_file(scenario))
+            check_scenario(report, found)
+    except (ReportFault, ScenarioFault, ProgramFault) as fault:
+        is_explained = is_run and isinstance(fault, (ScenarioFault, NoReport))
+        fault.args = ('%s: %s%s' % (at, fault, ' (tools/explain %s says more)' % at if is_explained else ''),)
+        raise
+    return Run(str(path), report, found)

@@ -1,0 +1,344 @@
+"""Faults of scenarios: where the fault is, the rule in plain words, and what may stand there.
+
+`find_fault(bytes)` looks through a scenario by the rules of docs/use/SCENARIO.md, in their order, and gives the first
+`ScenarioFault`, or None; motesim tells the same line. `place_of(text, path)` finds a table or a key in the text.
+"""
+from __future__ import annotations
+
+import re
+from collections.abc import Iterator
+from dataclasses import dataclass
+from typing import Any
+
+from motesim.notation.faults import ProgramFault
+from motesim.notation.faults import find_fault as find_program_fault
+from motesim.toml import NoToml, read_toml
+
+LONGEST_TEXT = 1_048_576
+# A table or a key: the names and the numbers that lead to it.
+Path = tuple[str | int, ...]
+
+# Of each line that tells a fault, without `motesim: `, its rule. Of a program's fault, program_faults has the rules.
+RULES: dict[str, str] = {
+    'read fault': 'The scenario could not be read: the file is not there, is a folder, or reading it failed.',
+    'scenario too long': 'A scenario has at most 1,048,576 bytes.',
+    'scenario is not UTF-8': 'A scenario is a text in UTF-8, and these bytes are none.',
+    'scenario fault 1': 'A scenario is a TOML document, and this text is none.',
+    'scenario fault 2': 'A table lacks a key that it needs.',
+    'scenario fault 3': 'A table has a key that it does not know, or the name of a program has another form.',
+    'scenario fault 4': 'A key holds a value of another kind than it takes.',
+    'scenario fault 5': 'A number, or the count of motes, programs or losses, is out of range.',
+    'scenario fault 6': 'A mote, or a key of `queue`, names a program that the scenario does not have.',
+    'program': 'The text of this program is none. docs/use/NOTATION.md has the notation.',
+    'medium fault 2': 'The least delay, `base`, is at least 1: nothing is heard at the moment at which it is sent.',
+    'medium fault 3': '`per` is at least 1, as the squared distance is divided by it.',
+    'medium fault 4': 'A loss is between two different motes that are there, has an `every` from 1 on, and there is '
+                      'at most one for two motes in one direction.',
+    'run fault 5': 'The thread of a worker could not be started or run. The scenario may be in order.',
+    'run fault 6': 'A worker stopped for another, which told no fault. The scenario may be in order.',
+    'write fault': 'The report could not be written. The scenario may be in order.',
+    'out of memory': 'There was not enough memory. The scenario may be in order.',
+}
+
+
+@dataclass
+class ScenarioFault(Exception):
+    """The first fault of a scenario: its line as motesim tells it, where it is, and what may stand there.
+
+    path  the table or the key; of a missing key its table
+    line  in its place the line and the column, where the text is no TOML or no text
+    """
+    told: str
+    path: Path = ()
+    may: str = ''
+    line: tuple[int, int] | None = None
+    program: ProgramFault | None = None
+
+    def is_of_value(self) -> bool:
+        """Whether it is the value behind the key that can't stand, and not the key."""
+        if not self.path or type(self.path[-1]) is int or self.path[0] == 'queue' and self.told == 'scenario fault 6':
+            return False
+        return self.told not in ('scenario fault 2', 'scenario fault 3')
+
+    @property
+    def lacks(self) -> str | None:
+        """The key or the table that the scenario lacks at its top, which has no place."""
+        is_missing = self.told == 'scenario fault 2' and not self.path
+        return self.may.split('`')[1] if is_missing else None
+
+    def place(self, text: str) -> Place:
+        """Where the fault is."""
+        if self.line:
+            return Place(*self.line, 1)
+        place = place_of(text, self.path)
+        return value_of(text, place) if self.is_of_value() else place
+
+
+@dataclass(frozen=True)
+class Key:
+    """What a key holds: its kind, and the least and the greatest number, or count."""
+    kind: type
+    least: int = 0
+    most: int = 0
+    is_needed: bool = True
+
+
+TOP = {'version': Key(int, 1, 2), 'end': Key(int, 0, 1_000_000), 'medium': Key(dict), 'programs': Key(dict),
+       'mote': Key(list, 1, 1_000), 'loss': Key(list, 0, 10_000, False)}
+MEDIUM = {'range': Key(int, 0, 100_000), 'base': Key(int, 0, 1_000_000), 'per': Key(int, 0, 1_000_000)}
+LOSS = {'from': Key(int, 0, 1_000_000), 'to': Key(int, 0, 1_000_000), 'every': Key(int, 0, 1_000_000)}
+MOTE = {'x': Key(int, -30_000, 30_000), 'y': Key(int, -30_000, 30_000), 'program': Key(str)}
+QUEUE = Key(int, 1, 128)
+KINDS = {int: 'a whole number', str: 'a text', dict: 'a table', list: 'an array of tables', bool: '`true` or `false`'}
+MOST_PROGRAMS = 100
+
+
+def may_of(name: str, key: Key) -> str:
+    """What may stand at a key."""
+    if key.kind is int:
+        least = 1 if name in ('base', 'per', 'every') else key.least
+        return '`%s`: a whole number, %s to %s' % (name, '{:,}'.format(least), '{:,}'.format(key.most))
+    if key.kind is list:
+        return '`%s`: an array of %s to %s tables' % (name, key.least, '{:,}'.format(key.most))
+    return '`%s`: %s' % (name, KINDS[key.kind])
+
+
+def _fault(number: int, path: Path, may: str) -> ScenarioFault:
+    return ScenarioFault('scenario fault %d' % number, path, may)
+
+
+def _check_table(table: dict[str, Any], path: Path, keys: dict[str, Key]) -> None:
+    """A table's first fault: missing keys, unknown ones, values of another kind, and those out of range."""
+    for name, key in keys.items():
+        if key.is_needed and name not in table:
+            raise _fault(2, path, 'the key %s' % may_of(name, key))
+    for name in table:
+        if name not in keys:
+            raise _fault(3, path + (name,), 'one of the keys %s' % ', '.join('`%s`' % it for it in keys))
+    for name, key in keys.items():
+        _check_kind(table, path, name, key)
+    for name, key in keys.items():
+        if name in table and key.kind in (int, list):
+            number = table[name] if key.kind is int else len(table[name])
+            if not key.least <= number <= key.most:
+                raise _fault(5, path + (name,), may_of(name, key))
+
+
+def _check_kind(table: dict[str, Any], path: Path, name: str, key: Key) -> None:
+    if name in table and type(table[name]) is not key.kind:
+        raise _fault(4, path + (name,), may_of(name, key))
+    if name in table and key.kind is list:
+        for index, member in enumerate(table[name]):
+            if type(member) is not dict:
+                raise _fault(4, path + (name, index), 'a table')
+
+
+def _check_programs(programs: dict[str, Any]) -> None:
+    for name in programs:
+        if not re.fullmatch('[A-Za-z0-9_-]{1,32}', name):
+            raise _fault(3, ('programs', name), 'a name of 1 to 32 of `A-Z a-z 0-9 _ -`')
+    for name, text in programs.items():
+        if type(text) is not str:
+            raise _fault(4, ('programs', name), 'a text, which is the program')
+    if len(programs) > MOST_PROGRAMS:
+        raise _fault(5, ('programs',), 'at most %d programs' % MOST_PROGRAMS)
+
+
+def _check_queue(queue: dict[str, Any]) -> None:
+    for name, length in queue.items():
+        if type(length) is not int:
+            raise _fault(4, ('queue', name), may_of(name, QUEUE))
+    for name, length in queue.items():
+        if not QUEUE.least <= length <= QUEUE.most:
+            raise _fault(5, ('queue', name), may_of(name, QUEUE))
+
+
+def _check_names(tables: dict[str, Any]) -> None:
+    """Whether each program that is named is there."""
+    may = 'the name of a program (%s)' % (', '.join(tables['programs']) or 'there is none')
+    for name in tables.get('queue', {}):
+        if name not in tables['programs']:
+            raise _fault(6, ('queue', name), may)
+    for index, mote in enumerate(tables['mote']):
+        if mote['program'] not in tables['programs']:
+            raise _fault(6, ('mote', index, 'program'), may)
+
+
+def _check_texts(programs: dict[str, Any]) -> None:
+    for name in sorted(programs, key=str.encode):
+        fault = find_program_fault(programs[name])
+        if fault:
+            told = 'program %s fault %d line %d' % (name, fault.kind, fault.token.line)
+            raise ScenarioFault(told, ('programs', name), program=fault)
+
+
+def _check_medium(tables: dict[str, Any]) -> None:
+    for number, name in (2, 'base'), (3, 'per'):
+        if tables['medium'][name] == 0:
+            raise ScenarioFault('medium fault %d' % number, ('medium', name), may_of(name, MEDIUM[name]))
+    seen: dict[tuple[int, int], int] = {}
+    for index, loss in enumerate(tables.get('loss', [])):
+        pair = loss['from'], loss['to']
+        for name in 'from', 'to':
+            if loss[name] >= len(tables['mote']):
+                may = '`%s`: a mote, 0 to %d' % (name, len(tables['mote']) - 1)
+                raise ScenarioFault('medium fault 4', ('loss', index, name), may)
+        if pair[0] == pair[1]:
+            raise ScenarioFault('medium fault 4', ('loss', index, 'to'), '`to`: another mote than %d' % pair[0])
+        if loss['every'] == 0:
+            raise ScenarioFault('medium fault 4', ('loss', index, 'every'), may_of('every', LOSS['every']))
+        if pair in seen:
+            may = 'another pair of motes: loss %d, counted from 0, has %d and %d already' % (seen[pair], *pair)
+            raise ScenarioFault('medium fault 4', ('loss', index), may)
+        seen[pair] = index
+
+
+def _read(data: bytes) -> dict[str, Any]:
+    """The tables of a scenario."""
+    if len(data) > LONGEST_TEXT:
+        front = data[:LONGEST_TEXT]
+        line = front.count(b'\n') + 1, len(front[front.rfind(b'\n') + 1:].decode('utf-8', 'replace'))
+        raise ScenarioFault('scenario too long', line=line, may='the end of the text')
+    try:
+        text = data.decode('utf-8')
+    except UnicodeDecodeError as fault:
+        begin = data.rfind(b'\n', 0, fault.start) + 1
+        line = data.count(b'\n', 0, begin) + 1, len(data[begin:fault.start].decode('utf-8'))
+        raise ScenarioFault('scenario is not UTF-8', line=line, may='text in UTF-8') from None
+    try:
+        tables = read_toml(text)
+    except NoToml as fault:
+        raise ScenarioFault('scenario fault 1', line=(fault.line, fault.column),
+                            may='TOML (Python says: %s)' % fault.said) from None
+    for path in _too_large(tables, ()):
+        raise ScenarioFault('scenario fault 1', path, may='a whole number of 64 bits')
+    return tables
+
+
+def _too_large(value: object, path: Path) -> Iterator[Path]:
+    """Where numbers stand that have more than 64 bits, which Python alone takes as TOML."""
+    if type(value) is int and not -2 ** 63 <= value < 2 ** 63:
+        yield path
+    members = value.items() if type(value) is dict else enumerate(value) if type(value) is list else []
+    for name, member in members:
+        yield from _too_large(member, path + (name,))
+
+
+def _check(tables: dict[str, Any]) -> None:
+    is_second = type(tables.get('version')) is int and tables['version'] == 2
+    _check_table(tables, (), {**TOP, 'queue': Key(dict, is_needed=False)} if is_second else TOP)
+    _check_table(tables['medium'], ('medium',), {**MEDIUM, 'collide': Key(bool)} if is_second else MEDIUM)
+    for index, loss in enumerate(tables.get('loss', [])):
+        _check_table(loss, ('loss', index), LOSS)
+    _check_programs(tables['programs'])
+    _check_queue(tables.get('queue', {}))
+    for index, mote in enumerate(tables['mote']):
+        _check_table(mote, ('mote', index), MOTE)
+    _check_names(tables)
+    _check_texts(tables['programs'])
+    _check_medium(tables)
+
+
+def find_fault(data: bytes) -> ScenarioFault | None:
+    """The first fault of a scenario, or None where it has none."""
+    try:
+        _check(_read(data))
+    except ScenarioFault as fault:
+        return fault
+    return None
+
+
+KEY = r'(?:[A-Za-z0-9_-]+|"[^"\n]*"|\'[^\'\n]*\')'
+DOTTED = r'%s(?:\s*\.\s*%s)*' % (KEY, KEY)
+HEADER = re.compile(r'\s*(\[\[?)\s*(%s)\s*\]\]?' % DOTTED)
+ENTRY = re.compile(r'\s*(%s)\s*=' % DOTTED)
+VALUE = re.compile(r'["\']?\s*=\s*("(?:[^"\\]|\\.)*"|\'[^\']*\'|[^\s,}#\'"]+)')
+LONG_QUOTES = ("'''", '"""')
+OPENED = re.compile('|'.join([*LONG_QUOTES, r'"(?:[^"\\]|\\.)*"', "'[^']*'", '#']))
+
+
+@dataclass(frozen=True)
+class Place:
+    """Where something stands in a text: the line from 1, the column from 0, and how many signs."""
+    line: int
+    column: int
+    length: int
+
+
+def _lines(text: str) -> Iterator[tuple[int, str]]:
+    """The lines that begin outside of a text of several lines, with their numbers."""
+    quotes = ''
+    for number, line in enumerate(text.split('\n'), 1):
+        if not quotes:
+            yield number, line
+        rest = line
+        while rest:
+            if quotes:
+                _, found, rest = rest.partition(quotes)
+                quotes = '' if found else quotes
+                continue
+            opened = OPENED.search(rest)
+            if not opened or opened[0] == '#':
+                break
+            quotes = opened[0] if opened[0] in LONG_QUOTES else ''
+            rest = rest[opened.end():]
+
+
+def _names(dotted: str) -> tuple[str, ...]:
+    return tuple(it.strip('"\'') for it in re.findall(KEY, dotted))
+
+
+def places(text: str) -> dict[Path, Place]:
+    """Where the tables and keys of a scenario stand, as far as they stand on lines of their own."""
+    found: dict[Path, Place] = {}
+    counts: dict[tuple[str, ...], int] = {}
+    table: Path = ()
+    for number, line in _lines(text):
+        header, entry = HEADER.match(line), ENTRY.match(line)
+        if header:
+            table = names = _names(header[2])
+            if header[1] == '[[':
+                table = names + (counts.get(names, 0),)
+                counts[names] = counts.get(names, 0) + 1
+            place = Place(number, header.start(1), header.end() - header.start(1))
+            found.setdefault(table, place)
+            found.setdefault(names, place)
+        elif entry:
+            names = _names(entry[1])
+            for length in range(1, len(names) + 1):
+                found.setdefault(table + names[:length], Place(number, entry.start(1), len(entry[1])))
+    return found
+
+
+def last_outside(text: str) -> int:
+    """The last line that begins outside of a text of several lines: of one that has no end, its first."""
+    return max((number for number, _ in _lines(text)), default=1)
+
+
+def first_table(text: str) -> int | None:
+    """The line on which the first table is named."""
+    return next((number for number, line in _lines(text) if HEADER.match(line)), None)
+
+
+def place_of(text: str, path: Path) -> Place:
+    """Where a table or a key stands, or else the nearest table above it; the whole text stands on its first line."""
+    found = places(text)
+    for length in range(len(path), 0, -1):
+        if path[:length] in found:
+            place = found[path[:length]]
+            return _within(text, place, str(path[length])) if length < len(path) else place
+    return Place(1, 0, len(text.split('\n')[0]))
+
+
+def value_of(text: str, place: Place) -> Place:
+    """The value behind a key, if it stands on the same line; else the key."""
+    line = text.split('\n')[place.line - 1]
+    found = VALUE.match(line, place.column + place.length)
+    return Place(place.line, found.start(1), len(found[1])) if found else place
+
+
+def _within(text: str, place: Place, name: str) -> Place:
+    """A key behind the place on its line, as in a table that is written in one line; else the place."""
+    line = text.split('\n')[place.line - 1]
+    found = re.compile(r'\b%s(?=["\']?\s*=)' % re.escape(name)).search(line, place.column + place.length)
+    return Place(place.line, found.start(), len(name)) if found else place

@@ -1,0 +1,1 @@
+"""Totals of a run: by mote, for the net, by link, and by flow."""

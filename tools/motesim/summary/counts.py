@@ -1,0 +1,197 @@
+"""Counts what a report tells, by mote, for the net, and by link: tools/summary REPORT [--scenario FILE]
+
+REPORT is a file with a report, or with a scenario, which is run; `-` is standard input. `--scenario FILE` names the
+scenario of a report: then links that carried nothing are shown too.
+
+Of a mote and of the net
+  sent      packets that it sent
+  copies    copies of packets that were on their way to it. What became of them:
+  received    it received them
+  lost        the medium lost them
+  ring        eight packets were waiting already
+  collided    they came together with others
+  halted      they came when it had halted
+  late        they would have come after the end
+  ratio     received of all copies that were not late
+  posted    events that its queue took
+  taken     events that reached a process; one for all processes counts at each
+  dropped   events whose process wasn't there
+  refused   events that found the queue full
+  prints    lines that it printed
+  halt      the moment at which it halted; of the net how many motes did
+Of a link
+  delay     after how many moments a packet arrives
+
+`--flow "print sink"` shows flows from end to end in place of these: each line `print sink V` is a delivery of the message
+V, which began with the first packet of that value, at the mote that sent it. `--flow "print source -> print sink"` has
+messages begin with a print. Of an origin, and of the net
+  sent      messages that began there
+  delivered those that came to another mote at least once, and ratio, their part
+  reached   to how many motes a message came, on average
+  copies    deliveries in all; duplicates are those to a mote that had the message already
+  hops      least hops to the motes reached, on average, where the scenario is known
+  least, middle, most   moments from a message's beginning to its first delivery at a mote
+
+`--motes` and `--links` show one of the tables alone. `--csv` is for a spreadsheet: the table of motes with the net, or
+with `--links` that of links. `--json` has all of it, for programs.
+
+Ends with status 0, or with 2 where the report can't be read.
+"""
+from __future__ import annotations
+
+import argparse
+import csv
+import json
+import sys
+from collections import Counter
+from typing import Any, Iterator
+
+from motesim.faults import command
+from motesim.summary.flows import NAMES as FLOW_NAMES
+from motesim.summary.flows import flow_rows, silent
+from motesim.report import Report
+from motesim.runner.run import Run, read_run
+from motesim.scenario import Scenario
+from motesim.words import words_of
+
+# A row of a table by its columns: numbers, names, or None where there is no value.
+Row = dict[str, Any]
+
+# What became of copies, as the reader and as the tables call it.
+BECAME = {'received': 'received', 'lost': 'lost', 'full': 'ring', 'collided': 'collided', 'halted': 'halted',
+          'left': 'late'}
+LINK_NAMES = ['from', 'to', 'copies', *BECAME.values(), 'ratio', 'delay']
+# The lines of a trace that are counted as they are.
+COUNTED = {'post': 'posted', 'take': 'taken', 'drop': 'dropped', 'full': 'refused', 'print': 'prints'}
+
+
+def ratio(row: Row) -> float | None:
+    """How much was received of what was due, or None where nothing was."""
+    due = row['copies'] - row['late']
+    return round(row['received'] / due, 4) if due else None
+
+
+def copies_row(counts: Counter[Any], key: object) -> Row:
+    """What became of the copies that are counted under a key."""
+    row: Row = {'copies': sum(counts[key, what] for what in BECAME)}
+    row.update((name, counts[key, what]) for what, name in BECAME.items())
+    row['ratio'] = ratio(row)
+    return row
+
+
+def by_mote(report: Report, became: Counter[Any]) -> list[Row]:
+    """A row for each mote."""
+    rows = []
+    for mote in report.motes:
+        kinds = Counter(line.kind for line in mote.lines)
+        rows.append({'mote': mote.number, 'program': mote.program, 'sent': kinds['send'],
+                     **copies_row(became, mote.number), **{name: kinds[kind] for kind, name in COUNTED.items()},
+                     'halt': mote.halted()})
+    return rows
+
+
+def of_net(motes: list[Row]) -> Row:
+    """The sums of the motes' rows."""
+    row: Row = {'mote': 'net', 'program': ''}
+    for name in motes[0]:
+        if name not in row:
+            row[name] = sum(it[name] or 0 for it in motes)
+    row['ratio'] = ratio(row)
+    row['halt'] = sum(it['halt'] is not None for it in motes)
+    return row
+
+
+def by_link(report: Report, scenario: Scenario | None, became: Counter[Any]) -> list[Row]:
+    """A row for each pair of sender and receiver between which copies went, and for all pairs of a scenario."""
+    delays: dict[tuple[int, int], int | None] = {}
+    for packet in report.medium:
+        for copy in packet.copies:
+            link = packet.sender, copy.to
+            if delays.get(link) is None:
+                delays[link] = None if copy.at is None else copy.at - packet.at
+    if scenario:
+        for s in range(scenario.motes):
+            delays.update(((s, r), scenario.delay(s, r)) for r in scenario.hearers(s))
+    return [{'from': link[0], 'to': link[1], **copies_row(became, link), 'delay': delays[link]}
+            for link in sorted(delays)]
+
+
+def summary(run: Run) -> tuple[list[Row], Row, list[Row]]:
+    """The rows of the motes, that of the net, and those of the links."""
+    links = Counter(((it.packet.sender, it.copy.to), it.what) for it in run.report.outcomes())
+    receivers: Counter[Any] = Counter()
+    for ((_, to), what), number in links.items():
+        receivers[to, what] += number
+    motes = by_mote(run.report, receivers)
+    return motes, of_net(motes), by_link(run.report, run.scenario, links)
+
+
+def shown(value: int | float | str | None) -> str:
+    """A value in a table of text."""
+    return '-' if value is None else '%.3f' % value if type(value) is float else str(value)
+
+
+def table(rows: list[Row], names: list[str]) -> Iterator[str]:
+    """The rows in columns: names of programs at the left of theirs, all else at the right."""
+    texts = [names, *([shown(value) for value in row.values()] for row in rows)]
+    widths = [max(map(len, column)) for column in zip(*texts)]
+    lefts = [name == 'program' for name in names]
+    for row in texts:
+        yield ' '.join(text.ljust(width) if is_left else text.rjust(width)
+                        for text, width, is_left in zip(row, widths, lefts)).rstrip()
+
+
+def write_csv(rows: list[Row], names: list[str]) -> None:
+    """The rows, with the names of the columns above them; what there is no value of is empty."""
+    writer = csv.DictWriter(sys.stdout, names, lineterminator='\n')
+    writer.writeheader()
+    writer.writerows(rows)
+
+
+def show_flow(run: Run, words: argparse.Namespace) -> int:
+    """Shows the rows of a flow, in the form that is asked for, and says why there is nothing in them."""
+    rows = flow_rows(run.report, run.scenario, words.flow)
+    for line in silent(run.report, run.scenario, words.flow):
+        print('summary: %s' % line, file=sys.stderr)
+    if words.json:
+        print(json.dumps({'flow': words.flow, 'origins': rows[:-1], 'net': rows[-1]}, indent=1))
+    elif words.csv:
+        write_csv(rows, FLOW_NAMES)
+    else:
+        print('\n'.join(table(rows, FLOW_NAMES)))
+    return 0
+
+
+@command('summary')
+def main() -> int:
+    words = words_of(__doc__)
+    words.add_argument('report', metavar='REPORT', help='a report, or a scenario; - is standard input')
+    words.add_argument('--scenario', metavar='FILE', help="the report's scenario")
+    form = words.add_mutually_exclusive_group()
+    form.add_argument('--csv', action='store_true', help='for a spreadsheet')
+    form.add_argument('--json', action='store_true', help='for programs')
+    part = words.add_mutually_exclusive_group()
+    part.add_argument('--motes', action='store_true', help='the motes and the net alone')
+    part.add_argument('--links', action='store_true', help='the links alone')
+    part.add_argument('--flow', metavar='WORDS', help='flows from end to end, as "print sink"')
+    asked = words.parse_args()
+    run = read_run(asked.report, asked.scenario)
+    if asked.flow is not None:
+        return show_flow(run, asked)
+    motes, net, links = summary(run)
+    names, of_links = list(net), LINK_NAMES
+    if asked.json:
+        parts = {'motes': motes, 'net': {name: net[name] for name in names[2:]}, 'links': links}
+        kept = ['links'] if asked.links else ['motes', 'net'] if asked.motes else list(parts)
+        print(json.dumps({name: parts[name] for name in kept}, indent=1))
+    elif asked.csv:
+        write_csv(links, of_links) if asked.links else write_csv(motes + [net], names)
+    else:
+        if not asked.links:
+            print('\n'.join(table(motes + [net], names)))
+        if not (asked.links or asked.motes):
+            print()
+        if not asked.motes:
+            print('\n'.join(table(links, of_links)) if links else 'no link carried anything')
+    return 0
+

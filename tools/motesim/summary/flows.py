@@ -1,0 +1,156 @@
+"""Flows from end to end: which messages of an origin came to whom, how often, and how much later.
+
+What counts as the same message the user says, as `print sink`: each line `print sink V` is a delivery of the message V
+at its mote. A message begins with the first packet of that value, at the mote that sends it; or, as in
+`print source -> print sink`, with the first line `print source V`. So a program that numbers its messages, as by
+`send ((self * 256) + count)`, has a flow for each origin, however many motes pass its packets on.
+"""
+from __future__ import annotations
+
+import re
+from collections import defaultdict
+from collections.abc import Iterator
+from dataclasses import dataclass, field
+from statistics import median
+from typing import NamedTuple, Union
+
+from motesim.faults import Fault
+from motesim.explain.hints import nearest
+from motesim.notation.keywords import SYSTEM
+from motesim.report import Line, Report
+from motesim.scenario import Scenario
+from motesim.judge.sentences import names_of, processes_of
+
+Row = dict[str, Union[int, float, str, None]]
+NAMES = ['origin', 'sent', 'delivered', 'ratio', 'reached', 'copies', 'duplicates', 'hops', 'least', 'middle', 'most']
+FORM = re.compile(r'\s*(?:(send|recv)|print\s+([A-Za-z][A-Za-z0-9_]*))\s*')
+
+
+class FlowFault(Fault):
+    """Words that say no flow."""
+
+
+class Mark(NamedTuple):
+    """Lines that have a message: their kind, and of prints the process."""
+    kind: str
+    process: str | None = None
+
+    def has(self, line: Line) -> bool:
+        return line.kind == self.kind and (self.process is None or line.process == self.process)
+
+    def __str__(self) -> str:
+        return ' '.join(it for it in (self.kind, self.process) if it)
+
+
+@dataclass
+class Message:
+    """A message: where and when it began, and the moments at which it was delivered, by mote."""
+    origin: int
+    at: int
+    delivered: dict[int, list[int]] = field(default_factory=lambda: defaultdict(list))
+
+
+def read_flow(words: str) -> tuple[Mark, Mark]:
+    """Where messages begin and end: `print sink`, `recv`, or `print source -> print sink`."""
+    parts = words.split('->')
+    marks = [FORM.fullmatch(part) for part in parts]
+    if len(parts) > 2 or not all(marks):
+        raise FlowFault('no flow: %r. It is END or BEGIN -> END; each is `print PROCESS`, `send` or `recv`' % words)
+    found = [Mark(it[1] or 'print', it[2]) for it in marks if it]
+    return (found[0], found[1]) if len(found) == 2 else (Mark('send'), found[0])
+
+
+def like(process: str, scenario: Scenario | None, known: set[str]) -> str:
+    """What was most likely meant by the name of a process that isn't there, and which there are."""
+    own = sorted(known.difference(SYSTEM))
+    programs = scenario.programs if scenario else {}
+    if process in programs:
+        return '; %s is a program, with: %s' % (process, ', '.join(processes_of(programs[process])))
+    near = nearest(process, own)
+    return '; did you mean %s?' % near if near else '; it has: %s' % ', '.join(own) if own else ''
+
+
+def check_processes(report: Report, scenario: Scenario, marks: tuple[Mark, Mark]) -> None:
+    """Whether each process of a flow is one of the scenario's."""
+    for process in {it.process for it in marks if it.process}:
+        known = set(names_of(scenario).processes or ())
+        if process not in known and not any(line.process == process for line in report.lines()):
+            raise FlowFault('no flow: the scenario has no process %s%s' % (
+                process, like(process, scenario, known)))
+
+
+def silent(report: Report, scenario: Scenario | None, words: str) -> Iterator[str]:
+    """Why a flow has nothing to show: no line begins a message, or none is a delivery."""
+    begin, end = read_flow(words)
+    for mark, what in (begin, 'no message began'), (end, 'nothing was delivered'):
+        if not any(map(mark.has, report.lines())):
+            told = {line.process for line in report.lines() if line.process}.difference({'all'})
+            more = like(mark.process, scenario, told) if mark.process and mark.process not in told else ''
+            yield 'the report has no line `%s V`, so %s%s' % (mark, what, more)
+            return
+
+
+def messages(report: Report, begin: Mark, end: Mark) -> dict[int, Message]:
+    """The messages of a flow, by their values. A line before its message began belongs to none."""
+    lines = sorted((it for it in report.lines() if begin.has(it) or end.has(it)), key=lambda it: it.at)
+    found: dict[int, Message] = {}
+    for line in lines:
+        value = line.value
+        if value is not None and begin.has(line) and value not in found:
+            found[value] = Message(line.mote, line.at)
+    for line in lines:
+        message = found.get(line.value) if line.value is not None else None
+        if message and end.has(line) and line.at >= message.at and line.mote != message.origin:
+            message.delivered[line.mote].append(line.at)
+    return found
+
+
+def hops_from(scenario: Scenario, origin: int) -> dict[int, int]:
+    """The least number of hops to each mote that is reached from one."""
+    found, edge = {origin: 0}, [origin]
+    while edge:
+        reached = []
+        for s in edge:
+            for r in scenario.hearers(s):
+                if r not in found and scenario.losses.get((s, r)) != 1:
+                    found[r] = found[s] + 1
+                    reached.append(r)
+        edge = reached
+    return found
+
+
+def flow_rows(report: Report, scenario: Scenario | None, words: str) -> list[Row]:
+    """A row for each origin of a flow, and one for the net.
+
+    sent        messages that began there
+    delivered   those that came to at least one other mote, and `ratio` their part of all
+    reached     to how many motes a message came, on average
+    copies      deliveries in all; `duplicates` are those of a message to a mote that had it already
+    hops        least hops to the motes that were reached, on average, where the scenario is known
+    least..     of each message and mote the moments from its beginning to its first delivery: least, middle, most
+    """
+    begin, end = read_flow(words)
+    if scenario:
+        check_processes(report, scenario, (begin, end))
+    found = messages(report, begin, end)
+    origins = sorted({it.origin for it in found.values()})
+    rows = [_row(origin, [it for it in found.values() if it.origin == origin], scenario) for origin in origins]
+    return rows + [_row('net', list(found.values()), scenario)]
+
+
+def _row(origin: int | str, its: list[Message], scenario: Scenario | None) -> Row:
+    delivered = [it for it in its if it.delivered]
+    pairs = [(it, mote, moments) for it in its for mote, moments in it.delivered.items()]
+    delays = sorted(moments[0] - it.at for it, _, moments in pairs)
+    far = {it.origin: hops_from(scenario, it.origin) for it in its} if scenario else {}
+    hops = [far[it.origin][mote] for it, mote, _ in pairs if scenario and mote in far[it.origin]]
+    copies = sum(len(moments) for _, _, moments in pairs)
+    return {
+        'origin': origin, 'sent': len(its), 'delivered': len(delivered),
+        'ratio': round(len(delivered) / len(its), 4) if its else None,
+        'reached': round(len(pairs) / len(its), 4) if its else None,
+        'copies': copies, 'duplicates': copies - len(pairs),
+        'hops': round(sum(hops) / len(hops), 4) if hops else None,
+        'least': delays[0] if delays else None, 'middle': median(delays) if delays else None,
+        'most': delays[-1] if delays else None,
+    }
