@@ -1,15 +1,18 @@
 """Checks that each example shows what is said of it: tools/dev/check_examples [PROGRAM]
 
 For each scenario of examples/ the sentences of NAME.expect.toml have to hold, as tools/expect tells them; what
-README.md and the pages of docs/ quote of an example must stand in it or in its report. PROGRAM is a built motesim;
+README.md and the pages of docs/ quote of an example must be in it or in its report. For each task of examples/lesson
+the solution has to meet the expectations, and what students begin with must not. PROGRAM is a built motesim;
 without it the one that is built here, or that the environment variable MOTESIM names. Prints a line for each example,
 and what is broken, and ends with a line `N passed, M failed`, and with status 1 where an example failed.
 """
 from __future__ import annotations
 
+import io
 import os
 import re
 from collections.abc import Callable
+from contextlib import redirect_stdout
 from pathlib import Path
 
 from motesim.judge.expectations import beside, expect
@@ -85,6 +88,18 @@ def check(path: Path, quotes: dict[str, list[tuple[str, str]]]) -> str:
     return '%d sentences hold, %d quoted lines stand there' % (passed, len(lines))
 
 
+def check_task(task: Path) -> str:
+    """Checks a task of the lesson: its solution meets the expectations, and the file to start from doesn't."""
+    solution = task.parent / 'solutions' / task.name.replace(EXPECTED, '.toml')
+    passed, failed = expect(solution, task, is_quiet=True)
+    if failed:
+        raise Wrong('%d sentences fail for the solution' % failed)
+    with redirect_stdout(io.StringIO()):
+        if not expect(task.parent / 'start.toml', task, is_quiet=True)[1]:
+            raise Wrong('there is nothing to do: start.toml meets all expectations')
+    return '%d sentences hold for the solution, and not for start.toml' % passed
+
+
 @command('check_examples')
 def main() -> int:
     words = words_of(__doc__)
@@ -95,11 +110,12 @@ def main() -> int:
     program_of(None)
     paths = [path for path in sorted((TOP / 'examples').glob('*.toml')) if not path.name.endswith(EXPECTED)]
     quotes, failed = quoted([page for page in PAGES if (TOP / page).is_file()]), 0
-    for path in paths:
+    tasks = sorted((TOP / 'examples/lesson').glob('*' + EXPECTED))
+    for path in [*paths, *tasks]:
         try:
-            print('%s: %s' % (path.stem, check(path, quotes)), flush=True)
+            print('%s: %s' % (path.stem, check_task(path) if path in tasks else check(path, quotes)), flush=True)
         except (Wrong, Fault, OSError, LookupError, ValueError) as fault:
             failed += 1
             print('%s: FAILED: %s' % (path.stem, fault), flush=True)
-    print('%d passed, %d failed' % (len(paths) - failed, failed))
+    print('%d passed, %d failed' % (len(paths) + len(tasks) - failed, failed))
     return 1 if failed else 0
