@@ -44,7 +44,9 @@ uint16_t motesim_word(process_event_t ev, process_data_t data);
 #include <stdio.h>
 
 /* The host counts the statements that a program runs. Contiki doesn't. */
+#ifndef WORK
 #define WORK()
+#endif
 
 extern process_event_t motesim_packet_event;
 #define MOTESIM_PACKET motesim_packet_event
