@@ -1,7 +1,9 @@
 /*
  * Runs the net of net.c from moment 0 to its end, and writes the report.
  */
+#include <inttypes.h>
 #include <stdio.h>
+#include <stdlib.h>
 
 #include "clock.h"
 #include "host.h"
@@ -51,6 +53,7 @@ run(void)
       next = turn < next ? turn : next;
     }
   }
+  free(wakes);
 }
 /*---------------------------------------------------------------------------*/
 static void
@@ -62,7 +65,6 @@ write_text(const struct text *text)
 static int
 write_report(void)
 {
-  struct text last = { NULL, 0, 0 };
   int i;
 
   for(i = 0; i < host_net.mote_count; i++) {
@@ -71,10 +73,7 @@ write_report(void)
   }
   printf("medium\n");
   write_text(medium_log());
-  text_string(&last, "left ");
-  text_number(&last, medium_left());
-  text_character(&last, '\n');
-  write_text(&last);
+  printf("left %" PRIu64 "\n", medium_left());
   return fflush(stdout) == 0 && !ferror(stdout);
 }
 
