@@ -1,0 +1,261 @@
+"""The chain of causes of a line, back to the start of a mote: docs/use/WHY.md says what the cause of a line is."""
+from __future__ import annotations
+
+from collections.abc import Iterator
+from typing import Any, NamedTuple
+
+from motesim.faults import Fault
+from motesim.why.replay import BOOT, SYSTEM, Frame, Link, Replay
+from motesim.why.source import At, Source
+from motesim.why.translate import Program
+
+# Where the time of a chain goes.
+WAITS = ('timer', 'full', 'medium', 'queue')
+WIDEST = 60
+
+
+class Hop(NamedTuple):
+    """A line of a chain, and why it is there.
+
+    words    what follows the moment in the line
+    because  why, in a sentence without its end
+    how      as in a `Link`; `start` at the head of a mote
+    waited   for how many moments since its cause, and `wait` for what: timer, full (a timer that was due, and found
+             the queue full), medium or queue
+    program, program_row   the program's line that wrote it or, of a timer's event, set the timer
+    """
+    where: At
+    row: int
+    at: int
+    words: str
+    because: str
+    how: str
+    waited: int
+    wait: str
+    program: str
+    program_row: int
+
+
+def count(number: int, what: str) -> str:
+    return '%d %s%s' % (number, what, '' if number == 1 else 's')
+
+
+def cause_of(source: Source, where: At) -> At | None:
+    """The one cause of a line; None for the head of a mote, with which it starts."""
+    if where.place < 0:
+        return None
+    link = source.replay(where.mote).links[where.place]
+    if link.how != 'medium':
+        return At(where.mote, link.line)
+    words = source.traces.text(where).split(' ')
+    sent = source.traces.send_of(int(words[2]), int(words[3]))
+    if sent is None or source.traces.moment(sent) >= int(words[0]):
+        raise Fault('line %d of the report has a packet that was never sent: packet %s of mote %s' % (
+            source.traces.row(where), words[3], words[2]))
+    return sent
+
+
+def places(source: Source, where: At) -> list[At]:
+    """The line, its cause, the cause of that, .. back to the head of a mote."""
+    found: list[At] = []
+    at: At | None = where
+    while at is not None:
+        found.append(at)
+        at = cause_of(source, at)
+    return found
+
+
+class _Words:
+    """Says why the lines of one mote are there."""
+
+    def __init__(self, source: Source, mote: int):
+        self.source, self.mote = source, mote
+        self.replay: Replay = source.replay(mote)
+        self.program: Program = source.program(mote)
+
+    def name(self, process: int) -> str:
+        return SYSTEM[process] if process < 0 else self.program.processes[process].name
+
+    def statement(self, number: int) -> str:
+        """A statement of the program, with its line."""
+        if not number:
+            return ''
+        line, text = self.program.statement(number)
+        return 'line %d: `%s`' % (line, text if len(text) <= WIDEST else text[:WIDEST - 3] + '...')
+
+    def event(self, frame: Frame) -> str:
+        if frame.event == 'timer':
+            return 'timer %s' % self.program.timers[frame.word].name if frame.word < len(
+                self.program.timers) else 'timer %d' % frame.word
+        if frame.event == 'exited':
+            return 'exited %s' % self.name(frame.word)
+        if frame.event in ('init', 'poll'):
+            return frame.event
+        return '%s %d' % (frame.event, frame.word)
+
+    def calls(self, frame: Frame | None) -> Iterator[str]:
+        """The calls that have no line, from the inner one out."""
+        while frame and frame.how not in ('take', 'init', 'boot'):
+            by = self.name(frame.made_by.process) if frame.made_by else 'the kernel'
+            place = ' in %s' % self.statement(frame.row) if frame.row else ''
+            if frame.how == 'callback':
+                yield 'the callback of timer %s' % self.program.timers[frame.word].name
+            elif frame.how == 'poll':
+                yield '%s was polled by %s%s' % (self.name(frame.process), by, place)
+            elif frame.how == 'exited':
+                yield '%s is called, since %s exits%s' % (self.name(frame.process), self.name(frame.word), place)
+            elif frame.how == 'exit':
+                yield '%s was killed by %s%s' % (self.name(frame.process), by, place)
+            else:
+                yield '%s was called by %s with %s%s' % (self.name(frame.process), by, self.event(frame), place)
+            frame = frame.made_by
+
+    def of_call(self, kind: str, link: Link) -> str:
+        """Why a line is there that was written in a call."""
+        frame = link.frame
+        if kind == 'leave' and not link.row and frame:
+            own = '%s ended' % self.name(frame.process)
+        elif kind == 'halt':
+            own = 'the work of this run of the kernel was used up'
+        elif link.row and frame:
+            own = '%s, %s' % (self.name(frame.process), self.statement(link.row))
+        else:
+            own = 'the mote boots'
+        return '; '.join([own, *self.calls(frame)])
+
+    def of_timer(self, at: int, link: Link) -> str:
+        timer = self.program.timers[self.timer_of(at)]
+        due = max(link.since + link.interval, link.since)
+        moment = int(self.replay.trace[at].partition(' ')[0])
+        told = 'timer %s was due' % timer.name
+        if moment > due:
+            told += ' since %d, and is offered until the queue has room; it was due' % due
+        if due > link.since:
+            told += ' %s after' % count(due - link.since, 'moment')
+        else:
+            told += ' as soon as'
+        told += ' %s set it in %s' % (self.name(link.frame.process) if link.frame else 'the mote',
+                                      self.statement(link.row))
+        return '; '.join([told, *self.calls(link.frame)])
+
+    def timer_of(self, at: int) -> int:
+        return int(self.replay.trace[at].rsplit(' ', 1)[1])
+
+    def because(self, at: int) -> str:
+        """Why a line is there."""
+        words, link = self.replay.trace[at].split(' '), self.replay.links[at]
+        kind = words[1]
+        if link.how == 'boot':
+            return 'a process of the system' if words[2] in SYSTEM.values() else 'in the list of autostart'
+        if link.how == 'timer':
+            return self.of_timer(at, link)
+        if link.how == 'packet':
+            return 'the radio process hands on packet %s of mote %s' % tuple(
+                self.replay.trace[link.line].split(' ')[3:1:-1])
+        if link.how == 'posted':
+            if kind == 'drop':
+                return 'event %s came, and %s was not there' % (words[2], words[3])
+            later = int(words[0]) - int(self.replay.trace[link.line].partition(' ')[0])
+            return 'event %s was next in the queue%s' % (
+                words[2], ', %s after it was posted' % count(later, 'moment') if later else '')
+        if link.how == 'medium':
+            return self.of_copy(words)
+        return self.of_call(kind, link)
+
+    def of_copy(self, words: list[str]) -> str:
+        """Why a packet came, and what became of it."""
+        sent = self.source.traces.send_of(int(words[2]), int(words[3]))
+        later = int(words[0]) - (self.source.traces.moment(sent) if sent else 0)
+        told = 'packet %s of mote %s came, after %s on the way' % (words[3], words[2], count(later, 'moment'))
+        if words[1] == 'lost':
+            return told + ', but eight packets were waiting already'
+        if words[1] == 'collide':
+            others = [line.split(' ') for line in self.replay.trace if line.startswith('%s collide ' % words[0])]
+            met = ['%s of mote %s' % (it[3], it[2]) for it in others if it[2:] != words[2:]]
+            return told + ', together with %s' % ' and '.join(met)
+        return told
+
+
+def waited(source: Source, link: Link, at: int, before: int) -> tuple[int, str]:
+    """For how many moments a line waited since its cause, and for what."""
+    moments = at - before
+    if link.how == 'timer':
+        return moments, 'full' if at > max(link.since + link.interval, link.since) else 'timer'
+    if link.how == 'medium':
+        return moments, 'medium'
+    return moments, 'queue' if moments else ''
+
+
+def chain(source: Source, where: At) -> list[Hop]:
+    """The hops from a line back to the start of a mote."""
+    found = places(source, where)
+    words = {at.mote: _Words(source, at.mote) for at in found if at.place >= 0}
+    hops = []
+    for place, at in enumerate(found):
+        moment, text = source.traces.moment(at), source.traces.text(at)
+        row, name = source.traces.row(at), source.traces.programs[at.mote]
+        if at.place < 0:
+            hops.append(Hop(at, row, 0, text, 'the start', 'start', 0, '', '', 0))
+            continue
+        link = words[at.mote].replay.links[at.place]
+        moments, wait = waited(source, link, moment, source.traces.moment(found[place + 1]))
+        program_row = source.program(at.mote).statement(link.row).line if link.row else 0
+        hops.append(Hop(at, row, moment, text.partition(' ')[2], words[at.mote].because(at.place), link.how, moments,
+                        wait, name if program_row else '', program_row))
+    return hops
+
+
+class Path(NamedTuple):
+    """Where the time of a chain went: moments and how often, by what was waited for."""
+    moments: int
+    waits: dict[str, tuple[int, int]]
+
+    def __str__(self) -> str:
+        names = {'timer': ('waiting for %s', 'timer'), 'medium': ('on the way, over %s', 'hop'),
+                 'queue': ('in queues', ''), 'full': ('for timers that found the queue full', '')}
+        parts = []
+        for kind, (told, what) in names.items():
+            moments, times = self.waits[kind]
+            if times or kind in ('timer', 'medium'):
+                parts.append('%d %s' % (moments, told % count(times, what) if what else told))
+        return '%s: %s' % (count(self.moments, 'moment'), ', '.join(parts))
+
+
+def path_of(hops: list[Hop]) -> Path:
+    """Sums what each hop of a chain waited for."""
+    waits = {kind: (0, 0) for kind in WAITS}
+    for hop in hops:
+        if hop.wait:
+            moments, times = waits[hop.wait]
+            waits[hop.wait] = moments + hop.waited, times + 1
+    return Path(hops[0].at, waits)
+
+
+def as_json(source: Source, hops: list[Hop]) -> dict[str, Any]:
+    """A chain for programs."""
+    path = path_of(hops)
+    return {
+        'line': hops[0].row, 'mote': hops[0].where.mote, 'at': hops[0].at, 'words': hops[0].words,
+        'chain': [{
+            'mote': hop.where.mote, 'line': hop.row, 'at': hop.at, 'words': hop.words, 'how': hop.how,
+            'because': hop.because, 'waited': hop.waited, 'for': hop.wait or None, 'program': hop.program or None,
+            'program_line': hop.program_row or None,
+        } for hop in hops],
+        'path': {'moments': path.moments, **{kind: {'moments': its[0], 'times': its[1]}
+                                             for kind, its in path.waits.items()}},
+    }
+
+
+def rows(hops: list[Hop]) -> list[str]:
+    """A chain as text, a line for each hop."""
+    table = [(str(hop.at), str(hop.where.mote), str(hop.row), hop.words, hop.because) for hop in hops]
+    table.insert(0, ('moment', 'mote', 'line', '', ''))
+    widths = [max(map(len, column)) for column in zip(*table)]
+    found = []
+    for at, mote, row, words, because in table:
+        found.append(('%s %s %s  %s  %s' % (at.rjust(widths[0]), mote.rjust(widths[1]), row.rjust(widths[2]),
+                                            words.ljust(min(widths[3], 32)), because)).rstrip())
+    return found
+
+
+__all__ = ['BOOT', 'Hop', 'Path', 'as_json', 'cause_of', 'chain', 'count', 'path_of', 'places', 'rows']

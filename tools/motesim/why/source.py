@@ -1,0 +1,190 @@
+"""A run that is asked about: the report's bytes, and the scenario. A mote's trace is taken apart when it is needed."""
+from __future__ import annotations
+
+import re
+from collections.abc import Iterator
+from functools import cached_property
+from pathlib import Path
+from typing import NamedTuple
+
+from motesim.report.belongs import check_motes
+from motesim.faults import Fault
+from motesim.report.report import Mote, Report
+from motesim.runner.run import is_scenario, read_file, run_program
+from motesim.scenario.scenario import Scenario
+from motesim.why.replay import QUEUE, Replay
+from motesim.why.translate import Program, translated
+
+HEAD = re.compile(rb'mote (\d+) ([A-Za-z0-9_-]{1,32})')
+
+
+class At(NamedTuple):
+    """A line of a trace: the mote, and the place in its trace from 0. The place -1 is the head, `mote N PROGRAM`."""
+    mote: int
+    place: int
+
+
+class Found(NamedTuple):
+    """A line that was looked for: its moment and its place."""
+    at: int
+    where: At
+
+
+class Traces:
+    """The traces and the log of the medium in a report's bytes."""
+
+    def __init__(self, data: bytes):
+        self.data = data
+        self.begins: list[int] = []
+        self.ends: list[int] = []
+        self.programs: list[str] = []
+        self.head_rows: list[int] = []
+        self.read_heads()
+        self.kept: dict[int, list[str]] = {}
+        self.sends: dict[int, list[int]] = {}
+
+    def read_heads(self) -> None:
+        """Where each trace begins and ends. A text that is no report gets the fault of the strict reader."""
+        data, at, row = self.data, 0, 1
+        while True:
+            end = data.find(b'\n', at)
+            head = HEAD.fullmatch(data, at, end)
+            if end < 0 or head is None or int(head[1]) != len(self.begins):
+                break
+            self.programs.append(head[2].decode('ascii'))
+            self.head_rows.append(row)
+            self.begins.append(end + 1)
+            following = data.find(b'\nmote ', end)
+            at = (data.find(b'\nmedium\n', end) if following < 0 else following) + 1
+            self.ends.append(at)
+            if not at:
+                break
+            row += data.count(b'\n', end, at)
+        self.medium_row = row
+        self.medium_begin = at + len(b'medium\n')
+        self.medium_end = data.rfind(b'\n', 0, len(data) - 1) + 1
+        if not (self.begins and data[at:self.medium_begin] == b'medium\n' and data.endswith(b'\n')
+                and data.startswith(b'left ', self.medium_end)):
+            Report.parse(data)
+            raise Fault('the report can\'t be read')
+
+    @property
+    def motes(self) -> int:
+        return len(self.begins)
+
+    def lines(self, mote: int) -> list[str]:
+        """The lines of a mote's trace."""
+        if mote not in self.kept:
+            text = self.data[self.begins[mote]:self.ends[mote]].decode('ascii', 'replace')
+            self.kept[mote] = text.split('\n')[:-1]
+        return self.kept[mote]
+
+    def row(self, where: At) -> int:
+        """The line of the report, counted from 1."""
+        return self.head_rows[where.mote] + 1 + where.place
+
+    def text(self, where: At) -> str:
+        if where.place < 0:
+            return 'mote %d %s' % (where.mote, self.programs[where.mote])
+        return self.lines(where.mote)[where.place]
+
+    def moment(self, where: At) -> int:
+        return 0 if where.place < 0 else int(self.text(where).partition(' ')[0])
+
+    def at_row(self, row: int) -> At | None:
+        """The place of a line of the report; None for a line of the medium, or none at all."""
+        for mote in range(self.motes):
+            last = self.head_rows[mote + 1] if mote + 1 < self.motes else self.medium_row
+            if self.head_rows[mote] <= row < last:
+                return At(mote, row - self.head_rows[mote] - 1)
+        return None
+
+    def send_of(self, sender: int, number: int) -> At | None:
+        """The line by which a mote sent a packet."""
+        if sender >= self.motes:
+            return None
+        if sender not in self.sends:
+            self.sends[sender] = [place for place, line in enumerate(self.lines(sender)) if ' send ' in line]
+        sends = self.sends[sender]
+        return At(sender, sends[number]) if number < len(sends) else None
+
+    def matching(self, mote: int, pattern: bytes) -> list[Found]:
+        """The lines of a mote that have this pattern behind the moment."""
+        found, begin = [], self.begins[mote]
+        row, counted = 0, begin
+        for it in re.compile(rb'^(\d+) ' + pattern + rb'$', re.M).finditer(self.data, begin, self.ends[mote]):
+            row += self.data.count(b'\n', counted, it.start())
+            counted = it.start()
+            found.append(Found(int(it[1]), At(mote, row)))
+        return found
+
+    def packets(self, pattern: bytes = rb'\d+ \d+ \d+.*') -> Iterator[tuple[int, str]]:
+        """The lines of the medium that have this pattern behind the moment, each with its line of the report."""
+        row, counted = self.medium_row + 1, self.medium_begin
+        for it in re.compile(rb'^\d+ ' + pattern + rb'$', re.M).finditer(self.data, counted, self.medium_end):
+            row += self.data.count(b'\n', counted, it.start())
+            counted = it.start()
+            yield row, it[0].decode('ascii')
+
+    def packet(self, sender: int, number: int) -> tuple[int, str] | None:
+        """The line of the medium of a packet."""
+        mark = b' %d %d ' % (sender, number)
+        at = self.data.find(mark, self.medium_begin, self.medium_end)
+        while at >= 0:
+            begin = self.data.rfind(b'\n', 0, at) + 1
+            if b' ' not in self.data[begin:at]:
+                end = self.data.find(b'\n', at)
+                row = self.medium_row + 1 + self.data.count(b'\n', self.medium_begin, begin)
+                return row, self.data[begin:end].decode('ascii')
+            at = self.data.find(mark, at + 1, self.medium_end)
+        return None
+
+    @cached_property
+    def bare(self) -> Report:
+        """The report's motes without their lines, for what only asks how many there are."""
+        heads = zip(self.programs, self.head_rows)
+        return Report([Mote(number, name, row, []) for number, (name, row) in enumerate(heads)], [], 0,
+                      self.medium_row)
+
+
+class Source:
+    """A run: its traces, its scenario, and the replay of each mote that was asked about."""
+
+    def __init__(self, name: str, data: bytes, scenario: Scenario):
+        self.name, self.scenario = name, scenario
+        self.traces = Traces(data)
+        self.replays: dict[int, Replay] = {}
+        self.translated: dict[str, Program] = {}
+
+    def program(self, mote: int) -> Program:
+        name = self.traces.programs[mote]
+        if name not in self.translated:
+            self.translated[name] = translated(self.scenario.programs[name])
+        return self.translated[name]
+
+    def replay(self, mote: int) -> Replay:
+        """A mote that has run again."""
+        if mote not in self.replays:
+            room = self.scenario.queue.get(self.traces.programs[mote], QUEUE)
+            made = Replay(self.program(mote), mote, room, self.traces.lines(mote))
+            self.replays[mote] = made.to_end(self.scenario.end)
+        return self.replays[mote]
+
+
+def read_source(path: str | Path, scenario: str | Path | None = None) -> Source:
+    """A scenario, which is run; or a report, with its scenario."""
+    data = read_file(path)
+    try:
+        if is_scenario(path, data):
+            if scenario is not None:
+                raise Fault('it is a scenario itself, and takes no other')
+            return Source(str(path), run_program(data), Scenario.parse(data))
+        if scenario is None:
+            raise Fault("a report doesn't have the programs, which its causes follow from: name its scenario, by "
+                        "--scenario FILE")
+        source = Source(str(path), data, Scenario.parse(read_file(scenario)))
+        check_motes(source.traces.bare, source.scenario)
+        return source
+    except Fault as fault:
+        fault.args = ('%s: %s' % (path, fault),)
+        raise

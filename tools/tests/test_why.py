@@ -1,0 +1,343 @@
+"""Causes: what tools/why says of lines. The chains are worked out by hand from the scenarios."""
+import io
+import json
+import os
+import subprocess
+import sys
+import unittest
+from pathlib import Path
+
+from here import TOOLS, TOP
+import skips
+from motesim.faults import Fault
+from motesim.runner.run import answer
+from motesim.scenario import Scenario
+from motesim.why.chain import cause_of, chain, path_of, places
+from motesim.why.question import Asked, Asker, Missing, Unasked
+from motesim.why.replay import Parted
+from motesim.why.source import At, Source
+
+# Mote 0 boots a, which posts to b, calls c at once, and polls b; b sends when it is polled. Mote 1 hears it.
+SCENARIO = '''version = 1
+end = 20
+[medium]
+range = 10
+base = 3
+per = 1000
+[programs]
+talker = """
+process a, b, c;
+autostart b, a;
+code a {
+  etimer t;
+  body {
+    set t 4;
+    yield_until fired(t);
+    post b msg 5;
+    synch c msg 6;
+    poll b;
+    start c;
+    synch c msg 7;
+    kill c;
+    yield;
+  }
+}
+code b {
+  onpoll {
+    send 8;
+  }
+  body {
+    while 1 {
+      yield_until is(msg);
+      print data;
+    }
+  }
+}
+code c {
+  ctimer late {
+    print 2;
+  }
+  onexit {
+    print 3;
+  }
+  body {
+    set late 2;
+    while 1 {
+      yield_until is(msg);
+      print data;
+    }
+  }
+}
+"""
+hearer = """
+process h;
+autostart h;
+receiver h;
+code h {
+  body {
+    yield_until is(packet);
+    print data;
+  }
+}
+"""
+[[mote]]
+x = 0
+y = 0
+program = "talker"
+[[mote]]
+x = 10
+y = 0
+program = "hearer"
+'''
+# In the first run of the kernel at moment 4, etimer is polled, and a takes the event of its timer; c isn't there for
+# the first `synch`. In the second run b is polled (send), and then takes its event.
+REPORT = '''mote 0 talker
+0 start etimer
+0 start ctimer
+0 start radio
+0 start b
+0 start a
+4 post 0 a timer 0
+4 take 0 a
+4 post 1 b msg 5
+4 start c
+4 print c 7
+4 print c 3
+4 leave c
+4 send 0 8
+4 take 1 b
+4 print b 5
+6 post 2 ctimer timer 1
+6 take 2 ctimer
+6 print c 2
+mote 1 hearer
+0 start etimer
+0 start ctimer
+0 start radio
+0 start h
+7 recv 0 0 8
+7 post 0 h packet 8
+7 take 0 h
+7 print h 8
+7 leave h
+medium
+4 0 0 8 1@7
+left 0
+'''
+HEAD = -1
+# Of each line of mote 0 the place of its cause in the trace, from 0. The five processes start at boot. The timer's event
+# comes of `start a` (4), where a set it; a takes it (6), and all that a does follows from that: the post, the start of c,
+# and the calls of c and b, which have no lines. b takes the event (13) that a posted (7). c set its timer when it started
+# (8), so that is the cause of the timer's event (15).
+CAUSES = [HEAD, HEAD, HEAD, HEAD, HEAD, 4, 5, 6, 6, 6, 6, 6, 6, 7, 13, 8, 15, 16]
+# The same of mote 1, but for what came from mote 0, which line 13 of its lines from 1 sent.
+CAUSES_OF_HEARER = [HEAD, HEAD, HEAD, HEAD, None, 4, 5, 6, 6]
+
+
+def source(scenario: str = SCENARIO, report: str = REPORT) -> Source:
+    return Source('test', report.encode(), Scenario.parse(scenario))
+
+
+def because(source: Source, where: At) -> str:
+    return chain(source, where)[0].because
+
+
+def lines_of(source: Source, where: At) -> list[str]:
+    """A chain as motes and lines."""
+    return ['%d: %s' % (at.mote, source.traces.text(at)) for at in places(source, where)]
+
+
+class Causes(unittest.TestCase):
+    """The cause of each line, by what the kernel does."""
+
+    def test_each_kind_of_line(self) -> None:
+        """Each line's cause is the line that led to the call in which it was written."""
+        causes = [cause_of(source(), At(0, place)) for place in range(len(CAUSES))]
+        self.assertEqual([at.place for at in causes], CAUSES)
+
+    def test_a_packet_is_caused_by_its_send(self) -> None:
+        found = source()
+        causes = [cause_of(found, At(1, place)) for place in range(len(CAUSES_OF_HEARER))]
+        self.assertEqual([at.place for at in causes if at.mote == 1], [it for it in CAUSES_OF_HEARER if it is not None])
+        self.assertEqual(causes[4], At(0, 12))
+
+    def test_a_chain_goes_back_to_the_start_of_a_mote(self) -> None:
+        self.assertEqual(lines_of(source(), At(1, 7)), [
+            '1: 7 print h 8', '1: 7 take 0 h', '1: 7 post 0 h packet 8', '1: 7 recv 0 0 8', '0: 4 send 0 8',
+            '0: 4 take 0 a', '0: 4 post 0 a timer 0', '0: 0 start a', '0: mote 0 talker'])
+
+    def test_what_a_chain_waited_for(self) -> None:
+        path = path_of(chain(source(), At(1, 7)))
+        self.assertEqual(path.waits, {'timer': (4, 1), 'medium': (3, 1), 'queue': (0, 0), 'full': (0, 0)})
+        self.assertEqual(str(path), '7 moments: 4 waiting for 1 timer, 3 on the way, over 1 hop')
+
+    def test_calls_without_a_line_are_named(self) -> None:
+        found = source()
+        self.assertEqual(because(found, At(0, 12)), 'b, line 19: `send 8`; b was polled by a in line 10: `poll b`')
+        self.assertEqual(because(found, At(0, 9)),
+                         'c, line 39: `print data`; c was called by a with msg 7 in line 12: `synch c msg 7`')
+        self.assertEqual(because(found, At(0, 10)),
+                         'c, line 33: `print 3`; c was killed by a in line 13: `kill c`')
+        self.assertEqual(because(found, At(0, 17)), 'c, line 30: `print 2`; the callback of timer late')
+        self.assertEqual(because(found, At(0, 15)),
+                         'timer late was due 2 moments after c set it in line 36: `set late 2`')
+
+    def test_a_trace_of_another_program_is_refused(self) -> None:
+        other = source(SCENARIO.replace('send 8', 'send 9'))
+        with self.assertRaisesRegex(Parted, "line 13 of it should be '4 send 0 9', but there is '4 send 0 8'"):
+            chain(other, At(0, 12))
+
+    def test_a_packet_that_was_never_sent_is_refused(self) -> None:
+        other = source(report=REPORT.replace('7 recv 0 0 8', '7 recv 0 3 8'))
+        with self.assertRaisesRegex(Fault, 'a packet that was never sent: packet 3 of mote 0'):
+            chain(other, At(1, 7))
+
+
+class Questions(unittest.TestCase):
+    """Which line a question is about."""
+
+    def about(self, question: str) -> Asked | Missing:
+        return Asker(source()).about(question)
+
+    def where(self, question: str) -> At:
+        found = self.about(question)
+        assert isinstance(found, Asked)
+        return found.where
+
+    def test_lines_by_number_and_text(self) -> None:
+        for question in '1:28', '28', 'line 28', 'mote 1: 28', '1:7 print h 8':
+            self.assertEqual(self.where(question), At(1, 7), question)
+        self.assertEqual(self.where('0:1'), At(0, -1))
+
+    def test_lines_that_are_not_there(self) -> None:
+        for question, said in (('0:28', 'line 28 is in the trace of mote 1, and not of mote 0'),
+                               ('30', 'line 30 is in no trace'), ('999', 'line 999 is in no trace'),
+                               ('7:3 print h 8', 'there is no mote 7'), ('1:3 print h 8', 'mote 1 has no line')):
+            with self.assertRaisesRegex(Unasked, said):
+                self.about(question)
+
+    def test_sentences_that_hold(self) -> None:
+        for question, where in (('mote 1 prints h 8', At(1, 7)), ('mote 0 prints at least 2 times', At(0, 10)),
+                                ('some mote sends', At(0, 12)), ('every mote prints', At(1, 7)),
+                                ('exactly 1 copy arrives', At(1, 4)), ('at least 1 packet is sent', At(0, 12)),
+                                ('mote 0 finally prints c 2', At(0, 17)), ('mote 0 prints just c 7, 3, 2', At(0, 17)),
+                                ('exactly 1 mote receives 8', At(1, 4)), ('mote 0 leaves c', At(0, 11))):
+            self.assertEqual(self.about(question).where, where, question)
+            self.assertTrue(self.about(question).holds, question)
+
+    def test_sentences_that_a_line_breaks(self) -> None:
+        for question, where in (('no mote sends', At(0, 12)), ('mote 0 prints at most 2', At(0, 14)),
+                                ('no copy arrives', At(1, 4)), ('mote 0 prints just c 7, 2', At(0, 10)),
+                                ('mote 0 finally prints c 3', At(0, 17)), ('mote 1 never receives 8', At(1, 4))):
+            self.assertEqual(self.about(question).where, where, question)
+            self.assertFalse(self.about(question).holds, question)
+
+    def test_sentences_that_want_a_line(self) -> None:
+        for question in 'mote 1 prints h 9', 'mote 1 prints h 8 by 6', 'mote 0 sends twice', 'every mote sends':
+            self.assertIsInstance(self.about(question), Missing, question)
+
+    def test_sentences_about_no_line(self) -> None:
+        for question in 'no mote halts', 'mote 1 can hear mote 0', 'the report has 9 lines', 'no copy collides':
+            with self.assertRaises(Fault, msg=question):
+                self.about(question)
+
+
+def runs() -> list[Path]:
+    """The scenarios of the examples and of the cases."""
+    return sorted([*TOP.glob('examples/*.toml'), *TOP.glob('tests/cases/*/*.toml')])
+
+
+class Runs(unittest.TestCase):
+    """The built program's runs."""
+
+    def setUp(self) -> None:
+        skips.need_program(self)
+
+    def run_of(self, name: str) -> Source:
+        data = (TOP / 'examples' / name).read_bytes()
+        return Source(name, answer(data).report, Scenario.parse(data))
+
+    def test_each_line_has_one_cause_that_is_earlier(self) -> None:
+        """On all examples and cases, back to the start of a mote."""
+        lines = 0
+        for path in runs():
+            data = path.read_bytes()
+            got = answer(data)
+            if got.status:
+                continue
+            found = Source(str(path), got.report, Scenario.parse(data))
+            steps: dict[At, int] = {}
+            traces = found.traces
+            everything = [At(mote, place) for mote in range(traces.motes) for place in range(len(traces.lines(mote)))]
+            for at in sorted(everything, key=lambda at: (traces.moment(at), at)):
+                cause = cause_of(found, at)
+                assert cause is not None
+                before = cause.mote == at.mote and cause.place < at.place or traces.moment(cause) < traces.moment(at)
+                self.assertTrue(before, (path, at))
+                self.assertLessEqual(traces.moment(cause), traces.moment(at))
+                # (a line of another mote is earlier by a moment at least, so its cause is known here)
+                steps[at] = 1 + (0 if cause.place < 0 else steps[cause])
+                lines += 1
+        self.assertGreater(lines, 25_000)
+
+    def test_flooding(self) -> None:
+        """Message 1 goes from mote 0 by mote 1 to mote 6: 1 is the least sender of the two that are heard at 46."""
+        found = self.run_of('flooding.toml')
+        asked = Asker(found).about('mote 6 prints flood 1')
+        self.assertEqual([it.partition(' ')[0] + ' ' + it.partition(' ')[2] for it in lines_of(found, asked.where)], [
+            '6: 46 print flood 1', '6: 46 take 0 flood', '6: 46 post 0 flood packet 1', '6: 46 recv 1 0 1',
+            '1: 43 send 0 1', '1: 43 take 0 flood', '1: 43 post 0 flood packet 1', '1: 43 recv 0 0 1',
+            '0: 40 send 0 1', '0: 40 take 0 flood', '0: 40 post 0 flood timer 0', '0: 0 start flood',
+            '0: mote 0 flood'])
+        self.assertEqual(str(path_of(chain(found, asked.where))),
+                         '46 moments: 40 waiting for 1 timer, 6 on the way, over 2 hops')
+
+    def test_flooding_around_a_loss(self) -> None:
+        """Message 2 is lost from 0 to 1, and comes by way of 5 and 6; its timer was reset when the one before fired."""
+        found = self.run_of('flooding.toml')
+        asked = Asker(found).about('mote 1 prints flood 2')
+        hops = [it for it in chain(found, asked.where) if it.wait]
+        self.assertEqual([(it.where.mote, it.at, it.waited, it.wait) for it in hops], [
+            (1, 89, 3, 'medium'), (6, 86, 3, 'medium'), (5, 83, 3, 'medium'), (0, 80, 40, 'timer'),
+            (0, 40, 40, 'timer')])
+
+    def test_the_tree(self) -> None:
+        """The reading of mote 9 goes by 3 and 6 to the root.
+
+        Mote 9 is at (-39, -5), 3 at (-22, -12), 6 at (-13, -3). The squares of the ways are 17*17 + 7*7 = 338,
+        9*9 + 9*9 = 162 and 13*13 + 3*3 = 178, so they last 2 + 5, 2 + 2 and 2 + 2 moments. Mote 9 measures at
+        300 + 5*9 = 345.
+        """
+        found = self.run_of('collection_tree.toml')
+        asked = Asker(found).about('mote 0 prints reading 9')
+        hops = [it for it in chain(found, asked.where) if it.wait]
+        self.assertEqual([(it.where.mote, it.at, it.waited, it.wait) for it in hops], [
+            (0, 360, 4, 'medium'), (6, 356, 4, 'medium'), (3, 352, 7, 'medium'), (9, 345, 345, 'timer')])
+        self.assertEqual(chain(found, asked.where)[0].because,
+                         'reading, line 62: `print data`; reading was called by tree with msg 9 in line 32: '
+                         '`synch reading msg (data % 100)`')
+
+    def why(self, *arguments: str) -> subprocess.CompletedProcess[str]:
+        return subprocess.run([sys.executable, str(TOOLS / 'why'), *arguments], capture_output=True, text=True,
+                              cwd=TOP, env=dict(os.environ))
+
+    def test_the_command(self) -> None:
+        shown = self.why('examples/flooding.toml', 'mote 6 prints flood 1', '--short')
+        self.assertEqual(shown.returncode, 0)
+        self.assertIn('46 moments: 40 waiting for 1 timer, 6 on the way, over 2 hops', shown.stdout)
+        got = json.loads(self.why('examples/flooding.toml', 'mote 6 prints flood 1', '--json').stdout)
+        self.assertEqual([it['at'] for it in got['chain']], [46] * 4 + [43] * 4 + [40] * 3 + [0, 0])
+        self.assertEqual(got['path']['medium'], {'moments': 6, 'times': 2})
+
+    def test_what_the_command_refuses(self) -> None:
+        for arguments, said in (
+                (('examples/flooding.toml', 'mote 6 prints flod 1'), 'a process'),
+                (('examples/none.toml', '3'), 'No such file'),
+                (('examples/flooding.toml', 'no mote halts'), 'no line to ask about')):
+            refused = self.why(*arguments)
+            self.assertEqual((refused.returncode, refused.stdout), (2, ''))
+            self.assertIn(said, refused.stderr)
+
+
+if __name__ == '__main__':
+    unittest.main()
