@@ -13,6 +13,7 @@ import textwrap
 from typing import Any
 
 from motesim.explain import hints, missing
+from motesim.explain.advice import Advice, advice
 from motesim.notation import faults as program_faults
 from motesim.scenario import encodings
 from motesim.scenario import faults as scenario_faults
@@ -110,7 +111,16 @@ def of_program(name: str, text: str, program: str, its: program_faults.ProgramFa
     end = 'The text ends here. ' if its.token.kind == 'end' else ''
     lines = shown_program(name, text, program, its.token)
     lines += wrapped('%s: %s%s' % (title, end, rule)) + wrapped('Here may stand: %s' % ', '.join(its.may))
-    return lines + hinted(hints.of_program(tables_of(text)['programs'][program], its))
+    return lines + advised(advice(tables_of(text)['programs'][program], its))
+
+
+def advised(found: Advice | None) -> list[str]:
+    """Advice on a program's fault, with the line as it should be."""
+    if found is None:
+        return []
+    if found.line is None:
+        return hinted(found.hint)
+    return hinted(found.hint) + [found.head()] + (['  ' + found.line] if found.line else [])
 
 
 def hinted(hint: str | None) -> list[str]:

@@ -85,7 +85,7 @@ def of_program(text: str, fault: ProgramFault) -> str | None:
     before, here = tokens[:at], fault.token
     behind = tokens[at + 1] if at + 1 < len(tokens) else here
     if fault.kind == 1:
-        return _of_letter(before, here) or _of_sign(here, behind)
+        return _of_letter(before, here) or _of_capital(text, here) or _of_sign(here, behind)
     if fault.kind == 2:
         return _of_unexpected(before, here, behind, fault.may) or _of_operator(tokens, at, fault.may)
     if fault.kind == 3:
@@ -105,6 +105,15 @@ def _of_letter(before: list[Token], here: Token) -> str | None:
         return None
     letter = next(it for it in word if not it.isdigit())
     return 'A letter `%s` is in the number: was `%s` meant?' % (letter, number.lstrip('0') or '0')
+
+
+def _of_capital(text: str, here: Token) -> str | None:
+    """A name with capital letters."""
+    line = text.split('\n')[here.line - 1]
+    found = next((it for it in re.finditer(r'[A-Za-z_]\w*', line) if it.start() <= here.column < it.end()), None)
+    if found is None or found[0] == found[0].lower():
+        return None
+    return 'Names have small letters: `%s`.' % found[0].lower()
 
 
 def _of_sign(here: Token, behind: Token) -> str | None:

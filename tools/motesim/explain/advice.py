@@ -1,0 +1,36 @@
+"""Advice on a fault of a program: what was most likely meant, and the line as it should be."""
+from __future__ import annotations
+
+from typing import NamedTuple
+
+from motesim.explain import hints
+from motesim.from_c.correction import correction
+from motesim.notation.faults import ProgramFault
+
+OF_PARENTHESES = ('Only an operation of two values has parentheses, as `(a + b)`, and each has its own; `if`, `while` and '
+                  'other statements need none.')
+
+
+class Advice(NamedTuple):
+    """A hint, and the line that should be there; the lines (from 1) that it replaces. An empty line is left out."""
+    hint: str
+    line: str | None = None
+    first: int = 0
+    last: int = 0
+
+    def head(self) -> str:
+        """The words above the line."""
+        which = 'line %d' % self.first if self.first == self.last else 'lines %d to %d' % (self.first, self.last)
+        return 'Leave %s of the program out.' % which if not self.line else 'Write, as %s of the program:' % which
+
+
+def advice(source: str, fault: ProgramFault) -> Advice | None:
+    """Advice on the first fault of a program's text; None if nothing better is known than the rule."""
+    found = correction(source, fault)
+    hint = hints.of_program(source, fault)
+    if found is None:
+        return Advice(hint) if hint else None
+    reasons = ' '.join(found.reasons) or hint or OF_PARENTHESES
+    if found.line is None:
+        return Advice(reasons)
+    return Advice(reasons, found.line, found.first, found.last)

@@ -1,0 +1,344 @@
+"""Expressions of C, as the notation writes them.
+
+`Expressions(tokens, scope).expression()` reads one and returns a `Node`; `Writer(scope).text(node)` writes it with the
+parentheses that the notation wants. What has no counterpart is a `NoCounterpart`, whose text says what to do.
+"""
+from __future__ import annotations
+
+from dataclasses import dataclass, field
+
+from motesim.from_c.scope import Scope, allowed
+from motesim.from_c.tokens import END, Token
+
+# The operators, those that bind least first.
+LEVELS = (('||', 'or'), ('&&', 'and'), ('|',), ('^',), ('&',), ('==', '!=', '='), ('<', '<=', '>', '>='), ('<<', '>>'),
+          ('+', '-'), ('*', '/', '%'))
+PLAIN = frozenset(('||', '&&', '==', '!=', '<', '<=', '>', '>=', '+', '-', '*', '/', '%'))
+WORDS = {'and': '&&', 'or': '||'}
+TYPES = frozenset((
+    'int', 'char', 'short', 'long', 'unsigned', 'signed', 'bool', 'float', 'double', 'void', 'size_t', 'clock_time_t',
+    'uint8_t', 'uint16_t', 'uint32_t', 'int8_t', 'int16_t', 'int32_t', 'u8_t', 'u16_t', 'process_event_t',
+    'process_data_t', 'let', 'auto'))
+QUALIFIERS = frozenset(('static', 'const', 'volatile', 'extern', 'register'))
+VALUES = {'true': '1', 'false': '0', 'null': '0', 'node_id': 'self', 'simmoteid': 'self', 'rtimer_now': 'now'}
+TESTS = ('is', 'fired', 'expired', 'gone', 'running', 'count')
+CALLS = {'etimer_expired': 'expired', 'ctimer_expired': 'expired', 'timer_expired': 'expired',
+         'process_is_running': 'running', 'pt_sem_count': 'count', 'sem_count': 'count'}
+CLOCKS = ('clock_time', 'clock_seconds', 'rtimer_now')
+EVENTS = {'process_event_%s' % it: it for it in ('init', 'poll', 'exit', 'continue', 'msg', 'com', 'exited', 'timer')}
+EVENTS.update({'process_event_none': 'continue', 'tcpip_event': 'packet', 'packet_received': 'packet'})
+OWN_EVENTS = ('init', 'poll', 'exit', 'continue', 'msg', 'com', 'packet', 'exited', 'timer')
+MOST = 65_535
+ADDRESSES = ('linkaddr_node_addr', 'rimeaddr_node_addr')
+
+NO_BITS = ('There are no operators on bits: `(x % 256)` is the low byte, `(x / 256)` the high one, and flags are '
+           'variables of their own.')
+NO_ARRAYS = 'There are no arrays: a variable holds one number of 16 bits.'
+NO_FIELDS = 'A packet has no fields: it has one number, `data`. Two small ones make one, `((a * 256) + b)`.'
+NO_TEXTS = 'There are no texts: a program prints numbers, `print 1;`. The line of the report names the process anyway.'
+NO_REALS = 'Numbers are whole, 0 to 65,535: there is no point in them.'
+NO_CALLS = ('There are no functions: a `thread` without waits serves as one. It is run by `spawn`, and shares the '
+            'variables of its process.')
+NO_CHANCE = ('There is no chance in a mote: each run is the same. A generator of its own serves, with a seed that differs '
+             'by mote: `seed = ((seed * 25173) + 13849);`, and `((seed / 256) % 10)` is 0 to 9.')
+TOO_LARGE = 'Numbers have 16 bits, 0 to 65,535: a larger one is counted in parts, as thousands in a second variable.'
+TICKS = 'A timer is set in moments: there is no `CLOCK_SECOND`. Decide how many moments a second has, and write that.'
+
+
+class NoCounterpart(Exception):
+    """Something of C that the notation hasn't: what to do instead. An empty text says that it isn't C either."""
+
+
+@dataclass(frozen=True)
+class Node:
+    """A part of an expression: number, name, text, call, unary, binary, choice, index or member, with its parts."""
+    kind: str
+    text: str = ''
+    parts: tuple[Node, ...] = ()
+
+
+def number_of(text: str) -> int | None:
+    """The value of a number of C, or None."""
+    plain = text.lower().rstrip('ul') or text
+    try:
+        if plain[:2] in ('0x', '0b'):
+            return int(plain, 0)
+        return int(plain.translate(str.maketrans('oi', '01')))
+    except ValueError:
+        return None
+
+
+class Expressions:
+    """Reads expressions from tokens."""
+
+    def __init__(self, tokens: list[Token], scope: Scope):
+        self.tokens, self.scope, self.at = tokens, scope, 0
+
+    @property
+    def token(self) -> Token:
+        return self.ahead(0)
+
+    def ahead(self, count: int) -> Token:
+        return self.tokens[self.at + count] if self.at + count < len(self.tokens) else END
+
+    def accept(self, *texts: str) -> str:
+        """One of these tokens, if it is the next."""
+        if self.token.text in texts and self.token.kind not in ('text', 'char', 'end'):
+            self.at += 1
+            return texts[texts.index(self.tokens[self.at - 1].text)]
+        return ''
+
+    def need(self, *texts: str) -> str:
+        found = self.accept(*texts)
+        if not found:
+            raise NoCounterpart
+        return found
+
+    def expression(self) -> Node:
+        """An expression, with `?` and `:`."""
+        test = self.level(0)
+        if not self.accept('?'):
+            return test
+        yes = self.expression()
+        self.need(':')
+        return Node('choice', '', (test, yes, self.expression()))
+
+    def level(self, number: int) -> Node:
+        if number == len(LEVELS):
+            return self.unary()
+        left = self.level(number + 1)
+        while self.token.kind in ('sign', 'name') and self.token.text in LEVELS[number]:
+            sign = self.accept(*LEVELS[number])
+            right = self.level(number + 1)
+            left = Node('binary', '==' if sign == '=' else WORDS.get(sign, sign), (left, right))
+        return left
+
+    def is_cast(self) -> bool:
+        """Whether a type in parentheses is next."""
+        at = 1
+        while self.ahead(at).text in TYPES | QUALIFIERS | {'struct', '*'}:
+            at += 1
+        return at > 1 and self.token.text == '(' and self.ahead(at).text == ')'
+
+    def unary(self) -> Node:
+        if self.is_cast():
+            while not self.accept(')'):
+                self.at += 1
+            return self.unary()
+        sign = self.accept('!', '-', '+', '~', '*', '&', 'not')
+        if sign:
+            return Node('unary', '!' if sign == 'not' else sign, (self.unary(),))
+        return self.postfix(self.primary())
+
+    def primary(self) -> Node:
+        token = self.token
+        if self.accept('('):
+            inner = self.expression()
+            self.need(')')
+            return inner
+        self.at += 1
+        if token.kind in ('number', 'name', 'text', 'char', 'real'):
+            return Node(token.kind, token.text)
+        raise NoCounterpart
+
+    def postfix(self, node: Node) -> Node:
+        while True:
+            if node.kind == 'name' and self.accept('('):
+                node = Node('call', node.text, tuple(self.arguments()))
+            elif self.accept('['):
+                node = Node('index', '', (node, self.expression()))
+                self.need(']')
+            elif node.kind != 'number' and self.accept('.', '->'):
+                node = Node('member', self.token.text, (node,))
+                self.at += 1
+            else:
+                return node
+
+    def arguments(self) -> list[Node]:
+        """The arguments of a call, behind its parenthesis."""
+        found: list[Node] = []
+        if self.accept(')'):
+            return found
+        while True:
+            found.append(self.expression())
+            if self.need(',', ')') == ')':
+                return found
+
+
+@dataclass
+class Writer:
+    """Writes expressions as the notation has them, and collects why they differ."""
+    scope: Scope
+    # A timer that stands for a test: `fired` in a wait, else `expired`.
+    of_timer: str = 'expired'
+    reasons: list[str] = field(default_factory=list)
+
+    def why(self, reason: str) -> None:
+        if reason not in self.reasons:
+            self.reasons.append(reason)
+
+    def text(self, node: Node) -> str:
+        """An expression."""
+        if node.kind == 'number':
+            return self.number(node.text)
+        if node.kind == 'char':
+            self.why('There are no characters: a number stands for one, 65 for `A`.')
+            return str(ord(node.text[1])) if len(node.text) == 3 else self.refuse(NO_TEXTS)
+        if node.kind == 'name':
+            return self.name(node.text)
+        if node.kind == 'call':
+            return self.call(node)
+        if node.kind == 'unary':
+            return self.unary(node.text, node.parts[0])
+        if node.kind == 'binary':
+            return self.binary(node.text, *node.parts)
+        if node.kind in ('index', 'member'):
+            return self.part(node)
+        reasons = {'real': NO_REALS, 'text': NO_TEXTS,
+                   'choice': 'There is no `? :`: write `if .. { x = a; } else { x = b; }`.'}
+        return self.refuse(reasons[node.kind])
+
+    def refuse(self, reason: str) -> str:
+        raise NoCounterpart(reason)
+
+    def number(self, word: str) -> str:
+        value = number_of(word)
+        if value is None:
+            return self.refuse('')
+        if value > MOST:
+            return self.refuse(TOO_LARGE)
+        if str(value) != word:
+            self.why(self.of_number(word, value))
+        return str(value)
+
+    def of_number(self, word: str, value: int) -> str:
+        """Why a number is written in another way."""
+        if word[:2].lower() in ('0x', '0b'):
+            return 'Numbers are decimal: `%s` is %d.' % (word, value)
+        if word.isdecimal():
+            return 'A number has no zeros in front: `%d`.' % value
+        if word[-1] in 'uUlL' and word[:-1].rstrip('uUlL').isdecimal() and 'l' not in word[:-1]:
+            return 'A number has no type: `%d`.' % value
+        letter = next(it for it in word if not it.isdigit())
+        return 'A letter `%s` is in the number: was `%d` meant?' % (letter, value)
+
+    def name(self, word: str) -> str:
+        lower = word.lower()
+        if lower in VALUES and word not in self.scope.kinds:
+            self.why('A truth value is a number: 1 is true, 0 is false.' if VALUES[lower].isdigit() else
+                     'The number of the mote is `self`.' if VALUES[lower] == 'self' else 'The moment is `now`.')
+            return VALUES[lower]
+        if lower == 'clock_second':
+            return self.refuse(TICKS)
+        if word in ('data', 'from', 'now', 'self') or self.scope.kinds.get(word) == 'variable':
+            return word
+        timer = self.scope.kinds.get(word) == 'timer'
+        if timer:
+            self.why('A timer is no value: `fired(%s)` is true in the call with its event, and `expired(%s)` from then '
+                     'on.' % (word, word))
+            return '%s(%s)' % (self.of_timer, word)
+        found = self.scope.meant(word, 'variable')
+        if found != word:
+            self.why('Names have small letters: `%s`.' % found if found == lower else
+                     'The name is `%s` here.' % found if found == allowed(word) else 'Did you mean `%s`?' % found)
+        return found
+
+    def event(self, node: Node) -> str:
+        """The event that is named."""
+        if node.kind != 'name':
+            return self.refuse('')
+        lower = node.text.lower()
+        if lower in EVENTS:
+            return EVENTS[lower]
+        return node.text if node.text in OWN_EVENTS else self.scope.meant(node.text, 'event')
+
+    def of_kind(self, node: Node, kind: str) -> str:
+        """A process, timer, thread or semaphore that is named, with `&` or without."""
+        if node.kind == 'unary' and node.text == '&':
+            node = node.parts[0]
+        if node.kind in ('name', 'call'):
+            return self.scope.meant(node.text, kind)
+        return self.refuse('')
+
+    def call(self, node: Node) -> str:
+        lower, parts = node.text.lower(), node.parts
+        if lower in CLOCKS:
+            self.why('The moment is `now`.')
+            return 'now'
+        if lower in ('random_rand', 'rand', 'random', 'rnd'):
+            return self.refuse(NO_CHANCE)
+        test = node.text if node.text in TESTS else CALLS.get(lower, '')
+        if not test or len(parts) != 1:
+            return self.refuse(NO_CALLS)
+        if test != node.text:
+            self.why('`%s` is `%s` here.' % (node.text, test))
+        if test == 'is':
+            return 'is(%s)' % self.event(parts[0])
+        kind = {'gone': 'process', 'running': 'process', 'count': 'semaphore'}.get(test, 'timer')
+        return '%s(%s)' % (test, self.of_kind(parts[0], kind))
+
+    def unary(self, sign: str, inner: Node) -> str:
+        if sign == '!':
+            return '!' + self.text(inner)
+        if sign == '-':
+            self.why('There are no numbers below 0: values have 16 bits, and `(0 - 1)` is 65535.')
+            return '(0 - %s)' % self.text(inner)
+        if sign == '~':
+            self.why('There are no operators on bits: `(65535 - x)` turns all bits of x around.')
+            return '(65535 - %s)' % self.text(inner)
+        if sign in '*&':
+            self.why('There are no pointers: a name is the value.')
+        return self.text(inner)
+
+    def binary(self, sign: str, left: Node, right: Node) -> str:
+        if sign in ('==', '!=') and Node('name', 'ev') in (left, right):
+            self.why('The event of a call is tested by `is(..)`.')
+            event = 'is(%s)' % self.event(right if left == Node('name', 'ev') else left)
+            return event if sign == '==' else '!' + event
+        if sign in ('==', '!=') and self.is_of_timer(left, right):
+            timer = 'fired(%s)' % self.of_kind(right, 'timer')
+            return timer if sign == '==' else '!' + timer
+        if sign == '&&' and self.is_timer_event(left) and right.kind == 'binary' and self.is_of_timer(*right.parts):
+            self.why('`fired(..)` is both tests: the event is a timer\'s, and it is this timer.')
+            return self.text(right)
+        if sign in ('<<', '>>'):
+            return self.shift(sign, left, right)
+        if sign in ('&', '|', '^'):
+            return self.mask(sign, left, right)
+        assert sign in PLAIN
+        return '(%s %s %s)' % (self.text(left), sign, self.text(right))
+
+    def is_of_timer(self, left: Node, right: Node) -> bool:
+        """Whether `data == &t` is what is compared."""
+        named = right.parts[0] if right.kind == 'unary' and right.text == '&' else right
+        return left == Node('name', 'data') and self.scope.kinds.get(named.text) == 'timer' and named.kind == 'name'
+
+    def is_timer_event(self, node: Node) -> bool:
+        names = {it.text.lower() for it in node.parts}
+        return node.kind == 'binary' and node.text == '==' and names == {'ev', 'process_event_timer'}
+
+    def shift(self, sign: str, left: Node, right: Node) -> str:
+        places = number_of(right.text) if right.kind == 'number' else None
+        if places is None or places > 15:
+            return self.refuse(NO_BITS)
+        self.why('There are no shifts: a shift by %d is `%s %d`.' % (places, '*' if sign == '<<' else '/', 2 ** places))
+        return '(%s %s %d)' % (self.text(left), '*' if sign == '<<' else '/', 2 ** places)
+
+    def mask(self, sign: str, left: Node, right: Node) -> str:
+        mask = number_of(right.text) if right.kind == 'number' else None
+        if sign != '&' or mask is None or mask & (mask + 1) or not mask:
+            return self.refuse(NO_BITS)
+        self.why('There are no operators on bits: `%% %d` takes the same lower bits as `& %s`.' % (mask + 1, right.text))
+        return '(%s %% %d)' % (self.text(left), mask + 1) if mask < MOST else self.text(left)
+
+    def part(self, node: Node) -> str:
+        """A part of an address is the number of a mote; other arrays and fields there are none."""
+        words: list[str] = []
+        at = node
+        while at.kind in ('index', 'member'):
+            words.append(at.text)
+            at = at.parts[0]
+        if 'u8' in words and at.text in ('from', 'sender', *ADDRESSES):
+            self.why('An address is one number: `from` of the sender, `self` of the mote itself.')
+            return 'self' if at.text in ADDRESSES else 'from'
+        return self.refuse(NO_ARRAYS if node.kind == 'index' else NO_FIELDS)

@@ -1,0 +1,61 @@
+"""The names that a program declares, as far as its text can be read."""
+from __future__ import annotations
+
+import difflib
+import re
+from collections.abc import Iterable
+from dataclasses import dataclass, field
+
+from motesim.notation.faults import tokens_of
+from motesim.notation.keywords import RESERVED
+
+DECLARES = {'event': 'event', 'semaphore': 'semaphore', 'process': 'process', 'var': 'variable', 'etimer': 'timer',
+            'ctimer': 'timer', 'thread': 'thread'}
+NAME = re.compile('[a-z][a-z0-9_]*')
+LONGEST = 16
+
+
+def allowed(name: str) -> str:
+    """A name that may be declared, as near to this one as may be: small letters, at most 16, no word of the notation."""
+    name = name.lower().lstrip('_') or 'x'
+    return ('my_' + name if name in RESERVED else name)[:LONGEST]
+
+
+def nearest(word: str, known: Iterable[str]) -> str | None:
+    """The known word that this one is most like, if one is near."""
+    found = difflib.get_close_matches(word.lower(), sorted(known), 1, 0.65)
+    return found[0] if found else None
+
+
+@dataclass
+class Scope:
+    """Names with their kinds: event, semaphore, process, variable, timer, thread."""
+    kinds: dict[str, str] = field(default_factory=dict)
+
+    @classmethod
+    def of(cls, text: str) -> Scope:
+        """All names that a text declares anywhere."""
+        words = [it.text for it in tokens_of(text)]
+        kinds: dict[str, str] = {}
+        for at, word in enumerate(words[:-1]):
+            if word not in DECLARES:
+                continue
+            behind = at + 1
+            while NAME.fullmatch(words[behind]):
+                kinds.setdefault(words[behind], DECLARES[word])
+                if word != 'process' or words[behind + 1] != ',':
+                    break
+                behind += 2
+        return cls(kinds)
+
+    def of_kind(self, kind: str) -> list[str]:
+        """The names of a kind."""
+        return [name for name, its in self.kinds.items() if its == kind]
+
+    def meant(self, name: str, kind: str) -> str:
+        """The name of this kind that was most likely meant: the name itself if nothing is near."""
+        for its in name, name.lower(), allowed(name):
+            if self.kinds.get(its) == kind:
+                return its
+        # (a name that is known as something else isn't a misspelling)
+        return name if name in self.kinds else nearest(name, self.of_kind(kind)) or name

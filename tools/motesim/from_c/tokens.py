@@ -1,0 +1,31 @@
+"""The tokens of a line that may be C."""
+from __future__ import annotations
+
+import re
+from typing import NamedTuple
+
+FORMS = [
+    ('comment', r'//[^\n]*|/\*.*?\*/'),
+    ('text', r'"(?:[^"\\\n]|\\.)*"'),
+    ('char', r"'(?:[^'\\\n]|\\.)'"),
+    ('real', r'[0-9]+\.[0-9]+'),
+    ('number', r'0[xX][0-9a-fA-F]+[uUlL]*|0[bB][01]+[uUlL]*|[0-9][0-9A-Za-z_]*'),
+    ('directive', r'#[^\n]*'),
+    ('name', r'[A-Za-z_][A-Za-z0-9_]*'),
+    ('sign', r'<<=|>>=|->|:=|\+\+|--|<<|>>|<=|>=|==|!=|&&|\|\||[-+*/%&|^]=|[^\s]'),
+]
+TOKEN = re.compile('|'.join('(?P<%s>%s)' % form for form in FORMS), re.S)
+
+
+class Token(NamedTuple):
+    """A token: its kind, as the forms above name it, and its text."""
+    kind: str
+    text: str
+
+
+END = Token('end', '')
+
+
+def tokens_of(text: str) -> list[Token]:
+    """The tokens of some lines."""
+    return [Token(found.lastgroup or 'sign', found[0]) for found in TOKEN.finditer(text)]

@@ -1,0 +1,158 @@
+"""What people write who come from C and Contiki: each mistake gets a message from which the line is put right."""
+import unittest
+
+import c_mistakes
+from here import TOP
+from motesim.explain.advice import advice
+from motesim.from_c.correction import correction
+from motesim.from_c.scope import Scope
+from motesim.from_c.statements import Place, Statements
+from motesim.notation.faults import find_fault, tokens_of
+from motesim.scenario.scenario import Scenario
+
+PROGRAM = """event full;
+%(top)s
+semaphore items = 1;
+process sender, other;
+autostart sender, other;
+receiver sender;
+code sender {
+  var x = 0;
+  var y = 0;
+  var i = 0;
+  var n = 0;
+  var newest = 0;
+  %(head)s
+  etimer t;
+  ctimer c {
+    print x;
+  }
+  thread sub {
+    print y;
+  }
+  body {
+    yield;
+    %(body)s
+    yield;
+  }
+}
+code other {
+  body {
+    yield;
+  }
+}
+"""
+
+CONTIKI = """#include "contiki.h"
+#include <stdio.h>
+PROCESS(beacon, "Beacon");
+AUTOSTART_PROCESSES(&beacon);
+PROCESS_THREAD(beacon, ev, data)
+{
+  static int count = 0;
+  static struct etimer et;
+  PROCESS_BEGIN();
+  etimer_set(&et, 10);
+  while(1) {
+    PROCESS_WAIT_EVENT_UNTIL(etimer_expired(&et));
+    count++;
+    if(count % 2 == 0)
+      printf("beacon %d\\n", count);
+    for(count = count; count < 0x10 && count > 5; count += 3) {
+      /* nothing */
+    }
+    etimer_reset(&et);
+  }
+  PROCESS_END();
+}
+"""
+OURS = """process beacon;
+autostart beacon;
+code beacon {
+  var my_count = 0;
+  etimer et;
+  body {
+    set et 10;
+    while 1 {
+      yield_until expired(et);
+      my_count = (my_count + 1);
+      if ((my_count % 2) == 0) { print my_count; }
+      my_count = my_count; while ((my_count < 16) && (my_count > 5)) {
+      }
+      reset et;
+    }
+  }
+}
+"""
+
+
+def program(place: str, lines: str) -> str:
+    return PROGRAM % {**dict.fromkeys(('top', 'head', 'body'), ''), place: lines}
+
+
+def words(text: str) -> list[str]:
+    return [it.text for it in tokens_of(text)]
+
+
+def repaired(text: str) -> str | None:
+    """The text as the message has it: its line put in the place of those that it is about."""
+    fault = find_fault(text)
+    found = correction(text, fault) if fault else None
+    if not found or found.line is None:
+        return None
+    lines = text.split('\n')
+    return '\n'.join([*lines[:found.first - 1], found.line, *lines[found.last:]])
+
+
+class Corpus(unittest.TestCase):
+    def test_each_right_line_is_one(self) -> None:
+        for place, _, right in c_mistakes.RIGHT:
+            with self.subTest(right):
+                self.assertIsNone(find_fault(program(place, right)))
+
+    def test_each_mistake_is_one(self) -> None:
+        for place, wrong, _ in [*c_mistakes.RIGHT, *c_mistakes.SAID]:
+            with self.subTest(wrong):
+                self.assertIsNotNone(find_fault(program(place, wrong)))
+
+    def test_the_message_has_the_line_as_it_should_be(self) -> None:
+        failed = [(wrong, repaired(program(place, wrong))) for place, wrong, right in c_mistakes.RIGHT
+                  if words(repaired(program(place, wrong)) or '') != words(program(place, right))]
+        self.assertEqual(failed, [])
+
+    def test_the_message_says_what_to_do_where_no_line_is_the_same(self) -> None:
+        for place, wrong, wanted in c_mistakes.SAID:
+            text = program(place, wrong)
+            fault = find_fault(text)
+            assert fault
+            found = advice(text, fault)
+            with self.subTest(wrong):
+                self.assertIsNotNone(found)
+                self.assertIn(wanted, found.hint if found else '')
+
+    def test_a_line_in_order_stays_as_it_is(self) -> None:
+        """Each line of the examples is written as it is, so that no correction changes more than it has to."""
+        for path in sorted((TOP / 'examples').glob('*.toml')):
+            if path.name.endswith('.expect.toml') or path.name == 'wrong.toml':
+                continue
+            for text in Scenario.parse(path.read_bytes()).programs.values():
+                scope = Scope.of(text)
+                for line in text.split('\n'):
+                    depth = len(line) - len(line.lstrip())
+                    with self.subTest(line):
+                        written = Statements(line, scope, Place(is_head=depth == 2, is_top=depth == 0)).written()
+                        self.assertEqual(words(written), words(line))
+
+    def test_a_whole_program_of_contiki_by_its_messages_alone(self) -> None:
+        text = CONTIKI
+        for _ in range(40):
+            fault = find_fault(text)
+            if fault is None:
+                break
+            text = repaired(text) or ''
+        self.assertIsNone(find_fault(text))
+        self.assertEqual(words(text), words(OURS))
+
+
+if __name__ == '__main__':
+    unittest.main()
