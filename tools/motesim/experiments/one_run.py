@@ -18,7 +18,7 @@ from types import FrameType
 from typing import NamedTuple
 
 from motesim.faults import Fault
-from motesim.runner.limited import answer_within
+from motesim.runner.process import Limits, Runner
 from motesim.experiments.measures import Bench, Cell, read_measure
 from motesim.plan.plan import Plan
 from motesim.plan.files import Files
@@ -130,7 +130,8 @@ def run_job(job: Job) -> Result:
             plan = Plan(work.plan, work.text, Files(Path(work.folder), dict(job.files)))
             text = plan.scenario(dict(job.given))
             scenario = digest(text.encode())
-            got = answer_within(program_here(work), text.encode(), work.seconds, work.most_bytes)
+            limits = Limits(work.seconds, report=work.most_bytes)
+            got = Runner(program_here(work), limits).answer(text.encode())
             if got.status:
                 raise ProgramFault(got.fault.decode('utf-8', 'backslashreplace').strip() or 'status %d' % got.status)
             report = digest(got.report)

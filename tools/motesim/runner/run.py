@@ -20,7 +20,6 @@ What can go wrong is a `motesim.faults.Fault`, whose text can be shown as it is:
 from __future__ import annotations
 
 import re
-import subprocess
 import sys
 from pathlib import Path
 from typing import NamedTuple
@@ -28,27 +27,18 @@ from typing import NamedTuple
 from motesim.report.belongs import check_scenario as check_scenario
 from motesim.scenario.encodings import command_for, encoding_of, shown
 from motesim.faults import Fault
+from motesim.runner.cache import Answer as Answer
+from motesim.runner.process import Limits, Runner
+from motesim.runner.process import NoReport as NoReport
 from motesim.runner.programs import TOP as TOP
 from motesim.runner.programs import ProgramFault as ProgramFault
 from motesim.runner.programs import program_path as program_path
 from motesim.report import Report, ReportFault
 from motesim.scenario import Scenario, ScenarioFault
 
-SECONDS = 600
 # How a report begins, and how a scenario: by a comment, a table or a key.
 OF_REPORT = re.compile(rb'mote 0 ')
 OF_SCENARIO = re.compile(rb'(?:\xef\xbb\xbf)?\s*(?:#|\[|[A-Za-z0-9_"\'-]+\s*=)')
-
-
-class NoReport(ProgramFault):
-    """The program refuses a scenario."""
-
-
-class Answer(NamedTuple):
-    """What the program answers: its status, and what it writes to standard output and to standard error."""
-    status: int
-    report: bytes
-    fault: bytes
 
 
 class Run(NamedTuple):
@@ -58,26 +48,14 @@ class Run(NamedTuple):
     scenario: Scenario | None
 
 
-def answer(scenario: bytes, *words: str) -> Answer:
-    """What the program answers to a scenario on standard input, with these words on its command line."""
-    path = program_path()
-    try:
-        done = subprocess.run(['motesim', *words], executable=str(path.resolve()), input=scenario,
-                              capture_output=True, timeout=SECONDS)
-    except subprocess.TimeoutExpired:
-        raise ProgramFault('no answer in %d seconds' % SECONDS) from None
-    except OSError as fault:
-        raise ProgramFault('%s can\'t be run: %s' % (path, fault.strerror)) from None
-    return Answer(done.returncode, done.stdout, done.stderr)
+def answer(scenario: bytes, *arguments: str, limits: Limits = Limits()) -> Answer:
+    """What the program answers to a scenario on standard input, with these arguments on its command line."""
+    return Runner(limits=limits).answer(scenario, *arguments)
 
 
-def run_program(scenario: bytes, *words: str) -> bytes:
-    """The report of a scenario; one that the program refuses has a `ProgramFault`."""
-    got = answer(scenario, *words)
-    if got.status:
-        told = got.fault.decode('utf-8', 'backslashreplace').strip() or 'status %d' % got.status
-        raise NoReport('the scenario has no report: %s' % told)
-    return got.report
+def run_program(scenario: bytes, *arguments: str, limits: Limits = Limits()) -> bytes:
+    """The report of a scenario; one that the program refuses has a `NoReport`."""
+    return Runner(limits=limits).report(scenario, *arguments)
 
 
 def read_file(path: str | Path) -> bytes:

@@ -1,0 +1,244 @@
+"""Many short pieces of work, several at once, by worker processes that stay.
+
+    for done in run_each(work, items):
+        print(done.item, done.fault or done.result)
+
+Whatever goes wrong with an item is its own fault; the others go on. Leaving the loop ends all workers with their runs.
+"""
+from __future__ import annotations
+
+import gc
+import multiprocessing
+import os
+import signal
+import threading
+import time
+from collections import deque
+from collections.abc import Callable, Iterable, Iterator
+from dataclasses import dataclass
+from multiprocessing.connection import Connection, wait
+from typing import Any, Generic, TypeVar
+
+from motesim.faults import Fault
+from motesim.runner.process import share_group
+
+Item = TypeVar('Item')
+Result = TypeVar('Result')
+# A worker is given as many items at a time as take it about so many seconds, and no more than so many.
+SECONDS_AHEAD = 0.02
+MOST_AHEAD = 32
+# Seconds between two looks at the clock while workers work.
+TICK = 0.2
+SECONDS_TO_END = 2.0
+
+
+@dataclass(frozen=True)
+class Done(Generic[Item, Result]):
+    """An item with its result; or with its fault in one line, and then without a result."""
+    item: Item
+    result: Result | None
+    fault: str = ''
+
+
+def fault_of(fault: BaseException) -> str:
+    """An exception in one line."""
+    if isinstance(fault, Fault):
+        return str(fault)
+    if isinstance(fault, MemoryError):
+        return 'out of memory'
+    return ' '.join(('%s: %s' % (type(fault).__name__, fault)).split()).rstrip(': ')
+
+
+def _tried(work: Callable[[Item], Result], item: Item) -> tuple[Result | None, str]:
+    try:
+        return work(item), ''
+    except Exception as fault:
+        return None, fault_of(fault)
+
+
+def _serve(work: Callable[[Any], Any], channel: Connection, others: list[Connection]) -> None:
+    """A worker: takes lists of items from the channel, and gives back an answer for each."""
+    share_group()
+    # (a channel is closed once nobody holds its other end)
+    for other in others:
+        other.close()
+    signal.signal(signal.SIGINT, signal.SIG_IGN)
+    signal.signal(signal.SIGTERM, signal.SIG_DFL)
+    gc.freeze()
+    gc.enable()
+    while True:
+        try:
+            items = channel.recv()
+        except (EOFError, OSError):
+            return
+        for item in items:
+            try:
+                answer = _tried(work, item)
+            except BaseException as fault:
+                answer = None, fault_of(fault)
+            try:
+                channel.send(answer)
+            except OSError:
+                return
+            except Exception as fault:
+                channel.send((None, fault_of(fault)))
+
+
+class _Worker:
+    """A worker, as the process that gives it work sees it."""
+
+    def __init__(self, work: Callable[[Any], Any], others: list[Connection]):
+        # (a process with threads can't be forked safely: then `work` is a function of a module)
+        is_forked = threading.active_count() == 1
+        context: Any = multiprocessing.get_context('fork' if is_forked else 'forkserver')
+        self.channel: Connection
+        self.channel, there = context.Pipe()
+        inherited = [*others, self.channel] if is_forked else []
+        self.process = context.Process(target=_serve, args=(work, there, inherited), daemon=True)
+        self.process.start()
+        there.close()
+        self.given: deque[int] = deque()
+        self.since = time.monotonic()
+        self.ahead = 1
+
+    def give(self, numbers: list[int], items: list[Any]) -> None:
+        """Gives a list of items to a worker that has none."""
+        self.given.extend(numbers)
+        self.count, self.begun = len(numbers), time.monotonic()
+        self.since = self.begun
+        self.channel.send(items)
+
+    def take(self) -> tuple[int, Any, str]:
+        """The number of the item that is done, its result and its fault. Raises EOFError if the worker has died."""
+        result, fault = self.channel.recv()
+        self.since = time.monotonic()
+        number = self.given.popleft()
+        if not self.given:
+            each = (self.since - self.begun) / self.count
+            self.ahead = max(1, min(MOST_AHEAD, 2 * self.count, int(SECONDS_AHEAD / max(each, 1e-6))))
+        return number, result, fault
+
+    def end(self) -> None:
+        """Ends a worker at once, with its runs."""
+        if self.process.pid is not None:
+            for kill in os.killpg, os.kill:
+                try:
+                    kill(self.process.pid, signal.SIGKILL)
+                except OSError:
+                    pass
+        self.process.join()
+        self.channel.close()
+
+
+class _Batch(Generic[Item, Result]):
+    """Workers, and the items that they have."""
+
+    def __init__(self, work: Callable[[Item], Result], items: Iterable[Item], most: int, seconds: float,
+                 stop: threading.Event | None):
+        self.work, self.items, self.most, self.seconds, self.stop = work, enumerate(items), most, seconds, stop
+        self.held: dict[int, Item] = {}
+        self.again: list[int] = []
+        self.workers: list[_Worker] = []
+
+    def more(self, most: int) -> list[int]:
+        """The numbers of the next items, which are held until they are done."""
+        found: list[int] = []
+        while len(found) < most and self.again:
+            found.append(self.again.pop())
+        while len(found) < most and not (self.stop and self.stop.is_set()):
+            try:
+                number, item = next(self.items)
+            except StopIteration:
+                break
+            self.held[number] = item
+            found.append(number)
+        return found
+
+    def feed(self) -> bool:
+        """Gives items to workers that have none. Returns whether any worker has some."""
+        for worker in self.workers:
+            if not worker.given:
+                self.give(worker)
+        while len(self.workers) < self.most and (numbers := self.more(1)):
+            self.workers.append(_Worker(self.work, [it.channel for it in self.workers]))
+            self.give(self.workers[-1], numbers)
+        return any(it.given for it in self.workers)
+
+    def give(self, worker: _Worker, numbers: list[int] | None = None) -> None:
+        numbers = numbers or self.more(worker.ahead)
+        if numbers:
+            try:
+                worker.give(numbers, [self.held[it] for it in numbers])
+            except (BrokenPipeError, ConnectionResetError):
+                # (it has died, which is seen where its answer is taken)
+                pass
+
+    def done(self, number: int, result: Result | None, fault: str) -> tuple[int, Done[Item, Result]]:
+        return number, Done(self.held.pop(number), result, fault)
+
+    def drop(self, worker: _Worker, fault: str) -> tuple[int, Done[Item, Result]]:
+        """Ends a worker: the item that it worked on has the fault, and its others are given again."""
+        worker.end()
+        self.workers.remove(worker)
+        first = worker.given.popleft()
+        self.again += reversed(worker.given)
+        return self.done(first, None, fault)
+
+    def results(self) -> Iterator[tuple[int, Done[Item, Result]]]:
+        """What is done, as it comes, with the item's number."""
+        while self.feed():
+            by_channel: dict[Any, _Worker] = {it.channel: it for it in self.workers if it.given}
+            for channel in wait(list(by_channel), TICK):
+                worker = by_channel[channel]
+                try:
+                    number, result, fault = worker.take()
+                except (EOFError, OSError):
+                    yield self.drop(worker, 'its process was ended by the system, perhaps for want of memory')
+                else:
+                    if not worker.given:
+                        self.give(worker)
+                    yield self.done(number, result, fault)
+            late = time.monotonic() - self.seconds
+            for worker in [it for it in self.workers if it.given and it.since < late]:
+                yield self.drop(worker, 'no end in %g seconds' % self.seconds)
+
+    def end(self) -> None:
+        for worker in self.workers:
+            worker.end()
+
+
+def _in_order(found: Iterable[tuple[int, Done[Item, Result]]]) -> Iterator[Done[Item, Result]]:
+    kept: dict[int, Done[Item, Result]] = {}
+    following = 0
+    for number, done in found:
+        kept[number] = done
+        while following in kept:
+            yield kept.pop(following)
+            following += 1
+
+
+def run_each(work: Callable[[Item], Result], items: Iterable[Item], *, workers: int | None = None,
+             seconds: float = 600.0, ordered: bool = False,
+             stop: threading.Event | None = None) -> Iterator[Done[Item, Result]]:
+    """Does a piece of work on each item, in worker processes, and gives what is done as it comes.
+
+    workers  how many processes; None for as many as there are processors, 0 for this process
+    seconds  how long an item may take; then its worker is ended, and another takes its place
+    ordered  whether the results come in the order of the items
+    stop     once it is set, no further item begins
+
+    Items are read as workers become free.
+    """
+    if workers == 0:
+        for item in items:
+            if stop and stop.is_set():
+                return
+            result, fault = _tried(work, item)
+            yield Done(item, result, fault)
+        return
+    batch = _Batch(work, items, workers or os.cpu_count() or 1, seconds, stop)
+    try:
+        found = batch.results()
+        yield from _in_order(found) if ordered else (done for _, done in found)
+    finally:
+        batch.end()

@@ -1,0 +1,63 @@
+"""Answers of the program that are kept in memory, by program, arguments and scenario."""
+from __future__ import annotations
+
+import hashlib
+import threading
+from collections import OrderedDict
+from pathlib import Path
+from typing import NamedTuple
+
+from motesim.runner.programs import ProgramFault
+
+
+class Answer(NamedTuple):
+    """What the program answers: its status, and what it writes to standard output and to standard error."""
+    status: int
+    report: bytes
+    fault: bytes
+
+
+class Key(NamedTuple):
+    """Which run an answer is of: a program (its file and when that was written), its arguments, and a scenario."""
+    program: tuple[int, int, int, int]
+    arguments: tuple[str, ...]
+    scenario: bytes
+
+
+def key_of(program: Path, arguments: tuple[str, ...], scenario: bytes) -> Key:
+    """The key of a run."""
+    try:
+        file = program.stat()
+    except OSError as fault:
+        raise ProgramFault('%s can\'t be run: %s' % (program, fault.strerror)) from None
+    written = file.st_dev, file.st_ino, file.st_size, file.st_mtime_ns
+    return Key(written, arguments, hashlib.sha256(scenario).digest())
+
+
+class Cache:
+    """Keeps answers until they have so many bytes; then those that were used longest ago go first."""
+
+    def __init__(self, most_bytes: int):
+        self._most, self._bytes = most_bytes, 0
+        self._answers: OrderedDict[Key, Answer] = OrderedDict()
+        self._lock = threading.Lock()
+
+    def find(self, key: Key) -> Answer | None:
+        """The answer of a run, if it is kept."""
+        with self._lock:
+            found = self._answers.get(key)
+            if found is not None:
+                self._answers.move_to_end(key)
+            return found
+
+    def keep(self, key: Key, answer: Answer) -> None:
+        """Keeps an answer, unless it is larger than all that may be kept."""
+        size = len(answer.report) + len(answer.fault)
+        with self._lock:
+            if size > self._most or key in self._answers:
+                return
+            self._answers[key] = answer
+            self._bytes += size
+            while self._bytes > self._most:
+                _, old = self._answers.popitem(last=False)
+                self._bytes -= len(old.report) + len(old.fault)

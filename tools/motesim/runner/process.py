@@ -1,0 +1,241 @@
+"""One run of the program within limits of time, memory and bytes.
+
+    got = Runner(limits=FOREIGN).answer(scenario)       # an `Answer`, or a `LimitMet`
+
+The program gets the scenario on standard input. A run that another thread may stop is a `Running`:
+
+    running = runner.start(scenario)
+    got = running.wait()                                # `Stopped` once another thread has called running.stop()
+"""
+from __future__ import annotations
+
+import contextlib
+import os
+import select
+import signal
+import subprocess
+import threading
+import time
+from pathlib import Path
+from typing import IO, Literal, NamedTuple
+
+from motesim.runner.cache import Answer, Cache, key_of
+from motesim.runner.programs import ProgramFault, program_path
+
+MEGABYTE = 1 << 20
+CHUNK = MEGABYTE
+# How much of standard error is kept: a fault is one line.
+MOST_FAULT = 1 << 16
+# Seconds between two looks at the clock and at the memory that a run has.
+TICK = 0.02
+
+LimitName = Literal['seconds', 'memory', 'report']
+
+
+class Limits(NamedTuple):
+    """What a run may use: seconds, and bytes of memory and of its report."""
+    seconds: float = 600.0
+    memory: int = 8 << 30
+    report: int = 1 << 30
+
+
+# Limits for scenarios that other people wrote.
+FOREIGN = Limits(20.0, 1 << 30, 64 << 20)
+
+
+class LimitMet(ProgramFault):
+    """A run was ended at one of its limits."""
+
+    def __init__(self, limit: LimitName, limits: Limits):
+        super().__init__({
+            'seconds': 'no answer in %g seconds' % limits.seconds,
+            'memory': 'the run needs more than %d megabytes of memory' % (limits.memory // MEGABYTE),
+            'report': 'the report is longer than {:,} bytes'.format(limits.report),
+        }[limit])
+        self.limit: LimitName = limit
+
+
+class Stopped(ProgramFault):
+    """A run was stopped by another thread."""
+
+    def __init__(self) -> None:
+        super().__init__('the run was stopped')
+
+
+class NoReport(ProgramFault):
+    """The program refuses a scenario."""
+
+
+class _Group:
+    """The process group of the runs of this process.
+
+    Each run is the leader of a group of its own, so that Ctrl-C reaches only the tool, and a run ends together with
+    what it has started. A worker of `run_each` is such a leader itself, and ends together with its runs.
+    """
+    is_shared = False
+
+
+def share_group() -> None:
+    """Makes this process the leader of a group to which all its later runs belong."""
+    os.setpgid(0, 0)
+    _Group.is_shared = True
+
+
+def memory_of(pid: int) -> int:
+    """The bytes of memory that a process has; 0 if the system doesn't say."""
+    try:
+        with open('/proc/%d/statm' % pid, encoding='ascii') as file:
+            return int(file.read().split()[1]) * os.sysconf('SC_PAGE_SIZE')
+    except (OSError, IndexError, ValueError):
+        return 0
+
+
+class Running:
+    """A run that has begun. `wait` returns what the program answers, once; `stop` ends it from any thread."""
+
+    def __init__(self, process: subprocess.Popen[bytes], limits: Limits, is_leader: bool):
+        self._process, self._limits, self._is_leader = process, limits, is_leader
+        self._look = time.monotonic() + TICK
+        self._end = time.monotonic() + limits.seconds
+        self._report: list[bytes] = []
+        self._fault = bytearray()
+        self._length = 0
+        self._why: LimitMet | Stopped | None = None
+        self._lock = threading.Lock()
+
+    def stop(self) -> None:
+        """Ends the run: `wait` raises `Stopped`, unless the run had ended before."""
+        self._end_by(Stopped())
+
+    def wait(self) -> Answer:
+        """What the program answers. Raises `LimitMet` or `Stopped` if the run was ended before its time."""
+        try:
+            self._read()
+        finally:
+            self._reap()
+        if self._why:
+            raise self._why
+        return Answer(self._process.returncode, b''.join(self._report), bytes(self._fault))
+
+    def _end_by(self, why: LimitMet | Stopped) -> None:
+        with self._lock:
+            if self._process.returncode is None and self._why is None:
+                self._why = why
+                self._kill()
+
+    def _kill(self) -> None:
+        """Ends the program, and what it has started. It hasn't been waited for, so that its number is still its own."""
+        with contextlib.suppress(OSError):
+            (os.killpg if self._is_leader else os.kill)(self._process.pid, signal.SIGKILL)
+
+    def _reap(self) -> None:
+        with self._lock:
+            self._kill()
+            self._process.wait()
+        for pipe in self._pipes():
+            pipe.close()
+
+    def _pipes(self) -> tuple[IO[bytes], IO[bytes]]:
+        assert self._process.stdout is not None and self._process.stderr is not None
+        return self._process.stdout, self._process.stderr
+
+    def _read(self) -> None:
+        """Reads until the program has ended, or has met a limit."""
+        report, fault = (pipe.fileno() for pipe in self._pipes())
+        left = {report, fault}
+        poll = select.poll()
+        ended = os.pidfd_open(self._process.pid)
+        try:
+            for number in report, fault, ended:
+                os.set_blocking(number, False)
+                poll.register(number, select.POLLIN)
+            while not self._why:
+                ready = {number for number, _ in poll.poll(TICK * 1000)}
+                is_ended = ended in ready
+                if is_ended:
+                    # (what it has started ends with it, so that the pipes have an end)
+                    self._kill()
+                for pipe in left & ready if not is_ended else left.copy():
+                    data = self._take(pipe, pipe == report)
+                    while data and is_ended and not self._why:
+                        data = self._take(pipe, pipe == report)
+                    if data == b'':
+                        left.discard(pipe)
+                        poll.unregister(pipe)
+                if is_ended:
+                    return
+                self._check()
+        finally:
+            os.close(ended)
+
+    def _take(self, pipe: int, is_report: bool) -> bytes | None:
+        """Takes what is in a pipe: None if there is nothing yet, and no bytes at its end."""
+        try:
+            data = os.read(pipe, CHUNK)
+        except BlockingIOError:
+            return None
+        if is_report:
+            self._report.append(data)
+            self._length += len(data)
+            if self._length > self._limits.report:
+                self._end_by(LimitMet('report', self._limits))
+        else:
+            self._fault += data[:max(0, MOST_FAULT - len(self._fault))]
+        return data
+
+    def _check(self) -> None:
+        """Ends the run if it has met a limit of time or memory."""
+        now = time.monotonic()
+        if now < self._look:
+            return
+        self._look = now + TICK
+        if now > self._end:
+            self._end_by(LimitMet('seconds', self._limits))
+        elif memory_of(self._process.pid) > self._limits.memory:
+            self._end_by(LimitMet('memory', self._limits))
+
+
+class Runner:
+    """Runs one program within limits; with a cache, a scenario that was run before isn't run again.
+
+    program  its path; without one, the program that all tools run
+    """
+
+    def __init__(self, program: Path | None = None, limits: Limits = Limits(), cache: Cache | None = None):
+        self.program, self.limits, self.cache = program, limits, cache
+
+    def start(self, scenario: bytes, *arguments: str) -> Running:
+        """Begins a run of a scenario."""
+        path = self.program or program_path()
+        is_leader = not _Group.is_shared
+        try:
+            given = os.memfd_create('scenario')
+            with open(given, 'wb+') as file:
+                file.write(scenario)
+                file.seek(0)
+                process = subprocess.Popen(['motesim', *arguments], executable=str(path.resolve()), stdin=file,
+                                           stdout=subprocess.PIPE, stderr=subprocess.PIPE,
+                                           process_group=0 if is_leader else None)
+        except (OSError, ValueError) as fault:
+            why = fault.strerror if isinstance(fault, OSError) else fault
+            raise ProgramFault('%s can\'t be run: %s' % (path, why)) from None
+        return Running(process, self.limits, is_leader)
+
+    def answer(self, scenario: bytes, *arguments: str) -> Answer:
+        """What the program answers to a scenario, with these arguments on its command line."""
+        if self.cache is None:
+            return self.start(scenario, *arguments).wait()
+        key = key_of(self.program or program_path(), arguments, scenario)
+        found = self.cache.find(key)
+        if found is None:
+            found = self.start(scenario, *arguments).wait()
+            self.cache.keep(key, found)
+        return found
+
+    def report(self, scenario: bytes, *arguments: str) -> bytes:
+        """The report of a scenario. Raises `NoReport` if the program refuses it."""
+        got = self.answer(scenario, *arguments)
+        if got.status:
+            why = got.fault.decode('utf-8', 'backslashreplace').strip() or 'status %d' % got.status
+            raise NoReport('the scenario has no report: %s' % why)
+        return got.report
