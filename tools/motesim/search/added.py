@@ -1,0 +1,129 @@
+"""The process that makes a mote fail at a moment, or start late.
+
+A program gets one process more, which waits for the moment. Of a mote that fails it then kills the others; of one
+that starts late it is the only one that starts at boot, and starts the others then. A program whose processes could
+go on after a kill, by callback timers, by what they do as they leave, or by starting one another, is stopped by work
+without end in place of kills: the mote then halts.
+"""
+from __future__ import annotations
+
+import re
+
+from motesim.faults import Fault
+from motesim.program_faults import LONGEST_NAME, Token, find_fault, tokens_of
+
+DIES, LATE = 'fails', 'starts late'
+NAMES = {DIES: 'failing', LATE: 'starting'}
+# The longest wait of one timer, in moments.
+LONGEST_WAIT = 60_000
+# The words by which a program can do something after its processes were killed.
+GOES_ON = frozenset(('ctimer', 'onexit', 'start', 'gone', 'exited', 'exit'))
+
+
+class NoRoom(Fault):
+    """A program that can't have one process more."""
+
+
+def is_name_free(name: str, names: set[str]) -> bool:
+    return name not in names
+
+
+def halts(program: str) -> bool:
+    """Whether a mote with this program fails by halting, since killing its processes might not silence it."""
+    return any(token.text in GOES_ON for token in tokens_of(program))
+
+
+def processes_of(tokens: list[Token]) -> list[str]:
+    """The processes that a program declares, in order."""
+    begin = next(index for index, token in enumerate(tokens) if token.text == 'process') + 1
+    end = next(index for index in range(begin, len(tokens)) if tokens[index].text == ';')
+    return [token.text for token in tokens[begin:end:2]]
+
+
+def _wait(moment: int) -> str:
+    """The statements that wait until a moment, from boot on."""
+    rounds, rest = divmod(moment, LONGEST_WAIT)
+    found = ''
+    if rounds:
+        found += ('    while (rounds < %d) {\n      set wait %d;\n      yield_until fired(wait);\n'
+                  '      rounds = (rounds + 1);\n    }\n' % (rounds, LONGEST_WAIT))
+    if rest or not rounds:
+        found += '    set wait %d;\n    yield_until fired(wait);\n' % rest
+    return found
+
+
+def added_code(name: str, kind: str, moment: int, processes: list[str], by_halting: bool = False) -> str:
+    """The code of the process that waits for the moment, and then kills or starts these processes."""
+    verb = 'kill' if kind == DIES else 'start'
+    acts = ''.join('    %s %s;\n' % (verb, it) for it in processes)
+    if by_halting:
+        acts = '    while 1 {\n    }\n'
+    wait = '' if kind == LATE and not moment else _wait(moment)
+    rounds = '  var rounds = 0;\n' if 'rounds' in wait else ''
+    timer = '  etimer wait;\n' if wait else ''
+    return 'code %s {\n%s%s  body {\n%s%s  }\n}\n' % (name, rounds, timer, wait, acts)
+
+
+def _free_name(tokens: list[Token], kind: str) -> str:
+    """A name for the process that nothing in the program has."""
+    used = {token.text for token in tokens}
+    names = [NAMES[kind]] + ['%s%d' % (NAMES[kind], number) for number in range(2, len(used) + 3)]
+    return next(name for name in names if name not in used and len(name) <= LONGEST_NAME)
+
+
+def added_name(program: str, kind: str) -> str:
+    """The name of the process that a program gets."""
+    return _free_name(tokens_of(program), kind)
+
+
+def offsets_of(text: str) -> list[int]:
+    """Where each token of a program begins; the last one is its end."""
+    begins = [0]
+    for row in text.split('\n'):
+        begins.append(begins[-1] + len(row) + 1)
+    return [begins[token.line - 1] + token.column for token in tokens_of(text)]
+
+
+def _inner_names(tokens: list[Token]) -> set[str]:
+    return {token.text for token in tokens if token.kind == 'name'}
+
+
+def changed_program(program: str, kind: str, moment: int) -> str:
+    """The text of a program with the process added: its own text stays, but for two lines."""
+    tokens, offsets = tokens_of(program), offsets_of(program)
+    name = _free_name(tokens, kind)
+    processes = processes_of(tokens)
+    first = next(index for index, token in enumerate(tokens) if token.text == 'process')
+    end = next(index for index in range(first, len(tokens)) if tokens[index].text == ';')
+    edits = [(offsets[end], offsets[end], ', ' + name)]
+    starts, edit = _autostart(tokens, offsets, end, name, kind)
+    edits.append(edit)
+    is_halted = kind == DIES and halts(program)
+    acts_on = starts if kind == LATE else processes
+    code = added_code(name, kind, moment, acts_on, is_halted)
+    # (a name of its own may be one that the program gives to all its processes)
+    for inner in ('wait', 'rounds'):
+        while re.search(r'\b%s\b' % inner, code) and inner in _inner_names(tokens):
+            code = re.sub(r'\b%s\b' % inner, inner + '_', code)
+            inner += '_'
+    for begin, behind, text in sorted(edits, reverse=True):
+        program = program[:begin] + text + program[behind:]
+    program += ('' if program.endswith('\n') else '\n') + code
+    if "'''" in program:
+        raise NoRoom("it has ''' in a comment, so that it can't be copied into a literal string")
+    fault = find_fault(program)
+    if fault:
+        raise NoRoom('it leaves no room for one process more: %s' % '; '.join(fault.may[:1] or [str(fault.kind)]))
+    return program
+
+
+def _autostart(tokens: list[Token], offsets: list[int], end: int, name: str, kind: str
+               ) -> tuple[list[str], tuple[int, int, str]]:
+    """The processes that start at boot, and the change that adds the new one, or leaves it alone."""
+    if tokens[end + 1].text != 'autostart':
+        return [], (offsets[end] + 1, offsets[end] + 1, '\nautostart %s;' % name)
+    behind = next(index for index in range(end, len(tokens)) if tokens[index].text == ';' and index > end)
+    starts = [token.text for token in tokens[end + 2:behind:2]]
+    if kind == DIES:
+        return starts, (offsets[behind], offsets[behind], ', ' + name)
+    return starts, (offsets[end + 2], offsets[behind], name)

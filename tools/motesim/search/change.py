@@ -1,0 +1,217 @@
+"""What faults change of a scenario, and the scenario's text with that.
+
+`Base.read(text, name)` is a scenario that faults are put into. A `Change` says what is otherwise than there; faults add
+to it. `Base.text(change)` is the text with just that changed, its comments and its layout kept, and
+`Base.scenario(change)` is the scenario that this text holds, without reading it again.
+"""
+from __future__ import annotations
+
+import copy
+import tomllib
+from dataclasses import dataclass, field
+from functools import cached_property
+from typing import Any
+
+from motesim.faults import Fault
+from motesim.scenario import Place, Scenario
+from motesim.scenario_faults import find_fault, value_of
+from motesim.search.added import DIES, LATE, changed_program, is_name_free
+from motesim.studio.edits import Change as Edit
+from motesim.studio.edits import Text, applied
+
+NUMBERS = ('range', 'base', 'per')
+LONGEST_NAME = 32
+
+
+class CannotChange(Fault):
+    """A text that is written in a way that can't be changed in place."""
+
+
+@dataclass
+class Change:
+    """What is otherwise than in a scenario.
+
+    losses   the `every` of links, by sender and receiver
+    numbers  `range`, `base`, `per`
+    queue    lengths of event queues, by program
+    places   other places of motes
+    added    motes that fail at a moment, or start late: which of these, and the moment
+    """
+    losses: dict[tuple[int, int], int] = field(default_factory=dict)
+    numbers: dict[str, int] = field(default_factory=dict)
+    queue: dict[str, int] = field(default_factory=dict)
+    places: dict[int, tuple[int, int]] = field(default_factory=dict)
+    added: dict[int, tuple[str, int]] = field(default_factory=dict)
+    collide: bool = False
+
+    def lose(self, sender: int, receiver: int, every: int) -> None:
+        """Lets a link lose each `every`th packet, if it doesn't lose more already."""
+        before = self.losses.get((sender, receiver))
+        self.losses[sender, receiver] = every if before is None else min(before, every)
+
+
+class Base:
+    """A scenario into which faults are put."""
+
+    def __init__(self, source: str, name: str):
+        fault = find_fault(source.encode())
+        if fault:
+            raise Fault('%s has no report: motesim: %s (tools/explain %s says more)' % (name, fault.told, name))
+        self.source, self.name = source, name
+        self.scenario_itself = Scenario.parse(source)
+        self.tables: dict[str, Any] = tomllib.loads(source.removeprefix('\ufeff'))
+        self.lines = Text(source)
+
+    def __reduce__(self) -> tuple[type[Base], tuple[str, str]]:
+        return Base, (self.source, self.name)
+
+    # The scenario that a change makes.
+
+    def scenario(self, change: Change) -> Scenario:
+        """The scenario with a change, as far as sentences on its report look at it."""
+        base = self.scenario_itself
+        if not change.places and 'range' not in change.numbers:
+            # (so that each mote's neighbours are looked for once, and not in each run)
+            base.hearers(0)
+        found = copy.copy(base)
+        if change.places or 'range' in change.numbers:
+            found.__dict__.pop('_neighbours', None)
+        found.__dict__.pop('lookahead', None)
+        found.losses = {**base.losses, **change.losses}
+        found.collide = base.collide or change.collide
+        for name, number in change.numbers.items():
+            setattr(found, name, number)
+        if change.places:
+            found.places = [Place(*change.places.get(mote, (it.x, it.y)), it.program)
+                            for mote, it in enumerate(base.places)]
+        return found
+
+    # The text that a change makes.
+
+    def text(self, change: Change) -> str:
+        """The text with a change."""
+        try:
+            return applied(self.source, self.edits(change))
+        except CannotChange:
+            raise
+        except Fault:
+            raise CannotChange('%s is written in a way in which this can\'t be changed in the text' % self.name) from None
+
+    def edits(self, change: Change) -> list[Edit]:
+        """The stretches of the text that a change replaces."""
+        found = self.of_losses(change)
+        for name, number in change.numbers.items():
+            found.append(self.value(('medium', name), str(number)))
+        for mote, (x, y) in change.places.items():
+            found += [self.lines.number(('mote', mote, 'x'), x), self.lines.number(('mote', mote, 'y'), y)]
+        queue = dict(change.queue)
+        found += self.of_added(change, queue)
+        if change.collide or queue:
+            found += self.second_version(change.collide)
+        return found + self.of_queue(queue)
+
+    @cached_property
+    def loss_index(self) -> dict[tuple[int, int], int]:
+        return {(it['from'], it['to']): index for index, it in enumerate(self.tables.get('loss', []))}
+
+    @cached_property
+    def end_of_losses(self) -> Edit:
+        """Where losses are added, with what stands before them."""
+        return self.lines.appended('loss', [])
+
+    @cached_property
+    def has_loss_array(self) -> bool:
+        """Whether losses stand as one array in a line of their own, to which no table can be added."""
+        return bool(self.tables.get('loss')) and ('loss', 0) not in self.lines.places or self.tables.get('loss') == []
+
+    def of_losses(self, change: Change) -> list[Edit]:
+        found, rows = [], []
+        for (sender, receiver), every in change.losses.items():
+            index = self.loss_index.get((sender, receiver))
+            if index is None:
+                rows += ['[[loss]]', 'from = %d' % sender, 'to = %d' % receiver, 'every = %d' % every]
+            elif self.tables['loss'][index]['every'] != every:
+                found.append(self.lines.number(('loss', index, 'every'), every))
+        if rows:
+            if self.has_loss_array:
+                raise CannotChange('%s has its losses in one array, and no tables [[loss]] to which one can be added'
+                                   % self.name)
+            end = self.end_of_losses
+            found.append(Edit(end.begin, end.end, end.text + ''.join(row + '\n' for row in rows)))
+        return found
+
+    def value(self, path: tuple[str | int, ...], text: str) -> Edit:
+        """Puts another value in the place of a key's."""
+        key = self.lines.places.get(path)
+        value = value_of(self.source, key) if key else None
+        if value is None or value == key:
+            raise CannotChange('%s: %s does not stand in a line of its own, so it can\'t be changed in the text'
+                               % (self.name, '.'.join(map(str, path))))
+        return Edit(self.lines.offset(value), self.lines.offset(value) + value.length, text)
+
+    def second_version(self, collides: bool) -> list[Edit]:
+        """Makes the text one of version 2, with collisions or without them."""
+        if self.tables['version'] == 2:
+            is_changed = collides and not self.tables['medium']['collide']
+            return [self.value(('medium', 'collide'), 'true')] if is_changed else []
+        lines = [self.lines.places[path].line for path in (('medium', name) for name in NUMBERS)
+                 if path in self.lines.places]
+        header = self.lines.places.get(('medium',))
+        if len(lines) < len(NUMBERS) or header is None or header.line in lines:
+            raise CannotChange('%s: the table medium does not stand in lines of its own, so it can\'t be changed in '
+                               'the text' % self.name)
+        at = self.lines.begins[max(lines)]
+        return [self.value(('version',), '2'), Edit(at, at, 'collide = %s\n' % ('true' if collides else 'false'))]
+
+    def of_queue(self, queue: dict[str, int]) -> list[Edit]:
+        known = self.tables.get('queue')
+        found, rows = [], []
+        for program, length in queue.items():
+            if known and program in known:
+                found.append(self.value(('queue', program), str(length)))
+            else:
+                rows.append('%s = %d\n' % (program, length))
+        if not rows:
+            return found
+        if known is None:
+            at = self.lines.begins[self.last_line_of_programs()]
+            return [*found, Edit(at, at, '[queue]\n' + ''.join(rows))]
+        header = self.lines.places.get(('queue',))
+        if header is None or header.line not in self.lines.headers:
+            raise CannotChange('%s: the table queue does not stand in lines of its own' % self.name)
+        at = self.lines.begins[header.line]
+        return [*found, Edit(at, at, ''.join(rows))]
+
+    def last_line_of_programs(self) -> int:
+        """The line before which a program can be added: that of the header after the table `programs`."""
+        header = self.lines.places.get(('programs',))
+        if header is None or self.lines.rows[header.line - 1].split('#')[0].strip() != '[programs]':
+            raise CannotChange('%s: the programs do not stand in a table [programs], so none can be added' % self.name)
+        after = next((line for line in self.lines.headers if line > header.line), None)
+        if after is None:
+            raise CannotChange('%s: the table [programs] is the last one; put it before the motes' % self.name)
+        return after - 1
+
+    def of_added(self, change: Change, queue: dict[str, int]) -> list[Edit]:
+        """Programs of their own for motes that fail or start late."""
+        found, texts = [], ''
+        names = set(self.tables['programs'])
+        for mote, (kind, moment) in sorted(change.added.items()):
+            program = self.scenario_itself.places[mote].program
+            name = self.free_name(program, '%s_%d' % ('fails' if kind == DIES else 'late', mote), names)
+            names.add(name)
+            texts += "%s = '''\n%s'''\n" % (name, changed_program(self.tables['programs'][program], kind, moment))
+            length = change.queue.get(program, self.scenario_itself.queue.get(program))
+            if length is not None:
+                queue[name] = length
+            found.append(self.value(('mote', mote, 'program'), '"%s"' % name))
+        if texts:
+            at = self.lines.begins[self.last_line_of_programs()]
+            found.append(Edit(at, at, texts))
+        return found
+
+    def free_name(self, program: str, ending: str, names: set[str]) -> str:
+        """A name for a program that is made from another."""
+        room = LONGEST_NAME - len(ending) - 1
+        name = '%s_%s' % (program[:room], ending)
+        return name if is_name_free(name, names) else self.free_name(program, 'x' + ending, names)

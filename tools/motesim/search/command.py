@@ -1,0 +1,263 @@
+"""Finds the faults that break what is expected of a scenario: tools/search SCENARIO [EXPECTATIONS]
+
+  tools/search examples/flooding.toml --faults links,motes --at-most 2
+
+All single faults are tried, then all pairs, up to --at-most. Each minimal set of faults that breaks an expectation is
+written as a scenario with its expectations, into the folder NAME.search or that of -o. The expectations are sentences
+of tools/expect; where no file is named, NAME.expect.toml beside the scenario NAME.toml.
+
+Kinds of faults, for --faults:
+  links        a link loses everything, in one direction
+  both-ways    a link loses everything, in both directions
+  every        a link loses each k-th packet (--every 2,3)
+  packets      a link loses a single packet
+  motes        a mote is silent: nobody hears what it sends
+  deaths       a mote fails at a moment (--moments 40,80)
+  late         a mote starts late (--moments 40,80)
+  collisions   packets that arrive together are lost
+  queues       the event queues are shorter (--queues 8,4,2,1)
+  values       range, base or per have other values (--set range=8..12)
+  places       a mote is at another place (--step 5)
+
+docs/use/SEARCH.md begins with a protocol that looks right, and says what the result of a search means. Ends with status
+0 where all expectations hold in every run, 1 where one is broken, 2 where nothing could be said, and 130 after Ctrl-C.
+"""
+from __future__ import annotations
+
+import argparse
+import hashlib
+import os
+import sys
+from pathlib import Path
+
+from motesim.expectations import beside, parts_of, read_all, text_of
+from motesim.faults import INTERRUPTED, Fault, command
+from motesim.one_run import program_digest
+from motesim.programs import program_path
+from motesim.search.change import NUMBERS, Base
+from motesim.search.faults import KINDS, Asked, faults_of
+from motesim.search.found import (
+    as_csv, as_json, covered_lines, found_by, is_whole, verdict_lines, write_files, write_whole,
+)
+from motesim.search.kept import Kept
+from motesim.search.one_program import Limits, OneProgram
+from motesim.search.prepare import Plain, Prepared, plain_run, prepare
+from motesim.search.progress import Progress
+from motesim.search.runner import Here
+from motesim.search.search import Bounds, Search
+from motesim.search.sets import Known
+from motesim.search.work import Work, mask_of
+from motesim.sentences import Names, Refused, Sentence, names_of
+from motesim.sweep_asked import values_of
+from motesim.sweep_runs import Break
+from motesim.words import words_of
+
+STATE = 'tried.txt'
+
+
+def arguments() -> argparse.ArgumentParser:
+    words = words_of(__doc__)
+    words.add_argument('scenario', metavar='SCENARIO', help='a scenario, NAME.toml')
+    words.add_argument('expectations', nargs='?', metavar='EXPECTATIONS', help='else NAME.expect.toml beside it')
+    words.add_argument('--expect', action='append', default=[], metavar='SENTENCE',
+                       help='an expectation, in place of those of a file')
+    words.add_argument('--faults', default='links,motes', metavar='KINDS', help='which faults; else links,motes')
+    words.add_argument('--at-most', type=int, default=1, metavar='K', help='how many faults at once; else 1')
+    words.add_argument('--every', default='2', metavar='NUMBERS', help='of `every`: which packets are lost')
+    words.add_argument('--moments', metavar='NUMBERS', help='of `deaths` and `late`: when')
+    words.add_argument('--queues', default='8,4,2,1', metavar='NUMBERS', help='of `queues`: the lengths')
+    words.add_argument('--set', action='append', default=[], metavar='NAME=VALUES', help='of `values`')
+    words.add_argument('--step', type=int, default=0, metavar='N', help='of `places`: how far, else a quarter of range')
+    words.add_argument('--random', type=int, default=0, metavar='N', help='then N larger sets, drawn at random')
+    words.add_argument('--seed', type=int, default=1, metavar='S', help='what they are drawn with; else 1')
+    words.add_argument('--most-runs', type=int, metavar='N', help='end after so many runs')
+    words.add_argument('--most-seconds', type=float, metavar='N', help='end after so many seconds')
+    words.add_argument('--seconds', type=float, default=Limits().seconds, metavar='N', help='the limit of a run; else 10')
+    words.add_argument('--bytes', type=int, default=Limits().report, metavar='N',
+                       help='how long a report may be; else 16,000,000')
+    words.add_argument('--jobs', type=int, default=os.cpu_count() or 1, metavar='N', help='how many runs at a time')
+    words.add_argument('-o', dest='output', metavar='FOLDER', help='where files go; else NAME.search')
+    words.add_argument('--csv', metavar='FILE', help='write a table of what was found')
+    words.add_argument('--json', metavar='FILE', help='write all that was found, for another program; - for the output')
+    words.add_argument('--all', action='store_true', help='show all that was found, and not ten for each expectation')
+    words.add_argument('--resume', action='store_true', help='go on where the same search was stopped')
+    return words
+
+
+def numbers_of_words(words: str, name: str, least: int) -> tuple[int, ...]:
+    found = values_of(words)
+    if not all(type(it) is int and it >= least for it in found):
+        raise Fault('%s takes whole numbers from %d on, as 2,3 or 1..9, and not %s' % (name, least, words))
+    return tuple(int(it) for it in found)
+
+
+def values_asked(words: list[str]) -> dict[str, tuple[int, ...]]:
+    found = {}
+    for it in words:
+        name, sign, text = it.partition('=')
+        if not sign or name not in NUMBERS:
+            raise Fault('--set takes range=VALUES, base=VALUES or per=VALUES, and not %s' % it)
+        found[name] = numbers_of_words(text, '--set', 0 if name == 'range' else 1)
+    return found
+
+
+def asked_of(words: argparse.Namespace) -> Asked:
+    """Which faults the command line asks for."""
+    kinds = tuple(it.strip() for it in words.faults.split(','))
+    unknown = next((it for it in kinds if it not in KINDS), None)
+    if unknown is not None:
+        raise Fault('there is no kind of fault %s; there may stand: %s' % (unknown, ', '.join(KINDS)))
+    if 'values' in kinds and not words.set:
+        raise Fault('the kind `values` takes --set, as --set range=8..12')
+    if words.set and 'values' not in kinds:
+        raise Fault('--set is for the kind `values`: --faults %s,values' % words.faults)
+    moments = numbers_of_words(words.moments, '--moments', 1) if words.moments else ()
+    return Asked(kinds, numbers_of_words(words.every, '--every', 2), (), moments,
+                 numbers_of_words(words.queues, '--queues', 1), values_asked(words.set), words.step)
+
+
+def sentences_of(words: argparse.Namespace, names: Names) -> tuple[list[str], list[Sentence]]:
+    """The sentences, as they stand and as they are read."""
+    scenario = Path(words.scenario)
+    name, texts = 'the command line', list(words.expect)
+    if not texts:
+        path = Path(words.expectations) if words.expectations else beside(scenario)
+        if not words.expectations and scenario.exists() and not path.exists():
+            raise Fault('there is no file %s beside %s: name another, or give sentences by --expect' % (path, scenario))
+        name, texts = str(path), parts_of(text_of(path), str(path))[0].sentences
+    try:
+        read = read_all(texts, names)
+    except Fault as fault:
+        raise Fault('%s: %s' % (name, fault)) from None
+    kept = [(text, it) for text, it in zip(texts, read) if not isinstance(it, Refused)]
+    if not kept:
+        raise Fault('%s has no sentence on a report' % name)
+    return [text for text, _ in kept], [it for _, it in kept]
+
+
+class Asking:
+    """All that a search is asked to do, read and made ready."""
+
+    def __init__(self, words: argparse.Namespace):
+        self.words = words
+        self.asked = asked_of(words)
+        self.base = Base(text_of(Path(words.scenario)), words.scenario)
+        self.texts, self.sentences = sentences_of(words, names_of(self.base.scenario_itself))
+        self.limits = Limits(words.seconds, words.bytes)
+        self.path = program_path().resolve()
+        program = OneProgram(str(self.path), self.limits)
+        self.plain: Plain = plain_run(self.base, program, self.sentences)
+        self.asked.sent = tuple(self.plain.sent)
+        self.prepared: Prepared = prepare(self.base, self.plain, program, self.sentences,
+                                          faults_of(self.base, self.asked))
+        program.close()
+        self.folder = Path(words.output) if words.output else Path(
+            Path(words.scenario).name.removesuffix('.toml') + '.search')
+
+    @property
+    def notes(self) -> list[str]:
+        """What is said before anything is tried."""
+        broken = [self.texts[number] for number in self.plain.broken]
+        rows = ['broken without a fault, so left out: ' + it for it in broken]
+        rows += ['left out: ' + it for it in self.prepared.left_out]
+        blind = 0
+        for mask in self.prepared.blind.values():
+            blind |= mask
+        rows += ['the process that makes a mote fail or start late breaks this by itself, so that nothing is said of it '
+                 'with such faults: ' + self.texts[number] for number in range(len(self.texts)) if blind >> number & 1]
+        return rows
+
+    def digest(self) -> str:
+        """What tells one search from another."""
+        parts = (self.base.source, self.texts, self.prepared.faults, self.limits, program_digest(self.path))
+        return hashlib.sha256(repr(parts).encode()).hexdigest()[:16]
+
+    def search(self, progress: Progress) -> Search:
+        held = [number for number in range(len(self.texts)) if number not in self.plain.broken]
+        known = Known(self.prepared.faults, mask_of(held))
+        words = self.words
+        bounds = Bounds(words.at_most, words.random, words.seed, words.most_runs, words.most_seconds)
+        kept = Kept()
+        self.folder.mkdir(parents=True, exist_ok=True)
+        kept.open(self.folder / STATE, self.digest(), words.resume)
+        return Search(known, bounds, kept, self.prepared.blind_of(), progress.show)
+
+    def work(self) -> Work:
+        return Work(self.base.source, self.base.name, self.prepared.faults, self.sentences, str(self.path), self.limits)
+
+
+def carried_out(asking: Asking) -> Search:
+    """Searches, until all is tried, a limit is reached, or Ctrl-C comes."""
+    progress = Progress()
+    search = asking.search(progress)
+    with Break() as asked:
+        is_over = search.is_over
+
+        def is_over_now() -> bool:
+            search.is_stopped |= asked.is_asked
+            return is_over()
+        search.is_over = is_over_now  # type: ignore[method-assign]
+        runner = Here(asking.work(), asking.words.jobs)
+        try:
+            search.run(runner)
+        except KeyboardInterrupt:
+            search.is_stopped = True
+            is_over()
+            runner.kill()
+        finally:
+            runner.close()
+            progress.end()
+            search.kept.close()
+    return search
+
+
+def told(asking: Asking, search: Search) -> int:
+    """Writes and shows what was found; gives the status."""
+    words = asking.words
+    found = found_by(search, asking.texts)
+    write_files(found, asking.base, asking.texts, asking.folder)
+    if words.csv:
+        write_whole(Path(words.csv), as_csv(found))
+    as_text = as_json(search, found, asking.texts, asking.base.name, asking.notes) if words.json else ''
+    if words.json == '-':
+        print(as_text, end='')
+    else:
+        if words.json:
+            write_whole(Path(words.json), as_text)
+        for row in [*asking.notes, *covered_lines(search), *verdict_lines(search, found, asking.texts, words.all)]:
+            print(row)
+        print()
+        print(last_line(search, found, asking.folder))
+    if search.is_stopped:
+        return INTERRUPTED
+    return 1 if found else 0
+
+
+def last_line(search: Search, found: list[object] | list[object], folder: Path) -> str:
+    wanted = bin(search.known.wanted).count('1')
+    broken = 0
+    for mask in search.known.minimal.values():
+        broken |= mask
+    fails = bin(broken).count('1')
+    which = 'every run' if is_whole(search) else 'every run that was made'
+    said = '%d of %d expectations hold in %s' % (wanted - fails, wanted, which)
+    said += ', %d %s broken' % (fails, 'is' if fails == 1 else 'are') if fails else ''
+    said += '; {:,} runs in {:.1f} seconds'.format(search.runs, search.seconds)
+    if found:
+        said += '\n{:,} counter-examples are in {}'.format(len(found), folder)
+    if search.ended_by:
+        said += '\nNOT ALL WAS TRIED: %s; --resume goes on' % search.ended_by
+    return said
+
+
+@command('search')
+def main() -> int:
+    words = arguments().parse_args()
+    if words.jobs < 1 or words.at_most < 0 or words.random < 0 or words.seconds <= 0 or words.bytes < 1:
+        raise Fault('--jobs, --seconds and --bytes are more than 0, and --at-most and --random 0 or more')
+    if words.expectations and words.expect:
+        raise Fault('the expectations stand in a file or in --expect, and not in both')
+    if words.json == '-':
+        sys.stdout.reconfigure(encoding='utf-8')  # type: ignore[union-attr]
+    asking = Asking(words)
+    return told(asking, carried_out(asking))

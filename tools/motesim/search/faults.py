@@ -1,0 +1,242 @@
+"""The faults that a scenario can have, each a change of its text.
+
+`faults_of(base, asked)` gives those of the kinds that are asked for, in their order. Faults with the same `slot` are
+other ways to change one thing, such as two ranges, and are never put together.
+"""
+from __future__ import annotations
+
+from collections.abc import Callable, Iterator, Sequence
+from dataclasses import dataclass, field
+from typing import NamedTuple
+
+from motesim.faults import Fault
+from motesim.search.added import DIES, LATE
+from motesim.search.change import Base, Change
+
+# Of each kind what it is, for the help and the line on what was covered: one of them, and many.
+KINDS: dict[str, tuple[str, str]] = {
+    'links': ('link that loses everything, in one direction', 'links that lose everything, in one direction'),
+    'both-ways': ('link that loses everything, in both directions', 'links that lose everything, in both directions'),
+    'every': ('link that loses each k-th packet', 'links that lose each k-th packet'),
+    'packets': ('single packet lost on a link', 'single packets lost on a link'),
+    'motes': ('silent mote', 'silent motes'),
+    'deaths': ('mote that fails at a moment', 'motes that fail at a moment'),
+    'late': ('mote that starts late', 'motes that start late'),
+    'collisions': ('scenario in which packets collide', 'scenarios in which packets collide'),
+    'queues': ('shorter event queue', 'shorter event queues'),
+    'values': ('other value of range, base or per', 'other values of range, base or per'),
+    'places': ('mote at another place', 'motes at other places'),
+}
+
+
+class FaultyPart(NamedTuple):
+    """A fault: its kind, the words on it, what it changes, and how.
+
+    slot    what it changes; other faults with it are alternatives
+    effect  the change: its first word says which, and numbers and names follow
+    """
+    kind: str
+    words: str
+    slot: tuple[str | int, ...]
+    effect: tuple[str | int, ...]
+
+    def put_into(self, change: Change, base: Base) -> None:
+        """Adds this fault to a change."""
+        EFFECTS[str(self.effect[0])](change, base, *self.effect[1:])
+
+    @property
+    def file_name(self) -> str:
+        """The fault in the name of a file."""
+        return '_'.join(map(str, self.effect)).replace(' ', '_').replace('-', 'm')
+
+
+def _lose(change: Change, base: Base, sender: int, receiver: int, every: int) -> None:
+    change.lose(sender, receiver, every)
+
+
+def _apart(change: Change, base: Base, one: int, other: int) -> None:
+    change.lose(one, other, 1)
+    change.lose(other, one, 1)
+
+
+def _silence(change: Change, base: Base, mote: int) -> None:
+    for receiver in base.scenario_itself.hearers(mote):
+        if base.scenario_itself.losses.get((mote, receiver)) != 1:
+            change.lose(mote, receiver, 1)
+
+
+def _die(change: Change, base: Base, mote: int, moment: int) -> None:
+    change.added[mote] = DIES, moment
+
+
+def _start_late(change: Change, base: Base, mote: int, moment: int) -> None:
+    change.added[mote] = LATE, moment
+
+
+def _collide(change: Change, base: Base) -> None:
+    change.collide = True
+
+
+def _shorten(change: Change, base: Base, program: str, length: int) -> None:
+    change.queue[program] = length
+
+
+def _number(change: Change, base: Base, name: str, number: int) -> None:
+    change.numbers[name] = number
+
+
+def _move(change: Change, base: Base, mote: int, x: int, y: int) -> None:
+    change.places[mote] = x, y
+
+
+EFFECTS: dict[str, Callable[..., None]] = {
+    'lose': _lose, 'apart': _apart, 'silent': _silence, 'fails': _die, 'late': _start_late, 'collide': _collide,
+    'queue': _shorten, 'number': _number, 'move': _move,
+}
+
+
+@dataclass
+class Asked:
+    """Which faults are wanted.
+
+    every    the k of links that lose each k-th packet
+    sent     how many packets each mote sends in the run without a fault
+    moments  when motes fail or start; none for a quarter, a half and three quarters of the time
+    queues   the lengths of event queues
+    values   other values of `range`, `base` and `per`
+    step     how far motes are moved, in x or y
+    """
+    kinds: tuple[str, ...] = ('links', 'motes')
+    every: tuple[int, ...] = (2,)
+    sent: tuple[int, ...] = ()
+    moments: tuple[int, ...] = ()
+    queues: tuple[int, ...] = (8, 4, 2, 1)
+    values: dict[str, tuple[int, ...]] = field(default_factory=dict)
+    step: int = 0
+
+
+def _directed(base: Base) -> Iterator[tuple[int, int]]:
+    """The links that don't lose everything already, in each direction."""
+    scenario = base.scenario_itself
+    for sender in range(scenario.motes):
+        for receiver in scenario.hearers(sender):
+            if scenario.losses.get((sender, receiver)) != 1:
+                yield sender, receiver
+
+
+def _links(base: Base, asked: Asked) -> Iterator[FaultyPart]:
+    for sender, receiver in _directed(base):
+        yield FaultyPart('links', 'link %d to %d loses everything' % (sender, receiver), ('link', sender, receiver),
+                         ('lose', sender, receiver, 1))
+
+
+def _both_ways(base: Base, asked: Asked) -> Iterator[FaultyPart]:
+    losses = base.scenario_itself.losses
+    for one, other in base.scenario_itself.links():
+        if losses.get((one, other)) != 1 or losses.get((other, one)) != 1:
+            yield FaultyPart('both-ways', 'link %d and %d loses everything both ways' % (one, other),
+                             ('both', one, other), ('apart', one, other))
+
+
+def _every(base: Base, asked: Asked) -> Iterator[FaultyPart]:
+    losses = base.scenario_itself.losses
+    for sender, receiver in _directed(base):
+        for every in asked.every:
+            # (a link that loses as much already, or more, wouldn't lose more)
+            if every < losses.get((sender, receiver), every + 1):
+                yield FaultyPart('every', 'link %d to %d loses each %d. packet' % (sender, receiver, every),
+                                 ('link', sender, receiver), ('lose', sender, receiver, every))
+
+
+def _packets(base: Base, asked: Asked) -> Iterator[FaultyPart]:
+    """Links that lose packet n: each (n + 1)th, which is that one alone if fewer than 2n + 2 are sent."""
+    losses = base.scenario_itself.losses
+    for sender, receiver in _directed(base):
+        if (sender, receiver) in losses:
+            continue
+        sent = asked.sent[sender]
+        for number in range(max(1, (sent - 1) // 2), sent):
+            yield FaultyPart('packets', 'link %d to %d loses packet %d' % (sender, receiver, number),
+                             ('link', sender, receiver), ('lose', sender, receiver, number + 1))
+
+
+def _motes(base: Base, asked: Asked) -> Iterator[FaultyPart]:
+    scenario = base.scenario_itself
+    for mote in range(scenario.motes):
+        if any(scenario.losses.get((mote, it)) != 1 for it in scenario.hearers(mote)):
+            yield FaultyPart('motes', 'mote %d is silent' % mote, ('silent', mote), ('silent', mote))
+
+
+def moments_of(base: Base, asked: Asked) -> tuple[int, ...]:
+    """When motes fail or start late."""
+    end = base.scenario_itself.end
+    return asked.moments or tuple(sorted({max(1, end * quarter // 4) for quarter in (1, 2, 3)}))
+
+
+def _deaths(base: Base, asked: Asked) -> Iterator[FaultyPart]:
+    for mote in range(base.scenario_itself.motes):
+        for moment in moments_of(base, asked):
+            yield FaultyPart('deaths', 'mote %d fails at %d' % (mote, moment), ('life', mote), ('fails', mote, moment))
+
+
+def _late(base: Base, asked: Asked) -> Iterator[FaultyPart]:
+    for mote in range(base.scenario_itself.motes):
+        for moment in moments_of(base, asked):
+            yield FaultyPart('late', 'mote %d starts at %d' % (mote, moment), ('life', mote), ('late', mote, moment))
+
+
+def _collisions(base: Base, asked: Asked) -> Iterator[FaultyPart]:
+    if not base.scenario_itself.collide:
+        yield FaultyPart('collisions', 'packets collide', ('collide',), ('collide',))
+
+
+def _queues(base: Base, asked: Asked) -> Iterator[FaultyPart]:
+    scenario = base.scenario_itself
+    used = {it.program for it in scenario.places}
+    for program in sorted(used):
+        for length in asked.queues:
+            if length < scenario.queue.get(program, 32):
+                yield FaultyPart('queues', 'the event queue of %s has room for %d' % (program, length),
+                                 ('queue', program), ('queue', program, length))
+
+
+def _values(base: Base, asked: Asked) -> Iterator[FaultyPart]:
+    for name, numbers in asked.values.items():
+        for number in numbers:
+            if number != getattr(base.scenario_itself, name):
+                yield FaultyPart('values', '%s is %d' % (name, number), ('number', name), ('number', name, number))
+
+
+def _places(base: Base, asked: Asked) -> Iterator[FaultyPart]:
+    step = asked.step or max(1, base.scenario_itself.range // 4)
+    for mote, place in enumerate(base.scenario_itself.places):
+        for dx, dy in (-step, 0), (step, 0), (0, -step), (0, step):
+            x, y = place.x + dx, place.y + dy
+            if max(abs(x), abs(y)) <= 30_000:
+                yield FaultyPart('places', 'mote %d is at %d, %d' % (mote, x, y), ('place', mote),
+                                 ('move', mote, x, y))
+
+
+MAKERS: dict[str, Callable[[Base, Asked], Iterator[FaultyPart]]] = {
+    'links': _links, 'both-ways': _both_ways, 'every': _every, 'packets': _packets, 'motes': _motes,
+    'deaths': _deaths, 'late': _late, 'collisions': _collisions, 'queues': _queues, 'values': _values,
+    'places': _places,
+}
+
+
+def faults_of(base: Base, asked: Asked) -> list[FaultyPart]:
+    """The faults of the kinds that are wanted."""
+    unknown = next((kind for kind in asked.kinds if kind not in KINDS), None)
+    if unknown is not None:
+        raise Fault('there is no kind of fault %s; there may stand: %s' % (unknown, ', '.join(KINDS)))
+    found = [fault for kind in KINDS if kind in asked.kinds for fault in MAKERS[kind](base, asked)]
+    by_effect = {fault.effect: fault for fault in reversed(found)}
+    return [fault for fault in found if by_effect[fault.effect] is fault]
+
+
+def change_of(faults: Sequence[FaultyPart], base: Base) -> Change:
+    """What faults change together."""
+    change = Change()
+    for fault in faults:
+        fault.put_into(change, base)
+    return change

@@ -1,0 +1,170 @@
+"""What a search found: the lines on it, the counter-examples as files, and tables for other programs."""
+from __future__ import annotations
+
+import csv
+import io
+import json
+import os
+from dataclasses import dataclass
+from pathlib import Path
+from typing import Any
+
+from motesim.faults import Fault
+from motesim.search.change import Base
+from motesim.search.faults import KINDS, FaultyPart, change_of
+from motesim.search.search import Search
+from motesim.search.sets import Set, Tally
+from motesim.search.work import numbers_of
+
+SHOWN = 10
+SIZES = {1: 'single faults', 2: 'pairs', 3: 'triples'}
+LONGEST_FILE_NAME = 120
+
+
+@dataclass
+class Found:
+    """A minimal set of faults, with the sentences for which it is, and the file that has it."""
+    faults: list[FaultyPart]
+    sentences: list[str]
+    file: str = ''
+
+    @property
+    def words(self) -> str:
+        return '; '.join(fault.words for fault in self.faults)
+
+
+def file_name_of(name: str, faults: list[FaultyPart]) -> str:
+    """A name for the file of a counter-example."""
+    whole = '%s_%s' % (Path(name).name.removesuffix('.toml'), '_and_'.join(fault.file_name for fault in faults))
+    return whole[:LONGEST_FILE_NAME]
+
+
+def found_by(search: Search, sentences: list[str]) -> list[Found]:
+    """What was found, the smaller sets first."""
+    minimal = sorted(search.known.minimal.items(), key=lambda item: (len(item[0]), item[0]))
+    return [Found([search.known.faults[number] for number in faults], [sentences[it] for it in numbers_of(mask)])
+            for faults, mask in minimal]
+
+
+def toml_text(text: str) -> str:
+    """A text as a string of TOML."""
+    return json.dumps(text, ensure_ascii=False).replace('\x7f', '\\u007f')
+
+
+def write_whole(path: Path, text: str) -> None:
+    """Writes a file whole, or not at all."""
+    beside = path.with_name('.%s.new' % path.name)
+    try:
+        beside.write_text(text, 'utf-8', newline='')
+        os.replace(beside, path)
+    except OSError as fault:
+        raise Fault('%s: %s' % (path, fault.strerror)) from None
+
+
+def write_files(found: list[Found], base: Base, sentences: list[str], folder: Path) -> None:
+    """Writes each counter-example as a scenario with its expectations."""
+    names: set[str] = set()
+    for it in found:
+        name = file_name_of(base.name, it.faults)
+        while name in names:
+            name += 'x'
+        names.add(name)
+        text = base.text(change_of(it.faults, base))
+        head = ['# %s with a fault: %s.' % (Path(base.name).name, it.words), '# This breaks:']
+        head += ['#   %s' % ' '.join(sentence.split()) for sentence in it.sentences]
+        it.file = str(folder / (name + '.toml'))
+        write_whole(Path(it.file), ''.join(row + '\n' for row in head) + text)
+        rows = ''.join('  %s,\n' % toml_text(sentence) for sentence in sentences)
+        write_whole(folder / (name + '.expect.toml'),
+                    '# What is expected of %s without the fault.\nexpect = [\n%s]\n' % (Path(base.name).name, rows))
+
+
+def counted(number: int, one: str, many: str) -> str:
+    return '{:,} {}'.format(number, one if number == 1 else many)
+
+
+def covered_lines(search: Search) -> list[str]:
+    """What was covered, size after size. Nothing is claimed of what wasn't run."""
+    kinds = [counted(sum(fault.kind == kind for fault in search.known.faults), *words)
+             for kind, words in KINDS.items() if any(fault.kind == kind for fault in search.known.faults)]
+    rows = ['faults: ' + '; '.join(kinds)] if kinds else ['there is no such fault in this scenario']
+    for size, tally in search.tallies.items():
+        if tally.sets:
+            rows.append(covered_line(SIZES.get(size, 'sets of %d' % size), tally))
+    if search.sample.sets:
+        rows.append('a sample of {:,} larger sets, drawn with the seed {} (a sample covers nothing wholly): {:,} run'
+                    .format(search.sample.sets, search.bounds.seed, search.sample.run))
+    return rows
+
+
+def covered_line(name: str, tally: Tally) -> str:
+    """What was covered of the sets of one size."""
+    parts = ['{:,} run'.format(tally.run)]
+    if tally.decided:
+        parts.append('{:,} decided by a smaller set'.format(tally.decided))
+    if tally.same:
+        parts.append('{:,} the same scenario as a smaller set'.format(tally.same))
+    if tally.stopped:
+        parts.append('{:,} STOPPED at a limit, of which nothing is known'.format(tally.stopped))
+    if tally.unmade:
+        parts.append('{:,} NOT MADE, of which nothing is known'.format(tally.unmade))
+    if tally.done < tally.sets:
+        parts.append('{:,} NOT TRIED'.format(tally.sets - tally.done))
+    amount = 'all {:,}' if tally.is_whole else '{:,}'
+    return '%s %s: %s' % (amount.format(tally.sets), name, ', '.join(parts))
+
+
+def is_whole(search: Search) -> bool:
+    """Whether all sets up to the bound were decided."""
+    return all(tally.is_whole for tally in search.tallies.values())
+
+
+def verdict_lines(search: Search, found: list[Found], sentences: list[str], shows_all: bool) -> list[str]:
+    """Which expectations hold, and which sets break the others."""
+    rows = []
+    wanted = [sentences[number] for number in numbers_of(search.known.wanted)]
+    broken = {sentence: [it for it in found if sentence in it.sentences] for sentence in wanted}
+    holding = [sentence for sentence in wanted if not broken[sentence]]
+    if holding:
+        rows += ['', 'in every run that was made, this holds:', *('  ' + it for it in holding)]
+    for sentence in wanted:
+        sets = broken[sentence]
+        if not sets:
+            continue
+        rows += ['', 'broken: ' + sentence]
+        shown = sets if shows_all else sets[:SHOWN]
+        rows += ['  ' + it.words for it in shown]
+        if len(sets) > len(shown):
+            rows.append('  and {:,} more (--all shows them)'.format(len(sets) - len(shown)))
+    return rows
+
+
+def row_of(it: Found, sentence: str) -> dict[str, Any]:
+    return {'expectation': sentence, 'size': len(it.faults), 'faults': it.words, 'file': it.file}
+
+
+def as_csv(found: list[Found]) -> str:
+    """A row for each minimal set and expectation that it breaks."""
+    text = io.StringIO()
+    rows = csv.DictWriter(text, ['expectation', 'size', 'faults', 'file'], lineterminator='\n')
+    rows.writeheader()
+    for it in found:
+        rows.writerows(row_of(it, sentence) for sentence in it.sentences)
+    return text.getvalue()
+
+
+def as_json(search: Search, found: list[Found], sentences: list[str], name: str, notes: list[str]) -> str:
+    """All that a search says, for another program."""
+    def tally(it: Tally) -> dict[str, Any]:
+        return {**it.__dict__, 'all': it.is_whole}
+    broken = {sentence for it in found for sentence in it.sentences}
+    wanted = [sentences[number] for number in numbers_of(search.known.wanted)]
+    return json.dumps({
+        'scenario': name, 'faults': len(search.known.faults),
+        'covered': {size: tally(it) for size, it in search.tallies.items()},
+        'sample': {**tally(search.sample), 'seed': search.bounds.seed} if search.sample.sets else None,
+        'ended_by': search.ended_by or None, 'runs': search.runs, 'seconds': round(search.seconds, 3),
+        'notes': notes, 'holds': [it for it in wanted if it not in broken],
+        'found': [{'faults': [fault.words for fault in it.faults], 'effects': [fault.effect for fault in it.faults],
+                   'expectations': it.sentences, 'file': it.file} for it in found],
+    }, indent=1, ensure_ascii=False) + '\n'

@@ -1,0 +1,91 @@
+"""Runs the program many times, one after the other, each time within limits and at little cost.
+
+The scenario is given and the report is taken in memory that the runs share, so that a run costs no more than starting
+the program.
+"""
+from __future__ import annotations
+
+import os
+import resource
+import signal
+from types import FrameType
+from typing import NamedTuple
+
+SPAWNED = [signal.SIGPIPE, signal.SIGXFSZ]
+
+
+class Limits(NamedTuple):
+    """How much a run may take: seconds, bytes of its report, and bytes of memory."""
+    seconds: float = 10.0
+    report: int = 16_000_000
+    memory: int = 1_024_000_000
+
+
+class Answer(NamedTuple):
+    """What the program answers. Of a run that was stopped, `stopped` says by which limit."""
+    status: int
+    report: bytes
+    fault: str
+    stopped: str = ''
+
+
+class _Late(Exception):
+    """The time of a run is over."""
+
+
+def _ring(number: int, frame: FrameType | None) -> None:
+    raise _Late
+
+
+class OneProgram:
+    """A program to run again and again, in the main thread of a process."""
+
+    def __init__(self, path: str, limits: Limits):
+        self.path, self.limits = path, limits
+        self.given, self.report, self.fault = (os.memfd_create(name) for name in ('given', 'report', 'fault'))
+        self.actions = [(os.POSIX_SPAWN_DUP2, file, at) for at, file in enumerate((self.given, self.report, self.fault))]
+
+    def run(self, scenario: bytes) -> Answer:
+        """What the program answers to a scenario."""
+        for file in self.given, self.report, self.fault:
+            os.ftruncate(file, 0)
+            os.lseek(file, 0, os.SEEK_SET)
+        os.pwrite(self.given, scenario, 0)
+        before = signal.signal(signal.SIGALRM, _ring)
+        child = os.posix_spawn(self.path, ['motesim'], os.environ, file_actions=self.actions, setsigdef=SPAWNED)
+        status, is_late = -signal.SIGKILL, False
+        try:
+            try:
+                signal.setitimer(signal.ITIMER_REAL, self.limits.seconds)
+                resource.prlimit(child, resource.RLIMIT_FSIZE, (self.limits.report, self.limits.report))
+                resource.prlimit(child, resource.RLIMIT_AS, (self.limits.memory, self.limits.memory))
+                status = os.waitstatus_to_exitcode(os.waitpid(child, 0)[1])
+                signal.setitimer(signal.ITIMER_REAL, 0)
+            except _Late:
+                is_late = True
+            except ProcessLookupError:
+                signal.setitimer(signal.ITIMER_REAL, 0)
+                status = os.waitstatus_to_exitcode(os.waitpid(child, 0)[1])
+        finally:
+            signal.setitimer(signal.ITIMER_REAL, 0)
+            if is_late:
+                os.kill(child, signal.SIGKILL)
+                os.waitpid(child, 0)
+            signal.signal(signal.SIGALRM, before)
+        return self.answer(status, is_late)
+
+    def answer(self, status: int, is_late: bool) -> Answer:
+        size = os.fstat(self.report).st_size
+        if is_late:
+            return Answer(1, b'', '', 'no answer in %g seconds' % self.limits.seconds)
+        if status == -signal.SIGXFSZ or size >= self.limits.report:
+            return Answer(1, b'', '', 'the report is longer than {:,} bytes'.format(self.limits.report))
+        told = os.pread(self.fault, 400, 0).decode('utf-8', 'backslashreplace').strip()
+        if status < 0 or told == 'motesim: out of memory':
+            return Answer(1, b'', '', 'it ended by signal %d' % -status if status < 0 else
+                          'more than {:,} bytes of memory'.format(self.limits.memory))
+        return Answer(status, os.pread(self.report, size, 0), told)
+
+    def close(self) -> None:
+        for file in self.given, self.report, self.fault:
+            os.close(file)

@@ -1,0 +1,125 @@
+"""What is looked at before a search: the run without a fault, and motes that are to fail or to start late.
+
+A mote fails, or starts late, by a process that its program gets. Whether that process itself changes anything is found
+out by a run: with a moment past the end, or for a late start with the moment 0, the report has to be the one without
+it, but for the lines that name it.
+"""
+from __future__ import annotations
+
+import re
+from collections.abc import Callable
+from typing import NamedTuple
+
+from motesim.faults import Fault
+from motesim.search.added import DIES, LATE, NoRoom, added_name
+from motesim.search.change import Base, CannotChange, Change
+from motesim.search.faults import FaultyPart
+from motesim.search.one_program import OneProgram
+from motesim.search.quick_judge import QuickJudge
+from motesim.search.sets import Set
+from motesim.search.work import mask_of
+from motesim.sentences import Sentence
+
+ADDED = {'fails': DIES, 'late': LATE}
+
+
+class Plain(NamedTuple):
+    """The run without a fault: its report, which expectations it breaks, and how many packets each mote sends."""
+    report: bytes
+    broken: list[int]
+    sent: list[int]
+
+
+def plain_run(base: Base, program: OneProgram, sentences: list[Sentence]) -> Plain:
+    """Runs the scenario without a fault."""
+    answer = program.run(base.source.encode())
+    if answer.stopped or answer.status:
+        raise Fault('%s has no report without a fault: %s' % (base.name, answer.stopped or answer.fault))
+    sections = answer.report.partition(b'\nmedium\n')[0].split(b'\nmote ')
+    return Plain(answer.report, QuickJudge(sentences).broken(answer.report, base.scenario_itself),
+                 [section.count(b' send ') for section in sections])
+
+
+def without_process(report: bytes, mote: int, process: str) -> list[bytes]:
+    """The lines of a report but for those of one mote that name a process; and without the name of its program."""
+    rows, here = [], False
+    named = re.compile(rb'\d+ (?:start|leave|take \d+|post \d+|drop \d+|full|busy) %s\b' % process.encode())
+    for row in report.split(b'\n'):
+        if row.startswith(b'mote '):
+            here = row.startswith(b'mote %d ' % mote)
+            row = b'mote %d' % mote if here else row
+        elif row == b'medium':
+            here = False
+        if not (here and named.match(row)):
+            rows.append(row)
+    return rows
+
+
+def difference(base: Base, plain: Plain, program: OneProgram, mote: int, kind: str) -> tuple[str, bytes]:
+    """In what the report of a scenario with the added process differs, or nothing; and that report."""
+    change = Change()
+    change.added[mote] = kind, base.scenario_itself.end + 1 if kind == DIES else 0
+    answer = program.run(base.text(change).encode())
+    if answer.stopped or answer.status:
+        return answer.stopped or answer.fault, b''
+    name = added_name(base.tables['programs'][base.scenario_itself.places[mote].program], kind)
+    here, there = (without_process(report, mote, name) for report in (answer.report, plain.report))
+    if here == there:
+        return '', answer.report
+    rows = [(one, other) for one, other in zip(here, there) if one != other]
+    one, other = rows[0] if rows else (b'more lines', b'fewer')
+    return 'the process that is added changes the run: %s for %s' % (one.decode(), other.decode()), b''
+
+
+class Prepared(NamedTuple):
+    """The faults to search with, those that can't be made with the reasons, and what is blind.
+
+    blind  of each fault the expectations that the added process breaks by itself, so that nothing is said of them
+    """
+    faults: list[FaultyPart]
+    left_out: list[str]
+    blind: dict[int, int]
+
+    def blind_of(self) -> Callable[[Set], int]:
+        """A function that says of a set of which expectations nothing is said."""
+        blind = self.blind
+
+        def found(faults: Set) -> int:
+            mask = 0
+            for number in faults:
+                mask |= blind.get(number, 0)
+            return mask
+        return found if blind else lambda faults: 0
+
+
+def prepare(base: Base, plain: Plain, program: OneProgram, sentences: list[Sentence],
+            faults: list[FaultyPart]) -> Prepared:
+    """Leaves out the faults that can't be made, and says why."""
+    judge, seen = QuickJudge(sentences), dict[tuple[int, str], tuple[str, int]]()
+    kept, left_out, blind = [], dict[str, None](), {}
+    for fault in faults:
+        kind = ADDED.get(str(fault.effect[0]))
+        if kind is not None:
+            mote = int(fault.effect[1])
+            if (mote, kind) not in seen:
+                seen[mote, kind] = _tried(base, plain, program, judge, mote, kind)
+            why, mask = seen[mote, kind]
+            if why:
+                left_out['mote %d can\'t be made to %s: %s' % (
+                    mote, 'fail' if kind == DIES else 'start late', why)] = None
+                continue
+            if mask:
+                blind[len(kept)] = mask
+        kept.append(fault)
+    return Prepared(kept, list(left_out), blind)
+
+
+def _tried(base: Base, plain: Plain, program: OneProgram, judge: QuickJudge, mote: int, kind: str) -> tuple[str, int]:
+    try:
+        why, report = difference(base, plain, program, mote, kind)
+    except (NoRoom, CannotChange) as fault:
+        return str(fault), 0
+    if why:
+        return why, 0
+    broken = set(judge.broken(report, base.scenario_itself)) - set(plain.broken)
+    return '', mask_of(sorted(broken))

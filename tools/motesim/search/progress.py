@@ -1,0 +1,42 @@
+"""How far a search is, on standard error."""
+from __future__ import annotations
+
+import sys
+import time
+from typing import TYPE_CHECKING
+
+if TYPE_CHECKING:
+    from motesim.search.search import Search
+
+# (seconds between two lines, on a terminal and elsewhere)
+ON_TERMINAL, ELSEWHERE = 0.2, 30.0
+
+
+class Progress:
+    """The sets that are done, the rate, and how long the others of this size will take."""
+
+    def __init__(self) -> None:
+        self.is_terminal = sys.stderr.isatty()
+        self.last = time.monotonic()
+        self.every = ON_TERMINAL if self.is_terminal else ELSEWHERE
+        self.size, self.begun, self.done = 0, self.last, 0
+
+    def show(self, search: Search, size: int, is_sample: bool) -> None:
+        tally = search.sample if is_sample else search.tallies[size]
+        now = time.monotonic()
+        if size != self.size:
+            self.size, self.begun, self.done = size, now, tally.done - 1
+        if now - self.last < self.every:
+            return
+        self.last = now
+        rate = (tally.done - self.done) / max(now - self.begun, 0.001)
+        left = round((tally.sets - tally.done) / max(rate, 0.001))
+        text = '%s: %s of %s, %d runs per second, %d:%02d left, %d found' % (
+            'sample' if is_sample else 'sets of %d' % size, '{:,}'.format(tally.done), '{:,}'.format(tally.sets),
+            search.runs / max(search.seconds, 0.001), left // 60, left % 60, len(search.known.minimal))
+        print('\r\033[K' + text if self.is_terminal else text, end='' if self.is_terminal else '\n', file=sys.stderr,
+              flush=True)
+
+    def end(self) -> None:
+        if self.is_terminal:
+            print('\r\033[K', end='', file=sys.stderr, flush=True)

@@ -1,0 +1,89 @@
+"""Gives the runs of a search to processes here, in batches, and takes what comes of them."""
+from __future__ import annotations
+
+import itertools
+import multiprocessing
+import signal
+import time
+from collections.abc import Iterator
+from concurrent.futures import FIRST_COMPLETED, Future, ProcessPoolExecutor, wait
+from concurrent.futures.process import BrokenProcessPool
+from typing import Protocol
+
+from motesim.faults import Fault
+from motesim.search.work import Bench, Outcome, Task, Work
+
+BATCH = 16
+# After so many seconds a batch gives back what it has not begun, so that slow runs hold nothing up.
+LONGEST_BATCH = 1.0
+_bench: Bench | None = None
+
+
+def _begin(work: Work) -> None:
+    """Makes a process ready. Ctrl-C is for the search, which lets begun batches end."""
+    global _bench
+    signal.signal(signal.SIGINT, signal.SIG_IGN)
+    signal.signal(signal.SIGTERM, signal.SIG_DFL)
+    _bench = Bench(work)
+
+
+def _run(tasks: list[Task]) -> list[Outcome]:
+    """The outcomes of a batch, or of its beginning, if its time is over before its end."""
+    assert _bench
+    begun, found = time.monotonic(), []
+    for task in tasks:
+        found.append(_bench.run(task))
+        if time.monotonic() - begun > LONGEST_BATCH:
+            break
+    return found
+
+
+class Runner(Protocol):
+    """Runs tasks, a batch at a time."""
+
+    def outcomes(self, tasks: Iterator[Task], is_over: IsOver) -> Iterator[Outcome]:
+        """What comes of the tasks, as it comes; no more are begun once it is over."""
+
+    def close(self) -> None:
+        """Ends what was begun for it."""
+
+
+class IsOver(Protocol):
+    """Says whether no more runs are to be begun."""
+
+    def __call__(self) -> bool: ...
+
+
+class Here:
+    """Several processes of this machine. The tasks may come one by one: no more are taken than are soon run."""
+
+    def __init__(self, work: Work, processes: int):
+        self.processes = processes
+        self.pool = ProcessPoolExecutor(processes, multiprocessing.get_context('fork'), _begin, (work,))
+
+    def outcomes(self, tasks: Iterator[Task], is_over: IsOver) -> Iterator[Outcome]:
+        pending: dict[Future[list[Outcome]], list[Task]] = {}
+        try:
+            while True:
+                while len(pending) < 2 * self.processes and not is_over():
+                    batch = list(itertools.islice(tasks, BATCH))
+                    if not batch:
+                        break
+                    pending[self.pool.submit(_run, batch)] = batch
+                if not pending:
+                    return
+                for future in wait(pending, 0.2, FIRST_COMPLETED).done:
+                    found, batch = future.result(), pending.pop(future)
+                    tasks = itertools.chain(batch[len(found):], tasks)
+                    yield from found
+        except BrokenProcessPool:
+            raise Fault('a process of the search was ended by the system, as where memory runs out. --resume goes on, '
+                        'and --jobs says with how many processes') from None
+
+    def close(self) -> None:
+        self.pool.shutdown(cancel_futures=True)
+
+    def kill(self) -> None:
+        """Stops what has begun."""
+        for process in multiprocessing.active_children():
+            process.terminate()

@@ -1,0 +1,137 @@
+"""The search: all sets of faults up to a size, the smaller ones first, and then a sample of larger ones.
+
+`Search.run(...)` goes on until all is tried, or a limit or Ctrl-C ends it. What was covered is in `tallies` by size and
+in `sample`; what was found is in `known.minimal`.
+"""
+from __future__ import annotations
+
+import time
+from collections import Counter
+from collections.abc import Callable, Iterator
+from dataclasses import dataclass
+
+from motesim.search.kept import Kept
+from motesim.search.runner import Runner
+from motesim.search.sets import Known, Set, Tally, count_of, draws
+from motesim.search.work import RUN, SAME, STOPPED, UNMADE, Outcome, Task
+
+# Of a random set, how much larger than the exhaustive bound it may be.
+LARGER = 3
+
+
+@dataclass
+class Bounds:
+    """How far a search goes: sets of at most so many faults, then a sample; and no more runs or seconds than these."""
+    at_most: int = 1
+    sample: int = 0
+    seed: int = 1
+    runs: int | None = None
+    seconds: float | None = None
+
+
+class Search:
+    """A search for the sets of faults that break expectations."""
+
+    def __init__(self, known: Known, bounds: Bounds, kept: Kept, blind: Callable[[Set], int] = lambda found: 0,
+                 shown: Callable[[Search, int, bool], None] = lambda search, size, is_sample: None):
+        self.known, self.bounds, self.kept, self.blind, self.shown = known, bounds, kept, blind, shown
+        self.tallies: dict[int, Tally] = {}
+        self.sample = Tally()
+        self.why: Counter[str] = Counter()
+        self.runs = self.resumed = 0
+        self.begin = time.monotonic()
+        self.is_stopped = False
+        self.ended_by = ''
+
+    @property
+    def seconds(self) -> float:
+        return time.monotonic() - self.begin
+
+    def is_over(self) -> bool:
+        """Whether a limit has come, or the user asked for the end."""
+        if self.is_stopped:
+            self.ended_by = 'it was stopped'
+        elif self.bounds.runs is not None and self.given >= self.bounds.runs:
+            self.ended_by = 'the limit of {:,} runs was reached'.format(self.bounds.runs)
+        elif self.bounds.seconds is not None and self.seconds >= self.bounds.seconds:
+            self.ended_by = 'the limit of %g seconds was reached' % self.bounds.seconds
+        return bool(self.ended_by)
+
+    def run(self, runner: Runner) -> None:
+        """Tries the sets, size after size."""
+        self.given = 0
+        for size in range(1, self.bounds.at_most + 1):
+            tally = self.tallies[size] = Tally(count_of(self.known.faults, size))
+            if tally.sets and not self.ended_by:
+                self.try_sets(self.known.of_size(size), tally, runner, size)
+        if self.bounds.sample and not self.ended_by:
+            self.draw(runner)
+
+    def draw(self, runner: Runner) -> None:
+        least = self.bounds.at_most + 1
+        drawn = list(dict.fromkeys(draws(self.known, least, least + LARGER - 1, self.bounds.sample, self.bounds.seed)))
+        self.sample.sets = len(drawn)
+        found: list[Outcome] = []
+        self.try_sets(iter(drawn), self.sample, runner, 0, found.append)
+        for outcome in sorted(found):
+            self.reduce(outcome, runner)
+
+    def reduce(self, outcome: Outcome, runner: Runner) -> None:
+        """Takes faults away from a set of the sample as long as it breaks the same, and notes what is left."""
+        for number in range(outcome.broken.bit_length()):
+            bit = 1 << number
+            faults = outcome.faults
+            at = 0
+            while outcome.broken & bit and at < len(faults):
+                fewer = faults[:at] + faults[at + 1:]
+                smaller = next(iter(runner.outcomes(iter([Task(fewer, bit)]), lambda: False)))
+                self.runs += smaller.became == RUN
+                if smaller.became == SAME or smaller.broken & bit:
+                    faults, at = fewer, 0
+                else:
+                    at += 1
+            if outcome.broken & bit and not self.known.broken_within(faults) & bit:
+                self.known.minimal[faults] = self.known.minimal.get(faults, 0) | bit
+
+    def try_sets(self, sets: Iterator[Set], tally: Tally, runner: Runner, size: int,
+                 hold: Callable[[Outcome], None] | None = None) -> None:
+        """Tries the sets of one size, which are decided by themselves and by smaller ones."""
+        # (what is minimal among sets of one size depends on the smaller ones alone)
+        found: list[Outcome] = []
+        for outcome in runner.outcomes(self.tasks(sets, tally, found), self.is_over):
+            self.kept.add(outcome)
+            self.note(outcome, tally, found)
+            self.shown(self, size, hold is not None)
+        for outcome in found:
+            if hold:
+                hold(outcome)
+            else:
+                self.known.add(outcome.faults, outcome.broken)
+
+    def tasks(self, sets: Iterator[Set], tally: Tally, found: list[Outcome]) -> Iterator[Task]:
+        """The sets that are to be run. What is decided or known already is noted at once."""
+        for it in sets:
+            wanted = self.known.left(it) & ~self.blind(it)
+            before = self.kept.outcome(it)
+            if not wanted:
+                tally.decided += 1
+            elif before is not None:
+                self.resumed += 1
+                self.note(before, tally, found)
+            else:
+                self.given += 1
+                yield Task(it, wanted)
+
+    def note(self, outcome: Outcome, tally: Tally, found: list[Outcome]) -> None:
+        if outcome.became == RUN:
+            tally.run += 1
+            self.runs += 1
+            broken = outcome.broken & ~self.blind(outcome.faults)
+            if broken:
+                found.append(outcome._replace(broken=broken))
+            return
+        tally.same += outcome.became == SAME
+        tally.stopped += outcome.became == STOPPED
+        tally.unmade += outcome.became == UNMADE
+        if outcome.why:
+            self.why[outcome.why] += 1

@@ -1,0 +1,100 @@
+"""Sets of faults: how many there are, which are still to be tried, and what is known of them.
+
+Faults are meant by their numbers, and sets are tuples of these, in rising order. Which of the expectations a set breaks
+is a number with the bit e for expectation e. A set is *minimal* for an expectation if it breaks it and no smaller set
+in it does.
+"""
+from __future__ import annotations
+
+import itertools
+import random
+from collections import Counter
+from collections.abc import Iterator, Sequence
+from dataclasses import dataclass, field
+
+from motesim.search.faults import FaultyPart
+
+Set = tuple[int, ...]
+
+
+@dataclass
+class Tally:
+    """What became of the sets of one size: how many there are, and how many of them
+
+    run      were run
+    decided  weren't, since smaller sets in them break all that is expected
+    same     weren't, since they make the same scenario as a smaller set in them
+    stopped  ran into a limit, so that nothing is known of them
+    unmade   can't be made in the text, or are refused by the program
+    """
+    sets: int = 0
+    run: int = 0
+    decided: int = 0
+    same: int = 0
+    stopped: int = 0
+    unmade: int = 0
+
+    @property
+    def done(self) -> int:
+        return self.run + self.decided + self.same + self.stopped + self.unmade
+
+    @property
+    def is_whole(self) -> bool:
+        """Whether each of the sets is decided."""
+        return self.done == self.sets and not self.stopped and not self.unmade
+
+
+def count_of(faults: Sequence[FaultyPart], size: int) -> int:
+    """How many sets of this size there are, of faults that change different things."""
+    ways = [1] + [0] * size
+    for alternatives in Counter(fault.slot for fault in faults).values():
+        for taken in range(size, 0, -1):
+            ways[taken] += ways[taken - 1] * alternatives
+    return ways[size]
+
+
+@dataclass
+class Known:
+    """Which sets were found to be minimal, and for which expectations."""
+    faults: Sequence[FaultyPart]
+    wanted: int
+    minimal: dict[Set, int] = field(default_factory=dict)
+
+    def is_possible(self, found: Set) -> bool:
+        """Whether the faults of a set change different things."""
+        return len({self.faults[number].slot for number in found}) == len(found)
+
+    def broken_within(self, found: Set) -> int:
+        """Which expectations smaller sets in this one break."""
+        broken = 0
+        for size in range(len(found)):
+            for part in itertools.combinations(found, size):
+                broken |= self.minimal.get(part, 0)
+        return broken
+
+    def left(self, found: Set) -> int:
+        """Which expectations aren't decided for a set by smaller sets in it."""
+        return self.wanted & ~self.broken_within(found)
+
+    def of_size(self, size: int) -> Iterator[Set]:
+        """All sets of this size."""
+        return filter(self.is_possible, itertools.combinations(range(len(self.faults)), size))
+
+    def add(self, found: Set, broken: int) -> None:
+        """Notes what a set breaks; of that, it is minimal for what no smaller set in it breaks."""
+        new = self.left(found) & broken
+        if new:
+            self.minimal[found] = new
+
+
+def draws(known: Known, least: int, most: int, count: int, seed: int) -> Iterator[Set]:
+    """So many sets, drawn at random, of different sizes."""
+    chance = random.Random(seed)
+    most = min(most, len({fault.slot for fault in known.faults}))
+    drawn = tried = 0
+    while drawn < count and least <= most and tried < 100 * count:
+        tried += 1
+        found = tuple(sorted(chance.sample(range(len(known.faults)), chance.randint(least, most))))
+        if known.is_possible(found):
+            drawn += 1
+            yield found

@@ -1,0 +1,103 @@
+"""One run of a set of faults: the text is made, the program runs on it, and the sentences are tried."""
+from __future__ import annotations
+
+from typing import NamedTuple
+
+from motesim.scenario import Scenario
+from motesim.search.change import Base, CannotChange, Change
+from motesim.search.added import NoRoom
+from motesim.search.faults import FaultyPart, change_of
+from motesim.search.one_program import Answer, Limits, OneProgram
+from motesim.search.quick_judge import QuickJudge
+from motesim.search.sets import Set
+from motesim.sentences import Sentence
+
+RUN, SAME, STOPPED, UNMADE = 'run', 'same', 'stopped', 'unmade'
+
+
+class Task(NamedTuple):
+    """A set of faults, and the expectations that are to be tried."""
+    faults: Set
+    wanted: int
+
+
+class Outcome(NamedTuple):
+    """What came of a set: how it ended (run, same, stopped or unmade), which expectations it breaks, and why it
+    wasn't run."""
+    faults: Set
+    became: str
+    broken: int = 0
+    why: str = ''
+
+
+class Work(NamedTuple):
+    """What all runs of a search have in common."""
+    source: str
+    name: str
+    faults: list[FaultyPart]
+    sentences: list[Sentence]
+    program: str
+    limits: Limits
+
+
+def numbers_of(mask: int) -> list[int]:
+    """The expectations in a number with a bit for each."""
+    return [number for number in range(mask.bit_length()) if mask >> number & 1]
+
+
+def mask_of(numbers: list[int]) -> int:
+    return sum(1 << number for number in numbers)
+
+
+class Bench:
+    """What is needed for a run, kept from one run to the next."""
+
+    def __init__(self, work: Work):
+        self.base, self.faults = Base(work.source, work.name), work.faults
+        self.judge = QuickJudge(work.sentences)
+        self.program = OneProgram(work.program, work.limits)
+
+    def change(self, found: Set) -> Change:
+        return change_of([self.faults[number] for number in found], self.base)
+
+    def is_same(self, found: Set, change: Change) -> bool:
+        """Whether a smaller set makes the same scenario."""
+        return len(found) > 1 and any(self.change(found[:at] + found[at + 1:]) == change for at in range(len(found)))
+
+    def text(self, found: Set) -> str:
+        """The scenario with these faults; each single one is read back, so that the text holds what is judged."""
+        change = self.change(found)
+        text = self.base.text(change)
+        if len(found) == 1:
+            check_text(text, change, self.base)
+        return text
+
+    def answer(self, found: Set) -> Answer:
+        return self.program.run(self.text(found).encode())
+
+    def run(self, task: Task) -> Outcome:
+        found = task.faults
+        change = self.change(found)
+        if self.is_same(found, change):
+            return Outcome(found, SAME)
+        try:
+            answer = self.answer(found)
+        except (CannotChange, NoRoom) as fault:
+            return Outcome(found, UNMADE, 0, str(fault))
+        if answer.stopped:
+            return Outcome(found, STOPPED, 0, answer.stopped)
+        if answer.status:
+            return Outcome(found, UNMADE, 0, answer.fault or 'status %d' % answer.status)
+        broken = self.judge.broken(answer.report, self.base.scenario(change), numbers_of(task.wanted))
+        return Outcome(found, RUN, mask_of(broken))
+
+
+def check_text(text: str, change: Change, base: Base) -> None:
+    """Whether a text that was changed is read as what was meant."""
+    read, meant = Scenario.parse(text), base.scenario(change)
+    same = all(getattr(read, name) == getattr(meant, name)
+               for name in ('end', 'range', 'base', 'per', 'collide', 'losses'))
+    places = [(it.x, it.y) for it in read.places] == [(it.x, it.y) for it in meant.places]
+    queues = all(read.queue.get(program) == length for program, length in change.queue.items())
+    if not (same and places and queues):
+        raise CannotChange('%s is written in a way in which this can\'t be changed in the text' % base.name)
