@@ -10,7 +10,7 @@ from __future__ import annotations
 import re
 
 from motesim.faults import Fault
-from motesim.program_faults import LONGEST_NAME, Token, find_fault, tokens_of
+from motesim.notation.faults import LONGEST_NAME, Token, find_fault, tokens_of
 
 DIES, LATE = 'fails', 'starts late'
 NAMES = {DIES: 'failing', LATE: 'starting'}

@@ -13,14 +13,15 @@ from functools import cached_property
 from typing import Any
 
 from motesim.faults import Fault
-from motesim.scenario import Place, Scenario
-from motesim.scenario_faults import find_fault, value_of
+from motesim.scenario.scenario import Place, Scenario
+from motesim.scenario.faults import find_fault, place_of, value_of
 from motesim.search.added import DIES, LATE, changed_program, is_name_free
 from motesim.studio.edits import Change as Edit
 from motesim.studio.edits import Text, applied
 
 NUMBERS = ('range', 'base', 'per')
 LONGEST_NAME = 32
+NOT_SO = '%s is written in a way in which this can\'t be changed in the text'
 
 
 class CannotChange(Fault):
@@ -50,6 +51,13 @@ class Change:
         self.losses[sender, receiver] = every if before is None else min(before, every)
 
 
+def shown(tables: Any, path: tuple[str | int, ...]) -> str:
+    """What stands at a key, as it is mostly written."""
+    for name in path:
+        tables = tables[name]
+    return str(tables).lower() if type(tables) is bool else str(tables)
+
+
 class Base:
     """A scenario into which faults are put."""
 
@@ -61,6 +69,7 @@ class Base:
         self.scenario_itself = Scenario.parse(source)
         self.tables: dict[str, Any] = tomllib.loads(source.removeprefix('\ufeff'))
         self.lines = Text(source)
+        self.stretches: dict[tuple[str | int, ...], tuple[int, int]] = {}
 
     def __reduce__(self) -> tuple[type[Base], tuple[str, str]]:
         return Base, (self.source, self.name)
@@ -95,7 +104,7 @@ class Base:
         except CannotChange:
             raise
         except Fault:
-            raise CannotChange('%s is written in a way in which this can\'t be changed in the text' % self.name) from None
+            raise CannotChange(NOT_SO % self.name) from None
 
     def edits(self, change: Change) -> list[Edit]:
         """The stretches of the text that a change replaces."""
@@ -103,7 +112,7 @@ class Base:
         for name, number in change.numbers.items():
             found.append(self.value(('medium', name), str(number)))
         for mote, (x, y) in change.places.items():
-            found += [self.lines.number(('mote', mote, 'x'), x), self.lines.number(('mote', mote, 'y'), y)]
+            found += [self.value(('mote', mote, 'x'), str(x)), self.value(('mote', mote, 'y'), str(y))]
         queue = dict(change.queue)
         found += self.of_added(change, queue)
         if change.collide or queue:
@@ -131,7 +140,7 @@ class Base:
             if index is None:
                 rows += ['[[loss]]', 'from = %d' % sender, 'to = %d' % receiver, 'every = %d' % every]
             elif self.tables['loss'][index]['every'] != every:
-                found.append(self.lines.number(('loss', index, 'every'), every))
+                found.append(self.value(('loss', index, 'every'), str(every)))
         if rows:
             if self.has_loss_array:
                 raise CannotChange('%s has its losses in one array, and no tables [[loss]] to which one can be added'
@@ -140,14 +149,21 @@ class Base:
             found.append(Edit(end.begin, end.end, end.text + ''.join(row + '\n' for row in rows)))
         return found
 
+    def stretch(self, path: tuple[str | int, ...]) -> tuple[int, int]:
+        """Where the value of a key stands in the text, as far as one can see."""
+        if path not in self.stretches:
+            value = value_of(self.source, place_of(self.source, path))
+            begin = self.lines.offset(value)
+            self.stretches[path] = begin, begin + value.length
+        return self.stretches[path]
+
     def value(self, path: tuple[str | int, ...], text: str) -> Edit:
         """Puts another value in the place of a key's."""
-        key = self.lines.places.get(path)
-        value = value_of(self.source, key) if key else None
-        if value is None or value == key:
+        begin, end = self.stretch(path)
+        if self.source[begin:end].strip('"\'') != shown(self.tables, path):
             raise CannotChange('%s: %s does not stand in a line of its own, so it can\'t be changed in the text'
                                % (self.name, '.'.join(map(str, path))))
-        return Edit(self.lines.offset(value), self.lines.offset(value) + value.length, text)
+        return Edit(begin, end, text)
 
     def second_version(self, collides: bool) -> list[Edit]:
         """Makes the text one of version 2, with collisions or without them."""

@@ -27,17 +27,16 @@ from __future__ import annotations
 import argparse
 import hashlib
 import os
-import sys
 from pathlib import Path
 
-from motesim.expectations import beside, parts_of, read_all, text_of
+from motesim.judge.expectations import beside, parts_of, read_all, text_of
 from motesim.faults import INTERRUPTED, Fault, command
-from motesim.one_run import program_digest
-from motesim.programs import program_path
+from motesim.experiments.one_run import program_digest
+from motesim.runner.programs import program_path
 from motesim.search.change import NUMBERS, Base
 from motesim.search.faults import KINDS, Asked, faults_of
 from motesim.search.found import (
-    as_csv, as_json, covered_lines, found_by, is_whole, verdict_lines, write_files, write_whole,
+    Found, as_csv, as_json, covered_lines, found_by, is_whole, verdict_lines, write_files, write_whole,
 )
 from motesim.search.kept import Kept
 from motesim.search.one_program import Limits, OneProgram
@@ -46,10 +45,10 @@ from motesim.search.progress import Progress
 from motesim.search.runner import Here
 from motesim.search.search import Bounds, Search
 from motesim.search.sets import Known
-from motesim.search.work import Work, mask_of
-from motesim.sentences import Names, Refused, Sentence, names_of
-from motesim.sweep_asked import values_of
-from motesim.sweep_runs import Break
+from motesim.search.work import Work, mask_of, numbers_of
+from motesim.judge.sentences import Names, Refused, Sentence, names_of
+from motesim.experiments.asked import values_of
+from motesim.experiments.runs import Break
 from motesim.words import words_of
 
 STATE = 'tried.txt'
@@ -72,7 +71,8 @@ def arguments() -> argparse.ArgumentParser:
     words.add_argument('--seed', type=int, default=1, metavar='S', help='what they are drawn with; else 1')
     words.add_argument('--most-runs', type=int, metavar='N', help='end after so many runs')
     words.add_argument('--most-seconds', type=float, metavar='N', help='end after so many seconds')
-    words.add_argument('--seconds', type=float, default=Limits().seconds, metavar='N', help='the limit of a run; else 10')
+    words.add_argument('--seconds', type=float, default=Limits().seconds, metavar='N',
+                       help='the limit of a run; else 10')
     words.add_argument('--bytes', type=int, default=Limits().report, metavar='N',
                        help='how long a report may be; else 16,000,000')
     words.add_argument('--jobs', type=int, default=os.cpu_count() or 1, metavar='N', help='how many runs at a time')
@@ -163,8 +163,8 @@ class Asking:
         blind = 0
         for mask in self.prepared.blind.values():
             blind |= mask
-        rows += ['the process that makes a mote fail or start late breaks this by itself, so that nothing is said of it '
-                 'with such faults: ' + self.texts[number] for number in range(len(self.texts)) if blind >> number & 1]
+        rows += ['the process that makes a mote fail or start late breaks this by itself, so that nothing is said of '
+                 'it with such faults: ' + self.texts[number] for number in numbers_of(blind)]
         return rows
 
     def digest(self) -> str:
@@ -191,18 +191,13 @@ def carried_out(asking: Asking) -> Search:
     progress = Progress()
     search = asking.search(progress)
     with Break() as asked:
-        is_over = search.is_over
-
-        def is_over_now() -> bool:
-            search.is_stopped |= asked.is_asked
-            return is_over()
-        search.is_over = is_over_now  # type: ignore[method-assign]
+        search.asks_end = lambda: asked.is_asked
         runner = Here(asking.work(), asking.words.jobs)
         try:
             search.run(runner)
         except KeyboardInterrupt:
             search.is_stopped = True
-            is_over()
+            search.is_over()
             runner.kill()
         finally:
             runner.close()
@@ -233,7 +228,8 @@ def told(asking: Asking, search: Search) -> int:
     return 1 if found else 0
 
 
-def last_line(search: Search, found: list[object] | list[object], folder: Path) -> str:
+def last_line(search: Search, found: list[Found], folder: Path) -> str:
+    """The end of what is said: how many expectations hold."""
     wanted = bin(search.known.wanted).count('1')
     broken = 0
     for mask in search.known.minimal.values():
@@ -257,7 +253,5 @@ def main() -> int:
         raise Fault('--jobs, --seconds and --bytes are more than 0, and --at-most and --random 0 or more')
     if words.expectations and words.expect:
         raise Fault('the expectations stand in a file or in --expect, and not in both')
-    if words.json == '-':
-        sys.stdout.reconfigure(encoding='utf-8')  # type: ignore[union-attr]
     asking = Asking(words)
     return told(asking, carried_out(asking))

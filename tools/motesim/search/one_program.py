@@ -43,7 +43,8 @@ class OneProgram:
     def __init__(self, path: str, limits: Limits):
         self.path, self.limits = path, limits
         self.given, self.report, self.fault = (os.memfd_create(name) for name in ('given', 'report', 'fault'))
-        self.actions = [(os.POSIX_SPAWN_DUP2, file, at) for at, file in enumerate((self.given, self.report, self.fault))]
+        files = self.given, self.report, self.fault
+        self.actions = [(os.POSIX_SPAWN_DUP2, file, at) for at, file in enumerate(files)]
 
     def run(self, scenario: bytes) -> Answer:
         """What the program answers to a scenario."""

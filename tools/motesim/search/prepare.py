@@ -18,7 +18,7 @@ from motesim.search.one_program import OneProgram
 from motesim.search.quick_judge import QuickJudge
 from motesim.search.sets import Set
 from motesim.search.work import mask_of
-from motesim.sentences import Sentence
+from motesim.judge.sentences import Sentence
 
 ADDED = {'fails': DIES, 'late': LATE}
 
@@ -96,7 +96,8 @@ def prepare(base: Base, plain: Plain, program: OneProgram, sentences: list[Sente
             faults: list[FaultyPart]) -> Prepared:
     """Leaves out the faults that can't be made, and says why."""
     judge, seen = QuickJudge(sentences), dict[tuple[int, str], tuple[str, int]]()
-    kept, left_out, blind = [], dict[str, None](), {}
+    kept: list[FaultyPart] = []
+    left_out, blind = dict[str, None](), dict[int, int]()
     for fault in faults:
         kind = ADDED.get(str(fault.effect[0]))
         if kind is not None:

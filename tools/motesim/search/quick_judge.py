@@ -8,12 +8,12 @@ from __future__ import annotations
 
 import re
 from collections.abc import Callable, Iterable
-from functools import cached_property
+from functools import cached_property, partial
 
-from motesim.judge import Judge
-from motesim.report import FIELDS, Report
-from motesim.scenario import Scenario
-from motesim.sentences import (
+from motesim.judge.judge import Judge
+from motesim.report.report import FIELDS, Report
+from motesim.scenario.scenario import Scenario
+from motesim.judge.sentences import (
     Copies, Count, Deed, Does, Hears, Lines, Motes, Packets, Pattern, Sentence, Value, Window,
 )
 
@@ -178,6 +178,10 @@ def _chosen(motes: Motes, seen: Seen) -> list[int]:
     return [mote for mote in numbers if mote not in motes.but]
 
 
+def _so_many(motes: Motes, count: Count, unit: Callable[[Seen, int], bool], seen: Seen) -> bool:
+    return count.admits(sum(unit(seen, mote) for mote in _chosen(motes, seen)))
+
+
 def _does(it: Does) -> Check:
     if it.than or len(it.deed.patterns) > 1 or it.motes.kind == 'together':
         raise _Unknown
@@ -188,9 +192,8 @@ def _does(it: Does) -> Check:
         return lambda seen: not any(unit(seen, mote) for mote in _chosen(motes, seen))
     if motes.kind == 'some':
         return lambda seen: any(unit(seen, mote) for mote in _chosen(motes, seen))
-    admitted = motes.count
-    assert admitted
-    return lambda seen: admitted.admits(sum(unit(seen, mote) for mote in _chosen(motes, seen)))
+    assert motes.count
+    return partial(_so_many, motes, motes.count, unit)
 
 
 def _counted(seen: Seen, rows: Iterable[tuple[int, int]], count: Count, window: Window) -> bool:
@@ -225,6 +228,14 @@ def _packets(it: Packets) -> Check:
     return lambda seen: _counted(seen, seen.packets, it.count, it.window)
 
 
+def _report_lines(it: Lines) -> Check:
+    return lambda seen: it.count.admits(seen.data.count(b'\n'))
+
+
+def _hears(it: Hears) -> Check:
+    return lambda seen: all(seen.links.hears(mote, it.other) == it.can for mote in it.motes)
+
+
 def _check_of(it: Sentence) -> Check:
     """The check of a sentence."""
     if isinstance(it, Does):
@@ -234,9 +245,9 @@ def _check_of(it: Sentence) -> Check:
     if isinstance(it, Packets):
         return _packets(it)
     if isinstance(it, Lines):
-        return lambda seen: it.count.admits(seen.data.count(b'\n'))
+        return _report_lines(it)
     if isinstance(it, Hears):
-        return lambda seen: all(seen.links.hears(mote, it.other) == it.can for mote in it.motes)
+        return _hears(it)
     raise _Unknown
 
 
@@ -245,7 +256,7 @@ def _by_judge(it: Sentence) -> Check:
 
 
 def _kinds_of(it: Sentence) -> set[str]:
-    """The kinds of lines that a sentence's check reads, each with its process, where it is always the same."""
+    """The kinds of lines that a sentence's check reads."""
     if isinstance(it, Does):
         return {str(pattern[0]) for pattern in it.deed.patterns}
     return {OUTCOMES[it.outcome]} if isinstance(it, Copies) and it.outcome in OUTCOMES else set()

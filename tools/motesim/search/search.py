@@ -40,6 +40,8 @@ class Search:
         self.why: Counter[str] = Counter()
         self.runs = self.resumed = 0
         self.begin = time.monotonic()
+        self.given = 0
+        self.asks_end: Callable[[], bool] = lambda: False
         self.is_stopped = False
         self.ended_by = ''
 
@@ -49,8 +51,8 @@ class Search:
 
     def is_over(self) -> bool:
         """Whether a limit has come, or the user asked for the end."""
-        if self.is_stopped:
-            self.ended_by = 'it was stopped'
+        if self.is_stopped or self.asks_end():
+            self.is_stopped, self.ended_by = True, 'it was stopped'
         elif self.bounds.runs is not None and self.given >= self.bounds.runs:
             self.ended_by = 'the limit of {:,} runs was reached'.format(self.bounds.runs)
         elif self.bounds.seconds is not None and self.seconds >= self.bounds.seconds:
@@ -59,7 +61,6 @@ class Search:
 
     def run(self, runner: Runner) -> None:
         """Tries the sets, size after size."""
-        self.given = 0
         for size in range(1, self.bounds.at_most + 1):
             tally = self.tallies[size] = Tally(count_of(self.known.faults, size))
             if tally.sets and not self.ended_by:

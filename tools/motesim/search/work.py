@@ -3,14 +3,14 @@ from __future__ import annotations
 
 from typing import NamedTuple
 
-from motesim.scenario import Scenario
-from motesim.search.change import Base, CannotChange, Change
+from motesim.scenario.scenario import Scenario
+from motesim.search.change import NOT_SO, Base, CannotChange, Change
 from motesim.search.added import NoRoom
 from motesim.search.faults import FaultyPart, change_of
 from motesim.search.one_program import Answer, Limits, OneProgram
 from motesim.search.quick_judge import QuickJudge
 from motesim.search.sets import Set
-from motesim.sentences import Sentence
+from motesim.judge.sentences import Sentence
 
 RUN, SAME, STOPPED, UNMADE = 'run', 'same', 'stopped', 'unmade'
 
@@ -100,4 +100,4 @@ def check_text(text: str, change: Change, base: Base) -> None:
     places = [(it.x, it.y) for it in read.places] == [(it.x, it.y) for it in meant.places]
     queues = all(read.queue.get(program) == length for program, length in change.queue.items())
     if not (same and places and queues):
-        raise CannotChange('%s is written in a way in which this can\'t be changed in the text' % base.name)
+        raise CannotChange(NOT_SO % base.name)

@@ -1,0 +1,519 @@
+"""Searches for faults: what each kind changes in the text, which sets are minimal, what is said to be covered, and what
+becomes of interrupted searches, hostile programs and texts that can't be changed."""
+import contextlib
+import csv
+import itertools
+import json
+import os
+import signal
+import subprocess
+import sys
+import tempfile
+import time
+import unittest
+from pathlib import Path
+
+from here import TOOLS, TOP
+from motesim.faults import Fault
+from motesim.judge.expectations import beside, parts_of, read_all
+from motesim.judge.judge import Judge
+from motesim.judge.sentences import names_of, read_sentence
+from motesim.report.report import Report
+from motesim.runner.run import answer, program_path
+from motesim.scenario.scenario import Scenario
+from motesim.search.added import DIES, LATE, NoRoom, changed_program
+from motesim.search.change import Base, CannotChange, Change
+from motesim.search.faults import Asked, change_of, faults_of
+from motesim.search.one_program import Limits, OneProgram
+from motesim.search.quick_judge import QuickJudge
+from motesim.search.sets import Known, count_of
+from skips import need_program
+
+# Mote 0 sends 7 at moment 10, and who hears it for the first time passes it on. Motes 1 and 2 are between 0 and 3.
+PROGRAM = """process flood;
+autostart flood;
+receiver flood;
+code flood {
+  var known = 0; // whether it was heard
+  etimer t;
+  body {
+    if (self == 0) {
+      set t 10;
+      yield_until fired(t);
+      known = 1;
+      send 7;
+    }
+    while 1 {
+      yield_until is(packet);
+      if !known {
+        known = 1;
+        print data;
+        send data;
+      }
+    }
+  }
+}
+"""
+DIAMOND = """# A diamond.
+version = 1
+end = 100
+[medium]
+range = 10   # neighbours only
+base = 2
+per = 1000
+[programs]
+p = '''
+%s'''
+[[mote]]
+x = 0
+y = 0
+program = "p"
+[[mote]]
+x = 6
+y = 6
+program = "p"
+[[mote]]
+x = 6
+y = -6
+program = "p"
+[[mote]]
+x = 12
+y = 0
+program = "p"
+""" % PROGRAM
+REACHED = 'mote 3 prints flood 7'
+
+
+def base_of(text=DIAMOND):
+    return Base(text, 'diamond.toml')
+
+
+def faults_by_words(base, **asked):
+    return {fault.words: fault for fault in faults_of(base, Asked(**asked))}
+
+
+def lines_changed(before, after):
+    """The lines that are gone, and those that came, in order."""
+    import difflib
+    rows = list(difflib.ndiff(before.split('\n'), after.split('\n')))
+    return [row[2:] for row in rows if row[0] == '-'], [row[2:] for row in rows if row[0] == '+']
+
+
+@contextlib.contextmanager
+def folder_with(text=DIAMOND, sentences=(REACHED,)):
+    with tempfile.TemporaryDirectory() as folder:
+        path = Path(folder, 'diamond.toml')
+        path.write_text(text)
+        beside(path).write_text('expect = %s\n' % json.dumps(list(sentences)))
+        yield Path(folder)
+
+
+def search(folder, *words, scenario='diamond.toml'):
+    done = subprocess.run([sys.executable, '-B', str(TOOLS / 'search'), scenario, *words], cwd=folder,
+                          capture_output=True, text=True)
+    return done.returncode, done.stdout, done.stderr
+
+
+def minimal_sets(folder, *words):
+    """The minimal sets that a search finds, by expectation."""
+    status, said, told = search(folder, *words, '--json', 'found.json')
+    if status not in (0, 1):
+        raise AssertionError(told)
+    found = json.loads(Path(folder, 'found.json').read_text())
+    sets = {}
+    for it in found['found']:
+        for sentence in it['expectations']:
+            sets.setdefault(sentence, set()).add(frozenset(it['faults']))
+    return sets, found, said
+
+
+class Texts(unittest.TestCase):
+    """Each kind of fault is a change of a few lines."""
+
+    def one(self, words, text=DIAMOND, **asked):
+        base = base_of(text)
+        change = change_of([faults_by_words(base, **asked)[words]], base)
+        changed = base.text(change)
+        return *lines_changed(text, changed), Scenario.parse(changed)
+
+    def test_link(self):
+        gone, came, read = self.one('link 0 to 1 loses everything', kinds=('links',))
+        self.assertEqual((gone, came), ([], ['[[loss]]', 'from = 0', 'to = 1', 'every = 1']))
+        self.assertEqual(read.losses, {(0, 1): 1})
+
+    def test_link_that_loses_some_already(self):
+        text = DIAMOND + '[[loss]]\nfrom = 0 # here\nto = 1\nevery = 5 # of five\n'
+        gone, came, read = self.one('link 0 to 1 loses everything', text, kinds=('links',))
+        self.assertEqual((gone, came), (['every = 5 # of five'], ['every = 1 # of five']))
+        self.assertEqual(read.losses, {(0, 1): 1})
+
+    def test_link_that_loses_all_already_has_no_fault(self):
+        base = base_of(DIAMOND + '[[loss]]\nfrom = 0\nto = 1\nevery = 1\n')
+        found = faults_by_words(base, kinds=('links', 'motes'))
+        self.assertNotIn('link 0 to 1 loses everything', found)
+        self.assertIn('link 1 to 0 loses everything', found)
+        # (the other link of mote 0 is left)
+        self.assertIn('mote 0 is silent', found)
+
+    def test_both_ways(self):
+        _, came, read = self.one('link 1 and 3 loses everything both ways', kinds=('both-ways',))
+        self.assertEqual(read.losses, {(1, 3): 1, (3, 1): 1})
+        self.assertEqual(len(came), 8)
+
+    def test_every(self):
+        found = faults_by_words(base_of(), kinds=('every',), every=(2, 3))
+        self.assertEqual(len(found), 16)
+        self.assertEqual(self.one('link 2 to 3 loses each 3. packet', kinds=('every',), every=(3,))[2].losses,
+                         {(2, 3): 3})
+
+    def test_every_is_no_fault_where_as_much_is_lost(self):
+        base = base_of(DIAMOND + '[[loss]]\nfrom = 0\nto = 1\nevery = 3\n')
+        words = [it.words for it in faults_of(base, Asked(('every',), every=(2, 3, 4))) if it.slot[1:] == (0, 1)]
+        self.assertEqual(words, ['link 0 to 1 loses each 2. packet'])
+
+    def test_packets(self):
+        # (of five packets 2 is lost by every = 3, which next loses packet 5; packet 1 can't be lost alone)
+        base = base_of()
+        found = [it for it in faults_of(base, Asked(('packets',), sent=(5, 1, 0, 2))) if it.slot[1] in (0, 3)]
+        lost = {(it.slot[1:], it.effect[3]) for it in found}
+        self.assertEqual(lost, {((0, 1), 3), ((0, 1), 4), ((0, 1), 5), ((0, 2), 3), ((0, 2), 4), ((0, 2), 5),
+                                ((3, 1), 2), ((3, 2), 2)})
+
+    def test_silent_mote(self):
+        self.assertEqual(self.one('mote 3 is silent', kinds=('motes',))[2].losses, {(3, 1): 1, (3, 2): 1})
+
+    def test_collisions_take_version_2(self):
+        gone, came, read = self.one('packets collide', kinds=('collisions',))
+        self.assertEqual((gone, came), (['version = 1'], ['version = 2', 'collide = true']))
+        self.assertTrue(read.collide)
+
+    def test_queue(self):
+        gone, came, read = self.one('the event queue of p has room for 4', kinds=('queues',), queues=(4,))
+        self.assertEqual((gone, came), (['version = 1'], ['version = 2', 'collide = false', '[queue]', 'p = 4']))
+        self.assertEqual((read.queue, read.collide), ({'p': 4}, False))
+
+    def test_value(self):
+        gone, came, read = self.one('range is 8', kinds=('values',), values={'range': (8,)})
+        self.assertEqual((gone, came), (['range = 10   # neighbours only'], ['range = 8   # neighbours only']))
+
+    def test_place(self):
+        _, _, read = self.one('mote 1 is at 9, 6', kinds=('places',), step=3)
+        self.assertEqual((read.places[1].x, read.places[1].y), (9, 6))
+
+    def test_failing_mote(self):
+        gone, came, read = self.one('mote 1 fails at 50', kinds=('deaths',), moments=(50,))
+        self.assertEqual([it.program for it in read.places], ['p', 'p_fails_1', 'p', 'p'])
+        self.assertEqual(gone, ['program = "p"'])
+        program = read.programs['p_fails_1']
+        self.assertIn('process flood, failing;\nautostart flood, failing;\nreceiver flood;', program)
+        self.assertIn('// whether it was heard', program)
+        self.assertTrue(program.endswith('code failing {\n  etimer wait;\n  body {\n    set wait 50;\n'
+                                         '    yield_until fired(wait);\n    kill flood;\n  }\n}\n'), program)
+
+    def test_failing_mote_keeps_its_queue(self):
+        text = DIAMOND.replace('version = 1', 'version = 2').replace('per = 1000', 'per = 1000\ncollide = false')
+        text = text.replace('[[mote]]', '[queue]\np = 5\n[[mote]]', 1)
+        _, _, read = self.one('mote 1 fails at 50', text, kinds=('deaths',), moments=(50,))
+        self.assertEqual(read.queue, {'p': 5, 'p_fails_1': 5})
+
+    def test_late_mote(self):
+        _, _, read = self.one('mote 2 starts at 70', kinds=('late',), moments=(70,))
+        program = read.programs['p_late_2']
+        self.assertIn('process flood, starting;\nautostart starting;', program)
+        self.assertIn('yield_until fired(wait);\n    start flood;\n', program)
+
+    def test_long_waits_take_rounds(self):
+        program = changed_program(PROGRAM, DIES, 130_000)
+        self.assertIn('while (rounds < 2) {', program)
+        self.assertIn('set wait 10000;', program)
+
+    def test_mote_that_could_go_on_halts(self):
+        program = changed_program(PROGRAM.replace('etimer t;', 'etimer t;\n  ctimer c { send 1; }'), DIES, 5)
+        self.assertIn('while 1 {\n    }\n', program)
+        self.assertNotIn('kill flood', program)
+
+    def test_names_that_are_taken(self):
+        text = PROGRAM.replace('flood', 'failing').replace('etimer t', 'etimer wait').replace(' t ', ' wait ')
+        self.assertIn('process failing, failing2;', changed_program(text.replace('(t)', '(wait)'), DIES, 5))
+
+    def test_no_room_for_a_process(self):
+        names = ['a%d' % number for number in range(64)]
+        full = 'process %s;\n' % ', '.join(names) + ''.join('code %s { body { } }\n' % name for name in names)
+        with self.assertRaisesRegex(NoRoom, 'at most 64: processes of a program'):
+            changed_program(full, LATE, 5)
+
+    def test_text_that_cannot_be_changed(self):
+        head, _, motes = DIAMOND.partition('[[mote]]\n')
+        rows = ', '.join('{x = %d, y = %d, program = "p"}' % at for at in ((0, 0), (6, 6), (6, -6), (12, 0)))
+        base = base_of('mote = [%s]\n' % rows + head)
+        move = faults_by_words(base, kinds=('places',), step=3)['mote 1 is at 9, 6']
+        with self.assertRaises(CannotChange):
+            base.text(change_of([move], base))
+        base = base_of('loss = []\n' + DIAMOND)
+        link = faults_by_words(base, kinds=('links',))['link 0 to 1 loses everything']
+        with self.assertRaisesRegex(CannotChange, 'losses in one array'):
+            base.text(change_of([link], base))
+
+    def test_scenario_with_a_fault(self):
+        with self.assertRaisesRegex(Fault, 'diamond.toml has no report: motesim: scenario fault 2'):
+            base_of('version = 1\n')
+
+
+class Counts(unittest.TestCase):
+    def test_sets_are_those_of_a_naive_count(self):
+        faults = faults_of(base_of(), Asked(('links', 'every', 'motes', 'values'), every=(2, 3),
+                                            values={'range': (5, 6, 7)}))
+        known = Known(faults, 1)
+        for size in 1, 2, 3:
+            naive = sum(len({it.slot for it in found}) == size for found in itertools.combinations(faults, size))
+            self.assertEqual(count_of(faults, size), naive)
+            self.assertEqual(sum(1 for _ in known.of_size(size)), naive)
+
+
+class QuickJudging(unittest.TestCase):
+    """The quick judge says what the judge says."""
+
+    MORE = ['every mote sends', 'no mote halts', 'some mote prints', 'exactly 2 motes send twice',
+            'mote 0 receives at most 2 by 50', 'no copy collides', 'at most 3 copies arrive at mote 0 by 60',
+            'exactly 1 copy is left', 'no packet is sent after 60',
+            'at least 2 packets are sent in each 50 from 0 to 99', 'motes 0 to 1 together send',
+            'no copy is lost', 'the report has at most 900 lines', 'mote 1 can hear mote 0',
+            'mote 0 sends more than 1 times as often as mote 1', "mote 0 writes 'start' or 'leave'",
+            "every mote writes 'start etimer'", 'mote 1 receives 1 from mote 0', 'some copy overflows',
+            'every mote sends its number', 'every mote sends its distance from mote 0', 'mote 0 never sends 1',
+            'every mote receives at 12 plus 4 for each hop from mote 0', 'no mote but 0 sends its number']
+
+    def test_of_examples_with_faults(self):
+        need_program(self)
+        for path in sorted((TOP / 'examples').glob('*.toml')):
+            if path.name.endswith('.expect.toml') or path.name == 'wrong.toml':
+                continue
+            text = path.read_text()
+            base = Base(text, path.name)
+            names = names_of(base.scenario_itself)
+            part = parts_of(beside(path).read_text(), path.name)[0]
+            more = [it for it in self.MORE if base.scenario_itself.motes > 1]
+            sentences = read_all([*part.sentences, *more], names)
+            quick = QuickJudge(sentences)
+            faults = faults_of(base, Asked(('links', 'motes', 'collisions')))
+            for found in [[], *([it] for it in faults[::max(1, len(faults) // 4)])]:
+                change = change_of(found, base)
+                changed = base.text(change)
+                report, scenario = answer(changed.encode()).report, Scenario.parse(changed)
+                judge = Judge(Report.parse(report), scenario)
+                wanted = [number for number, it in enumerate(sentences) if judge.broken(it)]
+                self.assertEqual(quick.broken(report, base.scenario(change)), wanted, (path.name, found))
+
+
+class Searches(unittest.TestCase):
+    def setUp(self):
+        need_program(self)
+
+    def test_minimal_sets_worked_out_by_hand(self):
+        # The message takes 0-1-3 or 0-2-3, so one link of each way has to fail.
+        with folder_with() as folder:
+            sets, found, said = minimal_sets(folder, '--faults', 'links', '--at-most', '3')
+            links = 'link %d to %d loses everything'
+            ways = ((0, 1), (1, 3)), ((0, 2), (2, 3))
+            wanted = {frozenset((links % one, links % other)) for one in ways[0] for other in ways[1]}
+            self.assertEqual(sets, {REACHED: wanted})
+            self.assertEqual(found['covered']['1']['run'], 8)
+            self.assertEqual(found['covered']['2'], {**found['covered']['2'], 'sets': 28, 'run': 28, 'all': True})
+            # of the 56 triples 4 * 6 contain one pair, and 4 of these two: 56 - 20 are left
+            triples = found['covered']['3']
+            self.assertEqual((triples['sets'], triples['run'] + triples['decided']), (56, 56))
+            pairs = [{one, other} for one in ways[0] for other in ways[1]]
+            holding = sum(not any(pair <= set(it) for pair in pairs) for it in itertools.combinations(
+                [(0, 1), (0, 2), (1, 0), (1, 3), (2, 0), (2, 3), (3, 1), (3, 2)], 3))
+            self.assertEqual(triples['run'], holding)
+            self.assertIn('all 28 pairs: 28 run\n', said)
+
+    def test_as_a_naive_search_finds(self):
+        sentences = [REACHED, 'exactly 4 packets are sent', 'mote 1 receives at least 2']
+        kinds = ('links', 'motes', 'values')
+        with folder_with(sentences=sentences) as folder:
+            sets, _, _ = minimal_sets(folder, '--faults', ','.join(kinds), '--at-most', '2', '--set', 'range=8')
+        base = base_of()
+        faults = faults_of(base, Asked(kinds, values={'range': (8,)}))
+        breaks = {}
+        for size in 0, 1, 2:
+            for found in itertools.combinations(faults, size):
+                text = base.text(change_of(found, base))
+                scenario = Scenario.parse(text)
+                judge = Judge(Report.parse(answer(text.encode()).report), scenario)
+                names = names_of(scenario)
+                breaks[frozenset(it.words for it in found)] = {
+                    it for it in sentences if judge.broken(read_sentence(it, names))}
+        wanted = {}
+        for found, broken in breaks.items():
+            for sentence in broken:
+                if not any(part < found and sentence in breaks[part] for part in breaks):
+                    wanted.setdefault(sentence, set()).add(found)
+        self.assertEqual(sets, wanted)
+
+    def test_counter_examples_are_scenarios_with_expectations(self):
+        with folder_with() as folder:
+            status, said, _ = search(folder, '--faults', 'motes', '-o', 'here', '--csv', 'found.csv')
+            self.assertEqual(status, 1)
+            self.assertIn('broken: mote 3 prints flood 7\n  mote 0 is silent\n', said)
+            rows = list(csv.DictReader((folder / 'found.csv').read_text().splitlines()))
+            self.assertEqual(rows, [{'expectation': REACHED, 'size': '1', 'faults': 'mote 0 is silent',
+                                     'file': 'here/diamond_silent_0.toml'}])
+            text = (folder / 'here/diamond_silent_0.toml').read_text()
+            self.assertTrue(text.startswith('# diamond.toml with a fault: mote 0 is silent.\n# This breaks:\n'), text)
+            done = subprocess.run([sys.executable, '-B', str(TOOLS / 'expect'), 'here/diamond_silent_0.toml'],
+                                  cwd=folder, capture_output=True, text=True)
+            self.assertEqual(done.returncode, 1, done.stderr)
+            self.assertIn('broken  mote 3 prints flood 7', done.stdout)
+
+    def test_all_hold(self):
+        with folder_with() as folder:
+            status, said, _ = search(folder, '--faults', 'links')
+            self.assertEqual(status, 0)
+            self.assertIn('all 8 single faults: 8 run', said)
+            self.assertIn('1 of 1 expectations hold in every run; 8 runs in', said)
+
+    def test_failing_and_late_motes(self):
+        with folder_with(sentences=[REACHED, 'no mote halts']) as folder:
+            sets, found, said = minimal_sets(folder, '--faults', 'deaths,late', '--moments', '5,90')
+            self.assertEqual(sets, {REACHED: {frozenset((it,)) for it in (
+                'mote 0 fails at 5', 'mote 3 fails at 5', 'mote 0 starts at 90', 'mote 3 starts at 90')}})
+            self.assertEqual(found['notes'], [])
+
+    def test_added_process_that_changes_something_is_left_out(self):
+        text = DIAMOND.replace('    while 1 {\n      yield_until', '    broadcast msg 1;\n    while 1 {\n'
+                               '      if is(exited) { print 5; }\n      yield_until')
+        text = text.replace('process flood;', 'process flood, other;').replace(
+            "'''\n[[mote]]", "code other { onexit { send 3; } body { yield; } }\n'''\n[[mote]]", 1)
+        with folder_with(text) as folder:
+            status, said, told = search(folder, '--faults', 'late', '--moments', '5')
+            self.assertIn(status, (0, 1), told)
+
+    def test_expectation_that_the_added_process_breaks(self):
+        with folder_with(sentences=[REACHED, 'the report has exactly 46 lines']) as folder:
+            lines = len(answer(DIAMOND.encode()).report.split(b'\n')) - 1
+            sets, found, said = minimal_sets(folder, '--expect', 'the report has exactly %d lines' % lines, '--expect',
+                                             REACHED, '--faults', 'deaths', '--moments', '90')
+            self.assertEqual(sets, {})
+            self.assertIn('nothing is said of it', ' '.join(found['notes']))
+
+    def test_broken_without_a_fault(self):
+        with folder_with(sentences=['mote 0 prints', REACHED]) as folder:
+            status, said, _ = search(folder, '--faults', 'links')
+            self.assertIn('broken without a fault, so left out: mote 0 prints\n', said)
+            self.assertIn('1 of 1 expectations hold', said)
+
+    def test_limit_on_runs(self):
+        with folder_with() as folder:
+            status, said, _ = search(folder, '--faults', 'links', '--at-most', '2', '--most-runs', '20', '--jobs', '1')
+            self.assertIn('NOT ALL WAS TRIED: the limit of 20 runs was reached', said)
+            self.assertIn('NOT TRIED', said)
+            self.assertNotIn('in every run;', said)
+            status, said, _ = search(folder, '--faults', 'links', '--at-most', '2', '--resume')
+            self.assertIn('all 28 pairs: 28 run', said)
+
+    def test_sample_is_called_one(self):
+        with folder_with() as folder:
+            sets, found, said = minimal_sets(folder, '--faults', 'links', '--random', '40', '--seed', '3')
+            self.assertIn('a sample of', said)
+            self.assertIn('drawn with the seed 3 (a sample covers nothing wholly)', said)
+            # (whatever was drawn, what is found is minimal: two links, one of each way)
+            self.assertTrue(sets[REACHED])
+            self.assertEqual({len(it) for it in sets[REACHED]}, {2})
+            again = minimal_sets(folder, '--faults', 'links', '--random', '40', '--seed', '3')
+            self.assertEqual(again[0], sets)
+
+    def test_hostile_programs_are_stopped(self):
+        # A mote that misses the message prints 3,000 lines at each of a million moments.
+        text = DIAMOND.replace('end = 100', 'end = 1000000').replace("'''\n[[mote]]", """'''
+loud = '''
+process flood;
+autostart flood;
+receiver flood;
+code flood {
+  var n = 0;
+  etimer t;
+  body {
+    set t 30;
+    yield;
+    if is(packet) { print data; } else {
+      while 1 { n = 0; while (n < 3000) { print 1; n = (n + 1); } set t 1; yield_until fired(t); }
+    }
+  }
+}
+'''
+[[mote]]""", 1)
+        text = text.replace('y = 0\nprogram = "p"\n', 'y = 0\nprogram = "loud"\n').replace(
+            'y = 0\nprogram = "loud"\n', 'y = 0\nprogram = "p"\n', 1)
+        with folder_with(text) as folder:
+            begin = time.monotonic()
+            status, said, told = search(folder, '--faults', 'motes', '--bytes', '1000000', '--seconds', '2')
+            self.assertIn('4 single faults: 3 run, 1 STOPPED at a limit, of which nothing is known', said, told)
+            self.assertNotIn('all 4', said)
+            self.assertNotIn('in every run;', said)
+            self.assertLess(time.monotonic() - begin, 30)
+
+    def test_interruption_and_resumption(self):
+        words = ['--faults', 'links,motes,every', '--at-most', '3']
+        with folder_with() as folder:
+            whole = minimal_sets(folder, *words, '-o', 'whole')[0]
+            begun = subprocess.Popen([sys.executable, '-B', str(TOOLS / 'search'), 'diamond.toml', *words, '-o', 'part',
+                                      '--jobs', '1'], cwd=folder, stdout=subprocess.PIPE, stderr=subprocess.PIPE,
+                                     text=True)
+            tried = folder / 'part/tried.txt'
+            end = time.monotonic() + 30
+            while time.monotonic() < end and not (tried.exists() and tried.stat().st_size > 40):
+                time.sleep(0.05)
+            begun.send_signal(signal.SIGINT)
+            said, told = begun.communicate(timeout=60)
+            self.assertEqual(begun.returncode, 130, told)
+            self.assertIn('NOT ALL WAS TRIED: it was stopped', said)
+            again = minimal_sets(folder, *words, '-o', 'part', '--resume')
+            self.assertEqual(again[0], whole)
+            status, _, told = search(folder, '--faults', 'links', '-o', 'part', '--resume')
+            self.assertEqual(status, 2)
+            self.assertIn('is of another search', told)
+
+    def test_what_is_told_of_wrong_words(self):
+        with folder_with() as folder:
+            for words, wanted in ((('--faults', 'lynx'), 'there is no kind of fault lynx'),
+                                  (('--faults', 'values'), 'takes --set'),
+                                  (('--faults', 'values', '--set', 'end=5'), '--set takes range=VALUES'),
+                                  (('--every', '1', '--faults', 'every'), 'whole numbers from 2 on'),
+                                  (('--expect', 'mote 9 sends'), 'sentence 1 is not known')):
+                status, said, told = search(folder, *words)
+                self.assertEqual((status, said), (2, ''), told)
+                self.assertIn(wanted, told)
+            status, _, told = search(folder, scenario='absent.toml')
+            self.assertEqual(status, 2)
+            self.assertIn('absent.toml', told)
+
+
+class Programs(unittest.TestCase):
+    """Runs one after the other, each within limits."""
+
+    def program(self, folder, body):
+        path = Path(folder, 'program')
+        path.write_text('#!/bin/sh\n' + body)
+        path.chmod(0o755)
+        return str(path)
+
+    def test_answers(self):
+        with tempfile.TemporaryDirectory() as folder:
+            one = OneProgram(self.program(folder, 'cat; echo told >&2; exit 3\n'), Limits())
+            for text in b'a long text', b'short':
+                found = one.run(text)
+                self.assertEqual((found.status, found.report, found.fault), (3, text, 'told'))
+
+    def test_limits(self):
+        with tempfile.TemporaryDirectory() as folder:
+            late = OneProgram(self.program(folder, 'exec sleep 60\n'), Limits(seconds=0.2))
+            begin = time.monotonic()
+            self.assertEqual(late.run(b'').stopped, 'no answer in 0.2 seconds')
+            self.assertLess(time.monotonic() - begin, 10)
+            long = OneProgram(self.program(folder, 'exec cat /dev/zero\n'), Limits(report=100_000))
+            self.assertEqual(long.run(b'').stopped, 'the report is longer than 100,000 bytes')
+
+
+if __name__ == '__main__':
+    unittest.main()
