@@ -43,7 +43,7 @@ def report_in(page):
 
 
 SCENARIO_PAGE = (TOP / 'docs/use/SCENARIO.md').read_text(encoding='utf-8')
-EXAMPLE = SCENARIO_PAGE[SCENARIO_PAGE.index('version = 2'):SCENARIO_PAGE.index('```\n\nProgram texts')]
+EXAMPLE = SCENARIO_PAGE[SCENARIO_PAGE.index('version = 2'):SCENARIO_PAGE.index('```\n\nA program may')]
 EXAMPLE_REPORT = report_in((TOP / 'docs/use/REPORT.md').read_text(encoding='utf-8'))
 
 
