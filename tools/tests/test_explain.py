@@ -242,7 +242,7 @@ class Pages(unittest.TestCase):
             self.assertIn(name, explain.rule_of('program p fault %s line 1' % kind))
 
     def test_each_line_of_the_scenarios_page_has_its_words(self):
-        page = (TOP / 'docs/use/SCENARIO.md').read_text('utf-8').split('## Faults')[1].split('**The order')[0]
+        page = (TOP / 'docs/use/SCENARIO.md').read_text('utf-8').split('## Errors')[1].split('## Appendix')[0]
         lines = re.findall(r'^\| `motesim: ([^`]+)` \|', page, re.M)
         self.assertGreater(len(lines), 14)
         for line in lines:
