@@ -9,10 +9,14 @@ from pathlib import Path
 
 from here import TOOLS, TOP
 import skips
+import test_summary
 from motesim.faults import Fault
 from motesim.runner.run import answer
 from motesim.scenario import Scenario
 from motesim.why.chain import cause_of, chain, path_of, places
+from motesim.why.diverge import diverged
+from motesim.why.fate import fate_of
+from motesim.why.miss import misses
 from motesim.why.question import Asked, Asker, Missing, Unasked
 from motesim.why.replay import Parted
 from motesim.why.source import At, Source
@@ -242,6 +246,69 @@ class Questions(unittest.TestCase):
                 self.about(question)
 
 
+class Misses(unittest.TestCase):
+    """What came near a line that isn't there."""
+
+    def misses(self, question: str, found: Source | None = None) -> list[str]:
+        asker = Asker(found or source())
+        missing = asker.about(question)
+        assert isinstance(missing, Missing)
+        return [it.words for _, its in misses(asker, missing) for it in its]
+
+    def test_a_line_at_another_moment(self) -> None:
+        self.assertEqual(self.misses('mote 1 prints h 8 by 6')[0], '`print h 8`, at 7: 1 moment too late')
+        self.assertEqual(self.misses('mote 1 prints h 8 after 9')[0], '`print h 8`, at 7: 3 moments too early')
+
+    def test_other_values(self) -> None:
+        self.assertIn('it prints 3 values: 7 at 4, 3 at 4, 2 at 6', self.misses('mote 0 prints c 9'))
+        self.assertIn('it never prints anything by a', self.misses('mote 0 prints a 9'))
+        self.assertIn('it receives 1 value: 8 at 7', self.misses('mote 1 receives 9'))
+
+    def test_a_process_that_left_or_never_started(self) -> None:
+        self.assertIn('c had left at 4', self.misses('mote 0 prints c 9'))
+        report = REPORT.replace('4 start c', '')
+        self.assertIn('it runs hearer, which has no process b', self.misses('mote 1 prints b 9'))
+        self.assertNotEqual(report, REPORT)
+
+    def test_statements_and_conditions(self) -> None:
+        """`print data` of b is reached once; the first call of b, by the poll, isn't with `msg`."""
+        said = self.misses('mote 0 prints b 9')
+        self.assertIn('line 24: `print data` was reached once, at 4', said)
+        self.assertIn('b waits at line 23: `yield_until is(msg)` since 4, and nothing called it since', said)
+
+    def test_a_condition_that_never_held(self) -> None:
+        scenario = SCENARIO.replace('    yield_until is(packet);\n    print data;',
+                                    '    while 1 {\n      yield;\n      if (data > 8) {\n        print data;\n      }\n    }')
+        report = REPORT.replace('7 print h 8\n7 leave h\n', '')
+        self.assertIn('line 9: `print data` was never reached, since line 8: `if (data > 8)` was tested once, and was '
+                      'never true', self.misses('mote 1 prints h 9', source(scenario, report)))
+
+    def test_silent_neighbours(self) -> None:
+        self.assertIn('of the 1 mote that it hears, these never send: 1', self.misses('mote 0 receives 9'))
+        alone = source(SCENARIO.replace('x = 10', 'x = 11'), REPORT[:REPORT.index('7 recv')] +
+                       'medium\n4 0 0 8\nleft 0\n')
+        self.assertIn('it hears nobody: no mote is in its range', self.misses('mote 1 receives 8', alone))
+
+    def test_what_became_of_copies(self) -> None:
+        """The six packets of mote 0 in the report of test_summary, and one that collides."""
+        text = test_summary.REPORT
+        found = Source('fates', text.encode(), Scenario.parse(test_summary.SCENARIO.replace(
+            'talker = ""', "talker = 'process t; code t { body { } }'").replace(
+            'hearer = ""', "hearer = 'process t; code t { body { } }'")))
+        fates = [fate_of(found, row, line.split(' '), 1) for row, line in list(found.traces.packets())[1:]]
+        self.assertEqual([it.how for it in fates], ['lost', 'collided', 'collided', 'ring', 'halted', 'late'])
+        self.assertEqual([it.row for it in fates], [28, 21, 20, 22, 23, 33])
+
+    def test_the_first_point_at_which_chains_diverge(self) -> None:
+        other = source(SCENARIO + '[[loss]]\nfrom = 0\nto = 1\nevery = 1\n',
+                       REPORT[:REPORT.index('7 recv')] + 'medium\n4 0 0 8 1@lost\nleft 0\n')
+        found = diverged(source(), other, At(1, 7))
+        assert found is not None
+        self.assertEqual((found.last.where, found.hop.where), (At(0, 12), At(1, 4)))
+        self.assertEqual(found.words, 'the medium lost it, as it loses all packets from 0 to 1')
+        self.assertIsNone(diverged(source(), source(), At(1, 7)))
+
+
 def runs() -> list[Path]:
     """The scenarios of the examples and of the cases."""
     return sorted([*TOP.glob('examples/*.toml'), *TOP.glob('tests/cases/*/*.toml')])
@@ -300,6 +367,23 @@ class Runs(unittest.TestCase):
         self.assertEqual([(it.where.mote, it.at, it.waited, it.wait) for it in hops], [
             (1, 89, 3, 'medium'), (6, 86, 3, 'medium'), (5, 83, 3, 'medium'), (0, 80, 40, 'timer'),
             (0, 40, 40, 'timer')])
+
+    def near(self, name: str, question: str) -> list[str]:
+        asker = Asker(self.run_of(name))
+        missing = asker.about(question)
+        assert isinstance(missing, Missing)
+        return [it.words for _, its in misses(asker, missing) for it in its]
+
+    def test_near_misses_of_the_examples(self) -> None:
+        self.assertIn('packet 1 of mote 0, with the value 2, was sent at 80: the medium lost it, as it loses one packet '
+                      'in 2 from 0 to 1', self.near('flooding.toml', 'mote 1 prints flood 2 by 85'))
+        self.assertIn('packet 0 of mote 2, with the value 12, was sent at 0: it collided at 2 with packet 0 of mote 0',
+                      self.near('small_network.toml', 'mote 1 receives 12'))
+        self.assertIn('packet 1 of mote 2, with the value 40, was sent at 19: it would arrive at 21, after the end',
+                      self.near('small_network.toml', 'mote 1 receives 40'))
+        self.assertIn('the event msg 31 for echo was refused at 10, since the queue was full',
+                      self.near('small_network.toml', 'mote 1 prints echo 31'))
+        self.assertIn('it halted at 0', self.near('runaway.toml', 'mote 0 prints a 9'))
 
     def test_the_tree(self) -> None:
         """The reading of mote 9 goes by 3 and 6 to the root.

@@ -36,8 +36,8 @@ class Hop(NamedTuple):
     program_row: int
 
 
-def count(number: int, what: str) -> str:
-    return '%d %s%s' % (number, what, '' if number == 1 else 's')
+def count(number: int, one: str, many: str = '') -> str:
+    return '%d %s' % (number, one if number == 1 else many or one + 's')
 
 
 def cause_of(source: Source, where: At) -> At | None:
@@ -65,6 +65,12 @@ def places(source: Source, where: At) -> list[At]:
     return found
 
 
+def in_words(program: Program, number: int) -> str:
+    """A statement of a program, with its line."""
+    it = program.statement(number)
+    return 'line %d: `%s`' % (it.line, it.text if len(it.text) <= WIDEST else it.text[:WIDEST - 3] + '...')
+
+
 class _Words:
     """Says why the lines of one mote are there."""
 
@@ -80,8 +86,7 @@ class _Words:
         """A statement of the program, with its line."""
         if not number:
             return ''
-        line, text = self.program.statement(number)
-        return 'line %d: `%s`' % (line, text if len(text) <= WIDEST else text[:WIDEST - 3] + '...')
+        return in_words(self.program, number)
 
     def event(self, frame: Frame) -> str:
         if frame.event == 'timer':

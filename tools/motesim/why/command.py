@@ -5,6 +5,11 @@ import json
 
 from motesim.faults import command
 from motesim.why.chain import Hop, as_json, chain, path_of, rows
+from motesim.why.diverge import diverged
+from motesim.why.diverge import rows as parted_rows
+from motesim.why.miss import as_json as missed
+from motesim.why.miss import misses
+from motesim.why.miss import rows as near_rows
 from motesim.why.question import Asked, Asker
 from motesim.why.source import Source, read_source
 from motesim.words import words_of
@@ -39,14 +44,23 @@ def main() -> int:
     words.add_argument('file', metavar='FILE', help='a scenario, or a report; - is standard input')
     words.add_argument('question', metavar='QUESTION', help='a sentence, or a line of the report')
     words.add_argument('--scenario', metavar='FILE', help="the report's scenario")
+    words.add_argument('--other', metavar='FILE', help='a second run: shows where it leaves the chain of the first')
+    words.add_argument('--other-scenario', metavar='FILE', help='the scenario of a second report')
     words.add_argument('--json', action='store_true', help='for programs')
     words.add_argument('--short', action='store_true', help='only the hops that took time')
     asked = words.parse_args()
     source = read_source(asked.file, asked.scenario)
-    found = Asker(source).about(asked.question)
+    asker = Asker(source)
+    found = asker.about(asked.question)
     if not isinstance(found, Asked):
-        print('%s' % found.remark)
+        near = misses(asker, found)
+        print(json.dumps({'question': asked.question, **missed(found, near)}, indent=1) if asked.json else
+              '\n'.join(near_rows(found, near)))
         return 1
+    if asked.other is not None:
+        other = read_source(asked.other, asked.other_scenario)
+        print('\n'.join(parted_rows(source, other, diverged(source, other, found.where))))
+        return 0
     if asked.json:
         hops = chain(source, found.where)
         print(json.dumps({'question': asked.question, 'holds': found.holds, 'about': found.remark or None,

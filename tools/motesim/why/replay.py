@@ -80,11 +80,24 @@ class Change(NamedTuple):
 
 
 class Called(NamedTuple):
-    """A call of one of the program's processes began, or ended, after so many lines of the trace."""
+    """A call of a process began, or ended, after so many lines of the trace.
+
+    stands  at the end: the statements of the program at which it stands, from its body into its threads, by number;
+            none if it has ended, and of a process of the system
+    """
     lines: int
     at: int
     frame: Frame
     is_end: bool
+    stands: tuple[int, ...] = ()
+
+
+class Reached(NamedTuple):
+    """A statement was reached after so many lines of the trace; or its condition was tested, and was `holds`."""
+    lines: int
+    at: int
+    statement: int
+    holds: bool | None = None
 
 
 @dataclass
@@ -128,6 +141,7 @@ class Replay:
         self.links: list[Link] = []
         self.changes: list[Change] = []
         self.calls: list[Called] = []
+        self.reached: list[Reached] = []
         self.now = self.clock = self.units = 0
         self.variables = [list(it.first) for it in program.processes]
         self.counts = list(program.first_counts)
@@ -241,8 +255,14 @@ class Replay:
         else:
             self.state[process] = 1
         self.is_busy[process] = False
-        self.calls.append(Called(self.lines, self.now, frame, True))
+        self.calls.append(Called(self.lines, self.now, frame, True, self.standing(process)))
         self.frame, self.current = before, current
+
+    def standing(self, process: int) -> tuple[int, ...]:
+        """Where a protothread stands."""
+        if process < 0 or not self.state[process]:
+            return ()
+        return (*(statement for _, statement in self.spawned[process]), self.stands[process])
 
     def walk(self) -> list[tuple[int, int]]:
         """The processes that are on the list now, each with its incarnation."""
@@ -322,6 +342,13 @@ class Replay:
 
     def note(self, process: int, variable: int, value: int, row: int) -> None:
         self.changes.append(Change(self.lines, self.now, process, variable, value, row))
+
+    def reach(self, statement: int) -> None:
+        self.reached.append(Reached(self.lines, self.now, statement))
+
+    def test(self, statement: int, value: int) -> int:
+        self.reached.append(Reached(self.lines, self.now, statement, value != 0))
+        return value
 
     def write_print(self, process: int, value: int, row: int) -> None:
         self.write('print %s %d' % (self.program.processes[process].name, value), self.of_call(row))

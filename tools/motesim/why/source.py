@@ -42,6 +42,7 @@ class Traces:
         self.read_heads()
         self.kept: dict[int, list[str]] = {}
         self.sends: dict[int, list[int]] = {}
+        self.came: dict[int, dict[tuple[int, int], int]] = {}
 
     def read_heads(self) -> None:
         """Where each trace begins and ends. A text that is no report gets the fault of the strict reader."""
@@ -107,6 +108,16 @@ class Traces:
             self.sends[sender] = [place for place, line in enumerate(self.lines(sender)) if ' send ' in line]
         sends = self.sends[sender]
         return At(sender, sends[number]) if number < len(sends) else None
+
+    def arrivals(self, mote: int) -> dict[tuple[int, int], int]:
+        """The places of the lines on packets that came, by the packets' senders and numbers."""
+        if mote not in self.came:
+            found = self.came[mote] = {}
+            for place, line in enumerate(self.lines(mote)):
+                words = line.split(' ')
+                if words[1] in ('recv', 'lost', 'collide'):
+                    found[int(words[2]), int(words[3])] = place
+        return self.came[mote]
 
     def matching(self, mote: int, pattern: bytes) -> list[Found]:
         """The lines of a mote that have this pattern behind the moment."""

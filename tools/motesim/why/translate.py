@@ -46,10 +46,26 @@ class Timer:
     callback: Callable[..., Any] | None = None
 
 
+class Around(NamedTuple):
+    """A statement around another, by its number: an `if` or a `while`; `is_else` if the other is behind its `else`."""
+    number: int
+    is_else: bool
+
+
 class Statement(NamedTuple):
-    """A statement of a program: the line on which it begins, and its text without what is in its blocks."""
+    """A statement of a program.
+
+    line     the line on which it begins
+    text     its text, without what is in its blocks
+    kind     its first word; `=` of one that gives a variable a value
+    process  in whose code it is, by its number
+    around   the statements around it, the outer ones first
+    """
     line: int
     text: str
+    kind: str
+    process: int
+    around: tuple[Around, ...] = ()
 
 
 @dataclass
@@ -80,7 +96,9 @@ def remainder(a: int, b: int) -> int:
 class _Translator:
     """Reads a program that motesim accepts, and writes Python."""
 
-    def __init__(self, text: str):
+    def __init__(self, text: str, is_detailed: bool):
+        self.is_detailed = is_detailed
+        self.around: list[Around] = []
         self.tokens: list[Token] = tokens_of(text)
         self.at = 0
         self.program = Program(text)
@@ -222,10 +240,10 @@ class _Translator:
         self.emit('if not k.units: k.halt()')
         self.emit('k.units -= 1')
 
-    def wait(self, here: int, while_: str) -> None:
-        """Waits here while a condition holds; at each later call it is looked at again."""
+    def wait(self, here: int, goes_on: str) -> None:
+        """Waits here until a condition holds; at each later call it is looked at again."""
         number = self.process.number
-        self.emit('while %s:' % while_)
+        self.emit('while not %s:' % self.tested(here, goes_on))
         self.emit(' k.stands[%d] = %d' % (number, here))
         self.emit(' e, d, f = yield')
         self.emit(' k.resume(%d)' % number)
@@ -239,22 +257,26 @@ class _Translator:
 
     def statement(self) -> None:
         first, word = self.at, self.word()
-        self.program.statements.append(Statement(self.tokens[first].line, ''))
+        self.program.statements.append(Statement(self.tokens[first].line, '', word, self.process.number))
         number = len(self.program.statements)
+        around = tuple(self.around)
         self.unit()
+        if self.is_detailed:
+            self.emit('k.reach(%d)' % number)
         if word in self.process.variables:
             self.at += 1
             self.assign(word, self.expression(), number)
             self.at += 1
         elif word in ('if', 'while'):
-            self.branch(word)
+            self.branch(word, number)
         else:
             getattr(self, 'do_' + word)(number)
             self.at += 1
-        self.keep_text(number, first)
+        self.keep_text(number, first, around)
 
-    def keep_text(self, number: int, first: int) -> None:
+    def keep_text(self, number: int, first: int, around: tuple[Around, ...]) -> None:
         """Notes the text of a statement up to its block or its semicolon."""
+        kind = '=' if self.tokens[first].text in self.process.variables else self.tokens[first].text
         line, column = self.tokens[first].line, self.tokens[first].column
         at = first
         while self.tokens[at].text not in (';', '{', ''):
@@ -262,16 +284,17 @@ class _Translator:
         end = self.tokens[at]
         row = self.text_rows[line - 1]
         text = row[column:end.column] if end.line == line else row[column:].partition('//')[0] + ' ..'
-        self.program.statements[number - 1] = Statement(line, text.strip())
+        self.program.statements[number - 1] = Statement(line, text.strip(), kind, self.process.number, around)
 
     def assign(self, variable: str, value: str, here: int) -> None:
         process, place = self.process.number, self.process.variables[variable]
         self.emit('V[%d] = x = %s' % (place, value))
         self.emit('k.note(%d, %d, x, %d)' % (process, place, here))
 
-    def branch(self, word: str) -> None:
-        self.emit('%s %s:' % (word, self.expression()))
+    def branch(self, word: str, number: int) -> None:
+        self.emit('%s %s:' % (word, self.tested(number, self.expression())))
         self.depth += 1
+        self.around.append(Around(number, False))
         self.block()
         if word == 'while':
             self.unit()
@@ -279,8 +302,13 @@ class _Translator:
         if word == 'if' and self.accept('else'):
             self.emit('else:')
             self.depth += 1
+            self.around[-1] = Around(number, True)
             self.block()
             self.depth -= 1
+        self.around.pop()
+
+    def tested(self, number: int, condition: str) -> str:
+        return 'k.test(%d, %s)' % (number, condition) if self.is_detailed else condition
 
     # Statements, each behind its first word
 
@@ -295,13 +323,13 @@ class _Translator:
 
     def do_yield_until(self, here: int) -> None:
         self.yield_here(here)
-        self.wait(here, 'not %s' % self.expression())
+        self.wait(here, self.expression())
 
     def do_wait_until(self, here: int) -> None:
-        self.wait(here, 'not %s' % self.expression())
+        self.wait(here, self.expression())
 
     def do_wait_while(self, here: int) -> None:
-        self.wait(here, self.expression())
+        self.wait(here, '(0 if %s else 1)' % self.expression())
 
     def do_spawn(self, here: int) -> None:
         number, name = self.process.number, self.word()
@@ -323,11 +351,11 @@ class _Translator:
         number = self.process.number
         self.emit("k.post(%d, 'continue', 0, %d)" % (number, here))
         self.yield_here(here)
-        self.wait(here, "e != 'continue'")
+        self.wait(here, "(e == 'continue')")
 
     def do_acquire(self, here: int) -> None:
         semaphore = self.program.semaphores[self.word()]
-        self.wait(here, 'not k.counts[%d]' % semaphore)
+        self.wait(here, 'k.counts[%d]' % semaphore)
         self.emit('k.counts[%d] -= 1' % semaphore)
 
     def do_signal(self, here: int) -> None:
@@ -420,6 +448,6 @@ class _Translator:
         return '(%s %s %s & 65535)' % (left, operator, right)
 
 
-def translated(text: str) -> Program:
-    """A program that motesim accepts, in Python."""
-    return _Translator(text).translate()
+def translated(text: str, is_detailed: bool = False) -> Program:
+    """A program that motesim accepts, in Python. Its details are which statements were reached, and each test."""
+    return _Translator(text, is_detailed).translate()

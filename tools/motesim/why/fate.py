@@ -1,0 +1,105 @@
+"""What became of a copy of a packet, from its send to the process that takes it: docs/use/REPORT.md."""
+from __future__ import annotations
+
+from typing import NamedTuple
+
+from motesim.why.chain import count
+from motesim.why.replay import RING
+from motesim.why.source import At, Source
+
+
+class Fate(NamedTuple):
+    """What became of a copy.
+
+    how    taken, dropped, waiting (in the queue at the end), full, deaf, ring, collided, lost, halted, late, unheard
+    words  the same in words
+    at     the moment at which that was decided
+    where  the line that says so; None if none does
+    row    the line of the report that says so, also of the medium; 0 if none does
+    """
+    how: str
+    words: str
+    at: int
+    where: At | None = None
+    row: int = 0
+
+    @property
+    def is_loss(self) -> bool:
+        return self.how not in ('taken', 'waiting')
+
+
+def after_post(source: Source, post: At) -> Fate:
+    """What became of an event that was posted."""
+    lines = source.traces.lines(post.mote)
+    serial = lines[post.place].split(' ')[2]
+    for place in range(post.place + 1, len(lines)):
+        words = lines[place].split(' ')
+        if words[1] in ('take', 'drop') and words[2] == serial:
+            where, at = At(post.mote, place), int(words[0])
+            if words[1] == 'take':
+                return Fate('taken', '%s took it at %d' % (words[3], at), at, where, source.traces.row(where))
+            return Fate('dropped', 'its event was dropped at %d, since %s was not there' % (at, words[3]), at, where,
+                        source.traces.row(where))
+    last = lines[-1].split(' ')
+    if last[1] == 'halt':
+        return Fate('halted', 'mote %d halted at %s, before its event was taken' % (post.mote, last[0]), int(last[0]),
+                    At(post.mote, len(lines) - 1), source.traces.row(At(post.mote, len(lines) - 1)))
+    return Fate('waiting', 'its event is still in the queue at the end', source.scenario.end, post,
+                source.traces.row(post))
+
+
+def after_recv(source: Source, recv: At) -> Fate:
+    """What became of a packet that was received."""
+    links = source.replay(recv.mote).links
+    for place in range(recv.place + 1, len(links)):
+        if links[place].how == 'packet' and links[place].line == recv.place:
+            where = At(recv.mote, place)
+            words, row = source.traces.text(where).split(' '), source.traces.row(where)
+            if words[1] == 'post':
+                return after_post(source, where)
+            if words[1] == 'full':
+                return Fate('full', 'it was received, but the event queue was full', int(words[0]), where, row)
+            return Fate('deaf', 'it was received, but the program has no receiver', int(words[0]), where, row)
+    at = source.traces.moment(recv)
+    return Fate('halted', 'it was received, but mote %d halted before its radio process ran' % recv.mote, at, recv,
+                source.traces.row(recv))
+
+
+def fate_of(source: Source, row: int, words: list[str], to: int) -> Fate:
+    """What became of a packet on its way to a mote, by its line of the medium."""
+    sender, number = int(words[1]), int(words[2])
+    copy = next((it.partition('@')[2] for it in words[4:] if it.partition('@')[0] == str(to)), None)
+    if copy is None:
+        return Fate('unheard', 'mote %d does not hear mote %d' % (to, sender), int(words[0]), None, row)
+    if copy == 'lost':
+        every = source.scenario.losses.get((sender, to), 0)
+        rule = 'all packets' if every == 1 else 'one packet in %d' % every
+        return Fate('lost', 'the medium lost it, as it loses %s from %d to %d' % (rule, sender, to), int(words[0]),
+                    None, row)
+    return of_arrival(source, sender, number, to, int(copy), row)
+
+
+def of_arrival(source: Source, sender: int, number: int, to: int, at: int, row: int) -> Fate:
+    """What became of a copy that the medium carried."""
+    if at > source.scenario.end:
+        return Fate('late', 'it would arrive at %d, after the end' % at, at, None, row)
+    lines = source.traces.lines(to)
+    place = source.traces.arrivals(to).get((sender, number))
+    if place is None:
+        last = At(to, len(lines) - 1)
+        return Fate('halted', 'it arrived at %d, and mote %d had halted at %d' % (
+            at, to, source.traces.moment(last)), at, last, source.traces.row(last))
+    where, kind = At(to, place), lines[place].split(' ')[1]
+    if kind == 'recv':
+        return after_recv(source, where)
+    words = 'it arrived at %d, when %d packets were waiting' % (at, RING) if kind == 'lost' else (
+        'it collided at %d with %s' % (at, others(lines, lines[place])))
+    return Fate('ring' if kind == 'lost' else 'collided', words, at, where, source.traces.row(where))
+
+
+def others(lines: list[str], line: str) -> str:
+    """The packets with which one collided."""
+    met = [it.split(' ') for it in lines if it.startswith(line.split(' ')[0] + ' collide ') and it != line]
+    if len(met) > 3:
+        return count(len(met), 'other packet')
+    return ' and '.join('packet %s of mote %s' % (it[3], it[2]) for it in met) or 'another packet'

@@ -1,0 +1,298 @@
+"""Why a line that a sentence wants isn't there: what came nearest to it.
+
+What is reported is in the trace, in the log of the medium, or in the replay of the mote: a line that came too late or
+has another value, a copy that was lost, a process that wasn't there, a condition that wasn't true, a neighbour that
+didn't send.
+"""
+from __future__ import annotations
+
+from collections.abc import Iterator
+from typing import Any, NamedTuple
+
+from motesim.judge.judge import Span
+from motesim.judge.sentences import Does, Value
+from motesim.why.chain import count, in_words
+from motesim.why.fate import Fate, fate_of
+from motesim.why.question import ENDLESS, Asker, Missing, within
+from motesim.why.replay import Reached, Replay
+from motesim.why.source import At, Found, Source
+from motesim.why.translate import Program, translated
+
+MOST_COPIES, MOST_OTHERS = 8, 3
+
+
+class Miss(NamedTuple):
+    """Something that came near: its kind, a sentence on it, and the line that shows it, if one does."""
+    kind: str
+    words: str
+    row: int = 0
+
+
+def last_of(span: Span, source: Source) -> int:
+    """The last moment of a time, within the run."""
+    return source.scenario.end if span[1] is None else min(span[1], source.scenario.end)
+
+
+class _Misses:
+    """Looks at one mote for what came near."""
+
+    def __init__(self, asker: Asker, missing: Missing, mote: int):
+        self.asker, self.source, self.missing, self.mote = asker, asker.source, missing, mote
+        self.sentence: Does = missing.sentence
+        self.pattern = missing.sentence.deed.patterns[0]
+        self.kind = str(self.pattern[0])
+        self.begin, self.end = missing.span[0], last_of(missing.span, asker.source)
+        self.lines = self.source.traces.lines(mote)
+
+    def found(self) -> Iterator[Miss]:
+        """All misses, the nearest first."""
+        moved = list(self.outside())
+        yield from moved
+        yield from self.past_the_end()
+        if not moved:
+            yield from self.other_values()
+        yield from self.halted()
+        yield from self.refused()
+        yield from self.copies()
+        yield from self.process()
+        yield from self.statements()
+        yield from self.silent()
+
+    def outside(self) -> Iterator[Miss]:
+        """The line, at another moment."""
+        own = [it for it in self.missing.found if it.where.mote == self.mote]
+        rest = [it for it in own if it not in within(own, self.missing.span)]
+        late = [it for it in rest if it.at > self.end]
+        for it in late[:1]:
+            yield Miss('late', '%s, at %d: %s too late' % (self.deed(it), it.at, count(it.at - self.end, 'moment')),
+                       self.source.traces.row(it.where))
+        early = [it for it in rest if it.at < self.begin]
+        for it in early[-1:]:
+            yield Miss('early', '%s, at %d: %s too early' % (self.deed(it), it.at, count(self.begin - it.at, 'moment')),
+                       self.source.traces.row(it.where))
+
+    def deed(self, found: Found) -> str:
+        """A line, after its moment."""
+        return '`%s`' % self.source.traces.text(found.where).partition(' ')[2]
+
+    def past_the_end(self) -> Iterator[Miss]:
+        if self.missing.span[1] is not None and self.missing.span[1] > self.source.scenario.end:
+            yield Miss('end', 'the run ends at %d: what would come later is not known' % self.source.scenario.end)
+
+    def other_values(self) -> Iterator[Miss]:
+        """Lines of the same kind with another value."""
+        if self.kind not in ('print', 'send', 'recv') or not any(isinstance(it, Value) for it in self.pattern):
+            return
+        process = self.pattern[1] if self.kind == 'print' and len(self.pattern) > 1 else None
+        head = 'print %s ' % process if process else self.kind + ' '
+        rows = [(place, line.split(' ')) for place, line in enumerate(self.lines)
+                if line.partition(' ')[2].startswith(head)]
+        if self.kind == 'recv' and isinstance(self.pattern[1], Value):
+            rows = [it for it in rows if it[1][2] == str(self.pattern[1].number)]
+        verb = {'print': 'prints', 'send': 'sends', 'recv': 'receives'}[self.kind]
+        if not rows:
+            yield Miss('none', 'it never %s anything%s' % (verb, ' by %s' % process if process else ''))
+            return
+        near = sorted(rows, key=lambda it: abs(int(it[1][0]) - self.end))[:MOST_OTHERS]
+        shown = ', '.join('%s at %s' % (words[-1], words[0]) for _, words in sorted(near))
+        yield Miss('value', 'it %s %s: %s%s' % (
+            verb, count(len(rows), 'value'), 'near that time ' if len(rows) > MOST_OTHERS else '', shown),
+            self.source.traces.row(At(self.mote, near[0][0])))
+
+    def halted(self) -> Iterator[Miss]:
+        last = self.lines[-1].split(' ')
+        if last[1] == 'halt' and int(last[0]) <= self.end:
+            yield Miss('halted', 'it halted at %s' % last[0],
+                       self.source.traces.row(At(self.mote, len(self.lines) - 1)))
+
+    def refused(self) -> Iterator[Miss]:
+        """Events for the process that were refused or dropped up to the last moment: those with the value first."""
+        if self.kind != 'print' or len(self.pattern) < 2:
+            return
+        name, values, found = self.pattern[1], self.values(), []
+        for place, line in enumerate(self.lines):
+            words = line.split(' ')
+            if int(words[0]) > self.end:
+                break
+            if words[1] == 'full' and words[2] in (name, 'all'):
+                found.append((int(words[4]) in values, place, 'the event %s %s for %s was refused at %s, since the '
+                              'queue was full' % (words[3], words[4], words[2], words[0])))
+            elif words[1] == 'drop' and words[3] == name:
+                found.append((False, place, 'event %s was dropped at %s, since %s was not there' % (
+                    words[2], words[0], name)))
+        for _, place, said in sorted(found)[-MOST_OTHERS:]:
+            yield Miss('full' if ' was refused ' in said else 'dropped', said,
+                       self.source.traces.row(At(self.mote, place)))
+
+    # Packets
+
+    def sent_to(self) -> Iterator[tuple[int, list[str]]]:
+        """The packets with a copy for this mote, with their lines of the report."""
+        for row, text in self.source.traces.packets(rb'\d+ \d+ \d+ .*\b%d@.*' % self.mote):
+            words = text.split(' ')
+            if any(it.startswith('%d@' % self.mote) for it in words[4:]):
+                yield row, words
+
+    def values(self) -> set[int]:
+        """The values that are wanted."""
+        wanted = next((it for it in reversed(self.pattern) if isinstance(it, Value)), None)
+        if wanted is None or (self.kind == 'recv' and len(self.pattern) < 4):
+            return set()
+        return self.asker.judge.values(wanted, self.mote)
+
+    def copies(self) -> Iterator[Miss]:
+        """Copies for this mote that it didn't get up to the last moment: those with the value, and how many in all."""
+        values = self.values()
+        lost: dict[bool, list[tuple[int, list[str], Fate]]] = {True: [], False: []}
+        for row, words in self.sent_to():
+            if int(words[0]) > self.end:
+                break
+            fate = fate_of(self.source, row, words, self.mote)
+            if fate.is_loss:
+                lost[int(words[3]) in values].append((row, words, fate))
+        for row, words, fate in lost[True][-MOST_COPIES:]:
+            yield Miss(fate.how, 'packet %s of mote %s, with the value %s, was sent at %s: %s' % (
+                words[2], words[1], words[3], words[0], fate.words), fate.row or row)
+        if lost[False]:
+            row, words, fate = lost[False][-1]
+            yield Miss(fate.how, '%s%s did not reach a process here; the last, packet %s of mote %s, '
+                       'was sent at %s: %s' % (count(len(lost[False]), 'copy', 'copies'), ' with other values' if values else '', words[2],
+                                               words[1], words[0], fate.words), fate.row or row)
+
+    def silent(self) -> Iterator[Miss]:
+        """Neighbours from which nothing came, since they sent nothing."""
+        if self.kind not in ('recv', 'print', 'send'):
+            return
+        near = self.source.scenario.hearers(self.mote)
+        if not near:
+            yield Miss('alone', 'it hears nobody: no mote is in its range')
+            return
+        quiet = [it for it in near if not self.source.traces.matching(it, rb'send .*')]
+        if quiet:
+            yield Miss('silent', 'of the %s that it hears, these never send: %s' % (
+                count(len(near), 'mote'), ', '.join(map(str, quiet[:20])) + (', ..' if len(quiet) > 20 else '')))
+
+    # The program
+
+    def program(self) -> Program:
+        return translated(self.source.scenario.programs[self.source.traces.programs[self.mote]], True)
+
+    def processes(self, program: Program) -> list[int]:
+        """The processes that could write the line."""
+        if self.kind == 'print' and len(self.pattern) > 1:
+            return [it.number for it in program.processes if it.name == self.pattern[1]]
+        return [it.number for it in program.processes]
+
+    def process(self) -> Iterator[Miss]:
+        """A process that wasn't there."""
+        if self.kind not in ('print', 'take') or len(self.pattern) < 2:
+            return
+        name, there, row, at = self.pattern[1], False, 0, 0
+        for place, line in enumerate(self.lines):
+            words = line.split(' ')
+            if int(words[0]) > self.end:
+                break
+            if words[1] in ('start', 'leave') and words[2] == name:
+                there, row, at = words[1] == 'start', self.source.traces.row(At(self.mote, place)), int(words[0])
+        if not there and not row:
+            program = self.program()
+            is_known = any(it.name == name for it in program.processes)
+            yield Miss('process', 'its process %s never started' % name if is_known else
+                       'it runs %s, which has no process %s' % (self.source.traces.programs[self.mote], name))
+        elif not there:
+            yield Miss('process', '%s had left at %d' % (name, at), row)
+
+    def statements(self) -> Iterator[Miss]:
+        """The statements that could write the line: how often they were reached, and what kept them from it."""
+        if self.kind not in ('print', 'send'):
+            return
+        program = self.program()
+        room = self.source.replay(self.mote).room
+        replay = Replay(program, self.mote, room, self.lines).to_end(self.source.scenario.end)
+        processes = self.processes(program)
+        for number, it in enumerate(program.statements, 1):
+            if it.kind == self.kind and it.process in processes:
+                yield self.statement(program, replay, number)
+        for process in processes:
+            yield from self.waits(program, replay, process)
+
+    def inside(self, reached: list[Reached]) -> list[Reached]:
+        return [it for it in reached if self.begin <= it.at <= self.end]
+
+    def statement(self, program: Program, replay: Replay, number: int) -> Miss:
+        """How often a statement was reached; and which condition around it wasn't true."""
+        its = [it for it in replay.reached if it.statement == number and it.holds is None]
+        here = self.inside(its)
+        words = '%s was %s' % (in_words(program, number), self.reached(len(here)))
+        if here:
+            return Miss('reached', words + ', at ' + self.moments(here))
+        for around in program.statement(number).around:
+            tests = self.inside([it for it in replay.reached if it.statement == around.number
+                                 and it.holds is not None])
+            right = [it for it in tests if it.holds != around.is_else]
+            if not right:
+                wanted = 'false' if around.is_else else 'true'
+                tested = 'was tested %s, and was never %s' % (self.times(len(tests)), wanted) if tests else (
+                    'was never reached')
+                return Miss('condition', words + ', since %s %s' % (in_words(program, around.number), tested))
+        return Miss('reached', words)
+
+    @staticmethod
+    def times(number: int) -> str:
+        return {1: 'once', 2: 'twice'}.get(number, '%d times' % number)
+
+    def reached(self, number: int) -> str:
+        return 'reached %s' % self.times(number) if number else 'never reached'
+
+    @staticmethod
+    def moments(reached: list[Reached]) -> str:
+        shown = ', '.join(str(it.at) for it in reached[-MOST_OTHERS:])
+        return shown if len(reached) <= MOST_OTHERS else '.., ' + shown
+
+    def waits(self, program: Program, replay: Replay, process: int) -> Iterator[Miss]:
+        """Where a process stands at the last moment, and how often its condition was tested since."""
+        ends = [it for it in replay.calls if it.is_end and it.frame.process == process and it.at <= self.end
+                and it.frame.how != 'callback']
+        if not ends or not ends[-1].stands or not ends[-1].stands[-1]:
+            return
+        stands = ends[-1].stands[-1]
+        here = [it for it in replay.reached if it.statement == stands and it.at <= self.end]
+        came = max(place for place, it in enumerate(here) if it.holds is None)
+        tests = len(here) - came - 1
+        words = '%s waits at %s since %d' % (program.processes[process].name, in_words(program, stands),
+                                             here[came].at)
+        if tests:
+            words += '; its condition was tested %s since, and was never true' % self.times(tests)
+        else:
+            words += ', and nothing called it since'
+        yield Miss('waits', words)
+
+
+def misses(asker: Asker, missing: Missing) -> list[tuple[int, list[Miss]]]:
+    """What came near, of each mote that a sentence is about: of several together, of the first few."""
+    return [(mote, list(_Misses(asker, missing, mote).found())) for mote in missing.motes[:MOST_OTHERS]]
+
+
+def as_json(missing: Missing, found: list[tuple[int, list[Miss]]]) -> dict[str, Any]:
+    """The same for programs."""
+    return {
+        'holds': False, 'about': missing.remark, 'line': None,
+        'from': missing.span[0], 'to': missing.span[1] if missing.span[1] != ENDLESS else None,
+        'motes': [{'mote': mote, 'misses': [{'kind': it.kind, 'words': it.words, 'line': it.row or None}
+                                            for it in its]} for mote, its in found],
+    }
+
+
+def rows(missing: Missing, found: list[tuple[int, list[Miss]]]) -> list[str]:
+    """The same as text."""
+    lines = [missing.remark]
+    for mote, its in found:
+        lines += ['', 'What came near at mote %d:' % mote]
+        for it in its:
+            lines.append('  %s%s' % (it.words, ' (line %d)' % it.row if it.row else ''))
+        if not its:
+            lines.append('  nothing: no such line, no lost copy, and no statement that could write it')
+    return lines
+
+
+__all__ = ['Miss', 'as_json', 'misses', 'rows']
