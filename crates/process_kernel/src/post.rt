@@ -30,6 +30,7 @@ impl Machine {
     }
 
     /// Writes that the mote halts.
+    #[inline(never)]
     #[tactic(auto, unfolding(crate::specs::Writes::write_of, crate::specs::Writes::halted_of))]
     pub fn halt(&mut self) -> Stop
         ensures exact { (t : Tree) → result ≡ Stop.Halted → state_of t self.new ≡ halted_of (state_of t self.old) }
@@ -42,6 +43,7 @@ impl Machine {
     }
 
     /// Spends a unit of work; without one the mote halts.
+    #[inline(always)]
     #[tactic(auto, unfolding(crate::specs::Writes::spend_of))]
     pub fn spend(&mut self) -> Result<(), Stop>
         ensures exact { (t : Tree) → Tells result (state_of t self.new) (spend_of (state_of t self.old)) }

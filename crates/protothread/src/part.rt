@@ -41,8 +41,21 @@ pub(crate) fn thread_code(text: &ProcessText, thread: u8) -> &[Instruction]
 impl Part {
     ghost use Rattle.protothread.specs.Remainder.{whole_of};
 
-    /// The flat code of the part.
+    /// The flat code of the part. The body is asked for most often, so it is looked for first.
+    #[inline(always)]
     pub(crate) fn code(self, text: &ProcessText) -> &[Instruction]
+        ensures { IsFlat (part_body (code_of text.now) self) result.now }
+    {
+        if let Part::Body = self {
+            text.body().code()
+        } else {
+            self.code_of_any(text)
+        }
+    }
+
+    /// The flat code of any part.
+    #[inline(never)]
+    fn code_of_any(self, text: &ProcessText) -> &[Instruction]
         ensures { IsFlat (part_body (code_of text.now) self) result.now }
     {
         match self {

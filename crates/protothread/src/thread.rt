@@ -234,9 +234,28 @@ impl Thread {
     }
 
     /// Comes back to where the thread stands, and pays for the spawns that a new call passes. The step ends here if
-    /// they can't be paid for, after the post of a `pause`, and if the thread has run away.
+    /// they can't be paid for, after the post of a `pause`, and if the thread has run away. A thread that goes on after
+    /// an operation, or is called without spawned threads, has nothing to pay, and is most often the one.
+    #[inline(always)]
     #[tactic(auto, unfolding(crate::specs::Step::advanced_of))]
     fn resume(&mut self, fuel: &mut Fuel) -> Option<Step>
+        ensures { Resumes result self.old self.new fuel.old fuel.new }
+    {
+        if let Mark::UnderWay(_) = self.mark {
+            return None;
+        }
+        if let Mark::AtRest = self.mark {
+            if self.calls.len() == 0 {
+                return None;
+            }
+        }
+        self.come_back(fuel)
+    }
+
+    /// Does what `resume` does, for any mark.
+    #[inline(never)]
+    #[tactic(auto, unfolding(crate::specs::Step::advanced_of))]
+    fn come_back(&mut self, fuel: &mut Fuel) -> Option<Step>
         ensures { Resumes result self.old self.new fuel.old fuel.new }
     {
         match self.mark {

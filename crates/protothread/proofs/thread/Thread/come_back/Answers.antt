@@ -5,7 +5,7 @@ use Rattle.protothread.specs.declared.step.Step.TheVariants as step
 use Rattle.protothread.specs.Step.{continued}
 use Rattle.protothread.specs.Places.{thread_place, remainder_of}
 use Rattle.protothread.proofs.Advance.{resumes_at_rest, cannot_resume, gives_up_now}
-use Rattle.protothread.proofs.thread.Thread.resume.Goals as goal
+use Rattle.protothread.proofs.thread.Thread.come_back.Goals as goal
 
 pub returns-then-pay : goal.returns-then-pay
 returns-then-pay c =

@@ -3,7 +3,7 @@ use Rattle.program_tree.specs.Flat.{IsFlat}
 use Rattle.program_tree.specs.Program.{code_of}
 use Rattle.program_tree.specs.Tree.{Body}
 use Rattle.protothread.specs.Places.{body_or_end, part_body}
-use Rattle.protothread.proofs.part.Part.code.Goals as goal
+use Rattle.protothread.proofs.part.Part.code_of_any.Goals as goal
 
 pub returns-in-Body : goal.returns-in-Body
 returns-in-Body c =
