@@ -124,7 +124,7 @@ def _count_rows(judge: Judge, it: Copies | Packets) -> int:
 def _plain(sentence: Sentence, words: str) -> Does:
     """A sentence that has a moment: motes that have lines of a form."""
     kinds = 'each', 'together', 'some'
-    if not isinstance(sentence, Does) or sentence.deed.way != 'any' or sentence.than:
+    if not isinstance(sentence, Does) or sentence.deed.way != 'any' or sentence.than or sentence.relation:
         raise MeasureFault('%r has no moment: such are `mote 3 prints flood 1` and `every mote sends`' % words)
     if sentence.motes.kind not in kinds or sentence.count.compare in ('at most', 'fewer than'):
         raise MeasureFault('%r has no moment: it speaks of what is not to be' % words)

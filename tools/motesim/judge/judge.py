@@ -7,6 +7,7 @@ from __future__ import annotations
 from functools import cached_property
 from typing import Iterator, NamedTuple
 
+from motesim.judge import relations
 from motesim.judge.sentences import (
     Copies, Count, Deed, Does, Hears, Lines, MediumLine, Motes, Packets, Pattern, Refused, Sentence, Value, Window,
 )
@@ -185,14 +186,25 @@ class Judge:
 
     def than(self, it: Does, events: list[Event], motes: tuple[int, ...]) -> Broken | None:
         """Whether there are so many times as many lines as of the others."""
-        others, window = it.than or (None, it.window)
-        other = events if others is None else self.done(it.deed, self.chosen(others))
-        one, two = self.within(events, it.window, motes), self.within(other, window, motes)
+        assert it.than
+        beside = motes if it.than.motes is None else self.chosen(it.than.motes)
+        other = self.done(it.than.deed or it.deed, beside)
+        one, two = self.within(events, it.window, motes), self.within(other, it.than.window, motes)
         if it.count.admits(len(one), len(two)):
             return None
-        why = '%s: %d lines beside %d; wanted: %s times as many' % (self.name(motes), len(one), len(two), it.count)
-        most = it.count.number * len(two)
+        why = '%s: %d lines beside %d; wanted: %s%s as many' % (
+            self.name(motes), len(one), len(two), it.count, '' if it.count.is_part else ' times')
+        most = it.count.number * len(two) // (100 if it.count.is_part else 1)
         return Broken(why, one[most].row if len(one) > most else one[-1].row if one else None)
+
+    def related(self, it: Does, events: list[Event], motes: tuple[int, ...]) -> Broken | None:
+        """Whether lines are before, after or near others."""
+        assert it.relation
+        others = motes if it.relation.motes is None else (
+            self.chosen(it.relation.motes))
+        inside = self.within(events, it.window, motes)
+        why = relations.broken(it, self.name(motes), inside, self.done(it.relation.deed, others), self.scenario.end)
+        return Broken(*why) if why else None
 
     def of_unit(self, it: Does, motes: tuple[int, ...]) -> Broken | None:
         """Whether a mote, or several together, does what is said."""
@@ -200,6 +212,8 @@ class Judge:
             events = self.done(it.deed, motes)
             if it.than:
                 return self.than(it, events, motes)
+            if it.relation:
+                return self.related(it, events, motes)
             for span in self.spans(it.window, motes):
                 inside = [event for event in events if _within(event.line.at, span)]
                 if it.deed.way == 'finally':
@@ -238,11 +252,32 @@ class Judge:
         if it.motes.kind == 'some':
             return None if doing else Broken('no mote does')
         assert it.motes.count
-        if it.motes.count.admits(len(doing)):
+        if it.motes.count.admits(len(doing), len(chosen) if it.motes.count.is_part else 1):
             return None
         why = '%s; wanted: %s' % ('1 mote does' if len(doing) == 1 else '%d motes do' % len(doing), it.motes.count)
+        if it.motes.count.is_part:
+            return self.part_of_motes(it.motes.count, doing, chosen, broken)
         spare = _first_spare(doing, it.motes.count)
         return Broken(why, None if spare is None else self.shown_by(it, spare))
+
+    def part_of_motes(self, count: Count, doing: list[int], chosen: tuple[int, ...],
+                      broken: dict[int, Broken | None]) -> Broken:
+        """Why a part of the motes is too small or too great, with the first mote that doesn't, and why."""
+        why = '%d of %d motes do; wanted: %s' % (len(doing), len(chosen), count)
+        first = next((mote for mote in chosen if mote not in doing), None)
+        more = broken[first] if first is not None and count.least else None
+        return Broken('%s; the first that doesn\'t: %s' % (why, more.why), more.row) if more else Broken(why)
+
+    def part_of_copies(self, it: Copies) -> Broken | None:
+        """Whether such a part of the copies that were due has an outcome."""
+        motes = set(range(len(self.report.motes)) if it.motes is None else it.motes)
+        due = sum(copy.at is None or copy.at <= self.scenario.end
+                  for packet in self.report.medium for copy in packet.copies if copy.to in motes)
+        found = self.of_copies(it)
+        if it.count.admits(len(found), due):
+            return None
+        part = ' (%.1f %%)' % (100 * len(found) / due) if due else ''
+        return Broken('%d of %d copies that were due do%s; wanted: %s' % (len(found), due, part, it.count))
 
     def of_copies(self, it: Copies) -> list[Row]:
         """The rows that tell this outcome of copies, each as often as it does."""
@@ -290,6 +325,8 @@ class Judge:
         if isinstance(it, Copies):
             if it.outcome == 'left':
                 return self.left(it.count)
+            if it.count.is_part:
+                return self.part_of_copies(it)
             return self.rows_in('such copies', self.of_copies(it), it.count, it.window)
         if isinstance(it, Packets):
             return self.rows_in('packets', self.of_packets(), it.count, it.window)

@@ -24,6 +24,7 @@ COMPARES = {
     'at least': operator.ge, 'at most': operator.le, 'exactly': operator.eq, 'more than': operator.gt,
     'fewer than': operator.lt,
 }
+VERBS = ('print', 'send', 'receive', 'start', 'leave', 'halt', 'write')
 
 
 def meant(rest: str, wanted: list[str]) -> str | None:
@@ -31,6 +32,37 @@ def meant(rest: str, wanted: list[str]) -> str | None:
     word = re.match(r'[A-Za-z_]\w{2,}', rest)
     names = [name for it in wanted for name in re.findall(r'\w+', it.partition('(')[2] or it.split()[0])]
     return nearest(word[0], names) if word else None
+
+
+# Words that sentences don't have, each with what serves in their place.
+REDIRECTS = {
+    'any': 'write `every mote` or `some mote`.', 'everybody': 'write `every mote`.', 'everyone': 'write `every mote`.',
+    'everything': 'write `every mote`.', 'nobody': 'write `no mote`.', 'nothing': 'write `no mote`.',
+    'somebody': 'write `some mote`.', 'someone': 'write `some mote`.', 'node': 'write `mote`.', 'nodes': 'write `motes`.',
+    'always': 'write what must not be, `mote 3 never halts`, or `in each 120 from 0 to 1199`.',
+    'eventually': 'leave it out: a sentence without TIMES and WHEN says that it happens at least once.',
+    'only': '`prints just P 1, 2, 3` says that these are all of the values.',
+    'last': '`finally prints P VALUE` is about the last line.',
+    'average': 'a sweep measures it (docs/use/EXPERIMENTS.md).', 'mean': 'a sweep measures it (docs/use/EXPERIMENTS.md).',
+    'median': 'a sweep measures it (docs/use/EXPERIMENTS.md).', 'message': 'write `packet`, or `copy` of each receiver.',
+    'messages': 'write `packets`, or `copies` of each receiver.', 'not': 'write `mote 3 never prints ..`, or `no mote ..`.',
+}
+REDIRECTS.update(dict.fromkeys(('first', 'then', 'until', 'while', 'when', 'whenever', 'if'),
+                               'two events are put in order by `after`, `before` and `within 10 of`, as in '
+                               '`mote 3 sends after mote 2`.'))
+REDIRECTS.update(dict.fromkeys(('must', 'should', 'shall', 'does', 'do', 'will', 'can', 'has', 'have'),
+                               'write the verb alone, `mote 3 prints a 1`.'))
+
+
+def redirected(rest: str) -> str | None:
+    """What serves in the place of the first of these words, if it is one that sentences don't have."""
+    word = re.match(r'[A-Za-z]+', rest)
+    return REDIRECTS.get(word[0].lower()) if word else None
+
+
+def gerund(many: str) -> str:
+    """A verb as in `within 10 of receiving 1`."""
+    return many.removesuffix('e') + 'ing'
 
 
 class SentenceFault(Fault):
@@ -42,6 +74,7 @@ class SentenceFault(Fault):
         like = meant(sentence[place:], wanted)
         lines = ['a sentence that is not known', sentence, ' ' * place + '^', *may]
         lines += ['Did you mean: %s' % like] if like else []
+        lines += ['Hint: %s' % hint for hint in [redirected(sentence[place:])] if hint]
         super().__init__('\n  '.join(lines))
 
 
@@ -69,12 +102,14 @@ def names_of(scenario: Scenario) -> Names:
 
 @dataclass(frozen=True)
 class Count:
-    """How many: a comparison and a number."""
+    """How many: a comparison and a number, or a part of all in per cent."""
     compare: str
     number: int
+    is_part: bool = False
 
     def admits(self, found: int, times: int = 1) -> bool:
-        return bool(COMPARES[self.compare](found, self.number * times))
+        """Whether so many are enough and not too many: `times` is what the number counts, or the whole of a part."""
+        return bool(COMPARES[self.compare](found * (100 if self.is_part else 1), self.number * times))
 
     @property
     def least(self) -> int:
@@ -86,7 +121,7 @@ class Count:
         return {'at most': self.number, 'exactly': self.number, 'fewer than': self.number - 1}.get(self.compare)
 
     def __str__(self) -> str:
-        return '%s %d' % (self.compare, self.number)
+        return '%s %d%s' % (self.compare, self.number, ' %' if self.is_part else '')
 
 
 @dataclass(frozen=True)
@@ -146,13 +181,40 @@ class Deed:
 
 
 @dataclass(frozen=True)
+class Than:
+    """What is counted beside the lines of a sentence: of other motes, of another deed, at another time."""
+    motes: Motes | None
+    deed: Deed | None
+    window: Window
+
+
+@dataclass(frozen=True)
+class Relation:
+    """Where lines stand to other ones, the events.
+
+    kind     after or before the first event; within so many moments of one before it; each (each event is followed by
+             a line within so many moments)
+    motes    whose events; None for the mote itself
+    words    the event, as the sentence has it
+    """
+    kind: str
+    moments: int
+    motes: Motes | None
+    deed: Deed
+    words: str
+
+
+@dataclass(frozen=True)
 class Does:
-    """Motes do something, so many times, or so many times as often as others, or as at another time."""
+    """Motes do something, so many times, or so many times as often as others, or before or after another event."""
     motes: Motes
     deed: Deed
     count: Count
     window: Window
-    than: tuple[Motes | None, Window] | None = None
+    than: Than | None = None
+    relation: Relation | None = None
+    # Whether the sentence says how often, and whether it says never.
+    is_counted: bool = False
 
 
 @dataclass(frozen=True)
@@ -212,6 +274,8 @@ class _Reader:
         self.at, self.furthest = 0, 0
         self.wanted: list[str] = []
         self.is_one = True
+        # (in `within 10 of receiving 1` a verb may have its other form)
+        self.is_event = False
 
     def want(self, at: int, what: str) -> None:
         """Notes what may stand at a word."""
@@ -248,7 +312,7 @@ class _Reader:
 
     def verb(self, one: str, many: str) -> bool:
         """A verb, of one or of many."""
-        if self.word().lower() in (one, many):
+        if self.word().lower() in (one, many) or self.is_event and self.word().lower() == gerund(many):
             self.at += 1
             return True
         self.want(self.at, one if self.is_one else many)
@@ -307,11 +371,17 @@ class _Reader:
         word = self.accept('once', 'twice')
         if word:
             return Count(compare or 'exactly', 1 if word == 'once' else 2)
-        return Count(compare, self.number('a number')) if compare else None
+        if not compare:
+            return None
+        number = self.number('a number')
+        return Count(compare, number, bool(self.accept('%', 'percent', 'per cent')))
 
     def window(self) -> Window | None:
         """When."""
         if self.word() == 'at' and self.word(1) in ('least', 'most'):
+            return None
+        if self.word() in ('after', 'before') and not self.word(1).isdecimal():
+            self.want(self.at + 1, 'a moment, 0 to %d' % MOST_MOMENT)
             return None
         if self.accept('at'):
             begin = self.moment()
@@ -430,7 +500,7 @@ class _Reader:
 
     def motes(self) -> Motes | None:
         """Of which motes the sentence speaks, where it begins with them."""
-        for kind, phrase in ('no', 'no mote'), ('some', 'some mote'), ('each', 'every mote'):
+        for kind, phrase in ('no', 'no mote'), ('some', 'some mote'), ('each', 'every mote'), ('each', 'each mote'):
             if self.accept(phrase):
                 return Motes(kind, None, self.but())
         if self.accept('mote'):
@@ -438,6 +508,10 @@ class _Reader:
         self.is_one = False
         if self.accept('all motes together'):
             return Motes('together')
+        if self.accept('all motes'):
+            return Motes('each', None, self.but())
+        if self.accept('each of motes', 'all of motes'):
+            return Motes('each', self.mote_list())
         if self.accept('motes'):
             numbers = self.mote_list()
             return Motes('together' if self.accept('together') else 'each', numbers)
@@ -462,17 +536,70 @@ class _Reader:
         if count:
             self.accept('times', 'time')
             if self.accept('as often as'):
-                than = self.than(), self.window() or Window()
+                than = self.than()
+            elif count.is_part:
+                raise self.fault()
         if window is None and than is None:
             window = self.window()
+        relation = self.relation(deed) if deed.way == 'any' and than is None else None
+        if relation and window is None:
+            window = self.window()
+        if relation and relation.kind == 'each' and (count or never):
+            raise SentenceFault(self.sentence, self.places[self.words.index('within')], ['the end'])
         is_apart = deed.way == 'finally' or (window is not None and window.root is not None)
         if motes.kind == 'together' and is_apart:
             place = self.places[self.words.index('together')]
             raise SentenceFault(self.sentence, place, ['the verb, without `together`'])
+        is_counted = bool(never) or count is not None
         count = Count('at most', 0) if never else count or Count('at least', 1)
-        return Does(motes, deed, count, window or Window(), than)
+        return Does(motes, deed, count, window or Window(), than, relation, is_counted)
 
-    def than(self) -> Motes | None:
+    def relation(self, same: Deed) -> Relation | None:
+        """Where the lines stand to others, if that is said."""
+        kind, moments = self.accept('after', 'before', 'within'), 0
+        if not kind:
+            return None
+        if kind == 'within':
+            moments = self.number('a number of moments', MOST_MOMENT)
+            self.accept('moments', 'moment')
+            self.need('of')
+            if self.accept('each time', 'every time'):
+                kind = 'each'
+        begin = self.at
+        motes, deed = self.event(same)
+        words = self.sentence[self.places[begin]:self.places[self.at - 1] + len(self.words[self.at - 1])]
+        return Relation(kind, moments, motes, deed, words)
+
+    def event(self, same: Deed) -> tuple[Motes | None, Deed]:
+        """An event: of the mote itself, as `receiving 1` or `it receives 1`, or of others, as `mote 2 prints a 1`."""
+        at, self.is_event, self.is_one = self.at, True, True
+        if self.accept('it'):
+            motes = None
+        else:
+            motes = self.motes()
+        if motes and motes.kind not in ('some', 'together') and len(motes.numbers or ()) != 1:
+            raise SentenceFault(self.sentence, self.places[at], ['mote 3', 'some mote', 'motes 1 to 3 together'])
+        is_alone = motes is not None and (not self.word() or not self.is_verb())
+        deed = same if is_alone else self.deed()
+        self.is_event = False
+        if deed.way != 'any':
+            raise SentenceFault(self.sentence, self.places[at], ['prints, without `just` or `finally`'])
+        return motes, deed
+
+    def is_verb(self) -> bool:
+        """Whether a verb is next."""
+        word = self.word().lower()
+        return any(word in (many, many + 's', gerund(many)) for many in VERBS)
+
+    def than(self) -> Than:
+        """What is counted beside."""
+        self.is_event = True
+        motes = None if self.accept('it') else self.others()
+        deed = self.deed() if self.is_verb() else None
+        self.is_event = False
+        return Than(motes, deed, self.window() or Window())
+
+    def others(self) -> Motes | None:
         other = self.motes()
         is_one = other is None or other.kind == 'together' or (other.kind == 'each' and len(other.numbers or ()) == 1)
         if not is_one:
@@ -487,18 +614,24 @@ class _Reader:
                 outcome = name
         if not outcome:
             self.need('is' if self.is_one else 'are')
-            outcome = self.need('lost', 'left')
+            outcome = self.need('lost') if count.is_part else self.need('lost', 'left')
         motes = None
         if outcome != 'left' and (self.accept('at mote') or self.accept('at motes')):
             motes = self.mote_list()
+        if count.is_part:
+            return Copies(count, outcome, motes, Window())
         return Copies(count, outcome, motes, (self.window() if outcome != 'left' else None) or Window())
 
     def things(self, count: Count, kinds: tuple[str, ...]) -> Sentence:
         """A sentence on so many motes, copies or packets, from that word on."""
+        if count.is_part:
+            self.accept('of the', 'of all', 'of')
+            kinds = ('motes', 'copies')
         kind = self.need(*kinds)
         self.is_one = kind in ('mote', 'copy', 'packet')
         if kind in ('mote', 'motes'):
-            return self.does(Motes('count', None, self.but(), count))
+            numbers = self.mote_list() if count.is_part and self.word().isdecimal() else None
+            return self.does(Motes('count', numbers, self.but(), count))
         if kind in ('copy', 'copies'):
             return self.copies(count)
         self.need('is sent' if self.is_one else 'are sent')
@@ -511,6 +644,9 @@ class _Reader:
         for word, few in ('no', Count('at most', 0)), ('some', Count('at least', 1)):
             if self.accept(word):
                 return self.things(few, ('copy', 'packet'))
+        if self.accept('every copy', 'each copy', 'all copies'):
+            self.is_one = self.words[self.at - 1] == 'copy'
+            return self.copies(Count('at least', 100, True))
         if self.accept('the report has'):
             count = self.count()
             if count is None:

@@ -167,6 +167,8 @@ class Asker:
         """The line of a sentence on motes."""
         if it.than:
             raise Unasked('a comparison of two counts is about no single line; ask about one of the lines')
+        if it.relation:
+            raise Unasked('tools/expect says which line breaks a sentence about two events; ask about that line')
         chosen = self.judge.chosen(it.motes)
         if it.motes.kind == 'together':
             return self.of_unit(it, chosen)

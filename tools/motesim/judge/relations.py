@@ -1,0 +1,149 @@
+"""Lines before, after and near other lines: what breaks a sentence that puts two events in order.
+
+    mote 3 prints hops 2 after mote 0 sends        each such line is after the first event
+    mote 1 sends before mote 2                     each such line is before the first event
+    mote 4 sends 1 within 10 of receiving 1        each has an event at most 10 moments before it
+    mote 4 sends 1 within 10 of each time it receives 1    each event has such a line at most 10 moments after it
+
+If a sentence says how often, that many lines have to be so, and others don't matter; with `never`, none may be.
+"""
+from __future__ import annotations
+
+import bisect
+from collections.abc import Callable, Sequence
+from typing import Protocol
+
+from motesim.judge.sentences import Count, Does, Relation
+
+
+class At(Protocol):
+    """A line of a trace."""
+    @property
+    def at(self) -> int: ...
+    @property
+    def mote(self) -> int: ...
+
+
+class Found(Protocol):
+    """A line with its row in the report."""
+    @property
+    def row(self) -> int: ...
+    @property
+    def line(self) -> At: ...
+
+
+# Why a sentence is broken, and the row that shows it.
+Why = tuple[str, int | None]
+By = Callable[[Found], tuple[int, int]]
+
+
+def in_time(event: Found) -> tuple[int, int]:
+    return event.line.at, event.row
+
+
+def _is_after(line: Found, event: Found) -> bool:
+    """Whether a line is later than an event; at the same moment, whether it is further down in the same trace."""
+    if line.line.at != event.line.at:
+        return line.line.at > event.line.at
+    return line.line.mote == event.line.mote and line.row > event.row
+
+
+class Order:
+    """Events in the order of their moments."""
+
+    def __init__(self, events: Sequence[Found]):
+        self.events = sorted(events, key=in_time)
+        self.keys = list(map(in_time, self.events))
+
+    def first(self) -> Found | None:
+        return self.events[0] if self.events else None
+
+    def last_before(self, line: Found) -> Found | None:
+        """The last event that is not after a line: of other motes, one of the same moment counts."""
+        place = bisect.bisect_right(self.keys, (line.line.at, 1 << 62))
+        while place:
+            event = self.events[place - 1]
+            if event.line.at < line.line.at or event.line.mote != line.line.mote or event.row < line.row:
+                return event
+            place -= 1
+        return None
+
+    def first_from(self, event: Found) -> Found | None:
+        """The first of these that is not before an event."""
+        place = bisect.bisect_left(self.keys, (event.line.at, -1))
+        while place < len(self.events):
+            it = self.events[place]
+            if it.line.at > event.line.at or it.line.mote != event.line.mote or it.row > event.row:
+                return it
+            place += 1
+        return None
+
+
+def _holds(relation: Relation, line: Found, order: Order) -> bool:
+    """Whether a line stands to the events as the relation says."""
+    first = order.first()
+    if relation.kind == 'after':
+        return first is not None and _is_after(line, first)
+    if relation.kind == 'before':
+        return first is None or _is_after(first, line)
+    event = order.last_before(line)
+    return event is not None and line.line.at - event.line.at <= relation.moments
+
+
+def _why_not(relation: Relation, line: Found, order: Order) -> str:
+    """Why a line doesn't stand so to the events."""
+    here, first = 'this line of mote %d' % line.line.mote, order.first()
+    if first is None:
+        return '%s is there, and no line is `%s`' % (here, relation.words)
+    if relation.kind == 'after':
+        return '%s is not after the first `%s`, at %d (line %d)' % (here, relation.words, first.line.at, first.row)
+    if relation.kind == 'before':
+        return '%s is not before the first `%s`, at %d (line %d)' % (here, relation.words, first.line.at, first.row)
+    event = order.last_before(line)
+    if event is None:
+        return '%s has no `%s` before it: the first is at %d (line %d)' % (
+            here, relation.words, first.line.at, first.row)
+    return '%s is %d moments after the last `%s`, at %d (line %d); wanted: at most %d' % (
+        here, line.line.at - event.line.at, relation.words, event.line.at, event.row, relation.moments)
+
+
+def _counted(it: Does, relation: Relation, name: str, lines: Sequence[Found], order: Order) -> Why | None:
+    """Whether so many lines are so."""
+    fit = [line for line in lines if _holds(relation, line, order)]
+    if it.count.admits(len(fit)):
+        return None
+    why = '%s has %d such lines %s `%s`; wanted: %s' % (
+        name, len(fit), _kind_in_words(relation), relation.words, it.count)
+    most = it.count.most
+    return why, fit[max(most, 0)].row if most is not None and len(fit) > max(most, 0) else None
+
+
+def _kind_in_words(relation: Relation) -> str:
+    return 'within %d of' % relation.moments if relation.kind == 'within' else relation.kind
+
+
+def _answered(relation: Relation, name: str, lines: Sequence[Found], order: Order, end: int) -> Why | None:
+    """Whether each event has a line soon after it. Those so near to the end that it may come later don't count."""
+    answers = Order(lines)
+    for event in order.events:
+        found = answers.first_from(event)
+        until = event.line.at + relation.moments
+        if (found is None and until <= end) or (found is not None and found.line.at > until):
+            more = ': the next is at %d (line %d)' % (found.line.at, found.row) if found else ''
+            return '`%s` at %d is this line, and %s has no such line up to %d%s' % (
+                relation.words, event.line.at, name, until, more), event.row
+    return None if order.events else ('no line is `%s`' % relation.words, None)
+
+
+def broken(it: Does, name: str, lines: Sequence[Found], events: Sequence[Found], end: int) -> Why | None:
+    """What breaks a sentence with a relation, of a mote's lines (or several motes') and the events."""
+    relation, order = it.relation, Order(events)
+    assert relation
+    if relation.kind == 'each':
+        return _answered(relation, name, lines, order, end)
+    if it.is_counted:
+        return _counted(it, relation, name, lines, order)
+    if not lines:
+        return '%s has 0 such lines; wanted: %s' % (name, Count('at least', 1)), None
+    line = next((line for line in sorted(lines, key=in_time) if not _holds(relation, line, order)), None)
+    return (_why_not(relation, line, order), line.row) if line else None

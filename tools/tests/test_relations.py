@@ -1,0 +1,151 @@
+"""Sentences about two events, about parts of motes and of copies, and words that sentences don't have."""
+import unittest
+
+import here  # noqa: F401
+from motesim.judge.judge import Judge
+from motesim.judge.sentences import SentenceFault, names_of, read_sentence
+from motesim.report import Report
+from motesim.scenario import Scenario
+
+SCENARIO = """
+version = 2
+end = 100
+[medium]
+range = 10
+base = 3
+per = 1000
+collide = false
+[programs]
+p = 'process a, b;'
+""" + ''.join('[[mote]]\nx = %d\ny = 0\nprogram = "p"\n' % (10 * number) for number in range(4))
+# Lines 1 to 27. Mote 0 sends 1 at 10 and 60, and 2 at 99; mote 1 passes 1 on at 13 and at 80 (17 late); mote 2 prints
+# at boot and again at 16; mote 3 prints nothing.
+REPORT = """mote 0 p
+0 start a
+10 send 0 1
+60 send 1 1
+99 send 2 2
+mote 1 p
+0 start a
+13 recv 0 0 1
+13 print a 1
+13 send 0 1
+63 recv 0 1 1
+80 send 1 1
+mote 2 p
+0 print a 1
+16 recv 1 0 1
+16 print a 1
+83 recv 1 1 1
+mote 3 p
+0 start a
+medium
+10 0 0 1 1@13
+13 1 0 1 0@lost 2@16
+60 0 1 1 1@63
+80 1 1 1 0@lost 2@83
+99 0 2 2 1@102
+left 1
+"""
+# Sentences, each with what breaks it, worked out by hand; None of one that holds.
+SENTENCES: list[tuple[str, str | None, int | None]] = [
+    ('mote 1 prints a 1 after mote 0 sends', None, None),
+    ('mote 1 prints a 1 after mote 0 sends 1', None, None),
+    ('mote 2 prints a 1 after mote 0 sends', 'this line of mote 2 is not after the first `mote 0 sends`, at 10 (line 3)', 14),
+    ('mote 2 prints a 1 once after mote 0 sends', None, None),
+    ('mote 2 prints a 1 twice after mote 0 sends', 'mote 2 has 1 such lines after `mote 0 sends`; wanted: exactly 2', None),
+    ('mote 2 never prints a 1 before mote 0 sends', 'mote 2 has 1 such lines before `mote 0 sends`; wanted: at most 0', 14),
+    ('mote 1 never prints a 1 before mote 0 sends', None, None),
+    ('mote 1 prints a 1 after mote 2', None, None),
+    ('mote 2 prints a 1 after mote 1', 'this line of mote 2 is not after the first `mote 1`, at 13 (line 9)', 14),
+    ('mote 3 prints a 1 after mote 2', 'mote 3 has 0 such lines; wanted: at least 1', None),
+    ('mote 1 prints a after mote 3', 'this line of mote 1 is there, and no line is `mote 3`', 9),
+    ('mote 1 prints a before mote 3', None, None),
+    ('mote 0 sends 1 before mote 1', 'this line of mote 0 is not before the first `mote 1`, at 13 (line 10)', 4),
+    ('mote 0 sends 1 at most once before mote 1', None, None),
+    ('mote 1 sends 1 after receiving 1', None, None),
+    ('mote 1 prints a 1 before sending', None, None),
+    ('mote 1 sends before printing a', 'this line of mote 1 is not before the first `printing a`, at 13 (line 9)', 10),
+    ('mote 1 sends 1 within 10 of receiving 1',
+     'this line of mote 1 is 17 moments after the last `receiving 1`, at 63 (line 11); wanted: at most 10', 12),
+    ('mote 1 sends 1 within 17 moments of receiving 1', None, None),
+    ('mote 1 sends 1 at least once within 10 of it receives 1', None, None),
+    ('mote 1 sends 1 exactly twice within 10 of receiving 1',
+     'mote 1 has 1 such lines within 10 of `receiving 1`; wanted: exactly 2', None),
+    ('mote 2 prints a within 3 of mote 1 sends',
+     'this line of mote 2 has no `mote 1 sends` before it: the first is at 13 (line 10)', 14),
+    ('mote 1 sends 1 within 17 of each time it receives 1', None, None),
+    ('mote 1 sends 1 within 16 of each time it receives 1',
+     '`it receives 1` at 63 is this line, and mote 1 has no such line up to 79: the next is at 80 (line 12)', 11),
+    ('mote 2 prints a within 5 of each time it receives',
+     '`it receives` at 83 is this line, and mote 2 has no such line up to 88', 17),
+    ('mote 2 prints a within 20 of each time it receives', None, None),
+    ('mote 3 prints a within 5 of each time mote 2 halts', 'no line is `mote 2 halts`', None),
+    ('mote 1 receives within 3 of each time mote 0 sends 1', None, None),
+    ('some mote sends 1 after mote 2 receives', 'no mote does', None),
+    ('some mote sends 1 at least once after mote 2 receives', None, None),
+    ('no mote but 2 prints a before mote 0 sends', None, None),
+    ('motes 1 and 2 receive after some mote sends', None, None),
+    # Parts of motes: 1, 2 of 4 print a; 3 of 4 have a line `start`.
+    ('at least 50 % of motes print a', None, None),
+    ('at least 51% of motes print a',
+     '2 of 4 motes do; wanted: at least 51 %; the first that doesn\'t: mote 0 has 0 such lines; wanted: at least 1', None),
+    ('at most 50 % of the motes print a', None, None),
+    ('at least 66 % of motes but 0 print a', None, None),
+    ('exactly 100 % of motes 1 to 2 print a', None, None),
+    ('fewer than 50 percent of motes print a', '2 of 4 motes do; wanted: fewer than 50 %', None),
+    # Copies: 7 in all, of which 1 is late, 4 arrive and 2 are lost.
+    ('at least 66 % of copies arrive', None, None),
+    ('at least 67 % of copies arrive', '4 of 6 copies that were due do (66.7 %); wanted: at least 67 %', None),
+    ('at most 33 % of copies are lost', '2 of 6 copies that were due do (33.3 %); wanted: at most 33 %', None),
+    ('every copy arrives', '4 of 6 copies that were due do (66.7 %); wanted: at least 100 %', None),
+    ('all copies arrive at motes 1 to 2', None, None),
+    # Counts beside others: mote 1 sends 2, mote 0 sends 3, mote 1 receives 2.
+    ('mote 1 sends at least 66 % as often as mote 0', None, None),
+    ('mote 1 sends at least 67 % as often as mote 0', 'mote 1: 2 lines beside 3; wanted: at least 67 % as many', 12),
+    ('mote 1 sends exactly 100 % as often as it receives', None, None),
+    ('mote 1 sends exactly 100 % as often as receiving', None, None),
+    ('mote 2 receives at least 2 times as often as mote 1 prints a', None, None),
+    ('mote 2 receives at least 100 % as often as mote 0 sends 1 by 60', None, None),
+    # Each, all.
+    ('each mote sends at most 3', None, None),
+    ('all motes send at most 3', None, None),
+    ('all motes but 3 send', 'mote 2 has 0 such lines; wanted: at least 1', None),
+    ('each of motes 0 to 1 sends', None, None),
+    ('all motes together send exactly 5', None, None),
+]
+REFUSED = [
+    ('any mote sends', 'Hint: write `every mote` or `some mote`.'),
+    ('nobody halts', 'Hint: write `no mote`.'),
+    ('mote 1 always sends', 'Hint: write what must not be'),
+    ('node 1 sends', 'Hint: write `mote`.'),
+    ('mote 1 should send', 'Hint: write the verb alone'),
+    ('mote 1 sends when mote 2 prints', 'Hint: two events are put in order by'),
+    ('mote 1 sends until 30', 'Hint: two events are put in order by'),
+    ('mote 1 sends within 10', 'of'),
+    ('mote 1 sends at least 3 times within 10 of each time it receives', 'the end'),
+    ('mote 1 sends after every mote prints a', 'some mote'),
+    ('at least 50 % of packets are sent', 'copies'),
+    ('mote 1 sends at least 50 %', 'as often as'),
+]
+
+
+class Sentences(unittest.TestCase):
+    scenario, report = Scenario.parse(SCENARIO), Report.parse(REPORT)
+
+    def test_what_holds_and_why_not(self) -> None:
+        judge, names = Judge(self.report, self.scenario), names_of(self.scenario)
+        for sentence, why, row in SENTENCES:
+            with self.subTest(sentence):
+                broken = judge.broken(read_sentence(sentence, names))
+                self.assertEqual((broken.why, broken.row) if broken else (None, None), (why, row))
+
+    def test_what_is_refused(self) -> None:
+        for sentence, told in REFUSED:
+            with self.subTest(sentence), self.assertRaises(SentenceFault) as raised:
+                read_sentence(sentence, names_of(self.scenario))
+            self.assertIn(told, str(raised.exception))
+
+
+if __name__ == '__main__':
+    unittest.main()
