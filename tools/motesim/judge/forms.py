@@ -1,0 +1,126 @@
+"""The forms of sentences, as docs/use/EXPECTATIONS.md has them in tables.
+
+Each form is an example that `motesim.judge.sentences` reads; the tests read them all, and look whether each phrase that
+the reader knows is in one of them. `PYTHONPATH=tools python3 -m motesim.judge.forms` writes the tables into the page.
+"""
+from __future__ import annotations
+
+from collections.abc import Iterator
+from pathlib import Path
+from typing import NamedTuple
+
+PAGE = Path(__file__).resolve().parents[3] / 'docs/use/EXPECTATIONS.md'
+
+
+class Table(NamedTuple):
+    """A table: its two headings, the sentences in which its forms are tried, and its rows of forms and meanings."""
+    name: str
+    meaning: str
+    frames: tuple[str, ...]
+    rows: tuple[tuple[tuple[str, ...], str], ...]
+
+    def lines(self) -> list[str]:
+        """The table as the page has it."""
+        rows = [', '.join('`%s`' % form for form in forms) + ' | ' + meaning for forms, meaning in self.rows]
+        return ['| %s | %s |' % (self.name, self.meaning), '|---|---|', *('| %s |' % row for row in rows)]
+
+    def examples(self) -> Iterator[tuple[str, list[str]]]:
+        """Each form with the sentences of which one has to be read."""
+        for forms, _ in self.rows:
+            for form in forms:
+                yield form, [frame % form.replace('VALUE', '7').replace(' P', ' p') for frame in self.frames]
+
+
+MOTES = Table('MOTES', 'The sentence is about', ('%s sends', '%s send'), (
+    (('mote 3', 'motes 3 to 7', 'motes 1, 3 and 5', 'each of motes 3 to 7', 'all of motes 1 and 3'), 'each of these'),
+    (('every mote', 'each mote', 'all motes', 'every mote but 0', 'all motes but motes 0 and 1'),
+     'each mote, except those after `but`'),
+    (('motes 3 to 7 together', 'all motes together'), 'all their lines, as if they were one mote'),
+    (('no mote', 'no mote but 0'), 'none of them: the sentence holds if no mote does it'),
+    (('some mote',), 'at least one of them'),
+    (('exactly 1 mote', 'at least 5 motes', 'at most 3 motes but 0'), 'that many of them'),
+    (('at least 90 % of motes', 'at most 10 % of the motes', 'exactly 50 percent of all motes but 0',
+      'at least 80 % of motes 3 to 20'), 'that part of them'),
+))
+DEED = Table('DEED', 'Lines of the report', ('mote 1 %s',), (
+    (('prints', 'prints P', 'prints P VALUE'), '`print P V`'),
+    (('prints just P 1, 2, 3',), 'all these lines together have these values, in this order; `1 to 3` is the same'),
+    (('prints just P 1 to 29 in any order',), 'the same in any order'),
+    (('finally prints P VALUE',), 'the last of these lines has this value'),
+    (('sends', 'sends VALUE'), '`send N V`'),
+    (('receives', 'receives VALUE', 'receives VALUE from mote 2'), '`recv F N V`'),
+    (('starts P', 'leaves P', 'halts'), '`start P`, `leave P`, `halt`'),
+    (("writes 'full echo msg'",), 'lines that continue so after the moment'),
+    (("writes 'collide' or 'lost'",), 'lines that continue in one of these ways'),
+    (('never sends', 'never prints P VALUE'), 'none of these lines (after `mote`, `motes`, `every mote` and `together`)'),
+))
+VALUE = Table('VALUE', 'Is', ('mote 1 prints p %s',), (
+    (('7',), 'this number'),
+    (('its number',), 'the number of the mote'),
+    (('its distance from mote 0',), 'the least number of hops, over links that don\'t lose all'),
+    (('the set of motes that it hears', 'the set of motes that it hears but 5'),
+     'a number with the bit n for mote n; without those after `but`'),
+    (('the set of motes linked with it',), 'the same of those that hear it, too'),
+    (('a mote that it hears, one hop nearer to mote 0',), 'one of these'),
+))
+TIMES = Table('TIMES', 'How many lines', ('mote 1 sends %s',), (
+    (('at least 3 times', 'at most 3', 'exactly 3', 'more than 3', 'fewer than 3'), 'that many'),
+    (('once', 'twice', 'at most once', 'at least 1 time'), '1, 2, at most 1, at least 1'),
+    (('more than 2 times as often as motes 0 to 9 together',), 'more than twice as many as those have of the same lines'),
+    (('more than 2 times as often as from 300 to 399',), 'the same, compared with its own lines of another time'),
+    (('at least 80 % as often as mote 0',), 'at least 80 % of what mote 0 has of the same lines'),
+    (('at least 80 % as often as mote 0 prints P', 'exactly 1 times as often as it receives'),
+     'compared with other lines, of another mote or of the mote itself'),
+))
+WHEN = Table('WHEN', 'Moments', ('mote 1 sends %s',), (
+    (('at 60',), '60'),
+    (('by 60', 'before 60'), 'up to 60, up to 59'),
+    (('after 60', 'from 60 on'), 'from 61 on, from 60 on'),
+    (('between 60 and 90', 'from 60 to 90'), '60 to 90, both included'),
+    (('at 40 plus 3 for each hop from mote 0',), 'for each mote its own'),
+    (('in each 120 from 0 to 1199',), '0 to 119 by themselves, 120 to 239, and so on'),
+))
+ORDER = Table('ORDER', 'Each of the lines is', ('mote 1 sends 1 %s',), (
+    (('after mote 0 sends 1', 'after mote 2'), 'after the first line of the event; `after mote 2` is after mote 2 did the '
+     'same'),
+    (('before mote 2 prints P', 'before printing P', 'before some mote'), 'before the first line of the event, or there is '
+     'no such line'),
+    (('within 10 of receiving 1', 'within 10 moments of it receives 1', 'within 1 moment of mote 2 sending 5'),
+     'at most so many moments after a line of the event'),
+    (('within 10 of each time it receives 1', 'within 10 of every time mote 0 sends'), 'the other way around: each line of '
+     'the event is followed by one, at most so many moments later'),
+))
+OTHER = Table('Sentence', 'Says', ('%s',), (
+    (('no copy collides', 'some copy collides at mote 3'), 'lines `collide`'),
+    (('at most 2 copies overflow',), 'lines `lost`: eight packets were waiting'),
+    (('exactly 9 copies arrive at motes 1 to 3 by 60',), 'lines `recv`'),
+    (('no copy is lost', 'exactly 1 copy is lost at mote 1'), 'copies that the medium loses, by the moment of sending'),
+    (('at least 90 % of copies arrive', 'at most 5 % of the copies collide at motes 1 to 3', 'every copy arrives',
+      'each copy arrives at mote 3', 'all copies arrive'), 'that part of the copies that are due before the end'),
+    (('exactly 1 copy is left', 'exactly 2 copies are left'), 'the last line of the report'),
+    (('exactly 75 packets are sent', 'no packet is sent after 90'), 'lines of the medium'),
+    (("the medium writes '4 0 1 20 1@lost'",), 'a line of the medium that begins so'),
+    (('the report has at most 2000 lines', 'the report has at least 1 line'), 'the length of the report'),
+    (('mote 1 can hear mote 0', 'motes 2 and 3 cannot hear mote 0'), 'the scenario: range, and no loss of all'),
+    (("the scenario is refused with 'scenario fault 2'",), 'there is no report, but this fault'),
+))
+TABLES = (MOTES, DEED, VALUE, TIMES, WHEN, ORDER, OTHER)
+
+
+def written(page: str) -> str:
+    """The page with the tables as they are here."""
+    rows = page.split('\n')
+    for table in TABLES:
+        begin = next(at for at, row in enumerate(rows) if row.startswith('| %s |' % table.name))
+        end = next(at for at in range(begin, len(rows)) if not rows[at].startswith('|'))
+        rows[begin:end] = table.lines()
+    return '\n'.join(rows)
+
+
+def main() -> None:
+    PAGE.write_text(written(PAGE.read_text('utf-8')), encoding='utf-8')
+    print(PAGE)
+
+
+if __name__ == '__main__':
+    main()
