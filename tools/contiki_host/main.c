@@ -59,7 +59,9 @@ run(void)
 static void
 write_text(const struct text *text)
 {
-  fwrite(text->bytes, 1, text->length, stdout);
+  if(text->length > 0) {
+    fwrite(text->bytes, 1, text->length, stdout);
+  }
 }
 
 static int

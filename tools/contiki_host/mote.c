@@ -68,13 +68,20 @@ mote_trace_of(int mote)
  */
 extern const struct host_memory process_memory[], etimer_memory[], ctimer_memory[], radio_memory[];
 
+/* Each object begins at an address that is right for all types. */
+static size_t
+room_for(size_t size)
+{
+  return (size + 7) / 8 * 8;
+}
+
 static size_t
 size_of(const struct host_memory *memory)
 {
   size_t size = 0;
 
   for(; memory->address != NULL; memory++) {
-    size += memory->size;
+    size += room_for(memory->size);
   }
   return size;
 }
@@ -84,7 +91,7 @@ copy_out(const struct host_memory *memory, char *to)
 {
   for(; memory->address != NULL; memory++) {
     memcpy(to, memory->address, memory->size);
-    to += memory->size;
+    to += room_for(memory->size);
   }
   return to;
 }
@@ -94,7 +101,7 @@ copy_in(const struct host_memory *memory, const char *from)
 {
   for(; memory->address != NULL; memory++) {
     memcpy(memory->address, from, memory->size);
-    from += memory->size;
+    from += room_for(memory->size);
   }
   return from;
 }

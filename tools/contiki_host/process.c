@@ -5,6 +5,7 @@
 
 #include "host.h"
 #include "mote.h"
+#include "text.h"
 #include "trace.h"
 #include "work.h"
 
@@ -24,7 +25,7 @@ static uint32_t incarnations;             /* how many starts there were */
 static unsigned char poll_requested;
 static process_event_t last_event;
 
-static struct event events[PROCESS_CONF_NUMEVENTS];
+static struct event *events;              /* as many places as the queue has */
 static process_num_events_t first_event;
 static process_num_events_t event_count;
 static uint64_t accepted;                 /* how many events were ever accepted */
@@ -144,6 +145,7 @@ void
 process_init(void)
 {
   last_event = PROCESS_EVENT_MAX + 1;       /* PROCESS_EVENT_MAX itself is the radio's */
+  events = take_memory(NULL, (size_t)mote_queue_length() * sizeof(struct event));
 }
 
 process_event_t

@@ -31,9 +31,6 @@ typedef unsigned char process_num_events_t;
 #define PROCESS_EVENT_COM             137
 #define PROCESS_EVENT_MAX             138
 
-/* The longest event queue that a scenario can ask for. */
-#define PROCESS_CONF_NUMEVENTS 128
-
 #define PROCESS_STATE_NONE    0
 #define PROCESS_STATE_RUNNING 1
 #define PROCESS_STATE_CALLED  2

@@ -4,6 +4,9 @@
 #include <stdlib.h>
 #include <string.h>
 
+/* Of a number of 64 bits. */
+#define MOST_DIGITS 20
+
 void *
 take_memory(void *old, size_t size)
 {
@@ -16,38 +19,48 @@ take_memory(void *old, size_t size)
   return memory;
 }
 
-static void
-append(struct text *text, const char *bytes, size_t length)
+/* The place for more bytes at the end of a text. */
+static inline char *
+more_bytes(struct text *text, size_t length)
 {
   if(text->room - text->length < length) {
     text->room = 2 * text->room + length + 64;
     text->bytes = take_memory(text->bytes, text->room);
   }
-  memcpy(text->bytes + text->length, bytes, length);
-  text->length += length;
+  return text->bytes + text->length;
 }
 
 void
 text_character(struct text *text, char c)
 {
-  append(text, &c, 1);
+  *more_bytes(text, 1) = c;
+  text->length++;
 }
 
 void
 text_string(struct text *text, const char *string)
 {
-  append(text, string, strlen(string));
+  size_t length = strlen(string);
+
+  memcpy(more_bytes(text, length), string, length);
+  text->length += length;
 }
 
 void
 text_number(struct text *text, uint64_t number)
 {
-  char digits[20];
-  size_t first = sizeof(digits);
+  char *bytes;
+  uint64_t power = 10;
+  size_t length = 1, i;
 
-  do {
-    digits[--first] = (char)('0' + number % 10);
+  while(length < MOST_DIGITS && number >= power) {
+    power *= 10;
+    length++;
+  }
+  bytes = more_bytes(text, length);
+  for(i = length; i > 0; i--) {
+    bytes[i - 1] = (char)('0' + number % 10);
     number /= 10;
-  } while(number > 0);
-  append(text, digits + first, sizeof(digits) - first);
+  }
+  text->length += length;
 }
