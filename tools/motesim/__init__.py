@@ -1,14 +1,42 @@
-"""The tools for those who use motesim: a module for each command, and those that they share.
+"""A deterministic simulator of wireless sensor nodes, for scripts and notebooks.
 
-    report    reads reports            scenario  reads scenarios
-    run       runs the program         faults    the error type of the tools, and how each command ends
-    plan      scenarios by rule        measures  what is measured of a run
-    results   the rows of a sweep      export    files for other programs
+    import motesim
 
-docs/use/TOOLS.md shows a script that uses them.
+    run = motesim.run('examples/flooding.toml')         # or bytes, or motesim.Plan.read('net.plan.toml')
+    for mote in run.report.motes:
+        print(mote.number, [line.value for line in mote.lines if line.kind == 'print'])
+    for kept in motesim.expect(run, ['mote 6 prints flood 1 by 60', 'no mote halts']):
+        print(kept.sentence, kept.holds, kept.why)
+    print(motesim.compare(run, motesim.run('examples/tdma.toml')).text)
+
+    run       runs a scenario: a `Run` with `report` and `scenario`        Limits    what a run may use
+    expect    which sentences hold of a run: a list of `Kept`              Fault     what can go wrong, in words
+    compare   where two runs diverge: a `Comparison`                       Plan      scenarios by rule
+    Scenario  motes, places, who hears whom, losses                        Report    traces and the log of the medium
+
+The packages below are for the commands in tools/: report, scenario, runner, judge, summary, comparison, timeline,
+export, explain, plan, experiments, studio. docs/use/TOOLS.md shows scripts.
 """
 import sys
+from typing import TYPE_CHECKING
 
 if sys.version_info < (3, 11):
     sys.stderr.write('motesim: the tools take Python 3.11 or newer, and this is %d.%d\n' % sys.version_info[:2])
     sys.exit(2)
+
+if TYPE_CHECKING:
+    from motesim.api import Comparison, Fault, Kept, Limits, Plan, Report, Run, Scenario, compare, expect, run
+
+__all__ = ['Comparison', 'Fault', 'Kept', 'Limits', 'Plan', 'Report', 'Run', 'Scenario', 'compare', 'expect', 'run']
+
+
+def __getattr__(name: str) -> object:
+    # (most commands need only a part of this, and are to start at once)
+    if name not in __all__:
+        raise AttributeError('module %r has no attribute %r' % (__name__, name))
+    from motesim import api
+    return getattr(api, name)
+
+
+def __dir__() -> list[str]:
+    return sorted({*globals(), *__all__})

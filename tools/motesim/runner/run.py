@@ -78,7 +78,8 @@ def is_scenario(path: str | Path, data: bytes) -> bool:
     return not is_report(data) and (str(path).endswith('.toml') or OF_SCENARIO.match(data) is not None)
 
 
-def read_run(path: str | Path, scenario: str | Path | None = None) -> Run:
+def read_run(path: str | Path, scenario: str | Path | None = None, limits: Limits = Limits(),
+             program: Path | None = None) -> Run:
     """A report from a file, with the scenario from another where it is named.
 
     A scenario is run: a text that begins as one, or else a file NAME.toml. The name `-` is standard input.
@@ -96,7 +97,7 @@ def read_run(path: str | Path, scenario: str | Path | None = None) -> Run:
     try:
         if is_run:
             found = Scenario.parse(data)
-            return Run(str(path), Report.parse(run_program(data)), found)
+            return Run(str(path), Report.parse(Runner(program, limits).report(data)), found)
         report = Report.parse(data)
         if scenario is not None:
             at = scenario

@@ -1,0 +1,92 @@
+"""The public calls: `import motesim` has them all. docs/use/TOOLS.md shows them at work."""
+from __future__ import annotations
+
+from collections.abc import Mapping, Sequence
+from dataclasses import dataclass
+from pathlib import Path
+
+from motesim.comparison.reports import compared
+from motesim.faults import Fault
+from motesim.judge.expectations import read_all
+from motesim.judge.judge import Judge
+from motesim.judge.sentences import names_of
+from motesim.plan.plan import Plan
+from motesim.plan.tables import Value
+from motesim.report import Report
+from motesim.runner import Limits, Runner
+from motesim.runner.run import Run, read_run
+from motesim.scenario import Scenario
+
+__all__ = ['Comparison', 'Fault', 'Kept', 'Limits', 'Plan', 'Report', 'Run', 'Scenario', 'compare', 'expect', 'run']
+
+MOST_ROWS = 20
+
+
+@dataclass(frozen=True)
+class Kept:
+    """A sentence, and whether a run shows what it says.
+
+    sentence  as it was given
+    holds     whether the run shows it
+    why       what breaks it, in words; empty if it holds
+    row       the line of the report that shows it first, counted from 1, or None
+    """
+    sentence: str
+    holds: bool
+    why: str = ''
+    row: int | None = None
+
+    def __bool__(self) -> bool:
+        return self.holds
+
+
+@dataclass(frozen=True)
+class Comparison:
+    """Two runs beside one another.
+
+    same    whether their reports are the same
+    at      the first moment at which the traces or the logs of the medium diverge, or None
+    text    what tools/compare prints
+    """
+    same: bool
+    at: int | None
+    text: str
+
+
+def run(scenario: str | Path | bytes | Plan, parameters: Mapping[str, Value] | None = None, *,
+        limits: Limits = Limits(), program: Path | None = None) -> Run:
+    """Runs a scenario: a file by its name, a text in bytes, or what a plan makes with these parameters.
+
+    Returns a `Run` with `report` and `scenario`. Raises a `Fault`, whose text can be shown, if the scenario is refused,
+    if a limit is met, or if there is no program. A file that holds a report is read and isn't run; then `scenario` is
+    None.
+    """
+    if isinstance(scenario, Plan):
+        name, data = 'plan', scenario.scenario(dict(parameters or {})).encode()
+    elif parameters is not None:
+        raise Fault('parameters are for plans: read one by motesim.Plan.read')
+    elif isinstance(scenario, bytes):
+        name, data = 'scenario', scenario
+    else:
+        return read_run(scenario, limits=limits, program=program)
+    found = Scenario.parse(data)
+    return Run(name, Report.parse(Runner(program, limits).report(data)), found)
+
+
+def expect(found: Run, sentences: Sequence[str] | str) -> list[Kept]:
+    """Which sentences hold of a run: docs/use/EXPECTATIONS.md has their forms.
+
+    Raises a `Fault` for a sentence that can't be read, and for a run whose scenario isn't known.
+    """
+    if found.scenario is None:
+        raise Fault('expect needs the scenario of the run: run the scenario, or read the report together with it')
+    texts = [sentences] if isinstance(sentences, str) else list(sentences)
+    judge = Judge(found.report, found.scenario)
+    broken = [judge.broken(it) for it in read_all(texts, names_of(found.scenario))]
+    return [Kept(text, it is None, it.why if it else '', it.row if it else None) for text, it in zip(texts, broken)]
+
+
+def compare(one: Run, other: Run) -> Comparison:
+    """Whether two runs have the same report, and else where they diverge first."""
+    lines, first, is_same = compared(one, other, MOST_ROWS)
+    return Comparison(is_same, first.at if first else None, '\n'.join(lines))

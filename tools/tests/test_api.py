@@ -1,0 +1,131 @@
+"""The public calls, from a clone and as an installed package."""
+import os
+import subprocess
+import sys
+import tempfile
+import unittest
+from pathlib import Path
+from unittest import mock
+
+from here import TOOLS, TOP
+import motesim
+from stub import write_stub
+
+SCENARIO = '''version = 2
+end = 100
+[medium]
+range = 10
+base = 2
+per = 100
+collide = false
+[programs]
+p = "process a; autostart a; code a { body { print 7; } }"
+''' + ''.join('[[mote]]\nx = %d\ny = 0\nprogram = "p"\n' % (10 * number) for number in range(3))
+PLAN = '''end = 160
+[medium]
+range = 10
+base = 2
+per = 100
+[parameters]
+first = 4
+[places]
+rule = "line"
+count = 2
+step = 10
+program = "a.mote"
+'''
+MOTE = 'process a;\nautostart a;\ncode a { body { print ${first}; } }\n'
+
+
+class Calls(unittest.TestCase):
+    def setUp(self):
+        room = tempfile.TemporaryDirectory()
+        self.addCleanup(room.cleanup)
+        self.room = Path(room.name)
+        # (mote n of the stand-in prints P at moment P * (n + 1))
+        patch = mock.patch.dict(os.environ, MOTESIM=str(write_stub(self.room)))
+        patch.start()
+        self.addCleanup(patch.stop)
+
+    def test_a_text_is_run(self):
+        run = motesim.run(SCENARIO.encode())
+        self.assertEqual([str(mote.lines[-1]) for mote in run.report.motes], ['7 print a 7', '14 print a 7', '21 print a 7'])
+        self.assertEqual(run.scenario.motes, 3)
+
+    def test_a_file_is_run(self):
+        path = self.room / 'net.toml'
+        path.write_text(SCENARIO)
+        self.assertEqual(motesim.run(path).report.text(), motesim.run(str(path)).report.text())
+
+    def test_a_plan_is_run_with_its_parameters(self):
+        (self.room / 'net.plan.toml').write_text(PLAN)
+        (self.room / 'a.mote').write_text(MOTE)
+        plan = motesim.Plan.read(self.room / 'net.plan.toml')
+        self.assertEqual(str(motesim.run(plan).report.motes[1].lines[-1]), '8 print a 4')
+        self.assertEqual(str(motesim.run(plan, {'first': 5}).report.motes[1].lines[-1]), '10 print a 5')
+        with self.assertRaisesRegex(motesim.Fault, 'parameters are for plans'):
+            motesim.run(SCENARIO.encode(), {'first': 5})
+
+    def test_sentences_are_judged(self):
+        run = motesim.run(SCENARIO.encode())
+        kept = motesim.expect(run, ['mote 1 prints a 7 by 14', 'mote 2 prints a 7 by 20'])
+        self.assertEqual([(it.holds, bool(it), it.row) for it in kept], [(True, True, None), (False, False, 18)])
+        self.assertIn('wanted: ', kept[1].why)
+        self.assertTrue(motesim.expect(run, 'no mote halts')[0])
+        with self.assertRaisesRegex(motesim.Fault, 'sentence 1 is not known'):
+            motesim.expect(run, 'mote 1 sings')
+        with self.assertRaisesRegex(motesim.Fault, 'needs the scenario'):
+            motesim.expect(run._replace(scenario=None), 'no mote halts')
+
+    def test_runs_are_compared(self):
+        one, other = (motesim.run(SCENARIO.replace('print 7', 'print %d' % n).encode()) for n in (7, 5))
+        self.assertEqual((motesim.compare(one, one).same, motesim.compare(one, one).at), (True, None))
+        found = motesim.compare(one, other)
+        self.assertEqual((found.same, found.at), (False, 5))
+        self.assertIn('The reports differ.', found.text)
+
+    def test_limits_and_faults(self):
+        with self.assertRaisesRegex(motesim.Fault, 'no answer in 0.2 seconds'):
+            motesim.run(SCENARIO.replace('{ body', '{ // wait\\nbody').encode(), limits=motesim.Limits(0.2))
+        with self.assertRaisesRegex(motesim.Fault, 'no TOML'):
+            motesim.run(b'[')
+        with self.assertRaises(AttributeError):
+            motesim.nothing
+
+    def test_nothing_is_imported_before_it_is_asked_for(self):
+        source = 'import sys; sys.path.insert(0, %r); import motesim; print(len(sys.modules)); motesim.run' % str(TOOLS)
+        done = subprocess.run([sys.executable, '-B', '-S', '-c', source + '; print("motesim.judge.judge" in sys.modules)'],
+                              capture_output=True, text=True, check=True)
+        self.assertEqual(done.stdout.splitlines()[1], 'True')
+        self.assertLess(int(done.stdout.splitlines()[0]), 80)
+
+
+class Installed(unittest.TestCase):
+    def test_pip_installs_it_with_its_pages(self):
+        """The package is built and installed into a folder, and used from there; without a network."""
+        has = subprocess.run([sys.executable, '-c', 'import pip, setuptools, wheel'], capture_output=True)
+        if has.returncode:
+            self.skipTest('pip, setuptools and wheel are not installed')
+        with tempfile.TemporaryDirectory() as folder:
+            room = Path(folder)
+            source = room / 'source'
+            subprocess.run(['cp', '-r', str(TOOLS / 'motesim'), str(TOOLS / 'pyproject.toml'), str(room)], check=True)
+            source.mkdir()
+            for name in 'motesim', 'pyproject.toml':
+                (room / name).rename(source / name)
+            done = subprocess.run([sys.executable, '-m', 'pip', 'install', '--quiet', '--no-build-isolation', '--no-index',
+                                   '--no-deps', '--target', str(room / 'there'), str(source)], capture_output=True, text=True)
+            self.assertEqual(done.returncode, 0, done.stderr)
+            use = 'import motesim, motesim.timeline.html as html; print(motesim.__file__); html.page_of; ' \
+                  'print(len((html.PAGE / "page.html").read_text()) > 99)'
+            done = subprocess.run([sys.executable, '-B', '-c', use], cwd=room, env={**os.environ, 'PYTHONPATH': str(room / 'there')},
+                                  capture_output=True, text=True)
+            self.assertEqual(done.stdout.splitlines(), [str(room / 'there/motesim/__init__.py'), 'True'], done.stderr)
+            shipped = {it.relative_to(room / 'there') for it in (room / 'there/motesim').rglob('*') if it.is_file()}
+            here = {it.relative_to(TOOLS) for it in (TOOLS / 'motesim').rglob('*')
+                    if it.is_file() and it.suffix != '.pyc'}
+            self.assertEqual(sorted(map(str, here - shipped)), [])
+
+
+if __name__ == '__main__':
+    unittest.main()
