@@ -123,8 +123,7 @@ class Asker:
         if isinstance(it, Copies) and it.outcome in KINDS:
             return self.counted(self.of_copies(it), it.count, self.judge.spans(it.window, (0,))[0], 'such copies')
         if isinstance(it, Packets):
-            sends = [line for mote in range(self.traces.motes) for line in self.traces.matching(mote, rb'send .*')]
-            return self.counted(sorted(sends), it.count, self.judge.spans(it.window, (0,))[0], 'packets')
+            return self.counted(self.packets(), it.count, self.judge.spans(it.window, (0,))[0], 'packets')
         if isinstance(it, Copies) and it.outcome == 'lost':
             return self.counted(self.of_losses(it), it.count, self.judge.spans(it.window, (0,))[0], 'such copies')
         if isinstance(it, Hears):
@@ -134,6 +133,10 @@ class Asker:
     def of_copies(self, it: Copies) -> list[Found]:
         motes = range(self.traces.motes) if it.motes is None else sorted(it.motes)
         return sorted(line for mote in motes for line in self.traces.matching(mote, KINDS[it.outcome] + b' .*'))
+
+    def packets(self) -> list[Found]:
+        """The lines that send packets."""
+        return sorted(line for mote in range(self.traces.motes) for line in self.traces.matching(mote, rb'send .*'))
 
     def of_losses(self, it: Copies) -> list[Found]:
         """The lines that send what the medium loses, once for each copy."""

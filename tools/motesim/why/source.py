@@ -182,20 +182,34 @@ class Source:
         return self.replays[mote]
 
 
+def read_traces(path: str | Path, scenario: str | Path | None = None) -> tuple[bytes, Scenario | None]:
+    """The bytes of a report, and the scenario if it is known: a scenario, which is run; or a report."""
+    data = read_file(path)
+    if is_scenario(path, data):
+        if scenario is not None:
+            raise Fault('%s: it is a scenario itself, and takes no other' % path)
+        try:
+            return run_program(data), Scenario.parse(data)
+        except Fault as fault:
+            raise Fault('%s: %s' % (path, fault)) from None
+    if scenario is None:
+        return data, None
+    try:
+        return data, Scenario.parse(read_file(scenario))
+    except Fault as fault:
+        raise Fault('%s: %s' % (scenario, fault)) from None
+
+
 def read_source(path: str | Path, scenario: str | Path | None = None) -> Source:
     """A scenario, which is run; or a report, with its scenario."""
-    data = read_file(path)
+    data, found = read_traces(path, scenario)
+    if found is None:
+        raise Fault("%s: a report doesn't have the programs, which its causes follow from: name its scenario, by "
+                    "--scenario FILE" % path)
     try:
-        if is_scenario(path, data):
-            if scenario is not None:
-                raise Fault('it is a scenario itself, and takes no other')
-            return Source(str(path), run_program(data), Scenario.parse(data))
-        if scenario is None:
-            raise Fault("a report doesn't have the programs, which its causes follow from: name its scenario, by "
-                        "--scenario FILE")
-        source = Source(str(path), data, Scenario.parse(read_file(scenario)))
-        check_motes(source.traces.bare, source.scenario)
+        source = Source(str(path), data, found)
+        if scenario is not None:
+            check_motes(source.traces.bare, found)
         return source
     except Fault as fault:
-        fault.args = ('%s: %s' % (path, fault),)
-        raise
+        raise Fault('%s: %s' % (path, fault)) from None

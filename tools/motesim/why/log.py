@@ -1,0 +1,291 @@
+"""Shows the lines of all motes in one chronological log: docs/use/WHY.md."""
+from __future__ import annotations
+
+import json
+import re
+import sys
+from array import array
+from collections import Counter
+from collections.abc import Iterator, Sequence
+from typing import NamedTuple
+
+from motesim.faults import Fault, command
+from motesim.judge.judge import Span
+from motesim.judge.sentences import Copies, Does, Packets
+from motesim.report import FIELDS, MOST_MOMENT
+from motesim.why.question import Asker, within
+from motesim.why.source import At, Source, Traces, read_traces
+from motesim.words import words_of
+
+ABOUT = '''Shows the lines of all motes in one chronological log.
+
+A line shows the moment, the mote, the line of the report, and what happened. SENTENCE, as "motes 3 to 7 print flood 2",
+leaves the lines that it is about; without one, all lines are shown that the options leave.'''
+# How many bytes are written at a time.
+PIECE = 1 << 20
+
+
+class Filter(NamedTuple):
+    """Which lines are left."""
+    motes: frozenset[int] | None
+    kinds: tuple[str, ...]
+    process: str | None
+    value: int | None
+    span: Span
+
+
+class Log:
+    """Lines of traces. `all` is how many lines there are without a filter, and `kinds` counts those that are left.
+
+    The columns have the moment, the line of the report, the mote, and where the words after the moment begin and end.
+    """
+
+    def __init__(self, traces: Traces):
+        self.traces, self.text = traces, traces.data.decode('ascii', 'replace')
+        self.moments, self.rows, self.owners = array('I'), array('I'), array('H')
+        self.begins, self.ends = array('Q'), array('Q')
+        self.kinds: dict[int, Counter[str]] = {}
+        self.all = 0
+
+    def add(self, at: int, row: int, mote: int, begin: int, end: int) -> None:
+        self.moments.append(at)
+        self.rows.append(row)
+        self.owners.append(mote)
+        self.begins.append(begin)
+        self.ends.append(end)
+
+    @property
+    def order(self) -> array[int]:
+        """The places of the lines by moment: they were added mote after mote, and each mote's in order."""
+        starts = array('I', bytes(4 * (max(self.moments, default=0) + 2)))
+        for at in self.moments:
+            starts[at + 1] += 1
+        for at in range(1, len(starts)):
+            starts[at] += starts[at - 1]
+        order = array('I', bytes(4 * len(self.moments)))
+        for place, at in enumerate(self.moments):
+            order[starts[at]] = place
+            starts[at] += 1
+        return order
+
+    def words(self, place: int) -> str:
+        """What follows the moment in a line."""
+        return self.text[self.begins[place]:self.ends[place]]
+
+    def __len__(self) -> int:
+        return len(self.moments)
+
+
+def pattern_of(it: Filter) -> str:
+    """The lines of these kinds, with this process and this value, behind the moment."""
+    forms = []
+    for kind in it.kinds:
+        fields = FIELDS[kind].split()
+        if (it.process is not None and 'process' not in fields) or (
+                it.value is not None and fields[-1:] not in (['value'], ['word'])):
+            continue
+        words = [kind]
+        for field in fields:
+            if field == 'process' and it.process is not None:
+                words.append(re.escape(it.process))
+            elif field == fields[-1] and it.value is not None:
+                words.append(str(it.value))
+            else:
+                words.append(r'[^ \n]+')
+        forms.append(' '.join(words))
+    return '(?:%s)' % '|'.join(forms) if forms else '(?!)'
+
+
+def is_everything(it: Filter) -> bool:
+    return len(it.kinds) == len(FIELDS) and it.process is None and it.value is None
+
+
+def filtered(traces: Traces, it: Filter) -> Log:
+    """The lines that a filter leaves."""
+    log, is_all = Log(traces), is_everything(it)
+    rest = r'([a-z]+).*$' if is_all else r'(?=([a-z]+))%s$' % pattern_of(it)
+    regex = re.compile(r'^(\d+) ' + rest, re.M)
+    first, last = it.span[0], MOST_MOMENT if it.span[1] is None else it.span[1]
+    text = log.text
+    for mote in range(traces.motes):
+        begin, end = traces.begins[mote], traces.ends[mote]
+        log.all += text.count('\n', begin, end)
+        if it.motes is not None and mote not in it.motes:
+            continue
+        row, counted = traces.head_rows[mote], begin - 1
+        kinds: list[str] = []
+        for found in regex.finditer(text, begin, end):
+            here, stop = found.span()
+            # (of all lines each is one further)
+            row += 1 if is_all else text.count('\n', counted, here)
+            counted = here
+            at = found[1]
+            moment = int(at)
+            if first <= moment <= last:
+                kinds.append(found[2])
+                log.add(moment, row, mote, here + len(at) + 1, stop)
+        log.kinds[mote] = Counter(kinds)
+    return log
+
+
+def of_sentence(source: Source, sentence: str, it: Filter) -> Log:
+    """The lines that a sentence is about, of those that a filter leaves."""
+    asker, asked = Asker(source), None
+    asked = asker.read(sentence)
+    if isinstance(asked, Does):
+        lines = []
+        for mote in asker.judge.chosen(asked.motes):
+            spans = asker.judge.spans(asked.window, (mote,))
+            own = asker.lines(asked, (mote,))
+            lines += [line for line in own if any(within([line], span) for span in spans)]
+    elif isinstance(asked, Copies) and asked.outcome != 'left':
+        lines = asker.of_losses(asked) if asked.outcome == 'lost' else asker.of_copies(asked)
+        lines = within(lines, asker.judge.spans(asked.window, (0,))[0])
+    elif isinstance(asked, Packets):
+        lines = within(asker.packets(), asker.judge.spans(asked.window, (0,))[0])
+    else:
+        raise Fault('this sentence is about no lines of a trace: %s' % sentence)
+    kept = filtered(source.traces, it)
+    wanted = {(line.where.mote, source.traces.row(line.where)) for line in lines}
+    log = Log(source.traces)
+    log.all = kept.all
+    for place, where in enumerate(zip(kept.owners, kept.rows)):
+        if where in wanted:
+            log.add(kept.moments[place], where[1], where[0], kept.begins[place], kept.ends[place])
+            log.kinds.setdefault(where[0], Counter())[kept.words(place).partition(' ')[0]] += 1
+    return log
+
+
+def total_of(log: Log) -> Counter[str]:
+    """How many lines there are of each kind."""
+    total: Counter[str] = Counter()
+    for its in log.kinds.values():
+        total.update(its)
+    return total
+
+
+def sums(log: Log) -> str:
+    """One line with the counts."""
+    total = total_of(log)
+    shown = ', '.join('%s %d' % (kind, total[kind]) for kind in FIELDS if total[kind])
+    return '%d of %d lines%s' % (len(log), log.all, ': ' + shown if shown else '')
+
+
+def table(log: Log) -> Iterator[str]:
+    """The counts by mote, with the net in the last row."""
+    total, of_mote = total_of(log), {mote: its for mote, its in log.kinds.items() if its}
+    kinds = [kind for kind in FIELDS if total[kind]]
+    texts = [['mote', 'lines', *kinds]]
+    for mote in sorted(of_mote):
+        its = of_mote[mote]
+        texts.append([str(mote), str(sum(its.values())), *(str(its[kind]) for kind in kinds)])
+    texts.append(['net', str(len(log)), *(str(total[kind]) for kind in kinds)])
+    widths = [max(map(len, column)) for column in zip(*texts)]
+    for row in texts:
+        yield ' '.join(text.rjust(width) for text, width in zip(row, widths))
+
+
+def shown(log: Log, order: Sequence[int], form: str) -> Iterator[str]:
+    """The lines of a log as text, for a spreadsheet, or for programs."""
+    moments, rows, owners = log.moments, log.rows, log.owners
+    if form == 'csv':
+        yield 'moment,mote,line,what\n'
+        for place in order:
+            yield '%d,%d,%d,%s\n' % (moments[place], owners[place], rows[place], log.words(place))
+        return
+    if form == 'json':
+        for place in order:
+            yield json.dumps({'at': moments[place], 'mote': owners[place], 'line': rows[place],
+                              'words': log.words(place)}) + '\n'
+        return
+    width = [max(6, len(str(max(moments, default=0)))), max(4, len(str(max(owners, default=0)))),
+             max(4, len(str(max(rows, default=0))))]
+    yield '%s %s %s\n' % ('moment'.rjust(width[0]), 'mote'.rjust(width[1]), 'line'.rjust(width[2]))
+    text, begins, ends = log.text, log.begins, log.ends
+    of_moment = {at: '%*d ' % (width[0], at) for at in set(moments)}
+    of_mote = {mote: '%*d ' % (width[1], mote) for mote in set(owners)}
+    of_row = '%%%dd  ' % width[2]
+    for place in order:
+        yield ''.join((of_moment[moments[place]], of_mote[owners[place]], of_row % rows[place],
+                       text[begins[place]:ends[place]], '\n'))
+
+
+def write(lines: Iterator[str]) -> None:
+    """Writes lines to standard output, many at a time."""
+    piece: list[str] = []
+    size = 0
+    for line in lines:
+        piece.append(line)
+        size += len(line)
+        if size > PIECE:
+            sys.stdout.write(''.join(piece))
+            piece, size = [], 0
+    sys.stdout.write(''.join(piece))
+
+
+def numbers_of(text: str, most: int, what: str) -> frozenset[int]:
+    """The numbers of a list as 3,5-7."""
+    found: set[int] = set()
+    for part in text.split(','):
+        it = re.fullmatch(r'(\d{1,9})(?:-(\d{1,9}))?', part.strip())
+        if not it or int(it[1]) > int(it[2] or it[1]) or int(it[2] or it[1]) > most:
+            raise Fault("%s: '%s' is not a list of numbers from 0 to %d, as 3 or 3,5-7" % (what, text, most))
+        found.update(range(int(it[1]), int(it[2] or it[1]) + 1))
+    return frozenset(found)
+
+
+def kinds_of(text: str | None) -> tuple[str, ...]:
+    if text is None:
+        return tuple(FIELDS)
+    kinds = tuple(it.strip() for it in text.split(','))
+    for kind in kinds:
+        if kind not in FIELDS:
+            raise Fault("--kind: there are no lines '%s'; the kinds are %s" % (kind, ', '.join(FIELDS)))
+    return kinds
+
+
+@command('log')
+def main() -> int:
+    words = words_of(ABOUT, 'log')
+    words.add_argument('file', metavar='FILE', help='a scenario, or a report; - is standard input')
+    words.add_argument('sentence', metavar='SENTENCE', nargs='?', help='leaves the lines that this sentence is about')
+    words.add_argument('--scenario', metavar='FILE', help="the report's scenario, if there is a sentence")
+    words.add_argument('--mote', metavar='LIST', help='leaves the lines of these motes, as 3,5-7')
+    words.add_argument('--kind', metavar='LIST', help='leaves the lines of these kinds, as send,recv')
+    words.add_argument('--process', metavar='NAME', help='leaves the lines that name this process')
+    words.add_argument('--value', metavar='N', type=int, help='leaves the lines with this value or word')
+    words.add_argument('--from', dest='first', metavar='MOMENT', type=int, default=0, help='leaves out what is earlier')
+    words.add_argument('--to', dest='last', metavar='MOMENT', type=int, help='leaves out what is later')
+    words.add_argument('--last-lines', metavar='N', type=int, help='shows only the last N lines')
+    words.add_argument('--first-lines', metavar='N', type=int, help='shows only the first N lines')
+    form = words.add_mutually_exclusive_group()
+    form.add_argument('--counts', action='store_true', help='shows how many lines there are, by mote and kind')
+    form.add_argument('--csv', action='store_true', help='for a spreadsheet')
+    form.add_argument('--json', action='store_true', help='for programs: an object for each line')
+    asked = words.parse_args()
+    kinds = kinds_of(asked.kind)
+    data, scenario = read_traces(asked.file, asked.scenario)
+    traces = Traces(data)
+    motes = numbers_of(asked.mote, traces.motes - 1, '--mote') if asked.mote is not None else None
+    wanted = Filter(motes, kinds, asked.process, asked.value, (asked.first, asked.last))
+    if asked.sentence is not None:
+        if scenario is None:
+            raise Fault('a sentence needs the scenario of the report: --scenario FILE')
+        log = of_sentence(Source(asked.file, data, scenario), asked.sentence, wanted)
+    else:
+        log = filtered(traces, wanted)
+    if asked.counts:
+        print('\n'.join(table(log)))
+        return 0
+    order: Sequence[int] = log.order
+    if asked.first_lines is not None:
+        order = order[:max(0, asked.first_lines)]
+    if asked.last_lines is not None:
+        order = order[len(order) - min(len(order), max(0, asked.last_lines)):]
+    write(shown(log, order, 'csv' if asked.csv else 'json' if asked.json else 'text'))
+    if not (asked.csv or asked.json):
+        print(sums(log))
+    return 0
+
+
+__all__ = ['At', 'Filter', 'Log', 'filtered', 'main', 'of_sentence', 'sums']

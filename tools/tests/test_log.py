@@ -1,0 +1,117 @@
+"""The chronological log. What is expected comes from the report's lines, put in order by Python's own sort."""
+import csv
+import io
+import json
+import subprocess
+import sys
+import unittest
+
+from here import TOOLS, TOP
+import skips
+from motesim.faults import Fault
+from motesim.report import FIELDS, Line, Report
+from motesim.runner.run import answer
+from motesim.scenario import Scenario
+from motesim.why.log import Filter, Log, filtered, kinds_of, numbers_of, of_sentence, sums
+from motesim.why.source import Source, Traces
+
+# Both motes write lines at moment 2; the program of mote 0 has a process that is called `take`.
+REPORT = '''mote 0 p
+0 start take
+2 post 0 take msg 7
+2 take 0 take
+2 print take 3
+5 send 0 3
+mote 1 q
+1 start b
+2 print b 7
+2 full b com 3
+9 recv 0 0 3
+medium
+5 0 0 3 1@9
+left 0
+'''
+ALL = Filter(None, tuple(FIELDS), None, None, (0, None))
+
+
+def lines(log: Log) -> list[tuple[int, int, int, str]]:
+    return [(log.moments[it], log.owners[it], log.rows[it], log.words(it)) for it in log.order]
+
+
+class Logs(unittest.TestCase):
+    def of(self, **changes: object) -> list[int]:
+        """The lines of the report that a filter leaves, in the order of the log."""
+        return [it[2] for it in lines(filtered(Traces(REPORT.encode()), ALL._replace(**changes)))]
+
+    def test_the_order_is_by_moment_then_by_mote(self) -> None:
+        self.assertEqual(lines(filtered(Traces(REPORT.encode()), ALL)), [
+            (0, 0, 2, 'start take'), (1, 1, 8, 'start b'), (2, 0, 3, 'post 0 take msg 7'), (2, 0, 4, 'take 0 take'),
+            (2, 0, 5, 'print take 3'), (2, 1, 9, 'print b 7'), (2, 1, 10, 'full b com 3'), (5, 0, 6, 'send 0 3'),
+            (9, 1, 11, 'recv 0 0 3')])
+
+    def test_filters(self) -> None:
+        self.assertEqual(self.of(motes=frozenset([1])), [8, 9, 10, 11])
+        self.assertEqual(self.of(kinds=('print', 'send')), [5, 9, 6])
+        self.assertEqual(self.of(kinds=('take',)), [4])
+        self.assertEqual(self.of(process='take'), [2, 3, 4, 5])
+        self.assertEqual(self.of(value=3), [5, 10, 6, 11])
+        self.assertEqual(self.of(value=3, process='b'), [10])
+        self.assertEqual(self.of(span=(1, 2)), [8, 3, 4, 5, 9, 10])
+        self.assertEqual(self.of(kinds=('halt',)), [])
+
+    def test_counts(self) -> None:
+        self.assertEqual(sums(filtered(Traces(REPORT.encode()), ALL)),
+                         '9 of 9 lines: start 2, post 1, full 1, take 1, print 2, send 1, recv 1')
+        self.assertEqual(sums(filtered(Traces(REPORT.encode()), ALL._replace(value=9))), '0 of 9 lines')
+
+    def test_lists(self) -> None:
+        self.assertEqual(numbers_of('3,5-7', 9, '--mote'), {3, 5, 6, 7})
+        for text in '', 'a', '7-5', '3,', '10':
+            with self.assertRaisesRegex(Fault, 'is not a list of numbers from 0 to 9'):
+                numbers_of(text, 9, '--mote')
+        with self.assertRaisesRegex(Fault, "there are no lines 'sends'"):
+            kinds_of('sends')
+
+
+class Runs(unittest.TestCase):
+    def setUp(self) -> None:
+        skips.need_program(self)
+
+    def test_an_example_in_order(self) -> None:
+        data = (TOP / 'examples/trickle.toml').read_bytes()
+        report = answer(data).report
+        parsed = Report.parse(report)
+        wanted: list[tuple[int, int, int, Line]] = []
+        for mote in parsed.motes:
+            wanted += [(line.at, mote.number, row, line) for row, line in enumerate(mote.lines, mote.row + 1)]
+        wanted.sort(key=lambda it: it[0])
+        self.assertEqual(lines(filtered(Traces(report), ALL)),
+                         [(at, mote, row, str(line).partition(' ')[2]) for at, mote, row, line in wanted])
+
+    def test_sentences(self) -> None:
+        """Message 2 of flooding reaches motes 3 to 7 at 80 plus 3 for each hop, but for the loss from 0 to 1."""
+        data = (TOP / 'examples/flooding.toml').read_bytes()
+        source = Source('flooding', answer(data).report, Scenario.parse(data))
+        log = of_sentence(source, 'motes 3 to 7 print flood 2 by 90', ALL)
+        self.assertEqual([it[:2] for it in lines(log)], [(83, 5), (86, 6), (89, 7)])
+        log = of_sentence(source, 'exactly 1 copy is lost at mote 1', ALL)
+        self.assertEqual([it[:2] for it in lines(log)], [(80, 0)])
+
+    def log(self, *arguments: str) -> str:
+        return subprocess.run([sys.executable, str(TOOLS / 'log'), 'examples/flooding.toml', *arguments],
+                              capture_output=True, text=True, cwd=TOP, check=True).stdout
+
+    def test_the_command(self) -> None:
+        shown = self.log('--kind', 'send', '--mote', '0').split('\n')
+        self.assertEqual(shown[1:5], ['    40    0    8  send 0 1', '    80    0   17  send 1 2',
+                                      '   120    0   26  send 2 3', '3 of 970 lines: send 3'])
+        rows = list(csv.DictReader(io.StringIO(self.log('--kind', 'send', '--mote', '0', '--csv'))))
+        self.assertEqual([it['moment'] for it in rows], ['40', '80', '120'])
+        objects = [json.loads(it) for it in self.log('--kind', 'send', '--mote', '0', '--json').splitlines()]
+        self.assertEqual(objects[0], {'at': 40, 'mote': 0, 'line': 8, 'words': 'send 0 1'})
+        self.assertEqual(self.log('--kind', 'send', '--first-lines', '1').count('send 0 1'), 1)
+        self.assertIn('net    75   75', self.log('--kind', 'send', '--counts'))
+
+
+if __name__ == '__main__':
+    unittest.main()
