@@ -1,0 +1,40 @@
+"""The comment at the beginning of a C file: what it is, and what differs from Contiki for what the program uses."""
+from __future__ import annotations
+
+from motesim.contiki.layout import comment_lines
+from motesim.contiki.tree import Program
+from motesim.contiki.use import Use
+
+TIMERS = frozenset({'set', 'reset', 'restart_timer', 'stop', 'fired', 'expired'})
+# What differs, and for which words of the notation.
+DIFFERENCES: tuple[tuple[frozenset[str], str], ...] = (
+    (frozenset({'kill', 'start', 'exit'}),
+     'motesim lets a process that is in the midst of a call be neither started nor killed (`busy`); Contiki does it.'),
+    (frozenset({'broadcast', 'kill', 'start', 'exit', 'gone', 'poll'}),
+     'A broadcast, PROCESS_EVENT_EXITED and the polls reach exactly the processes that were on the list when they '
+     'began, and have not left since; Contiki follows the list as it changes.'),
+    (frozenset({'set', 'reset', 'restart_timer'}),
+     'After an event timer has expired, motesim looks for the next one from the front of its list, and it goes on '
+     'behind a timer that meets a full queue; Contiki tries that timer again first.'),
+    (frozenset({'data', 'fired'}),
+     'The data of PROCESS_EVENT_TIMER and PROCESS_EVENT_EXITED are pointers in Contiki, numbers in the notation: '
+     'compare them with the timer or process, as here.'),
+    (frozenset({'/', '%'}), 'A division by 0 gives 0 here, by motesim_divide and motesim_modulo.'),
+    (frozenset({'count', 'signal', 'acquire'}),
+     'The count of a semaphore has 16 bits in motesim, those of an unsigned int in Contiki.'),
+    (frozenset({'now'}), 'A moment is a tick of clock_time(), of which a second has CLOCK_SECOND.'),
+    (frozenset({'send', 'from', 'self'}),
+     'Motes are numbered from 0; motesim_radio.c makes numbers of Rime addresses. Nothing is lost or delayed by '
+     'rule on a real radio.'),
+    (frozenset({'start'}), 'Static variables keep their values when a process is started again, as in Contiki.'),
+)
+
+
+def header(name: str, program: Program, used: Use) -> list[str]:
+    """The comment at the beginning of a program's file."""
+    lines = ['The mote program %s, written by tools/export for Contiki 2.x. Compiling it against a real Contiki tree '
+             'has not been tested.' % name, '', 'Where motesim (docs/use/KERNEL.md) and Contiki differ for this program:']
+    words = set(used.words)
+    said = [text for where, text in DIFFERENCES if where & words]
+    lines += ['- ' + it for it in said] or ['- nothing is known to differ.']
+    return comment_lines(lines, '')

@@ -1,0 +1,123 @@
+"""Writes a scenario as a folder of C files for a Contiki 2.x tree, and for the host."""
+from __future__ import annotations
+
+from collections.abc import Iterator
+from pathlib import Path
+
+from motesim.contiki.host import QUEUE, net_tables, program_tables
+from motesim.contiki.names import file_name
+from motesim.contiki.program_file import ProgramFile
+from motesim.contiki.reader import read_program
+from motesim.faults import Fault
+from motesim.scenario import Scenario
+from motesim.scenario.faults import find_fault
+
+HERE = Path(__file__).resolve().parent
+HOST = HERE.parent.parent / 'contiki_host'
+HOST_FOLDER = 'contiki_host'
+HOST_RULE = '''
+# The same programs on this machine: `make host && ./host` writes the report of the scenario.
+HOSTCC ?= cc
+HOSTFLAGS ?= -O2
+
+.PHONY: host
+host:
+	$(HOSTCC) -std=c99 -Wall -Wextra -Werror $(HOSTFLAGS) -I. -Icontiki_host -o host contiki_host/*.c
+'''
+HOST_PAGE = '''
+## On this machine
+
+```sh
+make host && ./host
+```
+
+runs the very same files in a small simulator, `contiki_host`, and writes the report that motesim writes. Each statement
+has a line `WORK();` for it, which is empty on Contiki.
+'''
+
+
+def program_files(scenario: Scenario, counts_work: bool) -> dict[str, ProgramFile]:
+    """The C file of each program, by its name, in byte order of the names."""
+    return {name: ProgramFile(name, read_program(scenario.programs[name]), counts_work)
+            for name in sorted(scenario.programs)}
+
+
+def text_of(lines: list[str]) -> str:
+    return '\n'.join(lines) + '\n'
+
+
+def host_tables(scenario: Scenario, files: dict[str, ProgramFile]) -> Iterator[tuple[str, str]]:
+    """The names and texts of the tables for the host: those of the programs that motes run, and of the net."""
+    used = {it.program for it in scenario.places}
+    numbers = {name: number for number, name in enumerate(files) if name in used}
+    for name, number in numbers.items():
+        yield file_name(name) + '_host.c', text_of(program_tables(number, name, file_name(name), files[name].image))
+    yield 'net.c', text_of(net_tables(scenario, numbers))
+
+
+def folder_files(title: str, scenario: Scenario, with_host: bool) -> Iterator[tuple[str, str]]:
+    """The names and texts of all files of the folder."""
+    files = program_files(scenario, with_host)
+    for name, file in files.items():
+        yield file_name(name) + '.c', text_of(file.lines())
+    yield 'motesim_radio.h', (HOST / 'motesim_radio.h').read_text('utf-8')
+    yield 'motesim_radio.c', (HOST / 'rime/motesim_radio.c').read_text('utf-8')
+    yield 'Makefile', _makefile(scenario, list(files), with_host)
+    yield 'README.md', _page(title, scenario, list(files), with_host)
+    if with_host:
+        for path in sorted(HOST.glob('*.[ch]')):
+            if path.name != 'motesim_radio.h':
+                yield '%s/%s' % (HOST_FOLDER, path.name), path.read_text('utf-8')
+        for name, text in host_tables(scenario, files):
+            yield '%s/%s' % (HOST_FOLDER, name), text
+
+
+def _queues(scenario: Scenario) -> dict[str, int]:
+    """The lengths of event queues that aren't Contiki's own, by the files of the programs."""
+    return {file_name(name): length for name, length in sorted(scenario.queue.items()) if length != QUEUE}
+
+
+def _makefile(scenario: Scenario, programs: list[str], with_host: bool) -> str:
+    files = [file_name(it) for it in programs]
+    queues = ''.join('#\n# The event queue of %s has %d places: make DEFINES=PROCESS_CONF_NUMEVENTS=%d %s, after '
+                     'make clean.\n' % (name, length, length, name) for name, length in _queues(scenario).items())
+    text = (HERE / 'makefile.txt').read_text('utf-8').replace('{first}', files[0] if files else 'PROGRAM')
+    text = text.replace('{programs}', ' '.join(files)).replace('@queues@\n', queues + '\n')
+    return text.replace('@host@\n', HOST_RULE + '\n' if with_host else '\n')
+
+
+def _page(title: str, scenario: Scenario, programs: list[str], with_host: bool) -> str:
+    rows = ''.join('| `%s.c` | the program `%s` |\n' % (file_name(it), it) for it in programs)
+    queues = ''.join('- The event queue of `%s` has %d places. Build it by itself, after `make clean`, with '
+                     '`DEFINES=PROCESS_CONF_NUMEVENTS=%d`.\n' % (name, length, length)
+                     for name, length in _queues(scenario).items())
+    parts = {'{title}': title, '{files}': rows, '{first}': file_name(programs[0]) if programs else 'PROGRAM',
+             '{queues}': queues, '{host}': HOST_PAGE if with_host else '',
+             '{hostfiles}': '| `contiki_host/` | a simulator for this machine, with the tables of this scenario |\n'
+             if with_host else ''}
+    text = (HERE / 'readme.txt').read_text('utf-8')
+    for mark, part in parts.items():
+        text = text.replace(mark, part)
+    return text.rstrip('\n') + '\n'
+
+
+def write_folder(data: bytes, path: str, folder: Path, with_host: bool) -> list[Path]:
+    """Writes the folder of a scenario, which was read from a path, and returns its files."""
+    fault = find_fault(data)
+    if fault:
+        raise Fault('%s: %s (tools/explain %s says more)' % (path, fault.told, path))
+    scenario = Scenario.parse(data)
+    texts = list(folder_files(Path(path).stem, scenario, with_host))
+    return [_written(folder / name, text) for name, text in texts]
+
+
+def _written(path: Path, text: str) -> Path:
+    """Writes a file as a whole."""
+    beside = path.with_name(path.name + '.new')
+    try:
+        path.parent.mkdir(parents=True, exist_ok=True)
+        beside.write_text(text, 'utf-8')
+        beside.replace(path)
+    except OSError as fault:
+        raise Fault('%s: %s' % (fault.filename or path, fault.strerror)) from None
+    return path

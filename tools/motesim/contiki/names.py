@@ -1,0 +1,87 @@
+"""The names that the parts of a program have in C."""
+from __future__ import annotations
+
+from collections import Counter
+from functools import cache
+from pathlib import Path
+
+from motesim.contiki.tree import Program
+
+PREFIXES = ('autostart_', 'broadcast_', 'clock_', 'ctimer_', 'energest_', 'etimer_', 'host_', 'leds_', 'linkaddr_',
+            'list_', 'memb_', 'motesim_', 'packetbuf_', 'process_', 'pt_', 'rime_', 'rimeaddr_', 'rtimer_', 'serial_',
+            'stimer_', 'timer_', 'watchdog_')
+# Files that a Contiki tree has, whose names a program's file can't have: make finds sources by their names alone.
+FILES = frozenset('''aes all announcement arg assert autostart broadcast chameleon clean clock compower contiki
+contiki-main crc16 ctimer distclean energest etimer help host list login lpm main me memb mmem motesim motesim_radio
+mt multihop netflood netstack node-id nullmac nullrdc packetbuf packetqueue procinit process profile queuebuf radio
+random rime rimeaddr rimestats rtimer serial-line settings stimer subprocess timer timetable trickle uart upload usage
+watchdog xmem'''.split())
+
+
+@cache
+def reserved() -> frozenset[str]:
+    """The names that C, its library or Contiki has."""
+    lines = Path(__file__).with_name('reserved_names.txt').read_text('utf-8').splitlines()
+    return frozenset(' '.join(line for line in lines if not line.startswith('#')).split())
+
+
+def is_reserved(name: str) -> bool:
+    return name in reserved() or name.startswith(PREFIXES)
+
+
+def file_name(program: str) -> str:
+    """The name of a program's file, without its end."""
+    return program + '_program' if program.lower() in FILES or program.startswith('-') else program
+
+
+class Names:
+    """The C names of a program's parts, all different: those of a code are found by its process and name."""
+
+    def __init__(self, program: Program):
+        self._taken: set[str] = set()
+        self._globals: dict[str, str] = {}
+        self._locals: dict[tuple[str, str], str] = {}
+        self._derived: dict[tuple[str, str], str] = {}
+        for process in program.processes:
+            self._globals[process] = self._claim(process + '_process')
+        for declared in program.events:
+            self._globals[declared.name] = self._claim(declared.name, declared.name + '_event')
+        for declared in program.semaphores:
+            self._globals[declared.name] = self._claim(declared.name, declared.name + '_semaphore')
+        kinds = [(code.process, name, kind) for code in program.codes for kind, names in (
+            ('variable', [it.name for it in code.variables]), ('timer', [it.name for it in code.etimers]),
+            ('timer', [it.name for it in code.ctimers]), ('thread', [it.name for it in code.threads])) for name in names]
+        uses = Counter(name for _, name, _ in kinds)
+        for process, name, kind in kinds:
+            wished = [name, '%s_%s' % (name, kind)] if uses[name] == 1 else []
+            self._locals[process, name] = self._claim(*wished, '%s_%s' % (process, name))
+
+    def _claim(self, *wished: str) -> str:
+        """The first of these names that is free, or the last one with a number behind it."""
+        for name in wished:
+            if name not in self._taken and not is_reserved(name):
+                self._taken.add(name)
+                return name
+        number = 2
+        while '%s_%d' % (wished[-1], number) in self._taken:
+            number += 1
+        self._taken.add('%s_%d' % (wished[-1], number))
+        return '%s_%d' % (wished[-1], number)
+
+    def helper(self, wished: str) -> str:
+        """A name for a function or variable that the notation doesn't have."""
+        return self._claim(wished)
+
+    def derived(self, name: str, what: str) -> str:
+        """The name of what belongs to a C name, such as the callback of a timer."""
+        if (name, what) not in self._derived:
+            self._derived[name, what] = self._claim('%s_%s' % (name, what))
+        return self._derived[name, what]
+
+    def of(self, name: str) -> str:
+        """The C name of a process, an event or a semaphore."""
+        return self._globals[name]
+
+    def inside(self, process: str, name: str) -> str:
+        """The C name of a variable, a timer or a thread of a process."""
+        return self._locals[process, name]

@@ -1,0 +1,89 @@
+"""What a program uses of what it declares: C compilers warn of all else, so it is left out of the file."""
+from __future__ import annotations
+
+from dataclasses import dataclass, field
+
+from motesim.contiki.tree import Block, Code, Is, Part, Program, Test, Variable, Word, parts_of, statements_of
+
+SETS = frozenset({'set', 'reset', 'restart_timer'})
+
+
+@dataclass
+class Use:
+    """What is used: names of the program, and pairs of a process and a name of its code."""
+    names: set[str] = field(default_factory=set)
+    inside: set[tuple[str, str]] = field(default_factory=set)
+    # (the callback timers whose callbacks can run, and those that are reset or restarted)
+    called: set[tuple[str, str]] = field(default_factory=set)
+    again: set[tuple[str, str]] = field(default_factory=set)
+    # (the keywords of statements, and the words and tests of expressions)
+    words: set[str] = field(default_factory=set)
+
+
+def use_of(program: Program) -> Use:
+    """What the program uses."""
+    use = Use()
+    for code in program.codes:
+        _CodeUse(code, use).find()
+    return use
+
+
+class _CodeUse:
+    def __init__(self, code: Code, use: Use):
+        self.code = code
+        self.use = use
+        self.parts: dict[str, Part] = {it.name: it for it in [*code.threads, *code.ctimers]}
+        self.ctimers = {it.name for it in code.ctimers}
+        self.seen: set[str] = set()
+
+    def find(self) -> None:
+        """Goes through the blocks that can be run."""
+        for part in self.code.onpoll, self.code.onexit, self.code.body:
+            if part:
+                self.block(part.block)
+
+    def local(self, name: str) -> None:
+        self.use.inside.add((self.code.process, name))
+
+    def part(self, name: str) -> None:
+        """A thread or a callback that can be run."""
+        if name not in self.seen:
+            self.seen.add(name)
+            self.block(self.parts[name].block)
+
+    def block(self, block: Block) -> None:
+        for statement in statements_of(block):
+            kind, target = statement.kind, statement.target
+            self.use.words.add(kind)
+            if kind in SETS or kind == 'stop':
+                self.local(target)
+                if kind in SETS and target in self.ctimers:
+                    self.use.called.add((self.code.process, target))
+                    if kind != 'set':
+                        self.use.again.add((self.code.process, target))
+                    self.part(target)
+            elif kind == 'spawn':
+                self.local(target)
+                self.part(target)
+            elif kind == '=':
+                self.local(target)
+            elif target:
+                self.use.names.add(target)
+            if statement.event:
+                self.use.names.add(statement.event)
+            if statement.into:
+                self.local(statement.into)
+            for part in parts_of(statement.value):
+                if isinstance(part, Variable):
+                    self.local(part.name)
+                elif isinstance(part, Word):
+                    self.use.words.add(part.name)
+                elif isinstance(part, Is):
+                    self.use.names.add(part.event)
+                    self.use.words.add('is')
+                elif isinstance(part, Test):
+                    self.use.words.add(part.kind)
+                    if part.kind in ('fired', 'expired'):
+                        self.local(part.name)
+                    else:
+                        self.use.names.add(part.name)

@@ -1,0 +1,455 @@
+"""Programs as C files for Contiki: their text, their compilation, and what they do on the host."""
+from __future__ import annotations
+
+import random
+import re
+import shutil
+import subprocess
+import sys
+import tempfile
+import unittest
+from pathlib import Path
+
+from here import TOOLS, TOP
+from motesim.contiki.expressions import Expressions, calculated
+from motesim.contiki.folder import folder_files
+from motesim.contiki.names import Names
+from motesim.contiki.program_file import ProgramFile
+from motesim.contiki.reader import read_program
+from motesim.contiki.tree import Expression, Not, Number, Operation, Variable
+from motesim.faults import Fault
+from motesim.runner.programs import program_path
+from motesim.scenario import Scenario
+from skips import need_program
+
+STRICT = ['-std=c99', '-Wall', '-Wextra', '-Werror']
+OPERATORS = ['+', '-', '*', '/', '%', '==', '!=', '<', '<=', '>', '>=', '&&', '||']
+
+# One of each construct, and the C file that a Contiki programmer would write for it.
+PROGRAM = """// Blinks, and counts.
+event full;
+semaphore items = 2;
+process a, b;
+autostart b, a;
+receiver b;
+code a {
+  var n = 40000;                // how many
+  etimer t;
+  ctimer c { print data; }
+  thread rest {
+    yield_until is(full);
+    pause;
+  }
+  onpoll { signal items; }
+  onexit { print data; }
+  body {
+    set t (n / 2);
+    set c 5;
+    // wait for it
+    yield_until fired(t);
+    spawn rest;
+    if ((is(packet) && (data > n)) || !running(b)) {
+      n = (n + data);
+    } else {
+      post b full (n * n) into n;
+    }
+    acquire items;
+  }
+}
+code b {
+  body {
+    while 1 {
+      wait_while gone(a);
+      broadcast msg 0;
+      restart;
+    }
+  }
+}
+"""
+FILE = """#include "contiki.h"
+#include "motesim_radio.h"
+
+static process_event_t full;
+
+static struct pt_sem items;
+
+PROCESS(a_process, "a");
+PROCESS(b_process, "b");
+AUTOSTART_PROCESSES(&b_process, &a_process);
+
+/* Process a */
+static uint16_t n = 40000U;         /* how many */
+static struct etimer t;
+static struct ctimer c;
+static struct pt rest_pt;
+
+static void c_callback(void *ptr);
+RULE
+/* The word of an event; that of a timer or of an exited process is its number. */
+static uint16_t
+word_of(process_event_t ev, process_data_t data)
+{
+  if(ev == PROCESS_EVENT_TIMER) {
+    if(data == &t) {
+      return 0;
+    }
+  }
+  if(ev == PROCESS_EVENT_EXITED) {
+    if(data == &a_process) {
+      return 0;
+    }
+    if(data == &b_process) {
+      return 1;
+    }
+  }
+  return motesim_word(ev, data);
+}
+
+static uint8_t init_done;
+RULE
+/* Done once, by the process that starts first. */
+static void
+init_program(void)
+{
+  if(!init_done) {
+    init_done = 1;
+    full = process_alloc_event();
+    PT_SEM_INIT(&items, 2);
+    motesim_radio_open(&b_process);
+  }
+}
+RULE
+static
+PT_THREAD(rest(struct pt *pt, process_event_t ev))
+{
+  PT_BEGIN(pt);
+
+  PT_YIELD_UNTIL(pt, ev == full);
+  process_post(PROCESS_CURRENT(), PROCESS_EVENT_CONTINUE, NULL);
+  PT_YIELD_UNTIL(pt, ev == PROCESS_EVENT_CONTINUE);
+
+  PT_END(pt);
+}
+RULE
+static void
+c_callback(void *ptr)
+{
+  (void)ptr;
+  MOTESIM_PRINT(1);
+}
+RULE
+static void
+a_poll(void)
+{
+  PT_SEM_SIGNAL(NULL, &items);
+}
+RULE
+static void
+a_exit(process_data_t data)
+{
+  MOTESIM_PRINT((uint16_t)(uintptr_t)data);
+}
+RULE
+PROCESS_THREAD(a_process, ev, data)
+{
+  PROCESS_POLLHANDLER(a_poll());
+  PROCESS_EXITHANDLER(a_exit(data));
+  PROCESS_BEGIN();
+
+  etimer_set(&t, n / 2);
+  ctimer_set(&c, 5, c_callback, NULL);
+  /* wait for it */
+  PROCESS_YIELD_UNTIL(ev == PROCESS_EVENT_TIMER && data == &t);
+  PT_SPAWN(process_pt, &rest_pt, rest(&rest_pt, ev));
+  if((ev == MOTESIM_PACKET && motesim_word(ev, data) > n)
+     || !process_is_running(&b_process)) {
+    n = n + word_of(ev, data);
+  } else {
+    n = process_post(&b_process, full,
+                     (process_data_t)(uintptr_t)(uint16_t)((unsigned)n * n));
+  }
+  PT_SEM_WAIT(process_pt, &items);
+
+  PROCESS_END();
+}
+RULE
+PROCESS_THREAD(b_process, ev, data)
+{
+  PROCESS_BEGIN();
+
+  init_program();
+
+  while(1) {
+    PT_WAIT_WHILE(process_pt, ev == PROCESS_EVENT_EXITED && data == &a_process);
+    process_post(PROCESS_BROADCAST, PROCESS_EVENT_MSG, NULL);
+    PT_RESTART(process_pt);
+  }
+
+  PROCESS_END();
+}
+RULE
+""".replace('RULE', '/*---------------------------------------------------------------------------*/')
+
+TOKEN = re.compile(r'\s*(\d+U?|[a-z]\w*|==|!=|<=|>=|&&|\|\||[-+*/%<>!(),])')
+BINDING = [['||'], ['&&'], ['==', '!='], ['<', '<=', '>', '>='], ['+', '-'], ['*', '/', '%']]
+
+
+class Overflow(Exception):
+    """An operation on int whose result has no value in C."""
+
+
+class CValue:
+    """Calculates an expression as C does where int has so many bits: each part is a value and its type."""
+
+    def __init__(self, text: str, variables: dict[str, int], bits: int):
+        self.tokens = [found[1] for found in TOKEN.finditer(text)] + ['']
+        self.variables = variables
+        self.bits = bits
+        self.next = 0
+
+    def take(self) -> str:
+        self.next += 1
+        return self.tokens[self.next - 1]
+
+    def value(self) -> int:
+        value, _ = self.level(0)
+        assert self.tokens[self.next] == '', self.tokens
+        return value
+
+    def level(self, level: int) -> tuple[int, bool]:
+        """A value and whether it is unsigned."""
+        if level == len(BINDING):
+            return self.unary()
+        left = self.level(level + 1)
+        while self.tokens[self.next] in BINDING[level]:
+            left = self.operation(self.take(), left, self.level(level + 1))
+        return left
+
+    def operation(self, operator: str, left: tuple[int, bool], right: tuple[int, bool]) -> tuple[int, bool]:
+        if operator in ('&&', '||'):
+            return calculated(operator, int(left[0] != 0), int(right[0] != 0)), False
+        unsigned = left[1] or right[1]
+        one, other = (self.fitted(it[0], unsigned) for it in (left, right))
+        if operator in ('==', '!=', '<', '<=', '>', '>='):
+            return int({'==': one == other, '!=': one != other, '<': one < other, '<=': one <= other,
+                        '>': one > other, '>=': one >= other}[operator]), False
+        if operator in ('/', '%'):
+            assert one >= 0 and other > 0
+            return (one // other if operator == '/' else one % other), unsigned
+        return self.fitted({'+': one + other, '-': one - other, '*': one * other}[operator], unsigned), unsigned
+
+    def fitted(self, value: int, unsigned: bool) -> int:
+        if unsigned:
+            return value % (1 << self.bits)
+        if not -(1 << self.bits - 1) <= value < 1 << self.bits - 1:
+            raise Overflow
+        return value
+
+    def short(self, value: int) -> tuple[int, bool]:
+        """A uint16_t, which is promoted to int if int has all its values."""
+        return value % 65536, self.bits == 16
+
+    def unary(self) -> tuple[int, bool]:
+        token = self.take()
+        if token == '!':
+            return int(not self.unary()[0]), False
+        if token == '(' and self.tokens[self.next] in ('uint16_t', 'unsigned'):
+            kind = self.take()
+            self.take()
+            value = self.unary()[0]
+            return self.short(value) if kind == 'uint16_t' else (value % (1 << self.bits), True)
+        if token == '(':
+            inner = self.level(0)
+            self.take()
+            return inner
+        if token[0].isdigit():
+            value = int(token.rstrip('U'))
+            assert value < (1 << 15) or token.endswith('U'), token
+            return value, token.endswith('U')
+        if token.startswith('motesim_'):
+            self.take()
+            one = self.short(self.level(0)[0])[0]
+            self.take()
+            other = self.short(self.level(0)[0])[0]
+            self.take()
+            return self.short(calculated('/' if token == 'motesim_divide' else '%', one, other))
+        return self.short(self.variables[token])
+
+
+def some_expression(chance: random.Random, depth: int) -> Expression:
+    if depth == 0 or chance.random() < 0.1:
+        value = chance.choice([0, 1, 2, 3, 7, 255, 256, 32767, 32768, 65535, chance.randrange(65536)])
+        return Number(value) if chance.random() < 0.4 else Variable(chance.choice('abc'))
+    if chance.random() < 0.15:
+        return Not(some_expression(chance, depth - 1))
+    return Operation(some_expression(chance, depth - 1), chance.choice(OPERATORS), some_expression(chance, depth - 1))
+
+
+def value_of(expression: Expression, variables: dict[str, int]) -> int:
+    """The value by the rules of the notation."""
+    if isinstance(expression, Number):
+        return expression.value
+    if isinstance(expression, Variable):
+        return variables[expression.name]
+    if isinstance(expression, Not):
+        return int(not value_of(expression.operand, variables))
+    assert isinstance(expression, Operation)
+    return calculated(expression.operator, value_of(expression.left, variables), value_of(expression.right, variables))
+
+
+def file_of(text: str, counts_work: bool = False) -> list[str]:
+    return ProgramFile('p', read_program(text), counts_work).lines()
+
+
+def without_header(lines: list[str]) -> str:
+    return '\n'.join(lines[lines.index('#include "contiki.h"'):]) + '\n'
+
+
+def scenario_of(program: str) -> bytes:
+    return ("version = 1\nend = 9\n[medium]\nrange = 1\nbase = 1\nper = 1\n[programs]\np = '''\n%s'''\n"
+            "[[mote]]\nx = 0\ny = 0\nprogram = 'p'\n" % program).encode()
+
+
+class ExpressionTest(unittest.TestCase):
+    def test_exact_where_int_has_16_or_32_bits(self) -> None:
+        chance = random.Random(61)
+        names = Names(read_program('process p; code p { var a = 0; var b = 0; var c = 0; body { } }'))
+        writer = Expressions(names, 'p', {}, set(), ['p'])
+        for _ in range(4_000):
+            expression = some_expression(chance, chance.randrange(1, 5))
+            variables = {it: chance.choice([0, 1, 2, 255, 32768, 65535, chance.randrange(65536)]) for it in 'abc'}
+            wanted = value_of(expression, variables)
+            for bits in 16, 32:
+                with self.subTest(expression=expression, variables=variables, bits=bits):
+                    value = writer.value(expression).text
+                    self.assertEqual(CValue(value, variables, bits).value(), wanted, value)
+                    loose = writer.loose(expression).text
+                    self.assertEqual(CValue(loose, variables, bits).value() % 65536, wanted, loose)
+                    test = writer.condition(expression).text
+                    self.assertEqual(CValue(test, variables, bits).value() != 0, wanted != 0, test)
+
+    def test_no_cast_without_need(self) -> None:
+        names = Names(read_program('process p; code p { var a = 0; body { } }'))
+        writer = Expressions(names, 'p', {}, set(), ['p'])
+        add = Operation(Variable('a'), '+', Number(1))
+        self.assertEqual(writer.loose(add).text, 'a + 1')
+        self.assertEqual(writer.value(add).text, '(uint16_t)(a + 1)')
+        self.assertEqual(writer.value(Operation(add, '%', Number(10))).text, '(uint16_t)(a + 1) % 10')
+        self.assertEqual(writer.value(Operation(Variable('a'), '/', Number(0))).text, 'motesim_divide(a, 0)')
+
+
+class ProgramFileTest(unittest.TestCase):
+    maxDiff = None
+
+    def test_each_construct(self) -> None:
+        self.assertEqual(without_header(file_of(PROGRAM)), FILE)
+
+    def test_work_is_all_that_the_host_adds(self) -> None:
+        counted = [line for line in file_of(PROGRAM, True) if line.strip() != 'WORK();']
+        self.assertEqual(counted, file_of(PROGRAM))
+        self.assertGreater(len(file_of(PROGRAM, True)), len(counted))
+
+    def test_comments_are_kept(self) -> None:
+        lines = file_of('// one */ two\nprocess p; // three\ncode p { // four\nbody {\n// five\nprint 1; // six ??/\n'
+                        'if 1 { // seven\n} else { // eight\n}\n// nine\n} } // ten\n// eleven\n')
+        text = '\n'.join(lines)
+        for word in 'two three four five six seven eight nine ten eleven'.split():
+            self.assertEqual(len(re.findall(r'\b%s\b' % word, text)), 1, word)
+        self.assertNotIn('one */', text)
+        self.assertNotIn('??', text)
+
+    def test_names_that_c_has(self) -> None:
+        text = without_header(file_of('semaphore int = 1; process main; autostart main; code main { var double = 1; '
+                                      'var main_process = 0; var ev = 3; body { main_process = (double + ev); '
+                                      'acquire int; } }'.replace('main_process', 'other')))
+        self.assertIn('static struct pt_sem int_semaphore;      /* "int" in the notation */'.replace('      ', '  '),
+                      text.replace('      ', '  '))
+        self.assertIn('double_variable + ev_variable', text)
+        self.assertIn('PROCESS(main_process, "main");', text)
+
+    def test_one_name_in_two_codes(self) -> None:
+        text = without_header(file_of('process a, b; code a { var n = 0; body { n = 1; } } '
+                                      'code b { var n = 0; body { n = 2; } }'))
+        self.assertIn('a_n = 1;', text)
+        self.assertIn('b_n = 2;', text)
+
+    def test_a_callback_timer_that_is_never_set(self) -> None:
+        text = without_header(file_of('process a; autostart a; code a { ctimer c { } body { reset c; } }'))
+        self.assertIn('    c.p = &a_process;\n    c.f = c_callback;\n', text)
+
+
+class FolderTest(unittest.TestCase):
+    def setUp(self) -> None:
+        self.folder = Path(tempfile.mkdtemp())
+        self.addCleanup(shutil.rmtree, self.folder)
+
+    def export(self, *arguments: str) -> subprocess.CompletedProcess[str]:
+        return subprocess.run([sys.executable, str(TOOLS / 'export'), *arguments], capture_output=True, text=True,
+                              cwd=self.folder)
+
+    def compilers(self) -> list[str]:
+        found = [it for it in ('gcc', 'clang', 'tcc') if shutil.which(it)]
+        if not found:
+            self.skipTest('no C compiler is installed: on Debian `apt-get install tcc` installs one')
+        return found
+
+    def test_each_example_compiles_without_warnings(self) -> None:
+        compilers = self.compilers()
+        for example in sorted((TOP / 'examples').glob('*.toml')):
+            if example.name.endswith('.expect.toml') or example.name == 'wrong.toml':
+                continue
+            scenario = Scenario.parse(example.read_bytes())
+            for name, text in folder_files(example.stem, scenario, True):
+                path = self.folder / example.stem / name
+                path.parent.mkdir(parents=True, exist_ok=True)
+                path.write_text(text, 'utf-8')
+            for compiler in compilers:
+                for source in sorted((self.folder / example.stem / 'contiki_host').glob('*_host.c')):
+                    done = subprocess.run([compiler, *STRICT, '-I..', '-I.', '-c', source.name, '-o', 'x.o'],
+                                          cwd=source.parent, capture_output=True, text=True)
+                    self.assertEqual((done.returncode, done.stderr), (0, ''), (example.name, compiler))
+
+    def test_the_host_writes_the_report(self) -> None:
+        need_program(self)
+        self.compilers()
+        for name in 'processes', 'small_network', 'collection_tree', 'runaway':
+            example = TOP / 'examples' / (name + '.toml')
+            done = self.export(str(example), '--form', 'contiki', '--host', '-o', name)
+            self.assertEqual((done.returncode, done.stderr), (0, ''))
+            subprocess.run(['make', '-s', 'host', 'HOSTCC=' + self.compilers()[-1]], cwd=self.folder / name, check=True)
+            report = subprocess.run(['./host'], cwd=self.folder / name, capture_output=True, check=True).stdout
+            wanted = subprocess.run([program_path(), str(example)], capture_output=True, check=True).stdout
+            self.assertEqual(report, wanted, name)
+
+    def test_files_of_a_folder(self) -> None:
+        (self.folder / 's.toml').write_bytes(scenario_of('process a; code a { body { } }').replace(b"'p'", b"'process'")
+                                             .replace(b'\np =', b'\nprocess ='))
+        done = self.export('s.toml', '--form', 'contiki', '-o', 'out')
+        self.assertEqual(done.stdout.split(), ['out/process_program.c', 'out/motesim_radio.h', 'out/motesim_radio.c',
+                                               'out/Makefile', 'out/README.md'])
+        self.assertIn('CONTIKI_PROJECT = process_program\n', (self.folder / 'out/Makefile').read_text())
+
+    def test_another_queue_is_named(self) -> None:
+        scenario = Scenario.parse((TOP / 'examples/small_network.toml').read_bytes())
+        files = dict(folder_files('net', scenario, False))
+        self.assertIn('make DEFINES=PROCESS_CONF_NUMEVENTS=1 listener', files['Makefile'])
+        self.assertIn('`DEFINES=PROCESS_CONF_NUMEVENTS=1`', files['README.md'])
+
+    def test_what_is_refused(self) -> None:
+        (self.folder / 's.toml').write_bytes(scenario_of('process a; code a { body { x = 1; } }'))
+        (self.folder / 'file').write_text('')
+        for arguments, said in (
+                (['s.toml', '--form', 'contiki'],
+                 'export: s.toml: program p fault 3 line 1 (tools/explain s.toml says more)\n'),
+                (['absent.toml', '--form', 'contiki'], 'export: absent.toml: No such file or directory\n'),
+                ([str(TOP / 'examples/counter.toml'), '--form', 'contiki', '-o', 'file'],
+                 'export: file: File exists\n')):
+            done = self.export(*arguments)
+            self.assertEqual((done.returncode, done.stdout, done.stderr), (2, '', said))
+        done = self.export('s.toml', '--to', 'vcd', '--host')
+        self.assertEqual(done.returncode, 2)
+        self.assertIn('--host is for --form contiki', done.stderr)
+
+
+if __name__ == '__main__':
+    unittest.main()
