@@ -671,6 +671,26 @@ def read_sentence(sentence: str, names: Names = Names()) -> Sentence:
     return found
 
 
+class _MoteReader(_Reader):
+    """Notes where a sentence names motes by their numbers."""
+
+    def __init__(self, sentence: str, names: Names):
+        super().__init__(sentence, names)
+        self.named: list[tuple[int, int]] = []
+
+    def mote(self, least: int = 0) -> int:
+        at, found = self.places[self.at], super().mote(least)
+        self.named.append((at, found))
+        return found
+
+
+def motes_named(sentence: str, names: Names) -> list[tuple[int, int]]:
+    """The places at which a sentence that can be read names motes by their numbers, and these numbers."""
+    reader = _MoteReader(sentence, names)
+    reader.sentence_here()
+    return sorted(set(reader.named))
+
+
 def lacking(sentence: str, names: Names) -> str:
     """What a sentence that can be read speaks of and a scenario with these names hasn't; nothing where it has all."""
     try:

@@ -27,6 +27,7 @@ from __future__ import annotations
 import argparse
 import hashlib
 import os
+from functools import partial
 from pathlib import Path
 
 from motesim.judge.expectations import beside, parts_of, read_all, text_of
@@ -36,7 +37,7 @@ from motesim.runner.programs import program_path
 from motesim.search.change import NUMBERS, Base
 from motesim.search.faults import KINDS, Asked, faults_of
 from motesim.search.found import (
-    Found, as_csv, as_json, covered_lines, found_by, is_whole, verdict_lines, write_files, write_whole,
+    Found, as_csv, as_json, counted, covered_lines, found_by, is_whole, verdict_lines, write_files, write_whole,
 )
 from motesim.search.kept import Kept
 from motesim.search.one_program import Limits, OneProgram
@@ -45,6 +46,8 @@ from motesim.search.progress import Progress
 from motesim.search.runner import Here
 from motesim.search.search import Bounds, Search
 from motesim.search.sets import Known
+from motesim.search.shrink import Shrinking, case_of
+from motesim.search.shrink_command import sizes, write_result
 from motesim.search.work import Work, mask_of, numbers_of
 from motesim.judge.sentences import Names, Refused, Sentence, names_of
 from motesim.experiments.asked import values_of
@@ -80,6 +83,8 @@ def arguments() -> argparse.ArgumentParser:
     words.add_argument('--csv', metavar='FILE', help='write a table of what was found')
     words.add_argument('--json', metavar='FILE', help='write all that was found, for another program; - for the output')
     words.add_argument('--all', action='store_true', help='show all that was found, and not ten for each expectation')
+    words.add_argument('--shrink', action='store_true',
+                       help='make the first counter-example of each broken expectation as small as it gets')
     words.add_argument('--resume', action='store_true', help='go on where the same search was stopped')
     return words
 
@@ -225,7 +230,30 @@ def told(asking: Asking, search: Search) -> int:
         print(last_line(search, found, asking.folder))
     if search.is_stopped:
         return INTERRUPTED
+    if words.shrink:
+        shrink_each(asking, found)
     return 1 if found else 0
+
+
+def shrink_each(asking: Asking, found: list[Found]) -> None:
+    """Makes the first counter-example of each expectation small: it holds without the faults, and not with them."""
+    program = OneProgram(str(asking.path), asking.limits)
+    for number, sentence in enumerate(asking.texts, 1):
+        first = next((it for it in found if sentence in it.sentences), None)
+        if first is None:
+            continue
+        effects = tuple(fault.effect for fault in first.faults)
+        with Break() as stop:
+            case = case_of(asking.base.source, sentence, effects)
+            shrinking = Shrinking(program, case, partial(getattr, stop, 'is_asked'))
+            shrinking.run()
+        path = asking.folder / ('small_%d.toml' % number)
+        write_result(shrinking, Path(asking.base.name).name, path)
+        if asking.words.json != '-':
+            print('%s (%s) breaks: %s' % (path, sizes(shrinking.text), shrinking.case.sentence))
+        if not shrinking.is_whole:
+            break
+    program.close()
 
 
 def last_line(search: Search, found: list[Found], folder: Path) -> str:
@@ -240,7 +268,7 @@ def last_line(search: Search, found: list[Found], folder: Path) -> str:
     said += ', %d %s broken' % (fails, 'is' if fails == 1 else 'are') if fails else ''
     said += '; {:,} runs in {:.1f} seconds'.format(search.runs, search.seconds)
     if found:
-        said += '\n{:,} counter-examples are in {}'.format(len(found), folder)
+        said += '\n%s in %s' % (counted(len(found), 'counter-example is', 'counter-examples are'), folder)
     if search.ended_by:
         said += '\nNOT ALL WAS TRIED: %s; --resume goes on' % search.ended_by
     return said

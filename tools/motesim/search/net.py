@@ -1,0 +1,141 @@
+"""Scenarios as values that never change, and the steps that make them smaller."""
+from __future__ import annotations
+
+from collections.abc import Iterator
+from typing import Any, NamedTuple
+
+from motesim.scenario.scenario import Scenario
+from motesim.search.smaller import Step, instead, programs, smaller_numbers, without
+from motesim.search.tree import Program, program_text, read_program
+
+
+class Mote(NamedTuple):
+    x: int
+    y: int
+    program: str
+
+
+class Loss(NamedTuple):
+    sender: int
+    receiver: int
+    every: int
+
+
+class Net(NamedTuple):
+    """A scenario."""
+    end: int
+    range: int
+    base: int
+    per: int
+    collide: bool
+    programs: tuple[tuple[str, Program], ...]
+    queue: tuple[tuple[str, int], ...]
+    motes: tuple[Mote, ...]
+    losses: tuple[Loss, ...]
+
+    @property
+    def text(self) -> str:
+        """The scenario, formatted."""
+        is_second = self.collide or bool(self.queue)
+        rows = ['version = %d' % (2 if is_second else 1), 'end = %d' % self.end, '[medium]', 'range = %d' % self.range,
+                'base = %d' % self.base, 'per = %d' % self.per]
+        rows += ['collide = %s' % str(self.collide).lower()] if is_second else []
+        rows.append('[programs]')
+        for name, program in self.programs:
+            rows += ["%s = '''" % name, program_text(program) + "'''"]
+        if self.queue:
+            rows += ['[queue]', *('%s = %d' % it for it in self.queue)]
+        for mote in self.motes:
+            rows += ['[[mote]]', 'x = %d' % mote.x, 'y = %d' % mote.y, 'program = "%s"' % mote.program]
+        for loss in self.losses:
+            rows += ['[[loss]]', 'from = %d' % loss.sender, 'to = %d' % loss.receiver, 'every = %d' % loss.every]
+        return ''.join(row + '\n' for row in rows)
+
+
+def net_of(scenario: Scenario) -> Net:
+    """A scenario as a net."""
+    return Net(scenario.end, scenario.range, scenario.base, scenario.per, scenario.collide,
+               tuple((name, read_program(text)) for name, text in scenario.programs.items()),
+               tuple(scenario.queue.items()), tuple(Mote(*it) for it in scenario.places),
+               tuple(Loss(*pair, every) for pair, every in scenario.losses.items()))
+
+
+def without_motes(net: Net, removed: frozenset[int]) -> Net:
+    """A net without some motes. The others are numbered anew, in the losses too."""
+    kept = [mote for mote in range(len(net.motes)) if mote not in removed]
+    new = {mote: number for number, mote in enumerate(kept)}
+    losses = tuple(Loss(new[it.sender], new[it.receiver], it.every) for it in net.losses
+                   if it.sender in new and it.receiver in new)
+    return net._replace(motes=tuple(net.motes[mote] for mote in kept), losses=losses)
+
+
+class NetStep(NamedTuple):
+    """A step in words, the net that it leads to, and the motes that it removes."""
+    words: str
+    net: Net
+    removed: frozenset[int] = frozenset()
+
+
+def parts(count: int) -> Iterator[tuple[int, int]]:
+    """Stretches of so many members: all, then halves, quarters, .. down to single ones."""
+    size = count
+    while size:
+        for begin in range(0, count, size):
+            yield begin, min(begin + size, count)
+        size //= 2
+
+
+def mote_steps(net: Net) -> Iterator[NetStep]:
+    for begin, end in parts(len(net.motes)):
+        if end - begin < len(net.motes):
+            removed = frozenset(range(begin, end))
+            words = 'removes mote %d' % begin if end == begin + 1 else 'removes motes %d to %d' % (begin, end - 1)
+            yield NetStep(words, without_motes(net, removed), removed)
+
+
+def loss_steps(net: Net) -> Iterator[NetStep]:
+    for begin, end in parts(len(net.losses)):
+        words = 'removes the loss from %d to %d' % net.losses[begin][:2]
+        if end > begin + 1:
+            words = 'removes %d losses' % (end - begin)
+        yield NetStep(words, net._replace(losses=net.losses[:begin] + net.losses[end:]))
+
+
+def program_steps(net: Net) -> Iterator[NetStep]:
+    used = {mote.program for mote in net.motes}
+    for at, (name, program) in enumerate(net.programs):
+        if name not in used:
+            queue = tuple(it for it in net.queue if it[0] != name)
+            yield NetStep('removes the program %s' % name,
+                          net._replace(programs=without(net.programs, at), queue=queue))
+            continue
+        step: Step
+        for step in programs(program):
+            yield NetStep('%s: %s' % (name, step.words),
+                          net._replace(programs=instead(net.programs, at, (name, step.program))))
+
+
+def number_steps(net: Net) -> Iterator[NetStep]:
+    """The end, the medium, lengths of queues, losses and places made smaller."""
+    least = {'end': 0, 'range': 0, 'base': 1, 'per': 1}
+    for name in least:
+        number: int = getattr(net, name)
+        for less in smaller_numbers(number):
+            if less >= least[name]:
+                changed: dict[str, Any] = {name: less}
+                yield NetStep('%s: %d for %d' % (name, less, number), net._replace(**changed))
+    if net.collide:
+        yield NetStep('no packets collide', net._replace(collide=False))
+    for at, (name, _) in enumerate(net.queue):
+        yield NetStep('the queue of %s has its usual length' % name, net._replace(queue=without(net.queue, at)))
+    for at, loss in enumerate(net.losses):
+        if loss.every > 1:
+            words = 'the loss from %d to %d loses everything' % (loss.sender, loss.receiver)
+            yield NetStep(words, net._replace(losses=instead(net.losses, at, loss._replace(every=1))))
+    for at, mote in enumerate(net.motes):
+        for axis, number in ('x', mote.x), ('y', mote.y):
+            for less in smaller_numbers(abs(number)):
+                signed = less if number > 0 else -less
+                moved = mote._replace(x=signed) if axis == 'x' else mote._replace(y=signed)
+                yield NetStep('mote %d: %s is %d' % (at, axis, getattr(moved, axis)),
+                              net._replace(motes=instead(net.motes, at, moved)))

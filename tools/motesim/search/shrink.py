@@ -1,0 +1,199 @@
+"""Makes a scenario that fails an expectation as small as it gets, by delta debugging.
+
+One step after another is tried, and each is checked by a run: the expectation still has to be broken, in the same way,
+by a report that is no longer than the first one. It ends where no step is left, so the result is one-minimal.
+"""
+from __future__ import annotations
+
+import re
+import time
+from collections.abc import Callable, Iterator
+from dataclasses import dataclass, field
+from typing import NamedTuple
+
+from motesim.faults import Fault
+from motesim.judge.judge import Broken, Judge
+from motesim.judge.sentences import Sentence, SentenceFault, names_of, read_sentence
+from motesim.report.report import Report
+from motesim.scenario.scenario import Scenario
+from motesim.search.change import Base, Change
+from motesim.search.faults import EFFECTS
+from motesim.search.following import follow, names_motes_in_quotes
+from motesim.search.net import Net, NetStep, loss_steps, mote_steps, net_of, number_steps, program_steps
+from motesim.search.one_program import OneProgram
+from motesim.search.quick_judge import QuickJudge
+
+NAME = 'the scenario'
+# The effects of faults, and which of their parts are numbers of motes.
+MOTES_OF = {'lose': (1, 2), 'apart': (1, 2), 'silent': (1,), 'fails': (1,), 'late': (1,), 'move': (1,)}
+Effect = tuple[str | int, ...]
+STEPS: dict[str, Callable[[Net], Iterator[NetStep]]] = {
+    'motes': mote_steps, 'losses': loss_steps, 'programs': program_steps, 'numbers': number_steps}
+
+
+class Case(NamedTuple):
+    """A net, the sentence that it breaks, faults that are put into it, without which the sentence has to hold, and
+    sentences that have to hold with them."""
+    net: Net
+    sentence: str
+    effects: tuple[Effect, ...] = ()
+    keeps: tuple[str, ...] = ()
+
+
+def way_of(broken: Broken) -> str:
+    """The way in which a sentence is broken: what is said of it without the numbers, but for a 0.
+
+    A line that is one too many, or wrong, is another way than one that isn't there.
+    """
+    why = re.sub(r'\d+', lambda found: '0' if found[0] == '0' else 'N', broken.why)
+    return why if broken.row is None else why + ' (a line shows it)'
+
+
+def moved(effect: Effect, removed: frozenset[int]) -> Effect | None:
+    """The effect of a fault once motes are removed, or None where it is on one of these."""
+    found = list(effect)
+    for at in MOTES_OF.get(str(effect[0]), ()):
+        mote = int(effect[at])
+        if mote in removed:
+            return None
+        found[at] = mote - sum(it < mote for it in removed)
+    return tuple(found)
+
+
+def with_effects(text: str, effects: tuple[Effect, ...]) -> str:
+    """A scenario with the faults in it."""
+    if not effects:
+        return text
+    base, change = Base(text, NAME, is_checked=True), Change()
+    for effect in effects:
+        EFFECTS[str(effect[0])](change, base, *effect[1:])
+    return base.text(change)
+
+
+class Seen(NamedTuple):
+    """A report with its scenario."""
+    report: bytes
+    scenario: Scenario
+
+    def read(self, sentence: str) -> Sentence | None:
+        """A sentence, if it can be read of this scenario."""
+        try:
+            return read_sentence(sentence, names_of(self.scenario))
+        except SentenceFault:
+            return None
+
+    def is_broken(self, sentence: str) -> bool:
+        """Whether a sentence is broken, or speaks of what isn't there any more."""
+        read = self.read(sentence)
+        return read is None or bool(QuickJudge([read]).broken(self.report, self.scenario))
+
+    def broken(self, sentence: str) -> Broken | None:
+        """What breaks a sentence; nothing breaks one that speaks of what isn't there any more."""
+        read = self.read(sentence)
+        if read is None or not self.is_broken(sentence):
+            return None
+        return Judge(Report.parse(self.report), self.scenario).broken(read)
+
+
+@dataclass
+class Shrinking:
+    """A case on its way to a smaller one, with the steps that were taken and the runs that it took."""
+    program: OneProgram
+    case: Case
+    is_over: Callable[[], bool] = lambda: False
+    taken: list[str] = field(default_factory=list)
+    runs: int = 0
+    begin: float = field(default_factory=time.monotonic)
+    is_whole: bool = True
+    last: int = 0
+    longest: int | None = None
+
+    def __post_init__(self) -> None:
+        self.way = self.way_now(self.case)
+        self.longest = self.last
+        if self.way is None:
+            more = ' by these faults alone' if self.case.effects else ', or breaks a sentence of --keep' * bool(
+                self.case.keeps)
+            raise Fault('the scenario does not break `%s`%s' % (self.case.sentence, more))
+
+    @property
+    def seconds(self) -> float:
+        return time.monotonic() - self.begin
+
+    def seen(self, text: str) -> Seen | None:
+        """The report of a text, or None where there is none that is short enough."""
+        self.runs += 1
+        answer = self.program.run(text.encode())
+        self.last = max(self.last, len(answer.report))
+        if answer.status or answer.stopped or (self.longest is not None and len(answer.report) > self.longest):
+            return None
+        return Seen(answer.report, Scenario.parse(text))
+
+    def way_now(self, case: Case) -> str | None:
+        """The way in which a case breaks its sentence, or None if it doesn't, or does without its faults too."""
+        if case.effects:
+            without = self.seen(case.net.text)
+            if without is None or without.broken(case.sentence):
+                return None
+        try:
+            found = self.seen(with_effects(case.net.text, case.effects))
+        except Fault:
+            return None
+        if found is None or any(found.is_broken(it) for it in case.keeps):
+            return None
+        broken = found.broken(case.sentence)
+        return way_of(broken) if broken else None
+
+    def after(self, step: NetStep) -> Case | None:
+        """The case after a step, or None where the sentence or a fault can't follow it."""
+        case = self.case
+        if not step.removed:
+            return case._replace(net=step.net)
+        names = names_of(Scenario.parse(case.net.text))
+        sentences = [follow(it, names, step.removed) for it in (case.sentence, *case.keeps)]
+        effects = [moved(it, step.removed) for it in case.effects]
+        known = [it for it in sentences if it is not None and not names_motes_in_quotes(it)]
+        left = tuple(it for it in effects if it is not None)
+        if len(known) < len(sentences) or len(left) < len(effects):
+            return None
+        return Case(step.net, known[0], left, tuple(known[1:]))
+
+    def run(self) -> None:
+        """Takes steps until none is left, or the user asks for the end."""
+        goes_on = True
+        while goes_on:
+            goes_on = False
+            for name in STEPS:
+                goes_on |= self.take_all(name)
+                if self.is_over():
+                    self.is_whole = False
+                    return
+
+    def take_all(self, name: str) -> bool:
+        """Takes steps of one sort, as long as there are any; says whether one was taken."""
+        found = False
+        at = 0
+        while not self.is_over():
+            tried = list(STEPS[name](self.case.net))
+            for offset in range(len(tried)):
+                index = (at + offset) % len(tried)
+                if self.is_over():
+                    return found
+                case = self.after(tried[index])
+                if case is not None and self.way_now(case) == self.way:
+                    self.case, found, at = case, True, index
+                    self.taken.append(tried[index].words)
+                    break
+            else:
+                return found
+        return found
+
+    @property
+    def text(self) -> str:
+        """The scenario as it is now, with its faults."""
+        return with_effects(self.case.net.text, self.case.effects)
+
+
+def case_of(text: str, sentence: str, effects: tuple[Effect, ...] = (), keeps: tuple[str, ...] = ()) -> Case:
+    """The case of a scenario's text."""
+    return Case(net_of(Scenario.parse(text)), sentence, effects, keeps)

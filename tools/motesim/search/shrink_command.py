@@ -1,0 +1,99 @@
+"""Makes a scenario that fails an expectation as small as it gets: tools/shrink SCENARIO [EXPECTATION]
+
+  tools/shrink flooding.search/flooding_silent_0.toml "mote 6 prints flood 1"
+
+Motes, losses, processes, statements, timers and constants are removed or made smaller, one step at a time, as long as
+the expectation is still broken in the same way; each step is checked by a run. A scenario may break an expectation for
+another reason once it is small: --keep names sentences that have to go on holding. Where motes get other numbers, the
+sentences follow. Where none is given, it is the first one of NAME.expect.toml, beside the scenario NAME.toml, that
+is broken.
+
+The result goes to NAME.small.toml, with its expectation beside it. It is one-minimal: no single step more is possible.
+docs/use/SEARCH.md shows it at work. Ends with status 0, with 2 where nothing could be made smaller, as where the
+scenario keeps the expectation, and with 130 after Ctrl-C, which writes what was reached.
+"""
+from __future__ import annotations
+
+from pathlib import Path
+
+from motesim.experiments.runs import Break
+from motesim.faults import INTERRUPTED, Fault, command
+from motesim.judge.expectations import beside, parts_of, read_all, text_of
+from motesim.judge.judge import Judge
+from motesim.judge.sentences import names_of
+from motesim.report.report import Report
+from motesim.runner.programs import program_path
+from motesim.scenario.scenario import Scenario
+from motesim.search.change import Base
+from motesim.search.found import toml_text, write_whole
+from motesim.search.net import net_of
+from motesim.search.one_program import Limits, OneProgram
+from motesim.search.shrink import Shrinking, case_of
+from motesim.search.smaller import statements_in
+from motesim.words import words_of
+
+
+def first_broken(base: Base, path: Path, program: OneProgram) -> str:
+    """The first sentence of a file of expectations that a scenario breaks."""
+    texts = parts_of(text_of(path), str(path))[0].sentences
+    sentences = read_all(texts, names_of(base.scenario_itself))
+    answer = program.run(base.source.encode())
+    if answer.status or answer.stopped:
+        raise Fault('%s has no report: %s' % (base.name, answer.stopped or answer.fault))
+    judge = Judge(Report.parse(answer.report), base.scenario_itself)
+    for text, sentence in zip(texts, sentences):
+        if judge.broken(sentence):
+            return text
+    raise Fault('%s breaks no sentence of %s' % (base.name, path))
+
+
+def sizes(text: str) -> str:
+    """How large a scenario is."""
+    net = net_of(Scenario.parse(text))
+    statements = sum(statements_in(program) for _, program in net.programs)
+    parts = [(len(net.motes), 'mote', 'motes'), (len(net.losses), 'loss', 'losses'),
+             (len(net.programs), 'program', 'programs'), (statements, 'statement', 'statements')]
+    return '%s, end = %d' % (', '.join('%d %s' % (it[0], it[1 if it[0] == 1 else 2]) for it in parts), net.end)
+
+
+def write_result(shrinking: Shrinking, name: str, path: Path) -> None:
+    """Writes the scenario with its expectation."""
+    case = shrinking.case
+    head = '# Made small by tools/shrink from %s. It still breaks: %s\n' % (name, ' '.join(case.sentence.split()))
+    rows = ''.join('  %s,\n' % toml_text(it) for it in (case.sentence, *case.keeps))
+    write_whole(path, head + shrinking.text)
+    write_whole(beside(path), 'expect = [\n%s]\n' % rows)
+
+
+@command('shrink')
+def main() -> int:
+    words = words_of(__doc__)
+    words.add_argument('scenario', metavar='SCENARIO', help='a scenario, NAME.toml')
+    words.add_argument('expectation', nargs='?', metavar='EXPECTATION', help='a sentence of tools/expect')
+    words.add_argument('-o', dest='output', metavar='FILE', help='the result; else NAME.small.toml')
+    words.add_argument('--keep', action='append', default=[], metavar='SENTENCE',
+                       help='what has to go on holding, so that what matters stays')
+    words.add_argument('--steps', action='store_true', help='show each step')
+    words.add_argument('--seconds', type=float, default=Limits().seconds, metavar='N', help='the limit of a run')
+    asked = words.parse_args()
+    path = Path(asked.scenario)
+    base = Base(text_of(path), asked.scenario)
+    program = OneProgram(str(program_path().resolve()), Limits(asked.seconds))
+    sentence = asked.expectation or first_broken(base, beside(path), program)
+    read_all([sentence, *asked.keep], names_of(base.scenario_itself))
+    with Break() as stop:
+        shrinking = Shrinking(program, case_of(base.source, sentence, (), tuple(asked.keep)), lambda: stop.is_asked)
+        before = shrinking.text
+        shrinking.run()
+    output = Path(asked.output) if asked.output else Path(path.name.removesuffix('.toml') + '.small.toml')
+    write_result(shrinking, path.name, output)
+    if asked.steps:
+        for number, it in enumerate(shrinking.taken, 1):
+            print('%3d %s' % (number, it))
+    print('before: %s' % sizes(before))
+    print('now:    %s' % sizes(shrinking.text))
+    print('%d steps, %d runs, %.1f seconds; %s' % (
+        len(shrinking.taken), shrinking.runs, shrinking.seconds,
+        'no step more is possible' if shrinking.is_whole else 'STOPPED: more steps may be possible'))
+    print('%s breaks: %s' % (output, shrinking.case.sentence))
+    return 0 if shrinking.is_whole else INTERRUPTED

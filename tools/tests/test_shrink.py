@@ -1,0 +1,235 @@
+"""Scenarios made small: that the result still fails in the same way, that no step more is possible, that sentences
+follow motes with other numbers, and that programs are read and written without a change."""
+import subprocess
+import sys
+import tempfile
+import tomllib
+import unittest
+from pathlib import Path
+
+from here import TOOLS, TOP
+from motesim.faults import Fault
+from motesim.judge.judge import Judge
+from motesim.judge.sentences import Names, motes_named, names_of, read_sentence
+from motesim.report.report import Report
+from motesim.runner.run import answer, program_path
+from motesim.scenario.scenario import Scenario
+from motesim.search.following import follow
+from motesim.search.net import loss_steps, mote_steps, net_of, number_steps, parts, program_steps
+from motesim.search.one_program import Limits, OneProgram
+from motesim.search.shrink import Shrinking, case_of
+from motesim.search.smaller import smaller_numbers
+from motesim.search.tree import program_text, read_program
+from skips import need_program
+from test_search import DIAMOND, REACHED, folder_with, search
+
+CANONICAL = '''process a;
+autostart a;
+code a {
+  etimer t;
+  onpoll {
+  }
+  body {
+    set t 2;
+    while (1 == 1) {
+      if fired(t) {
+        print !data;
+      } else {
+        yield;
+      }
+    }
+  }
+}
+'''
+LOOSE = '''process a ; autostart a;   // one process
+code a { etimer t; onpoll { }
+  body { set t 2 ; while ( 1==1 ) { if fired( t ) { print ! data; } else { yield; } } } }
+'''
+ALL = '''event full, unused;
+semaphore items = 3;
+process a, b;
+autostart b, a;
+receiver b;
+code a {
+  var n = 7;
+  etimer t;
+  ctimer c {
+    signal items;
+  }
+  thread inner {
+    pause;
+    exit;
+  }
+  onpoll {
+    reset t;
+  }
+  onexit {
+    stop c;
+  }
+  body {
+    spawn inner;
+    post b full (n + 1) into n;
+    broadcast msg !n;
+    synch b com count(items);
+    if (gone(b) && running(b)) {
+      poll b;
+    } else {
+      restart_timer t;
+    }
+    acquire items;
+    restart;
+  }
+}
+code b {
+  body {
+    wait_while is(exited);
+  }
+}
+'''
+ALL = ALL.replace('event full, unused;', 'event full;\nevent unused;')
+
+
+class Programs(unittest.TestCase):
+    def test_layout_is_the_canonical_one(self):
+        self.assertEqual(program_text(read_program(LOOSE)), CANONICAL)
+
+    def test_each_form_is_kept(self):
+        self.assertEqual(program_text(read_program(ALL)), ALL)
+
+    def test_examples_run_as_before(self):
+        need_program(self)
+        for path in sorted((TOP / 'examples').glob('*.toml')):
+            if path.name.endswith('.expect.toml') or path.name == 'wrong.toml' or 'mote' not in tomllib.loads(
+                    path.read_text()):
+                continue
+            with self.subTest(path.name):
+                net = net_of(Scenario.parse(path.read_text()))
+                self.assertEqual(answer(net.text.encode()).report, answer(path.read_bytes()).report)
+
+
+class Steps(unittest.TestCase):
+    def test_smaller_numbers(self):
+        self.assertEqual(list(smaller_numbers(0)), [])
+        self.assertEqual(list(smaller_numbers(1)), [0])
+        self.assertEqual(list(smaller_numbers(9)), [0, 5, 7, 8])
+
+    def test_parts(self):
+        self.assertEqual(list(parts(3)), [(0, 3), (0, 1), (1, 2), (2, 3)])
+        self.assertEqual(list(parts(0)), [])
+
+    def test_a_process_goes_with_all_that_names_it(self):
+        net = net_of(Scenario.parse(DIAMOND.replace(DIAMOND.split("'''")[1], '\n' + ALL)))
+        found = {step.words: dict(step.net.programs)['p'] for step in program_steps(net)}
+        text = program_text(found['p: removes the process b'])
+        self.assertIn('process a;\nautostart a;\ncode a {', text)
+        for word in 'receiver', 'post', 'synch', 'poll b':
+            self.assertNotIn(word + ' ', text)
+        self.assertIn('if (0 && 0) {', text)
+
+
+class Following(unittest.TestCase):
+    NAMES = Names(('flood',), 10)
+
+    def test_places_of_motes(self):
+        self.assertEqual(motes_named('motes 1, 3 and 5 print flood 2 by 60', self.NAMES), [(6, 1), (9, 3), (15, 5)])
+        self.assertEqual(motes_named('every mote prints flood 3', self.NAMES), [])
+
+    def test_numbers_follow(self):
+        for sentence, removed, wanted in (
+                ('mote 6 prints flood 1 by 60', {1, 2}, 'mote 4 prints flood 1 by 60'),
+                ('mote 6 prints flood 1', {6}, None),
+                ('every mote but 0 prints flood 9', {9}, 'every mote but 0 prints flood 9'),
+                ('every mote but 3 prints flood 1 at 40 plus 3 for each hop from mote 9', {1},
+                 'every mote but 2 prints flood 1 at 40 plus 3 for each hop from mote 8'),
+                ('motes 3 to 7 send', {3, 4, 9}, 'motes 3 to 5 send'),
+                ('motes 3 to 4 send', {3, 4}, None),
+                ('motes 1, 3 and 5 print flood', {3}, None),
+                ('mote 2 receives 7 from mote 5', {3}, 'mote 2 receives 7 from mote 4')):
+            self.assertEqual(follow(sentence, self.NAMES, frozenset(removed)), wanted, sentence)
+
+
+class Shrinks(unittest.TestCase):
+    def setUp(self):
+        need_program(self)
+        self.program = OneProgram(str(program_path().resolve()), Limits())
+        self.addCleanup(self.program.close)
+
+    def way(self, text, sentence):
+        """Whether, and by how many lines shown, a scenario breaks a sentence, found out by the judge alone."""
+        found = answer(text.encode())
+        if found.status:
+            return None
+        scenario = Scenario.parse(text)
+        try:
+            broken = Judge(Report.parse(found.report), scenario).broken(read_sentence(sentence, names_of(scenario)))
+        except Fault:
+            return None
+        return broken and (broken.row is None, len(found.report))
+
+    def test_no_single_step_more_is_possible(self):
+        # Both ways of the diamond are cut, in a net that has two motes more; mote 3 hears nothing.
+        text = DIAMOND + ''.join('[[mote]]\nx = %d\ny = 40\nprogram = "p"\n' % (5 * it) for it in (0, 1))
+        text += ''.join('[[loss]]\nfrom = %d\nto = %d\nevery = 1\n' % it for it in ((0, 1), (2, 3), (3, 2)))
+        keep = 'mote 2 prints flood 7'
+        shrinking = Shrinking(self.program, case_of(text, REACHED, (), (keep,)))
+        shrinking.run()
+        net, (sentence, kept) = shrinking.case.net, (shrinking.case.sentence, *shrinking.case.keeps)
+        # Motes 0, 2 and 3 are named or needed, and mote 3 has only to be out of reach.
+        self.assertEqual(len(net.motes), 3)
+        self.assertEqual((sentence, kept), ('mote 2 prints flood 7', 'mote 1 prints flood 7'))
+        self.assertIsNone(self.way(net.text, kept))
+        self.assertEqual(self.way(net.text, sentence)[0], True)
+        first = self.way(text, REACHED)
+        tried = 0
+        for steps in mote_steps, loss_steps, program_steps, number_steps:
+            for step in steps(net):
+                tried += 1
+                names = names_of(Scenario.parse(net.text))
+                follows = [follow(it, names, step.removed) for it in (sentence, kept)]
+                if None in follows:
+                    continue
+                found = self.way(step.net.text, follows[0])
+                is_kept = answer(step.net.text.encode()).status == 0 and self.way(step.net.text, follows[1]) is None
+                is_smaller = found and is_kept and found[0] == first[0] and found[1] <= first[1]
+                self.assertFalse(is_smaller, step.words)
+        self.assertGreater(tried, 10)
+
+    def test_a_scenario_that_keeps_the_sentence(self):
+        with self.assertRaisesRegex(Fault, 'does not break `mote 3 prints flood 7`'):
+            Shrinking(self.program, case_of(DIAMOND, REACHED))
+
+    def test_faults_stay_what_breaks_it(self):
+        # Without the fault the message arrives, with it it doesn't, in the small scenario too.
+        text = DIAMOND + '[[mote]]\nx = 18\ny = 6\nprogram = "p"\n'
+        shrinking = Shrinking(self.program, case_of(text, REACHED, (('silent', 0),)))
+        shrinking.run()
+        self.assertIsNone(self.way(shrinking.case.net.text, shrinking.case.sentence))
+        self.assertIsNotNone(self.way(shrinking.text, shrinking.case.sentence))
+        self.assertEqual(len(shrinking.case.net.motes), 2)
+        self.assertEqual(shrinking.case.effects, (('silent', 0),))
+
+    def test_the_command(self):
+        text = DIAMOND + '[[loss]]\nfrom = 0\nto = 1\nevery = 1\n[[loss]]\nfrom = 2\nto = 3\nevery = 1\n'
+        with folder_with(text) as folder:
+            done = subprocess.run([sys.executable, '-B', str(TOOLS / 'shrink'), 'diamond.toml', '--steps'], cwd=folder,
+                                  capture_output=True, text=True)
+            self.assertEqual(done.returncode, 0, done.stderr)
+            self.assertIn('no step more is possible', done.stdout)
+            self.assertIn('before: 4 motes, 2 losses, 1 program, 11 statements, end = 100', done.stdout)
+            again = subprocess.run([sys.executable, '-B', str(TOOLS / 'expect'), 'diamond.small.toml'], cwd=folder,
+                                   capture_output=True, text=True)
+            self.assertEqual((again.returncode, again.stdout.split()[0]), (1, 'broken'), again.stderr)
+            wrong = subprocess.run([sys.executable, '-B', str(TOOLS / 'shrink'), 'diamond.toml', 'mote 3 prints lynx'],
+                                   cwd=folder, capture_output=True, text=True)
+            self.assertEqual(wrong.returncode, 2)
+            self.assertIn('sentence 1 is not known', wrong.stderr)
+
+    def test_a_search_shrinks_what_it_finds(self):
+        with folder_with() as folder:
+            status, said, _ = search(folder, '--faults', 'motes', '--shrink')
+            self.assertEqual(status, 1)
+            self.assertIn('small_1.toml (2 motes, 1 loss, 1 program', said)
+
+
+if __name__ == '__main__':
+    unittest.main()
