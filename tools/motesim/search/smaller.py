@@ -133,8 +133,11 @@ def codes(code: Code) -> Iterator[tuple[str, Code]]:
                 variables=instead(code.variables, at, (name, less)))
 
 
-def _names_it(it: Statement, process: str) -> bool:
-    return isinstance(it, Plain) and it.words[0] in ('post', 'synch', 'poll', 'start', 'kill') and it.words[1] == process
+OF_PROCESSES = ('post', 'synch', 'poll', 'start', 'kill')
+
+
+def _names_it(it: Plain, process: str) -> bool:
+    return it.words[0] in OF_PROCESSES and it.words[1] == process
 
 
 def _mapped(it: Expression, change: Callable[[Test], Expression]) -> Expression:
