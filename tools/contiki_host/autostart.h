@@ -6,9 +6,8 @@
 
 #include "process.h"
 
-/* Static here, since programs of several motes share one executable. */
 #define AUTOSTART_PROCESSES(...) \
-  static struct process *const autostart_processes[] = { __VA_ARGS__, NULL }
+  PROCESS_SCOPE struct process *const autostart_processes[] = { __VA_ARGS__, NULL }
 
 void autostart_start(struct process *const processes[]);
 

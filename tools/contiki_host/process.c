@@ -21,7 +21,7 @@ struct event {
 struct process *process_current;
 
 static struct process *process_list;      /* the newest first */
-static uint32_t incarnations;             /* how many starts there were */
+static uint64_t incarnations;             /* how many starts there were */
 static unsigned char poll_requested;
 static process_event_t last_event;
 
@@ -44,7 +44,7 @@ const struct host_memory process_memory[] = {
  */
 struct walk {
   struct process *process[PROCESS_MAX];
-  uint32_t incarnation[PROCESS_MAX];
+  uint64_t incarnation[PROCESS_MAX];
   int count;
 };
 

@@ -43,7 +43,7 @@ struct process {
   unsigned char state;
   unsigned char needspoll;
   unsigned char exiting;      /* from the beginning of its exit until it leaves the list */
-  uint32_t incarnation;       /* which start of a process this is, on its mote; 0 off the list */
+  uint64_t incarnation;       /* which start of a process this is, on its mote; 0 off the list */
 };
 
 /*
@@ -71,16 +71,23 @@ struct process {
 #define PROCESS_EXITHANDLER(handler) if(ev == PROCESS_EVENT_EXIT) { handler; }
 
 /*
- * What declares a process. Static here, since programs of several motes share
- * one executable.
+ * What declares a process. On the host it is static, since programs of several
+ * motes share one executable.
  */
+#ifdef MOTESIM_FOR_CONTIKI
+#define PROCESS_SCOPE
+#define PROCESS_NAME(name) extern struct process name
+#else
+#define PROCESS_SCOPE static
+#define PROCESS_NAME(name) static struct process name
+#endif
+
 #define PROCESS_THREAD(name, ev, data)                   \
   static PT_THREAD(process_thread_##name(                \
     struct pt *process_pt, process_event_t ev, process_data_t data))
-#define PROCESS_NAME(name) static struct process name
 #define PROCESS(name, strname)    \
   PROCESS_THREAD(name, ev, data); \
-  static struct process name = PROCESS_INIT(name, strname)
+  PROCESS_SCOPE struct process name = PROCESS_INIT(name, strname)
 
 /* A process of the system. The whole host knows it. */
 #define SYSTEM_PROCESS(name, strname) \
