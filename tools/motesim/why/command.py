@@ -1,9 +1,12 @@
 """Says why a line of a report is there, or why it isn't: docs/use/WHY.md."""
 from __future__ import annotations
 
+import argparse
 import json
+import sys
 
-from motesim.faults import command
+from motesim.faults import Fault, command
+from motesim.runner.run import read_file
 from motesim.why.chain import Hop, as_json, chain, path_of, rows
 from motesim.why.diverge import diverged
 from motesim.why.diverge import rows as parted_rows
@@ -12,6 +15,12 @@ from motesim.why.miss import misses
 from motesim.why.miss import rows as near_rows
 from motesim.why.question import Asked, Asker
 from motesim.why.source import Source, read_source
+from motesim.why.state import as_json as state_as_json
+from motesim.why.state import read_state
+from motesim.why.state import rows as state_rows
+from motesim.why.watch import Unwatched, read_watch, replayed, watch
+from motesim.why.watch import as_json as values_as_json
+from motesim.why.watch import rows as value_rows
 from motesim.words import words_of
 
 ABOUT = '''Says why a line of a report is there: the chain of its causes, back to the start of a mote.
@@ -38,18 +47,36 @@ def show_chain(source: Source, asked: Asked, is_short: bool) -> None:
     print(path_of(hops))
 
 
-@command('why')
-def main() -> int:
-    words = words_of(ABOUT, 'why')
-    words.add_argument('file', metavar='FILE', help='a scenario, or a report; - is standard input')
-    words.add_argument('question', metavar='QUESTION', help='a sentence, or a line of the report')
-    words.add_argument('--scenario', metavar='FILE', help="the report's scenario")
-    words.add_argument('--other', metavar='FILE', help='a second run: shows where it leaves the chain of the first')
-    words.add_argument('--other-scenario', metavar='FILE', help='the scenario of a second report')
-    words.add_argument('--json', action='store_true', help='for programs')
-    words.add_argument('--short', action='store_true', help='only the hops that took time')
-    asked = words.parse_args()
-    source = read_source(asked.file, asked.scenario)
+def show_watch(source: Source, asked: argparse.Namespace) -> int:
+    """Shows the values of variables; if prints can't be added, the values of the replay, and why."""
+    motes, watched = read_watch(source, ' '.join(asked.watch))
+    values = replayed(source, motes, watched)
+    said = ''
+    if not asked.replay:
+        if asked.file == '-' or asked.scenario == '-':
+            raise Fault('--watch runs the scenario a second time: name a file, and not standard input')
+        text = read_file(asked.scenario or asked.file).decode('utf-8')
+        try:
+            if watch(source, text, motes, watched) != values:
+                raise Fault('the added prints and the replay disagree; please report this scenario')
+        except Unwatched as fault:
+            said = 'why: %s; these values come from the replay of the mote, without added prints' % fault
+    if said:
+        print(said, file=sys.stderr)
+    print(json.dumps(values_as_json(values), indent=1) if asked.json else '\n'.join(value_rows(values)))
+    return 0
+
+
+def show_state(source: Source, asked: argparse.Namespace) -> int:
+    """Shows the state of a mote."""
+    replay, at, heading = read_state(source, ' '.join(asked.state))
+    state = state_as_json(replay, at)
+    print(json.dumps(state, indent=1) if asked.json else '\n'.join(state_rows(state, heading)))
+    return 0
+
+
+def show_why(source: Source, asked: argparse.Namespace) -> int:
+    """Shows a chain, or what came near."""
     asker = Asker(source)
     found = asker.about(asked.question)
     if not isinstance(found, Asked):
@@ -60,11 +87,37 @@ def main() -> int:
     if asked.other is not None:
         other = read_source(asked.other, asked.other_scenario)
         print('\n'.join(parted_rows(source, other, diverged(source, other, found.where))))
-        return 0
-    if asked.json:
+    elif asked.json:
         hops = chain(source, found.where)
         print(json.dumps({'question': asked.question, 'holds': found.holds, 'about': found.remark or None,
                           **as_json(source, hops)}, indent=1))
     else:
         show_chain(source, found, asked.short)
     return 0
+
+
+@command('why')
+def main() -> int:
+    words = words_of(ABOUT, 'why')
+    words.add_argument('file', metavar='FILE', help='a scenario, or a report; - is standard input')
+    words.add_argument('question', metavar='QUESTION', nargs='?', help='a sentence, or a line of the report')
+    words.add_argument('--scenario', metavar='FILE', help="the report's scenario")
+    words.add_argument('--other', metavar='FILE', help='a second run: shows where it leaves the chain of the first')
+    words.add_argument('--other-scenario', metavar='FILE', help='the scenario of a second report')
+    words.add_argument('--watch', metavar='WORD', nargs='+',
+                       help='shows the values of variables over time: --watch mote 3 newest, distance')
+    words.add_argument('--replay', action='store_true', help='takes the values from the replay, without added prints')
+    words.add_argument('--state', metavar='WORD', nargs='+',
+                       help='shows the state of a mote: --state mote 3 at 46, or after a line: --state 3:114')
+    words.add_argument('--json', action='store_true', help='for programs')
+    words.add_argument('--short', action='store_true', help='only the hops that took time')
+    asked = words.parse_args()
+    given = [it for it in (asked.question, asked.watch, asked.state) if it is not None]
+    if len(given) != 1:
+        raise Fault('one question is needed: a sentence, a line, --watch or --state')
+    source = read_source(asked.file, asked.scenario)
+    if asked.watch is not None:
+        return show_watch(source, asked)
+    if asked.state is not None:
+        return show_state(source, asked)
+    return show_why(source, asked)

@@ -28,6 +28,10 @@ class Halted(Exception):
     """The mote halts."""
 
 
+class Stopped(Exception):
+    """The mote has written as many lines as were wanted."""
+
+
 class Frame(NamedTuple):
     """A call of a process, or of a handler.
 
@@ -138,6 +142,8 @@ class Replay:
         self.program, self.mote, self.room, self.trace = program, mote, queue, trace
         self.count = len(trace)
         self.lines = 0
+        # (how many lines are wanted, or none to stop at)
+        self.last = -1
         self.links: list[Link] = []
         self.changes: list[Change] = []
         self.calls: list[Called] = []
@@ -158,6 +164,8 @@ class Replay:
         self.spawned: list[list[tuple[str, int]]] = [[] for _ in range(own)]
         self.current = 0
         self.events: list[Event] = []
+        # (the event that is taken next, whose place in the queue is free already)
+        self.taken: Event | None = None
         self.serial = self.sent = 0
         self.ring: list[tuple[int, int, int]] = []
         self.timers = [Timer() for _ in program.timers]
@@ -177,6 +185,8 @@ class Replay:
     def write(self, words: str, link: Link) -> int:
         """The next line of the trace has to say this."""
         at = self.lines
+        if at == self.last:
+            raise Stopped
         if at >= self.count or self.trace[at] != '%d %s' % (self.now, words):
             self.part('%d %s' % (self.now, words))
         self.links.append(link)
@@ -287,17 +297,17 @@ class Replay:
             self.run(process, frame)
             self.calls.append(Called(self.lines, self.now, frame, True))
             self.frame, self.current = before, current
-        self.list.remove(process)
         self.write('leave %s' % self.name(process), self.of_call(row))
+        self.list.remove(process)
 
     def start(self, process: int, row: int) -> None:
         if self.is_busy[process]:
             self.write('busy %s' % self.name(process), self.of_call(row))
         elif process not in self.list:
+            line = self.write('start %s' % self.name(process), self.of_call(row))
             self.list.insert(0, process)
             self.born[process] += 1
             self.state[process] = 1
-            line = self.write('start %s' % self.name(process), self.of_call(row))
             if process >= 0:
                 self.spawned[process] = []
                 self.stands[process] = 0
@@ -430,13 +440,14 @@ class Replay:
     def hand_on(self) -> None:
         """radio empties the ring."""
         while self.ring:
-            sender, number, line = self.ring.pop(0)
+            sender, number, line = self.ring[0]
             value = int(self.trace[line].rsplit(' ', 1)[1])
             link = Link('packet', line)
             if self.program.receiver is None:
                 self.write('deaf %d %d' % (sender, number), link)
             else:
                 self.queue(self.program.receiver, 'packet', value, sender, link)
+            self.ring.pop(0)
 
     # Turns
 
@@ -475,15 +486,17 @@ class Replay:
         link = Link('posted', event.line)
         if process not in self.list:
             self.write('drop %d %s' % (event.serial, self.name(process)), link)
+            self.taken = None
             return
         line = self.write('take %d %s' % (event.serial, self.name(process)), link)
+        self.taken = None
         self.call(process, event.event, event.word, event.sender, 'take', 0, line)
 
     def kernel_run(self) -> int:
         self.units = UNITS
         self.polls()
         if self.events:
-            event = self.events.pop(0)
+            self.taken = event = self.events.pop(0)
             if event.target is not None:
                 self.take(event, event.target)
             else:
@@ -497,6 +510,7 @@ class Replay:
                 self.take(event, process)
             else:
                 self.write('drop %d %s' % (event.serial, self.name(process)), Link('posted', event.line))
+                self.taken = None
 
     def next_due(self) -> int | None:
         return min((self.timers[it].due for it in self.timer_list), default=None)
@@ -528,7 +542,24 @@ class Replay:
         return int(at) if kind in ARRIVALS else None
 
     def to_end(self, end: int) -> Replay:
-        """Runs the mote up to the last moment of the scenario."""
+        """Runs the mote up to the last moment of the scenario, to the end of its trace."""
+        self.up_to(end)
+        if self.lines < self.count:
+            raise Parted("the trace of mote %d isn't that of its program: it should end before its line %d, '%s'" % (
+                self.mote, self.lines + 1, self.trace[self.lines]))
+        return self
+
+    def to_line(self, lines: int, end: int) -> Replay:
+        """Runs the mote until it has written so many lines, or to a moment."""
+        self.last = lines
+        try:
+            self.up_to(end)
+        except Stopped:
+            pass
+        return self
+
+    def up_to(self, end: int) -> Replay:
+        """Runs the mote up to a moment, with all that it does then."""
         at: int | None = 0
         try:
             while at is not None and at <= end:
@@ -539,7 +570,4 @@ class Replay:
             pass
         except (ValueError, IndexError, KeyError, RecursionError) as fault:
             raise Parted('the trace of mote %d can\'t be replayed: %s' % (self.mote, fault)) from None
-        if self.lines < self.count:
-            raise Parted("the trace of mote %d isn't that of its program: it should end before its line %d, '%s'" % (
-                self.mote, self.lines + 1, self.trace[self.lines]))
         return self

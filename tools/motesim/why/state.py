@@ -1,0 +1,122 @@
+"""The state of a mote at a moment or after a line: docs/use/WATCH.md.
+
+A report doesn't say where a process waits, or which timers run. The replay of the mote knows both.
+"""
+from __future__ import annotations
+
+import re
+from typing import Any
+
+from motesim.faults import Fault
+from motesim.why.chain import in_words
+from motesim.why.question import LINE, line_asked
+from motesim.why.replay import CTIMER, Replay
+from motesim.why.source import At, Source
+
+ASKED = re.compile(r'\s*mote\s+(\d{1,9})\s+at\s+(\d{1,9})\s*')
+
+
+def fresh(source: Source, mote: int) -> Replay:
+    """A replay that hasn't run yet."""
+    room = source.replay(mote).room
+    return Replay(source.program(mote), mote, room, source.traces.lines(mote))
+
+
+def after_moment(source: Source, mote: int, at: int) -> Replay:
+    """A mote at the end of a moment."""
+    return fresh(source, mote).up_to(at)
+
+
+def after_line(source: Source, where: At) -> Replay:
+    """A mote after a line, before it writes the next one."""
+    return fresh(source, where.mote).to_line(where.place + 1, source.traces.moment(where))
+
+
+def read_state(source: Source, question: str) -> tuple[Replay, int, str]:
+    """The state that is asked for, as `mote 3 at 46` or `3:114`; its moment, and a heading."""
+    asked = ASKED.fullmatch(question)
+    if asked:
+        mote, at = int(asked[1]), int(asked[2])
+        if mote >= source.traces.motes:
+            raise Fault('there is no mote %d: the motes are 0 to %d' % (mote, source.traces.motes - 1))
+        if at > source.scenario.end:
+            raise Fault('the run ends at %d' % source.scenario.end)
+        return after_moment(source, mote, at), at, 'mote %d at the end of moment %d' % (mote, at)
+    where = line_asked(source.traces, question) if LINE.fullmatch(question) else None
+    if where is None or where.place < 0:
+        raise Fault("'%s' is no state; write it as: mote 3 at 46, or as a line of a trace: 3:114" % question)
+    return after_line(source, where), source.traces.moment(where), 'mote %d after line %d: %s' % (
+        where.mote, source.traces.row(where), source.traces.text(where))
+
+
+def waits(replay: Replay, process: int) -> str:
+    """Where a process stands."""
+    if replay.state[process] == 2:
+        return 'is being called'
+    stands = replay.standing(process)
+    if not stands or not stands[-1]:
+        return 'begins at its next call'
+    return 'waits at %s' % ', in '.join(in_words(replay.program, it) for it in reversed(stands))
+
+
+def as_json(replay: Replay, at: int) -> dict[str, Any]:
+    """A state for programs, and for the pages."""
+    program = replay.program
+    names = [it.name for it in program.processes]
+    timers = []
+    for number, it in enumerate(replay.timers):
+        if number in replay.timer_list:
+            owner = program.timers[number].process if it.owner == CTIMER else it.owner
+            timers.append({'number': number, 'name': program.timers[number].name, 'due': it.due,
+                           'process': replay.name(owner), 'set_at': it.since,
+                           'set_by': in_words(program, it.row) if it.row else None})
+    processes = []
+    for number, name in enumerate(names):
+        is_there = number in replay.list
+        stands = replay.standing(number) if is_there else ()
+        processes.append({
+            'name': name, 'started': is_there, 'waits': waits(replay, number) if is_there else None,
+            'program_line': program.statement(stands[-1]).line if stands and stands[-1] else None,
+            'variables': {variable: replay.variables[number][place]
+                          for variable, place in program.processes[number].variables.items()},
+            'polled': number in replay.needs_poll})
+    return {
+        'mote': replay.mote, 'at': at, 'halted': replay.is_halted, 'processes': processes,
+        'timers': sorted(timers, key=lambda it: (it['due'], it['number'])),
+        'queue': [{'serial': it.serial, 'for': replay.name(it.target), 'event': it.event, 'word': it.word,
+                   'from': it.sender, 'posted_at': int(replay.trace[it.line].partition(' ')[0])}
+                  for it in ([replay.taken] if replay.taken else []) + replay.events],
+        'semaphores': {name: replay.counts[place] for name, place in program.semaphores.items()},
+        'waiting_packets': len(replay.ring),
+    }
+
+
+def rows(state: dict[str, Any], heading: str) -> list[str]:
+    """A state as text."""
+    lines = [heading]
+    if state['halted']:
+        return lines + ['  it has halted']
+    for it in state['processes']:
+        polled = ', and is to be polled' if it['polled'] else ''
+        lines.append('  process %s %s%s' % (it['name'], it['waits'] if it['started'] else 'is not started', polled))
+        lines += ['    %s = %d' % pair for pair in it['variables'].items()]
+    for it in state['timers']:
+        left = it['due'] - state['at']
+        when = 'in %d moments' % left if left > 1 else 'in 1 moment' if left else 'now'
+        lines.append('  timer %s of %s is due at %d, %s; set at %d in %s' % (
+            it['name'], it['process'], it['due'], when if left >= 0 else 'and waits for room in the queue',
+            it['set_at'], it['set_by']))
+    if not state['timers']:
+        lines.append('  no timer runs')
+    for it in state['queue']:
+        lines.append('  event %d waits: %s %d for %s, posted at %d' % (
+            it['serial'], it['event'], it['word'], it['for'], it['posted_at']))
+    if not state['queue']:
+        lines.append('  the event queue is empty')
+    if state['waiting_packets']:
+        lines.append('  %d packets wait for the radio process' % state['waiting_packets'])
+    lines += ['  semaphore %s = %d' % pair for pair in state['semaphores'].items()]
+    return lines
+
+
+__all__ = ['after_line', 'after_moment', 'as_json', 'read_state', 'rows']
