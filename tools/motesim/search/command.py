@@ -25,33 +25,28 @@ docs/use/SEARCH.md begins with a protocol that looks right, and says what the re
 from __future__ import annotations
 
 import argparse
-import hashlib
 import os
 from functools import partial
 from pathlib import Path
 
-from motesim.judge.expectations import beside, parts_of, read_all, text_of
+from motesim.experiments.asked import values_of
+from motesim.experiments.runs import Break
 from motesim.faults import INTERRUPTED, Fault, command
-from motesim.experiments.one_run import program_digest
-from motesim.runner.programs import program_path
+from motesim.judge.expectations import beside, parts_of, read_all, text_of
+from motesim.judge.sentences import Names, Refused, Sentence, names_of
+from motesim.search.asking import Asking
 from motesim.search.change import NUMBERS, Base
-from motesim.search.faults import KINDS, Asked, faults_of
+from motesim.search.faults import KINDS, Asked
 from motesim.search.found import (
     Found, as_csv, as_json, counted, covered_lines, found_by, is_whole, verdict_lines, write_files, write_whole,
 )
 from motesim.search.kept import Kept
 from motesim.search.one_program import Limits, OneProgram
-from motesim.search.prepare import Plain, Prepared, plain_run, prepare
 from motesim.search.progress import Progress
-from motesim.search.runner import Here
 from motesim.search.search import Bounds, Search
-from motesim.search.sets import Known
 from motesim.search.shrink import Shrinking, case_of
 from motesim.search.shrink_command import sizes, write_result
-from motesim.search.work import Work, mask_of, numbers_of
-from motesim.judge.sentences import Names, Refused, Sentence, names_of
-from motesim.experiments.asked import values_of
-from motesim.experiments.runs import Break
+from motesim.search.study import check_studies
 from motesim.words import words_of
 
 STATE = 'tried.txt'
@@ -59,7 +54,7 @@ STATE = 'tried.txt'
 
 def arguments() -> argparse.ArgumentParser:
     words = words_of(__doc__)
-    words.add_argument('scenario', metavar='SCENARIO', help='a scenario, NAME.toml')
+    words.add_argument('scenario', nargs='?', metavar='SCENARIO', help='a scenario, NAME.toml')
     words.add_argument('expectations', nargs='?', metavar='EXPECTATIONS', help='else NAME.expect.toml beside it')
     words.add_argument('--expect', action='append', default=[], metavar='SENTENCE',
                        help='an expectation, in place of those of a file')
@@ -85,6 +80,8 @@ def arguments() -> argparse.ArgumentParser:
     words.add_argument('--all', action='store_true', help='show all that was found, and not ten for each expectation')
     words.add_argument('--shrink', action='store_true',
                        help='make the first counter-example of each broken expectation as small as it gets')
+    words.add_argument('--studies', nargs='+', metavar='FILE',
+                       help='check that the searches of these files come out as they say')
     words.add_argument('--resume', action='store_true', help='go on where the same search was stopped')
     return words
 
@@ -140,82 +137,18 @@ def sentences_of(words: argparse.Namespace, names: Names) -> tuple[list[str], li
     return [text for text, _ in kept], [it for _, it in kept]
 
 
-class Asking:
-    """All that a search is asked to do, read and made ready."""
-
-    def __init__(self, words: argparse.Namespace):
-        self.words = words
-        self.asked = asked_of(words)
-        self.base = Base(text_of(Path(words.scenario)), words.scenario)
-        self.texts, self.sentences = sentences_of(words, names_of(self.base.scenario_itself))
-        self.limits = Limits(words.seconds, words.bytes)
-        self.path = program_path().resolve()
-        program = OneProgram(str(self.path), self.limits)
-        self.plain: Plain = plain_run(self.base, program, self.sentences)
-        self.asked.sent = tuple(self.plain.sent)
-        self.prepared: Prepared = prepare(self.base, self.plain, program, self.sentences,
-                                          faults_of(self.base, self.asked))
-        program.close()
-        self.folder = Path(words.output) if words.output else Path(
-            Path(words.scenario).name.removesuffix('.toml') + '.search')
-
-    @property
-    def notes(self) -> list[str]:
-        """What is said before anything is tried."""
-        broken = [self.texts[number] for number in self.plain.broken]
-        rows = ['broken without a fault, so left out: ' + it for it in broken]
-        rows += ['left out: ' + it for it in self.prepared.left_out]
-        blind = 0
-        for mask in self.prepared.blind.values():
-            blind |= mask
-        rows += ['the process that makes a mote fail or start late breaks this by itself, so that nothing is said of '
-                 'it with such faults: ' + self.texts[number] for number in numbers_of(blind)]
-        return rows
-
-    def digest(self) -> str:
-        """What tells one search from another."""
-        parts = (self.base.source, self.texts, self.prepared.faults, self.limits, program_digest(self.path))
-        return hashlib.sha256(repr(parts).encode()).hexdigest()[:16]
-
-    def search(self, progress: Progress) -> Search:
-        held = [number for number in range(len(self.texts)) if number not in self.plain.broken]
-        known = Known(self.prepared.faults, mask_of(held))
-        words = self.words
-        bounds = Bounds(words.at_most, words.random, words.seed, words.most_runs, words.most_seconds)
-        kept = Kept()
-        self.folder.mkdir(parents=True, exist_ok=True)
-        kept.open(self.folder / STATE, self.digest(), words.resume)
-        return Search(known, bounds, kept, self.prepared.blind_of(), progress.show)
-
-    def work(self) -> Work:
-        return Work(self.base.source, self.base.name, self.prepared.faults, self.sentences, str(self.path), self.limits)
+def asking_of(words: argparse.Namespace) -> Asking:
+    """What the command line asks for."""
+    base = Base(text_of(Path(words.scenario)), words.scenario)
+    texts, sentences = sentences_of(words, names_of(base.scenario_itself))
+    bounds = Bounds(words.at_most, words.random, words.seed, words.most_runs, words.most_seconds)
+    return Asking(base, texts, sentences, asked_of(words), bounds, Limits(words.seconds, words.bytes))
 
 
-def carried_out(asking: Asking) -> Search:
-    """Searches, until all is tried, a limit is reached, or Ctrl-C comes."""
-    progress = Progress()
-    search = asking.search(progress)
-    with Break() as asked:
-        search.asks_end = lambda: asked.is_asked
-        runner = Here(asking.work(), asking.words.jobs)
-        try:
-            search.run(runner)
-        except KeyboardInterrupt:
-            search.is_stopped = True
-            search.is_over()
-            runner.kill()
-        finally:
-            runner.close()
-            progress.end()
-            search.kept.close()
-    return search
-
-
-def told(asking: Asking, search: Search) -> int:
+def told(words: argparse.Namespace, asking: Asking, search: Search, folder: Path) -> int:
     """Writes and shows what was found; gives the status."""
-    words = asking.words
     found = found_by(search, asking.texts)
-    write_files(found, asking.base, asking.texts, asking.folder)
+    write_files(found, asking.base, asking.texts, folder)
     if words.csv:
         write_whole(Path(words.csv), as_csv(found))
     as_text = as_json(search, found, asking.texts, asking.base.name, asking.notes) if words.json else ''
@@ -227,15 +160,15 @@ def told(asking: Asking, search: Search) -> int:
         for row in [*asking.notes, *covered_lines(search), *verdict_lines(search, found, asking.texts, words.all)]:
             print(row)
         print()
-        print(last_line(search, found, asking.folder))
+        print(last_line(search, found, folder))
     if search.is_stopped:
         return INTERRUPTED
     if words.shrink:
-        shrink_each(asking, found)
+        shrink_each(asking, found, folder, words.json == '-')
     return 1 if found else 0
 
 
-def shrink_each(asking: Asking, found: list[Found]) -> None:
+def shrink_each(asking: Asking, found: list[Found], folder: Path, is_quiet: bool) -> None:
     """Makes the first counter-example of each expectation small: it holds without the faults, and not with them."""
     program = OneProgram(str(asking.path), asking.limits)
     for number, sentence in enumerate(asking.texts, 1):
@@ -247,9 +180,9 @@ def shrink_each(asking: Asking, found: list[Found]) -> None:
             case = case_of(asking.base.source, sentence, effects)
             shrinking = Shrinking(program, case, partial(getattr, stop, 'is_asked'))
             shrinking.run()
-        path = asking.folder / ('small_%d.toml' % number)
+        path = folder / ('small_%d.toml' % number)
         write_result(shrinking, Path(asking.base.name).name, path)
-        if asking.words.json != '-':
+        if not is_quiet:
             print('%s (%s) breaks: %s' % (path, sizes(shrinking.text), shrinking.case.sentence))
         if not shrinking.is_whole:
             break
@@ -274,12 +207,39 @@ def last_line(search: Search, found: list[Found], folder: Path) -> str:
     return said
 
 
+def checked(files: list[str], processes: int) -> int:
+    """Checks fault studies; gives the status."""
+    counts = [check_studies(Path(it), processes) for it in files]
+    passed, failed = (sum(column) for column in zip(*counts))
+    print('%d passed, %d failed' % (passed, failed))
+    return 1 if failed else 0
+
+
 @command('search')
 def main() -> int:
-    words = arguments().parse_args()
+    return status_of(arguments().parse_args())
+
+
+def status_of(words: argparse.Namespace) -> int:
+    """Does what the command line asks for; gives the status."""
     if words.jobs < 1 or words.at_most < 0 or words.random < 0 or words.seconds <= 0 or words.bytes < 1:
         raise Fault('--jobs, --seconds and --bytes are more than 0, and --at-most and --random 0 or more')
     if words.expectations and words.expect:
         raise Fault('the expectations stand in a file or in --expect, and not in both')
-    asking = Asking(words)
-    return told(asking, carried_out(asking))
+    if words.studies:
+        return checked(words.studies, words.jobs)
+    if words.scenario is None:
+        raise Fault('SCENARIO is missing: tools/search --help says more')
+    asking = asking_of(words)
+    if len(asking.plain.broken) == len(asking.texts):
+        raise Fault('%s breaks each of the expectations without a fault, so there is nothing to search for' % words.scenario)
+    folder = Path(words.output) if words.output else Path(
+        Path(words.scenario).name.removesuffix('.toml') + '.search')
+    folder.mkdir(parents=True, exist_ok=True)
+    kept = Kept()
+    kept.open(folder / STATE, asking.digest(), words.resume)
+    progress = Progress()
+    with Break() as stop:
+        search = asking.search(words.jobs, kept, progress.show, lambda: stop.is_asked)
+    progress.end()
+    return told(words, asking, search, folder)

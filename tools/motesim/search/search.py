@@ -33,7 +33,7 @@ class Search:
     """A search for the sets of faults that break expectations."""
 
     def __init__(self, known: Known, bounds: Bounds, kept: Kept, blind: Callable[[Set], int] = lambda found: 0,
-                 shown: Callable[[Search, int, bool], None] = lambda search, size, is_sample: None):
+                 shown: Callable[[Search, int, bool], None] | None = None):
         self.known, self.bounds, self.kept, self.blind, self.shown = known, bounds, kept, blind, shown
         self.tallies: dict[int, Tally] = {}
         self.sample = Tally()
@@ -102,7 +102,8 @@ class Search:
         for outcome in runner.outcomes(self.tasks(sets, tally, found), self.is_over):
             self.kept.add(outcome)
             self.note(outcome, tally, found)
-            self.shown(self, size, hold is not None)
+            if self.shown:
+                self.shown(self, size, hold is not None)
         for outcome in found:
             if hold:
                 hold(outcome)

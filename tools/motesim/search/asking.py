@@ -1,0 +1,73 @@
+"""All that a search is asked to do, read and made ready, and how it is carried out."""
+from __future__ import annotations
+
+import hashlib
+from collections.abc import Callable
+
+from motesim.experiments.one_run import program_digest
+from motesim.judge.sentences import Sentence
+from motesim.runner.programs import program_path
+from motesim.search.change import Base
+from motesim.search.faults import Asked, faults_of
+from motesim.search.kept import Kept
+from motesim.search.one_program import Limits, OneProgram
+from motesim.search.prepare import plain_run, prepare
+from motesim.search.runner import Here
+from motesim.search.search import Bounds, Search
+from motesim.search.sets import Known
+from motesim.search.work import Work, mask_of, numbers_of
+
+
+class Asking:
+    """A scenario with sentences, the faults to search with, and the bounds. What has to be known of it without a fault
+    is found out at once."""
+
+    def __init__(self, base: Base, texts: list[str], sentences: list[Sentence], asked: Asked, bounds: Bounds,
+                 limits: Limits = Limits()):
+        self.base, self.texts, self.sentences, self.bounds, self.limits = base, texts, sentences, bounds, limits
+        self.path = program_path().resolve()
+        program = OneProgram(str(self.path), limits)
+        self.plain = plain_run(base, program, sentences)
+        asked.sent = tuple(self.plain.sent)
+        self.prepared = prepare(base, self.plain, program, sentences, faults_of(base, asked))
+        program.close()
+
+    @property
+    def notes(self) -> list[str]:
+        """What is said before anything is tried."""
+        broken = [self.texts[number] for number in self.plain.broken]
+        rows = ['broken without a fault, so left out: ' + it for it in broken]
+        rows += ['left out: ' + it for it in self.prepared.left_out]
+        blind = 0
+        for mask in self.prepared.blind.values():
+            blind |= mask
+        rows += ['the process that makes a mote fail or start late breaks this by itself, so that nothing is said of '
+                 'it with such faults: ' + self.texts[number] for number in numbers_of(blind)]
+        return rows
+
+    def digest(self) -> str:
+        """What tells one search from another."""
+        parts = (self.base.source, self.texts, self.prepared.faults, self.limits, program_digest(self.path))
+        return hashlib.sha256(repr(parts).encode()).hexdigest()[:16]
+
+    def work(self) -> Work:
+        return Work(self.base.source, self.base.name, self.prepared.faults, self.sentences, str(self.path), self.limits)
+
+    def search(self, processes: int, kept: Kept, shown: Callable[[Search, int, bool], None] | None = None,
+               asks_end: Callable[[], bool] = lambda: False) -> Search:
+        """Searches, until all is tried, a limit is reached, or the end is asked for."""
+        held = [number for number in range(len(self.texts)) if number not in self.plain.broken]
+        known = Known(self.prepared.faults, mask_of(held))
+        search = Search(known, self.bounds, kept, self.prepared.blind_of(), shown)
+        search.asks_end = asks_end
+        runner = Here(self.work(), processes)
+        try:
+            search.run(runner)
+        except KeyboardInterrupt:
+            search.is_stopped = True
+            search.is_over()
+            runner.kill()
+        finally:
+            runner.close()
+            kept.close()
+        return search

@@ -1,0 +1,72 @@
+"""The fault studies of the examples come out as they say; and what is told of one that doesn't, or can't be read."""
+import contextlib
+import io
+import os
+import tempfile
+import unittest
+from pathlib import Path
+
+from here import TOP
+from motesim.faults import Fault
+from motesim.search.study import check_studies, studies_of
+from skips import need_program
+from test_search import DIAMOND, REACHED
+
+STUDY = '''scenario = "diamond.toml"
+[[study]]
+about = "no link is needed"
+faults = "links"
+expect = ["%s"]
+breaks = []
+[[study]]
+about = "but for mote 1"
+faults = "motes"
+expect = ["%s"]
+breaks = ["mote 1 is silent"]
+[[study]]
+about = "one of each way, of the pairs"
+faults = "links"
+at_most = 2
+expect = ["%s"]
+counts = [0, 4]
+''' % ((REACHED,) * 3)
+
+
+class Studies(unittest.TestCase):
+    def check(self, text):
+        with tempfile.TemporaryDirectory() as folder, contextlib.redirect_stdout(io.StringIO()) as said:
+            Path(folder, 'diamond.toml').write_text(DIAMOND)
+            path = Path(folder, 'study.toml')
+            path.write_text(text)
+            return *check_studies(path, 2), said.getvalue()
+
+    def test_of_the_examples(self):
+        need_program(self)
+        files = sorted((TOP / 'examples/faults').glob('*.toml'))
+        names = {it.name for it in files}
+        self.assertLessEqual({'flooding.toml', 'collection_tree.toml', 'leader_ring.toml', 'tdma.toml',
+                              'tdma_without_slots.toml'}, names)
+        for path in files:
+            with self.subTest(path.name), contextlib.redirect_stdout(io.StringIO()) as said:
+                self.assertEqual(check_studies(path, os.cpu_count() or 1)[1], 0, said.getvalue())
+
+    def test_what_is_told(self):
+        need_program(self)
+        passed, failed, said = self.check(STUDY)
+        self.assertEqual((passed, failed), (2, 1))
+        self.assertIn('as said study.toml: no link is needed\nwrong   study.toml: but for mote 1\n', said)
+        self.assertIn('nothing is broken any more by: mote 1 is silent\n', said)
+        self.assertIn('broken, though not expected, by: mote 0 is silent\n', said)
+
+    def test_what_cannot_be_read(self):
+        for text, wanted in (('a = [', 'is no TOML'), ('scenario = "x"', r'no tables \[\[study\]\]'),
+                             (STUDY.replace('faults = "links"', 'faults = 5', 1), 'study 1 of .* `faults` can.t stand'),
+                             (STUDY.replace('breaks = []', '', 1), 'study 1 of .* lacks')):
+            with tempfile.TemporaryDirectory() as folder, self.assertRaisesRegex(Fault, wanted):
+                path = Path(folder, 'study.toml')
+                path.write_text(text)
+                studies_of(path)
+
+
+if __name__ == '__main__':
+    unittest.main()
