@@ -232,7 +232,8 @@ def status_of(words: argparse.Namespace) -> int:
         raise Fault('SCENARIO is missing: tools/search --help says more')
     asking = asking_of(words)
     if len(asking.plain.broken) == len(asking.texts):
-        raise Fault('%s breaks each of the expectations without a fault, so there is nothing to search for' % words.scenario)
+        raise Fault('%s breaks each of the expectations without a fault, so there is nothing to search for'
+                    % words.scenario)
     folder = Path(words.output) if words.output else Path(
         Path(words.scenario).name.removesuffix('.toml') + '.search')
     folder.mkdir(parents=True, exist_ok=True)

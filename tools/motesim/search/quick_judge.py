@@ -8,6 +8,7 @@ from __future__ import annotations
 
 import re
 from collections.abc import Callable, Iterable
+from dataclasses import fields, is_dataclass
 from functools import cached_property, partial
 
 from motesim.judge.judge import Judge
@@ -129,6 +130,29 @@ class _Unknown(Exception):
     """A form of sentence that is left to `motesim.judge`."""
 
 
+# Of each class of a sentence the parts that the checks here look at. Where another part says something, the sentence is
+# left to `motesim.judge`.
+LOOKED_AT: dict[type, frozenset[str]] = {kind: frozenset(names.split()) for kind, names in {
+    Does: 'motes deed count window is_counted', Motes: 'kind numbers but count', Deed: 'patterns way value values',
+    Count: 'compare number', Window: 'begin end hop root every', Value: 'kind number but',
+    Copies: 'count outcome motes window', Packets: 'count window', Lines: 'count', Hears: 'motes can other'}.items()}
+
+
+def _check_parts(it: object) -> None:
+    """Whether all that a sentence says is in parts that are looked at."""
+    if isinstance(it, tuple):
+        for member in it:
+            _check_parts(member)
+    if not is_dataclass(it):
+        return
+    for field in fields(it):
+        value = getattr(it, field.name)
+        if field.name in LOOKED_AT.get(type(it), ()):
+            _check_parts(value)
+        elif value != field.default:
+            raise _Unknown
+
+
 def _lines_of(pattern: Pattern) -> Callable[[Seen, int], list[Row]]:
     """A function that gives the lines of a mote which have this pattern."""
     kind = str(pattern[0])
@@ -183,7 +207,7 @@ def _so_many(motes: Motes, count: Count, unit: Callable[[Seen, int], bool], seen
 
 
 def _does(it: Does) -> Check:
-    if it.than or len(it.deed.patterns) > 1 or it.motes.kind == 'together':
+    if len(it.deed.patterns) > 1 or it.motes.kind == 'together':
         raise _Unknown
     unit, motes = _unit(it), it.motes
     if motes.kind == 'each':
@@ -238,6 +262,7 @@ def _hears(it: Hears) -> Check:
 
 def _check_of(it: Sentence) -> Check:
     """The check of a sentence."""
+    _check_parts(it)
     if isinstance(it, Does):
         return _does(it)
     if isinstance(it, Copies):
