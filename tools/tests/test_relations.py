@@ -93,7 +93,7 @@ SENTENCES: list[tuple[str, str | None, int | None]] = [
     # Parts of motes: 1, 2 of 4 print a; 3 of 4 have a line `start`.
     ('at least 50 % of motes print a', None, None),
     ('at least 51% of motes print a',
-     '2 of 4 motes do; wanted: at least 51 %; the first that doesn\'t: mote 0 has 0 such lines; wanted: at least 1', None),
+     '2 of 4 motes do; wanted: at least 51 %; the first that doesn\'t is\nmote 0 has 0 such lines; wanted: at least 1', None),
     ('at most 50 % of the motes print a', None, None),
     ('at least 66 % of motes but 0 print a', None, None),
     ('exactly 100 % of motes 1 to 2 print a', None, None),

@@ -112,10 +112,11 @@ def read_all(sentences: list[str], names: Names) -> list[Sentence]:
 
 def more_of(broken: Broken, rows: list[str]) -> list[str]:
     """What is shown of a broken sentence."""
+    why = broken.why.split('\n')
     if broken.row is None:
-        return [broken.why]
+        return why
     row = rows[broken.row - 1]
-    return [broken.why, 'line %d: %s' % (broken.row, row if len(row) <= LONGEST_SHOWN else row[:LONGEST_SHOWN] + '..')]
+    return [*why, 'line %d: %s' % (broken.row, row if len(row) <= LONGEST_SHOWN else row[:LONGEST_SHOWN] + '..')]
 
 
 def same_report(rows: list[str], wanted: str) -> Told:

@@ -266,7 +266,7 @@ class Judge:
         why = '%d of %d motes do; wanted: %s' % (len(doing), len(chosen), count)
         first = next((mote for mote in chosen if mote not in doing), None)
         more = broken[first] if first is not None and count.least else None
-        return Broken('%s; the first that doesn\'t: %s' % (why, more.why), more.row) if more else Broken(why)
+        return Broken('%s; the first that doesn\'t is\n%s' % (why, more.why), more.row) if more else Broken(why)
 
     def part_of_copies(self, it: Copies) -> Broken | None:
         """Whether such a part of the copies that were due has an outcome."""
