@@ -10,9 +10,7 @@ from unittest import mock
 from here import TOP
 from motesim.explain import explanation as explain
 from motesim.explain import hints
-from motesim.judge import expectations, grade
 from motesim.scenario import faults as scenario_faults
-from motesim.faults import Fault
 from motesim.summary.flows import FlowFault, flow_rows, read_flow
 from motesim.explain.lint import warnings
 from motesim.notation.faults import find_fault
@@ -200,48 +198,6 @@ class Flows(unittest.TestCase):
         for words in 'print', 'sink', 'print a -> print b -> print c', '':
             with self.assertRaises(FlowFault):
                 read_flow(words)
-
-
-class Grades(unittest.TestCase):
-    def test_the_table(self) -> None:
-        answers = {'good': Answer(0, b'mote 0 p\n0 print a 1\nmedium\nleft 0\n', b''),
-                   'poor': Answer(0, b'mote 0 p\nmedium\nleft 0\n', b''),
-                   'ill': Answer(1, b'', b'motesim: program p fault 2 line 1\n')}
-        text = 'version = 1\nend = 5\n[medium]\nrange = 1\nbase = 1\nper = 1\n' \
-               '[programs]\np = "process a; code a { body { } }"\n[[mote]]\nx = 0\ny = 0\nprogram = "p"\n# %s\n'
-        with tempfile.TemporaryDirectory() as folder:
-            for name in answers:
-                (Path(folder) / (name + '.toml')).write_text(text % name, encoding='utf-8')
-            wanted = Path(folder) / 'task.expect.toml'
-            wanted.write_text('expect = ["mote 0 prints a 1", "no mote halts"]\n', encoding='utf-8')
-            with mock.patch.object(expectations, 'answer', lambda data: answers[data.decode().split('# ')[1].strip()]):
-                graded = grade.grade(Path(folder), wanted)
-        self.assertEqual(grade.table(graded), [
-            'good.toml  2 of 2', 'ill.toml   0 of 2  the scenario is refused: motesim: program p fault 2 line 1',
-            'poor.toml  1 of 2  broken: 1'])
-        self.assertEqual(grade.below(graded)[0], '  1  1 of 3  mote 0 prints a 1')
-
-    def graded(self, processes: dict[str, str], sentences: str) -> list[str]:
-        """The table of scenarios of one mote, each with its process, that print 1."""
-        with tempfile.TemporaryDirectory() as folder, mock.patch.object(
-                expectations, 'answer', lambda data: Answer(0, b'mote 0 source\nmedium\nleft 0\n', b'')):
-            for name, process in processes.items():
-                text = scenario(program='process %s; code %s { body { } }' % (process, process))
-                (Path(folder) / (name + '.toml')).write_text(text.rsplit('[[mote]]', 1)[0], encoding='utf-8')
-            wanted = Path(folder) / 'task.expect.toml'
-            wanted.write_text('expect = [%s]\n' % sentences, encoding='utf-8')
-            return grade.table(grade.grade(Path(folder), wanted))
-
-    def test_a_sentence_on_what_a_scenario_lacks_is_broken_alone(self) -> None:
-        self.assertEqual(self.graded({'anna': 'a', 'dora': 'b'}, '"no mote halts", "mote 0 never prints a 1"'), [
-            'anna.toml  2 of 2', 'dora.toml  1 of 2  broken: 2; no process `a` (it has `b`)'])
-
-    def test_what_no_scenario_has_is_a_fault_of_the_sentences(self) -> None:
-        for sentence, wanted in ('mote 0 prints c 1', 'no process `c` (it has `a`)'), (
-                'mote 7 halts', 'no mote 7 (its motes are 0 to 0)'), ('mote 0 prunts a', 'sentence 2 is not known'):
-            with self.assertRaises(Fault) as told:
-                self.graded({'anna': 'a', 'dora': 'b'}, '"no mote halts", "%s"' % sentence)
-            self.assertIn(wanted, str(told.exception))
 
 
 if __name__ == '__main__':

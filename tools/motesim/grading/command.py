@@ -1,0 +1,153 @@
+"""Grades a folder of solutions: tools/grade FOLDER EXPECTATIONS [--net NET]
+
+  tools/grade answers task.expect.toml                                 each solution in the net of its own
+  tools/grade answers task.expect.toml --net task.toml                 its program alone, in your net
+  tools/grade answers task.expect.toml --net task.toml --net hidden.toml
+  tools/grade answers task.expect.toml --net task.plan.toml --vary seed=1..5
+
+A solution is a scenario NAME.toml, or with --net also a program NAME.mote. With --net only the text of the program
+named by --program is taken from it (or its only one), so that nobody gains by changing the net; a sentence holds if it
+holds in all nets. Each entry of the folder has a row, whatever it is, and none stops the others: each run has limits
+(--seconds, --memory, --report), and several run at once (--jobs).
+
+Tables `[[change]]` of EXPECTATIONS are not tried: they replace texts of one solution. -o writes marks into a file:
+NAME.csv for a spreadsheet, NAME.toml, or NAME.html, a page that links each first failed sentence to its timeline.
+--why NAME shows what breaks the sentences in one solution.
+
+Ends with status 0, or with 2 if the sentences or the nets can't be read.
+"""
+from __future__ import annotations
+
+import argparse
+import os
+import sys
+from collections.abc import Sequence
+from pathlib import Path
+
+from motesim.faults import Fault, command
+from motesim.grading import page, tables
+from motesim.grading.entries import Entry, entries_of, shown
+from motesim.grading.marking import Marks, Task
+from motesim.grading.nets import nets_of
+from motesim.judge.expectations import parts_of, read_all, text_of
+from motesim.judge.sentences import Names, names_of
+from motesim.runner import FOREIGN, Limits, program_path, run_each
+from motesim.words import words_of
+
+MEGABYTE = 1 << 20
+FORMATS = ('.csv', '.toml', '.html')
+# Seconds that a solution may take beside its runs, for reading and judging reports.
+SPARE = 60
+
+
+def grade(entries: Sequence[Entry], task: Task, jobs: int | None = None) -> list[Marks]:
+    """The marks of all entries, in their order."""
+    seconds = (task.limits.seconds + SPARE) * max(1, len(task.nets))
+    numbered = list(enumerate(entries, 1))
+    return [done.result or Marks(done.item[1].name, why=done.fault or 'it can\'t be graded')
+            for done in run_each(task.of, numbered, workers=jobs, seconds=seconds, ordered=True)]
+
+
+def task_of(asked: argparse.Namespace, pictures: Path | None) -> Task:
+    """What is asked of all solutions. Faults of the sentences and of the nets are the teacher's."""
+    name = str(asked.expectations)
+    part = parts_of(text_of(asked.expectations), name)[0]
+    nets = nets_of(asked.net, asked.vary, asked.program)
+    try:
+        read_all(part.sentences, Names())
+        for net in nets:
+            read_all(part.sentences, Names(None, names_of(net.scenario).motes))
+    except Fault as fault:
+        raise Fault('%s: %s' % (name, fault)) from None
+    limits = Limits(asked.seconds, asked.memory * MEGABYTE, asked.report * MEGABYTE)
+    return Task(part, tuple(nets), limits, pictures)
+
+
+def spoken_of_by_none(marked: Sequence[Marks], sentences: Sequence[str]) -> list[str]:
+    """Sentences that name what no solution has: most likely a mistake in the sentences."""
+    known = [it for it in marked if it.lacks and not it.why]
+    lines = []
+    for number, (sentence, *lacks) in enumerate(zip(sentences, *(it.lacks for it in known)), 1):
+        if lacks and all(lacks):
+            lines.append('no solution has what sentence %d is about (%s): %s has %s' % (
+                number, sentence, known[0].name, lacks[0]))
+    return lines
+
+
+def written(path: Path, text: str) -> None:
+    """Writes a file whole, or not at all."""
+    beside = path.with_name(path.name + '.new')
+    beside.write_text(text, encoding='utf-8', newline='\n')
+    os.replace(beside, path)
+
+
+def write(path: Path, marked: Sequence[Marks], sentences: Sequence[str], task: Task, expectations: Path) -> None:
+    """Writes the marks into a file, in the form that its name says."""
+    if path.suffix == '.csv':
+        text = tables.csv_of(marked, sentences)
+    elif path.suffix == '.toml':
+        text = tables.toml_of(marked, sentences, shown(str(expectations)), [net.name for net in task.nets])
+    else:
+        text = page.page_of(marked, sentences, 'Marks: %s' % shown(expectations.name), pictures_of(path).name)
+    written(path, text)
+    print(path)
+
+
+def pictures_of(path: Path) -> Path:
+    """The folder with the timelines of a page."""
+    return path.with_name(path.stem + '_runs')
+
+
+def arguments() -> argparse.Namespace:
+    words = words_of(__doc__)
+    words.add_argument('folder', metavar='FOLDER', type=Path, help='a folder with solutions')
+    words.add_argument('expectations', metavar='EXPECTATIONS', type=Path, help='a file of sentences, NAME.expect.toml')
+    words.add_argument('--net', action='append', default=[], metavar='NET', type=Path,
+                       help='run the programs in this net, a scenario or a plan; several may be named')
+    words.add_argument('--vary', action='append', default=[], metavar='NAME=VALUES', help='parameters of a plan')
+    words.add_argument('--program', metavar='NAME', help='the program that solutions have, if a net has several')
+    words.add_argument('--seconds', type=float, default=FOREIGN.seconds, help='the limit of a run; else 20')
+    words.add_argument('--memory', type=int, default=FOREIGN.memory // MEGABYTE, metavar='MEGABYTES',
+                       help='the limit of a run; else 1024')
+    words.add_argument('--report', type=int, default=16, metavar='MEGABYTES', help='how long a report may be; else 16')
+    words.add_argument('--jobs', type=int, metavar='N', help='how many run at once; else as many as processors')
+    words.add_argument('-o', dest='output', action='append', default=[], metavar='FILE', type=Path,
+                       help='write the marks: NAME.csv, NAME.toml or NAME.html')
+    words.add_argument('--csv', action='store_true', help='print the marks for a spreadsheet')
+    words.add_argument('--why', metavar='NAME', help='what breaks the sentences in one solution')
+    asked = words.parse_args()
+    if asked.seconds <= 0 or asked.memory < 1 or asked.report < 1 or (asked.jobs or 1) < 1:
+        words.error('limits and --jobs are greater than 0')
+    for path in asked.output:
+        if path.suffix not in FORMATS:
+            words.error('%s: a file of marks ends in .csv, .toml or .html' % path)
+    return asked
+
+
+@command('grade')
+def main() -> int:
+    asked = arguments()
+    program_path()
+    pages = [path for path in asked.output if path.suffix == '.html']
+    pictures = pictures_of(pages[0]) if pages else None
+    if pictures:
+        pictures.mkdir(parents=True, exist_ok=True)
+    task = task_of(asked, pictures)
+    entries = entries_of(asked.folder)
+    if asked.why is not None:
+        entries = [it for it in entries if asked.why in (it.name, it.name.rpartition('.')[0])]
+        if not entries:
+            raise Fault('%s has no solution %s' % (asked.folder, asked.why))
+    marked = grade(entries, task, asked.jobs)
+    sentences = tables.sentences_of(marked) or task.part.sentences
+    for line in spoken_of_by_none(marked, sentences):
+        print('grade: %s' % line, file=sys.stderr)
+    if asked.why is not None:
+        print('\n'.join(tables.why(marked[0])))
+    elif asked.csv:
+        sys.stdout.write(tables.csv_of(marked, sentences))
+    elif not asked.output:
+        print('\n'.join([*tables.table(marked, sentences), '', *tables.below(marked, sentences)]))
+    for path in asked.output:
+        write(path, marked, sentences, task, asked.expectations)
+    return 0

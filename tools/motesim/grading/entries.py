@@ -1,0 +1,100 @@
+"""The entries of a folder that somebody else filled.
+
+Whatever is there becomes an `Entry`: a file to grade, or the reason why it can't be. Nothing is opened but plain files,
+and of these no more is read than a scenario may have.
+"""
+from __future__ import annotations
+
+import os
+import stat
+from collections.abc import Iterator
+from pathlib import Path
+from typing import NamedTuple
+
+from motesim.faults import Fault
+from motesim.scenario.faults import LONGEST_TEXT
+
+SUFFIXES = ('.toml', '.mote')
+OF_TEACHER = '.expect.toml'
+MOST_ENTRIES = 10_000
+DEEPEST = 8
+
+
+class Entry(NamedTuple):
+    """An entry: its name as it is shown, where it is, and why it can't be graded, or an empty text."""
+    name: str
+    path: Path
+    why: str = ''
+
+
+def shown(name: str) -> str:
+    """A name with nothing in it that a terminal, a table or a page could take for something else."""
+    text = os.fsencode(name).decode('utf-8', 'backslashreplace')
+    return ''.join(sign if sign.isprintable() else sign.encode('unicode_escape').decode('ascii') for sign in text)
+
+
+def _kind(mode: int) -> str:
+    """What an entry is that is neither a plain file nor a folder."""
+    for test, what in ((stat.S_ISLNK, 'a link'), (stat.S_ISFIFO, 'a pipe'), (stat.S_ISSOCK, 'a socket'),
+                       (stat.S_ISCHR, 'a device'), (stat.S_ISBLK, 'a device')):
+        if test(mode):
+            return '%s, and not a file' % what
+    return 'not a file'
+
+
+def _entries(folder: Path, top: Path, depth: int) -> Iterator[Entry]:
+    """The entries of a folder and of those in it. An empty folder is an entry."""
+    name = shown(str(folder.relative_to(top)))
+    try:
+        found = sorted(os.scandir(folder), key=lambda it: os.fsencode(it.name))
+    except OSError as fault:
+        yield Entry(name, folder, 'the folder can\'t be read: %s' % fault.strerror)
+        return
+    found = [it for it in found if not it.name.startswith('.')]
+    if not found and depth:
+        yield Entry(name, folder, 'an empty folder')
+    for it in found:
+        path = Path(it.path)
+        its = shown(str(path.relative_to(top)))
+        try:
+            mode = it.stat(follow_symlinks=False).st_mode
+        except OSError as fault:
+            yield Entry(its, path, '%s' % fault.strerror)
+            continue
+        if stat.S_ISDIR(mode) and depth < DEEPEST:
+            yield from _entries(path, top, depth + 1)
+        elif stat.S_ISDIR(mode):
+            yield Entry(its, path, 'folders are nested too deeply')
+        elif not stat.S_ISREG(mode):
+            yield Entry(its, path, _kind(mode))
+        elif not it.name.endswith(SUFFIXES):
+            yield Entry(its, path, 'its name ends neither in .toml nor in .mote')
+        elif not it.name.endswith(OF_TEACHER):
+            yield Entry(its, path)
+
+
+def entries_of(folder: Path) -> list[Entry]:
+    """All entries of a folder, by name. Hidden ones and files of expectations are none."""
+    if not folder.is_dir():
+        raise Fault('%s is not a folder' % folder)
+    found: list[Entry] = []
+    for entry in _entries(folder, folder, 0):
+        found.append(entry)
+        if len(found) > MOST_ENTRIES:
+            raise Fault('%s has more than %s entries' % (folder, '{:,}'.format(MOST_ENTRIES)))
+    if not found:
+        raise Fault('%s has no solution: a scenario NAME.toml, or a program NAME.mote' % folder)
+    return found
+
+
+def data_of(entry: Entry) -> bytes:
+    """The bytes of a plain file; of a longer one as many as show that it is too long."""
+    # (it may have been replaced since the folder was read: a pipe isn't waited for, and a link isn't followed)
+    try:
+        number = os.open(entry.path, os.O_RDONLY | os.O_NONBLOCK | os.O_NOFOLLOW | os.O_CLOEXEC)
+    except OSError as fault:
+        raise Fault('it can\'t be read: %s' % fault.strerror) from None
+    with open(number, 'rb') as file:
+        if not stat.S_ISREG(os.fstat(number).st_mode):
+            raise Fault('not a file')
+        return file.read(LONGEST_TEXT + 1)

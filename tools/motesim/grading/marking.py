@@ -1,0 +1,168 @@
+"""The marks of one solution: which sentences hold of it, in each net, within limits."""
+from __future__ import annotations
+
+from collections.abc import Iterator
+from dataclasses import dataclass, replace
+from pathlib import Path
+from typing import NamedTuple
+
+from motesim.faults import Fault
+from motesim.grading.entries import Entry, data_of
+from motesim.grading.nets import Net, program_of
+from motesim.judge.expectations import REFUSED, Part, known_of, more_of, read_all, refused, same_report
+from motesim.judge.judge import Broken, Judge
+from motesim.judge.sentences import lacking
+from motesim.report import Report
+from motesim.runner import LimitMet, Limits, Runner
+from motesim.runner.run import Run
+from motesim.scenario import Scenario
+from motesim.timeline.html import write_page
+
+# Reports longer than this have no timeline.
+MOST_SHOWN = 4_000_000
+LONGEST_WHY = 300
+
+
+class Mark(NamedTuple):
+    """A sentence: in how many nets it holds, and in the first one in which it doesn't, why."""
+    sentence: str
+    holds: bool
+    nets: tuple[str, ...] = ()
+    more: tuple[str, ...] = ()
+
+
+@dataclass(frozen=True)
+class Marks:
+    """A solution: its name, a mark for each sentence, or why there are none, and what it lacks.
+
+    picture  the page with the timeline of its first failed sentence, in the folder of pictures
+    """
+    name: str
+    marks: tuple[Mark, ...] = ()
+    why: str = ''
+    lacks: tuple[str, ...] = ()
+    picture: str = ''
+
+    @property
+    def held(self) -> int:
+        return sum(it.holds for it in self.marks)
+
+    @property
+    def fault(self) -> str:
+        """Why nothing can be said of it, or else what sentences name that it hasn't."""
+        return self.why or ', '.join(dict.fromkeys(it for it in self.lacks if it))
+
+    @property
+    def first_failed(self) -> int | None:
+        """The place of the first sentence that doesn't hold."""
+        return next((place for place, it in enumerate(self.marks) if not it.holds), None)
+
+
+class InNet(NamedTuple):
+    """What holds of a solution in one net, and where each broken sentence is broken."""
+    marks: list[Mark]
+    lacks: list[str]
+    why: str
+    run: Run | None
+    broken: list[Broken | None]
+
+
+@dataclass(frozen=True)
+class Task:
+    """What all solutions have in common: the sentences, the nets (none: each has its own), and the limits."""
+    part: Part
+    nets: tuple[Net, ...]
+    limits: Limits
+    pictures: Path | None = None
+
+    def of(self, numbered: tuple[int, Entry]) -> Marks:
+        """The marks of an entry."""
+        number, entry = numbered
+        if entry.why:
+            return Marks(entry.name, why=entry.why)
+        if entry.path.suffix == '.mote' and not self.nets:
+            return Marks(entry.name, why='a program without a net: --net names one to run it in')
+        try:
+            data = data_of(entry)
+            if not self.nets:
+                found = [('', self.in_net(data.decode('utf-8')))]
+            else:
+                source = [program_of(data, entry.path.name, net.program) for net in self.nets]
+                found = [(net.name, self.in_net(net.with_program(text))) for net, text in zip(self.nets, source)]
+        except UnicodeDecodeError:
+            return Marks(entry.name, why='the file is not UTF-8 text')
+        except LimitMet as fault:
+            return Marks(entry.name, why='the run was ended: %s' % fault)
+        except Fault as fault:
+            return Marks(entry.name, why=str(fault).split('\n', 1)[0])
+        marks = self.together(entry.name, found)
+        return replace(marks, picture=self.picture(number, marks, found))
+
+    def in_net(self, text: str) -> InNet:
+        """What holds of a scenario."""
+        known, names = known_of(text)
+        lacks = [lacking(it, names) for it in self.part.sentences]
+        part = replace(self.part, sentences=[it for it, lack in zip(self.part.sentences, lacks) if not lack])
+        sentences = read_all(part.sentences, names)
+        got = Runner(limits=self.limits).answer(text.encode())
+        if got.status:
+            told = refused(part, sentences, got)
+            why = '' if all(it.holds for it in told) and told else next(it.more[0] for it in told) if told else REFUSED
+            held = iter([Mark(it.sentence, it.holds) for it in told])
+            return InNet(self.spread(held, lacks), lacks, why, None, [None] * len(lacks))
+        scenario = known or Scenario.parse(text)
+        report = Report.parse(got.report)
+        judge = Judge(report, scenario)
+        broken = [judge.broken(it) for it in sentences]
+        held = iter([Mark(words, it is None, (), tuple(more_of(it, judge.rows)) if it else ())
+                     for words, it in zip(part.sentences, broken)])
+        places = iter(broken)
+        marks = self.spread(held, lacks)
+        if self.part.report is not None:
+            told_whole = same_report(judge.rows, self.part.report)
+            marks.append(Mark(told_whole.sentence, told_whole.holds, (), tuple(told_whole.more)))
+        run = Run('', report, scenario) if len(got.report) <= MOST_SHOWN else None
+        return InNet(marks, lacks, '', run, [None if lack else next(places) for lack in lacks])
+
+    def spread(self, held: Iterator[Mark], lacks: list[str]) -> list[Mark]:
+        """A mark for each sentence: one on what a scenario lacks doesn't hold."""
+        return [Mark(it, False, (), ('the scenario has %s' % lack,)) if lack else next(held)
+                for it, lack in zip(self.part.sentences, lacks)]
+
+    def together(self, name: str, found: list[tuple[str, InNet]]) -> Marks:
+        """The marks over all nets: a sentence holds if it holds in each."""
+        marks = []
+        for each in zip(*(its.marks for _, its in found)):
+            failed = [(net, mark) for (net, _), mark in zip(found, each) if not mark.holds]
+            first = failed[0][1] if failed else None
+            marks.append(Mark(each[0].sentence, not failed, tuple(net for net, _ in failed if net),
+                              first.more if first else ()))
+        why = ' '.join(next((its.why for _, its in found if its.why), '').split())[:LONGEST_WHY]
+        lacks = [next((it for it in each if it), '') for each in zip(*(its.lacks for _, its in found))]
+        return Marks(name, tuple(marks), why, tuple(lacks))
+
+    def picture(self, number: int, marks: Marks, found: list[tuple[str, InNet]]) -> str:
+        """Writes the timeline that shows the first failed sentence; gives its name, or an empty one."""
+        place = marks.first_failed
+        if place is None or self.pictures is None:
+            return ''
+        its = next((its for _, its in found if not its.marks[place].holds), None)
+        if its is None or its.run is None:
+            return ''
+        broken = its.broken[place] if place < len(its.broken) else None
+        start, mote = where(its.run.report, broken.row) if broken and broken.row else (None, None)
+        name = '%04d.html' % number
+        write_page(self.pictures / name, '%s: %s' % (marks.name, marks.marks[place].sentence), [its.run._replace(name=marks.name)],
+                   start, mote)
+        return name
+
+
+def where(report: Report, row: int) -> tuple[int | None, int | None]:
+    """The moment and the mote of a row of a report."""
+    for mote in report.motes:
+        if mote.row < row <= mote.row + len(mote.lines):
+            return mote.lines[row - mote.row - 1].at, mote.number
+    place = row - report.medium_row - 1
+    if 0 <= place < len(report.medium):
+        return report.medium[place].at, report.medium[place].sender
+    return None, None

@@ -1,0 +1,67 @@
+"""The marks of a class as a page: a row for each solution, with a link to the run that fails its first sentence."""
+from __future__ import annotations
+
+from collections.abc import Sequence
+from html import escape
+from urllib.parse import quote
+
+from motesim.grading.marking import Marks
+
+HEAD = """<!DOCTYPE html>
+<html lang="en">
+<head>
+<meta charset="utf-8">
+<meta name="viewport" content="width=device-width">
+<meta http-equiv="Content-Security-Policy" content="default-src 'none'; style-src 'unsafe-inline'">
+<title>%s</title>
+<style>
+:root { color-scheme: light dark; }
+body { font: 15px/1.45 system-ui, "DejaVu Sans", sans-serif; margin: 24px auto; max-width: 1100px; padding: 0 16px; }
+table { border-collapse: collapse; width: 100%%; }
+th, td { text-align: left; vertical-align: top; padding: 4px 10px 4px 0; border-bottom: 1px solid #8884; }
+td.number, th.number { text-align: right; white-space: nowrap; font-variant-numeric: tabular-nums; }
+.all { color: #1a7f4b; } .some { color: #9a6200; } .none { color: #c0281f; }
+pre { margin: 2px 0 0; font: 12.5px/1.4 ui-monospace, "DejaVu Sans Mono", monospace; white-space: pre-wrap; opacity: 0.8;
+  overflow-wrap: anywhere; }
+.marks { letter-spacing: 2px; white-space: nowrap; }
+</style>
+</head>
+<body>
+"""
+
+
+def _colour(marks: Marks, count: int) -> str:
+    return 'all' if marks.held == count and count else 'some' if marks.held else 'none'
+
+
+def _first_failed(marks: Marks, folder: str) -> str:
+    """The first sentence that fails, linked to the run that shows it, and why it fails."""
+    place = marks.first_failed
+    if marks.why or place is None:
+        return escape(marks.why)
+    mark = marks.marks[place]
+    words = '%d. %s' % (place + 1, mark.sentence)
+    link = '<a href="%s/%s">%s</a>' % (quote(folder), quote(marks.picture), escape(words)) if marks.picture \
+        else escape(words)
+    more = [*('in %s' % net for net in mark.nets[:1]), *mark.more]
+    return link + ('<pre>%s</pre>' % escape('\n'.join(more)) if more else '')
+
+
+def _row(marks: Marks, count: int, folder: str) -> str:
+    dots = ''.join('<span title="%s">%s</span>' % (escape(it.sentence, True), '●' if it.holds else '○')
+                   for it in marks.marks)
+    return '<tr><td>%s</td><td class="number %s">%d of %d</td><td class="marks">%s</td><td>%s</td></tr>' % (
+        escape(marks.name), _colour(marks, count), marks.held, count, dots, _first_failed(marks, folder))
+
+
+def page_of(marked: Sequence[Marks], sentences: Sequence[str], title: str, folder: str) -> str:
+    """The page. `folder` has the timelines."""
+    rows = [_row(it, len(sentences), folder) for it in marked]
+    held = [sum(len(it.marks) > place and it.marks[place].holds for it in marked) for place in range(len(sentences))]
+    below = ['<tr><td class="number">%d</td><td class="number">%d of %d</td><td>%s</td></tr>' % (
+        number, count, len(marked), escape(sentence)) for number, (count, sentence) in enumerate(zip(held, sentences), 1)]
+    return '\n'.join([
+        HEAD % escape(title) + '<h1>%s</h1>' % escape(title),
+        '<table><thead><tr><th>Solution</th><th class="number">Holds</th><th>Sentences</th><th>First that fails</th></tr>'
+        '</thead><tbody>', *rows, '</tbody></table>',
+        '<h2>Sentences</h2>', '<table><tbody>', *below, '</tbody></table>', '</body>', '</html>', ''])

@@ -1,0 +1,83 @@
+"""The marks of a class as text, CSV and TOML."""
+from __future__ import annotations
+
+import csv
+import io
+from collections.abc import Sequence
+
+from motesim.grading.marking import Marks
+
+# A cell that begins so is a formula to some spreadsheets.
+OF_FORMULA = ('=', '+', '-', '@', '\t', '\r', '|', '%')
+ESCAPES = {'\\': '\\\\', '"': '\\"', '\n': '\\n', '\t': '\\t', '\r': '\\r'}
+
+
+def sentences_of(marked: Sequence[Marks]) -> list[str]:
+    """The sentences, in their order."""
+    return max(([it.sentence for it in one.marks] for one in marked), key=len, default=[])
+
+
+def table(marked: Sequence[Marks], sentences: Sequence[str]) -> list[str]:
+    """A row for each solution."""
+    width = max(len(it.name) for it in marked)
+    rows = []
+    for it in marked:
+        broken = ', '.join(str(number) for number, one in enumerate(it.marks, 1) if not one.holds)
+        count = '%d of %d' % (it.held, len(sentences))
+        shown = it.why or '; '.join(one for one in (broken and 'broken: %s' % broken, it.fault) if one)
+        rows.append(('%s  %s  %s' % (it.name.ljust(width), count, shown)).rstrip())
+    return rows
+
+
+def below(marked: Sequence[Marks], sentences: Sequence[str]) -> list[str]:
+    """The sentences, each with how many solutions meet it."""
+    return ['%3d  %d of %d  %s' % (number, sum(len(it.marks) >= number and it.marks[number - 1].holds for it in marked),
+                                   len(marked), sentence) for number, sentence in enumerate(sentences, 1)]
+
+
+def cell(text: str) -> str:
+    """A text that no spreadsheet runs: one that begins as a formula has an apostrophe in front."""
+    return "'" + text if text.startswith(OF_FORMULA) else text
+
+
+def csv_of(marked: Sequence[Marks], sentences: Sequence[str]) -> str:
+    """A row for each solution, with 1 for each sentence that holds and 0 for each other."""
+    out = io.StringIO(newline='')
+    rows = csv.writer(out, lineterminator='\n')
+    rows.writerow(['scenario', 'holds', 'of', 'fault', *map(cell, sentences)])
+    for it in marked:
+        holds = [int(one.holds) for one in it.marks]
+        rows.writerow([cell(it.name), it.held, len(sentences), cell(it.fault), *(holds or [0] * len(sentences))])
+    return out.getvalue()
+
+
+def quoted(text: str) -> str:
+    """A text of TOML."""
+    return '"%s"' % ''.join(ESCAPES.get(sign) or (sign if ord(sign) >= 32 and ord(sign) != 127
+                                                  else '\\u%04X' % ord(sign)) for sign in text)
+
+
+def toml_of(marked: Sequence[Marks], sentences: Sequence[str], expectations: str, nets: Sequence[str]) -> str:
+    """The marks as a TOML document."""
+    lines = ['# Written by tools/grade.', 'expectations = %s' % quoted(expectations),
+             'nets = [%s]' % ', '.join(map(quoted, nets)), 'sentences = [',
+             *('  %s,' % quoted(it) for it in sentences), ']']
+    for it in marked:
+        broken = [str(number) for number, one in enumerate(it.marks, 1) if not one.holds]
+        lines += ['', '[[solution]]', 'name = %s' % quoted(it.name), 'holds = %d' % it.held,
+                  'of = %d' % len(sentences), 'broken = [%s]' % ', '.join(broken)]
+        lines += ['fault = %s' % quoted(it.fault)] if it.fault else []
+        failed = it.first_failed
+        if failed is not None and it.marks[failed].more:
+            lines.append('first_failed = %s' % quoted('\n'.join(it.marks[failed].more)))
+    return '\n'.join(lines) + '\n'
+
+
+def why(marks: Marks) -> list[str]:
+    """What breaks the sentences in one solution."""
+    lines = [marks.why] if marks.why else []
+    for it in marks.marks:
+        lines.append(('holds   ' if it.holds else 'broken  ') + it.sentence)
+        nets = ['in %s' % ', '.join(it.nets)] if it.nets else []
+        lines += ['          ' + row for row in [*nets, *it.more]]
+    return lines

@@ -1,0 +1,258 @@
+"""Marks for a folder of solutions: hostile folders, the teacher's nets, limits, and the forms of marks."""
+import csv
+import io
+import os
+import re
+import socket
+import subprocess
+import sys
+import tempfile
+import time
+import tomllib
+import unittest
+from pathlib import Path
+
+from here import TOOLS
+from motesim.grading.entries import data_of, entries_of, shown
+from motesim.grading.marking import Mark, Marks
+from motesim.grading.nets import nets_of, program_of
+from motesim.grading.page import page_of
+from motesim.grading.tables import cell
+from motesim.faults import Fault
+from motesim.scenario import Scenario
+from stub import write_stub
+
+# A net of so many motes. The stub has mote n print P at moment P * (n + 1), P being the program's first `print`.
+NET = '''version = 2
+end = 60
+[medium]
+range = 10
+base = 2
+per = 100
+collide = false
+[programs]
+task = '''
+PROGRAM = 'process a;\nautostart a;\ncode a { body { print %d; } }\n'
+EXPECT = 'expect = ["every mote prints a 3", "mote 1 prints a at 6", "no mote halts"]\n'
+
+
+def net(program: str, motes: int = 2, name: str = 'task') -> str:
+    text = NET.replace('task', name) + "'''\n%s'''\n" % program
+    return text + ''.join('[[mote]]\nx = %d\ny = 0\nprogram = "%s"\n' % (10 * it, name) for it in range(motes))
+
+
+class Folder(unittest.TestCase):
+    """A folder of solutions in a folder of a teacher, with a program that answers short reports."""
+
+    def setUp(self) -> None:
+        scratch = tempfile.TemporaryDirectory()
+        self.addCleanup(scratch.cleanup)
+        self.top = Path(scratch.name)
+        self.stub = write_stub(self.top)
+        self.folder = self.top / 'class'
+        self.folder.mkdir()
+        (self.top / 'task.expect.toml').write_text(EXPECT)
+        (self.top / 'task.toml').write_text(net(PROGRAM % 9))
+        self.hand_in('anna.toml', net(PROGRAM % 3))
+
+    def hand_in(self, name: str, text: str) -> None:
+        (self.folder / name).write_text(text)
+
+    def grade(self, *words: str, status: int = 0) -> str:
+        done = subprocess.run([sys.executable, '-B', str(TOOLS / 'grade'), 'class', 'task.expect.toml', *words],
+                              cwd=self.top, env={**os.environ, 'MOTESIM': str(self.stub)}, capture_output=True,
+                              text=True, timeout=120)
+        self.assertEqual(done.returncode, status, done.stderr)
+        self.assertNotIn('Traceback', done.stderr)
+        self.told = done.stderr
+        return done.stdout
+
+    def rows(self, *words: str) -> dict[str, str]:
+        rows = self.grade(*words).split('\n\n')[0].split('\n')
+        return {row.split('  ')[0]: row.split('  ', 1)[1].strip() for row in rows}
+
+
+class Entries(Folder):
+    def test_the_table(self) -> None:
+        self.hand_in('ben.toml', net(PROGRAM % 4))
+        self.hand_in('carla.toml', net('// refuse\n' + PROGRAM % 3))
+        self.hand_in('dora.toml', net((PROGRAM % 3).replace(' a', ' b')))
+        self.hand_in('task.expect.toml', EXPECT)
+        self.assertEqual(self.grade(), (
+            'anna.toml   3 of 3\n'
+            'ben.toml    1 of 3  broken: 1, 2\n'
+            'carla.toml  0 of 3  the scenario is refused: motesim: out of memory\n'
+            'dora.toml   1 of 3  broken: 1, 2; no process `a` (it has `b`)\n\n'
+            '  1  1 of 4  every mote prints a 3\n  2  1 of 4  mote 1 prints a at 6\n'
+            '  3  3 of 4  no mote halts\n'))
+
+    def test_whatever_there_is_becomes_a_row_and_none_stops_the_others(self) -> None:
+        (self.folder / 'x.toml').mkdir()
+        (self.folder / 'gone.toml').symlink_to('nowhere')
+        (self.folder / 'other.toml').symlink_to(self.folder / 'anna.toml')
+        os.mkfifo(self.folder / 'pipe.toml')
+        with socket.socket(socket.AF_UNIX) as made:
+            made.bind(str(self.folder / 'socket.toml'))
+        self.hand_in('deep.toml', 'x = ' + '[' * 500 + ']' * 500)
+        self.hand_in('notes.txt', 'hello')
+        self.hand_in('new\nline.toml', net(PROGRAM % 3))
+        (self.folder / os.fsdecode(b'raw\xff.toml')).write_text(net(PROGRAM % 3))
+        (self.folder / 'bytes.toml').write_bytes(b'\xff\xfe')
+        (self.folder / 'large.toml').write_bytes(b'#' * 1_048_577)
+        self.hand_in('=1+1.toml', net(PROGRAM % 3))
+        (self.folder / 'group').mkdir()
+        self.hand_in('group/eve.toml', net(PROGRAM % 3))
+        rows = self.rows('--net', 'task.toml')
+        self.assertEqual({name: row for name, row in rows.items() if row != '3 of 3'}, {
+            'x.toml': '0 of 3  an empty folder', 'gone.toml': '0 of 3  a link, and not a file',
+            'other.toml': '0 of 3  a link, and not a file', 'pipe.toml': '0 of 3  a pipe, and not a file',
+            'socket.toml': '0 of 3  a socket, and not a file',
+            'deep.toml': '0 of 3  the file is not TOML: Arrays or tables are nested too deeply (at line 1, column 1005)',
+            'notes.txt': '0 of 3  its name ends neither in .toml nor in .mote',
+            'bytes.toml': '0 of 3  the file is not UTF-8 text',
+            'large.toml': '0 of 3  the file is longer than 1,048,576 bytes'})
+        self.assertEqual(sorted(name for name, row in rows.items() if row == '3 of 3'),
+                         ['=1+1.toml', 'anna.toml', 'group/eve.toml', 'new\\nline.toml', 'raw\\xff.toml'])
+
+    def test_a_pipe_that_takes_the_place_of_a_file_is_not_waited_for(self) -> None:
+        entry = next(it for it in entries_of(self.folder) if it.name == 'anna.toml')
+        (self.folder / 'anna.toml').unlink()
+        os.mkfifo(self.folder / 'anna.toml')
+        with self.assertRaises(Fault):
+            data_of(entry)
+
+    def test_an_empty_folder_and_none(self) -> None:
+        (self.folder / 'anna.toml').unlink()
+        self.grade(status=2)
+        self.assertIn('has no solution', self.told)
+        self.folder.rmdir()
+        self.grade(status=2)
+
+    def test_names(self) -> None:
+        self.assertEqual(shown('a\x1b[31m\u202e'), 'a\\x1b[31m\\u202e')
+
+
+class Nets(Folder):
+    def test_the_net_is_the_teachers(self) -> None:
+        self.hand_in('ben.toml', net(PROGRAM % 3, motes=1).replace('end = 60', 'end = 1'))
+        self.assertEqual(self.rows('--net', 'task.toml'), {'anna.toml': '3 of 3', 'ben.toml': '3 of 3'})
+
+    def test_a_program_alone_is_a_solution(self) -> None:
+        self.hand_in('ben.mote', PROGRAM % 4)
+        self.assertEqual(self.rows('--net', 'task.toml')['ben.mote'], '1 of 3  broken: 1, 2')
+        self.assertEqual(self.rows()['ben.mote'], '0 of 3  a program without a net: --net names one to run it in')
+
+    def test_several_nets_and_those_of_a_plan(self) -> None:
+        (self.top / 'hidden.toml').write_text(net(PROGRAM % 9, motes=5))
+        (self.top / 'task.mote').write_text(PROGRAM % 9)
+        (self.top / 'net.plan.toml').write_text(
+            'end = 60\n[medium]\nrange = 10\nbase = 2\nper = 100\n[parameters]\nmotes = 2\n'
+            '[places]\nrule = "line"\ncount = "${motes}"\nstep = 10\nprogram = "task.mote"\n')
+        (self.top / 'task.expect.toml').write_text('expect = ["at most 4 motes print", "every mote prints"]\n')
+        self.assertEqual(self.rows('--net', 'task.toml', '--net', 'hidden.toml'), {'anna.toml': '1 of 2  broken: 1'})
+        words = '--net', 'net.plan.toml', '--vary', 'motes=2..5'
+        self.assertEqual(self.rows(*words), {'anna.toml': '1 of 2  broken: 1'})
+        self.assertEqual(self.grade(*words, '--why', 'anna').split('\n')[:3], [
+            'broken  at most 4 motes print', '          in net.plan.toml motes=5',
+            '          5 motes do; wanted: at most 4'])
+
+    def test_what_of_a_solution_is_taken(self) -> None:
+        self.assertEqual(program_of(net('x').encode(), 'a.toml', 'task'), 'x')
+        self.assertEqual(program_of(net('x', name='other').encode(), 'a.toml', 'task'), 'x')
+        self.assertEqual(program_of(b'[programs]\na = "1"\ntask = "2"\n', 'a.toml', 'task'), '2')
+        for text, told in (b'[programs]\na = "1"\nb = "2"\n', 'no program `task`, but: `a`, `b`'), (
+                b'programs = 3\n', 'no table'), (b'[programs]\ntask = 3\n', 'not a text'):
+            with self.subTest(told), self.assertRaises(Fault) as raised:
+                program_of(text, 'a.toml', 'task')
+            self.assertIn(told, str(raised.exception))
+
+    def test_the_net_stays_as_it_is(self) -> None:
+        path = TOOLS.parent / 'examples/small_network.toml'
+        its = nets_of([path], [], 'sender')[0]
+        before, after = Scenario.parse(path.read_bytes()), Scenario.parse(its.with_program('process other;'))
+        for name in 'end', 'range', 'base', 'per', 'collide', 'queue', 'places', 'losses':
+            self.assertEqual(getattr(before, name), getattr(after, name))
+        self.assertEqual(after.programs, {**before.programs, 'sender': 'process other;'})
+
+    def test_faults_of_the_teacher_end_it(self) -> None:
+        for words, told in ((('--net', 'no.toml'), 'no.toml: No such file'),
+                            (('--net', 'task.toml', '--program', 'x'), 'has no program x; it has: task')):
+            self.grade(*words, status=2)
+            self.assertIn(told, self.told)
+        (self.top / 'task.expect.toml').write_text('expect = ["mote 7 halts"]\n')
+        self.grade('--net', 'task.toml', status=2)
+        self.assertIn('sentence 1 is not known', self.told)
+        (self.top / 'task.expect.toml').write_text('expect = ["mote 0 prunts"]\n')
+        self.grade(status=2)
+
+    def test_a_sentence_that_fits_no_solution_is_told_beside_the_table(self) -> None:
+        (self.top / 'task.expect.toml').write_text('expect = ["no mote halts", "mote 0 prints c"]\n')
+        self.assertEqual(self.rows(), {'anna.toml': '1 of 2  broken: 2; no process `c` (it has `a`)'})
+        self.assertIn('no solution has what sentence 2 is about (mote 0 prints c): anna.toml has no process `c`', self.told)
+
+
+class LimitsOfRuns(Folder):
+    def test_time_and_length(self) -> None:
+        self.hand_in('long.toml', net('// long\n' + PROGRAM % 3))
+        self.hand_in('wait.toml', net('// wait\n' + PROGRAM % 3))
+        begin = time.monotonic()
+        self.assertEqual(self.rows('--net', 'task.toml', '--seconds', '2', '--report', '1'), {
+            'anna.toml': '3 of 3', 'long.toml': '0 of 3  the run was ended: the report is longer than 1,048,576 bytes',
+            'wait.toml': '0 of 3  the run was ended: no answer in 2 seconds'})
+        self.assertLess(time.monotonic() - begin, 20)
+
+    def test_memory(self) -> None:
+        self.hand_in('memory.toml', net('// memory\n' + PROGRAM % 3))
+        self.stub.write_text(self.stub.read_text().replace(
+            "    if '// wait'", "    if '// memory' in text:\n        much = b'1' * 400_000_000\n        time.sleep(60)\n"
+                            "    if '// wait'"))
+        self.assertEqual(self.rows('--memory', '100', '--seconds', '20'), {
+            'anna.toml': '3 of 3',
+            'memory.toml': '0 of 3  the run was ended: the run needs more than 100 megabytes of memory'})
+
+    def test_several_run_at_once(self) -> None:
+        self.stub.write_text(self.stub.read_text().replace("    if '// wait'", "    time.sleep(1)\n    if '// wait'"))
+        for number in range(7):
+            self.hand_in('s%d.toml' % number, net(PROGRAM % 3, motes=1))
+        begin = time.monotonic()
+        self.grade('--jobs', '8')
+        self.assertLess(time.monotonic() - begin, 6)
+
+
+class Forms(Folder):
+    def test_csv_that_no_spreadsheet_runs(self) -> None:
+        self.hand_in('=HYPERLINK(1).toml', net(PROGRAM % 3))
+        rows = list(csv.reader(io.StringIO(self.grade('--csv', '--net', 'task.toml'))))
+        self.assertEqual(rows[1:], [["'=HYPERLINK(1).toml", '3', '3', '', '1', '1', '1'],
+                                    ['anna.toml', '3', '3', '', '1', '1', '1']])
+        for text in '=1', '+1', '-1', '@x', '\t=1', '\r=1':
+            self.assertEqual(cell(text), "'" + text)
+        self.assertEqual(cell('anna'), 'anna')
+
+    def test_toml(self) -> None:
+        self.hand_in('b"en\\.toml', net(PROGRAM % 4))
+        self.assertEqual(self.grade('-o', 'marks.toml', '--net', 'task.toml'), 'marks.toml\n')
+        marks = tomllib.loads((self.top / 'marks.toml').read_text())
+        self.assertEqual(marks['nets'], ['task.toml'])
+        self.assertEqual([(it['name'], it['holds'], it['of'], it['broken']) for it in marks['solution']],
+                         [('anna.toml', 3, 3, []), ('b"en\\.toml', 1, 3, [1, 2])])
+        self.assertEqual(marks['solution'][1]['first_failed'], 'mote 0 has 0 such lines; wanted: at least 1')
+
+    def test_a_page_links_the_first_failed_sentence_to_its_timeline(self) -> None:
+        self.hand_in('<script>.toml', net(PROGRAM % 4))
+        self.grade('-o', 'marks.html', '--net', 'task.toml')
+        page = (self.top / 'marks.html').read_text()
+        link = re.search(r'<a href="(marks_runs/[0-9]+\.html)">1\. every mote prints a 3</a>', page)
+        self.assertIsNotNone(link)
+        self.assertIn('&lt;script&gt;.toml', (self.top / link[1]).read_text())
+        self.assertNotIn('<script>', page)
+
+    def test_a_page_is_escaped(self) -> None:
+        marks = Marks('<b>', (Mark('"a" & <i>', False, ('<net>',), ('<why>',)),))
+        page = page_of([marks], ['"a" & <i>'], '<title>', 'x"y')
+        for word in '<b>', '<i>', '<net>', '<why>', 'x"y':
+            self.assertNotIn(word, page)
+
+
+if __name__ == '__main__':
+    unittest.main()
