@@ -32,6 +32,8 @@ messages begin with a print. Of an origin, and of the net
   hops      least hops to the motes reached, on average, where the scenario is known
   least, middle, most   moments from a message's beginning to its first delivery at a mote
 
+`--by N` shows in place of these what happens in each N moments: docs/use/TOOLS.md has its columns.
+
 `--motes` and `--links` show one of the tables alone. `--csv` is for a spreadsheet: the table of motes with the net, or
 with `--links` that of links. `--json` has all of it, for programs.
 
@@ -52,6 +54,9 @@ from motesim.summary.flows import flow_rows, silent
 from motesim.report import Report
 from motesim.runner.run import Run, read_run
 from motesim.scenario import Scenario
+from motesim.why.series import NAMES as SERIES_NAMES
+from motesim.why.series import Series
+from motesim.why.source import Traces, read_traces
 from motesim.words import words_of
 
 # A row of a table by its columns: numbers, names, or None where there is no value.
@@ -162,6 +167,19 @@ def show_flow(run: Run, words: argparse.Namespace) -> int:
     return 0
 
 
+def show_series(asked: argparse.Namespace) -> int:
+    """Shows what happens in each interval, in the form that is asked for."""
+    data, scenario = read_traces(asked.report, asked.scenario)
+    rows = list(Series(Traces(data), asked.by, scenario.end if scenario else None).rows())
+    if asked.json:
+        print(json.dumps({'by': asked.by, 'intervals': rows}, indent=1))
+    elif asked.csv:
+        write_csv(rows, SERIES_NAMES)
+    else:
+        print('\n'.join(table(rows, SERIES_NAMES)))
+    return 0
+
+
 @command('summary')
 def main() -> int:
     words = words_of(__doc__)
@@ -173,8 +191,11 @@ def main() -> int:
     part = words.add_mutually_exclusive_group()
     part.add_argument('--motes', action='store_true', help='the motes and the net alone')
     part.add_argument('--links', action='store_true', help='the links alone')
+    part.add_argument('--by', metavar='N', type=int, help='what happens in each N moments')
     part.add_argument('--flow', metavar='WORDS', help='flows from end to end, as "print sink"')
     asked = words.parse_args()
+    if asked.by is not None:
+        return show_series(asked)
     run = read_run(asked.report, asked.scenario)
     if asked.flow is not None:
         return show_flow(run, asked)

@@ -92,6 +92,30 @@ class Traces:
     def moment(self, where: At) -> int:
         return 0 if where.place < 0 else int(self.text(where).partition(' ')[0])
 
+    def text_at(self, where: At) -> str:
+        """The text of a line, of which the trace isn't kept."""
+        if where.mote in self.kept:
+            return self.text(where)
+        begin = self.begins[where.mote]
+        for _ in range(where.place):
+            begin = self.data.find(b'\n', begin) + 1
+        return self.data[begin:self.data.find(b'\n', begin)].decode('ascii')
+
+    def last_line(self, mote: int) -> str:
+        end = self.ends[mote] - 1
+        return self.data[self.data.rfind(b'\n', 0, end) + 1:end].decode('ascii', 'replace')
+
+    def moment_of_last(self, mote: int) -> int:
+        """The moment of a mote's last line."""
+        return int(self.last_line(mote).partition(' ')[0]) if self.begins[mote] < self.ends[mote] else 0
+
+    def halts(self, mote: int) -> bool:
+        return self.last_line(mote).endswith(' halt')
+
+    def left(self) -> int:
+        """How many copies would arrive after the end."""
+        return int(self.data[self.medium_end:].split(b' ')[1])
+
     def at_row(self, row: int) -> At | None:
         """The place of a line of the report; None for a line of the medium, or none at all."""
         for mote in range(self.motes):
