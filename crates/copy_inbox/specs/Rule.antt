@@ -67,6 +67,10 @@ pub record InboxRule (items : List Item) (views : List View) : Type 0 where
 abbrev pub SeenBy : View → List Item → Type 0
 SeenBy v items = (views : List View) × (pass : ℕ) × InboxRule items views × (get_elem? views pass ≡ some v)
 
+-- at some moment the rule held while the queue was empty and the taker knew this
+abbrev pub WasEmpty : TakerState → Type 0
+WasEmpty d = SeenBy (Taking d) []
+
 abbrev pub Took : View → Item → View → Type 0
 Took v x w = (w ≡ with_taken v x) × ((rest : List Item) × SeenBy v (x ∷ rest))
 

@@ -11,6 +11,7 @@ ghost use Rattle.copy_inbox.specs.Handles.{InboxId, TakerView, SenderView, after
 ghost use Rattle.copy_inbox.specs.Handles.{after_taking, TakesCopies, Empties, AllGathered, NoMarkLeft, TakesPackets};
 ghost use Rattle.copy_inbox.specs.Handles.{taker_state_in, sender_state_in, IsSender, IsNextTaken, IsAllKnown};
 ghost use Rattle.copy_inbox.specs.Kept.{KeepsCounts};
+ghost use Rattle.copy_inbox.specs.Rule.{WasEmpty};
 
 use crate::count::{Count, count_taken, forget_first};
 use crate::items::{Carried, Item};
@@ -298,7 +299,7 @@ impl Inbox {
     }
 
     /// Takes the oldest copy or mark, with the number of its sender, without allocating. It returns `None` only if
-    /// nothing is known, and then nothing has changed. What was taken of a gathered sender stays a prefix of what it
+    /// the queue was found empty and nothing is known, and then nothing has changed. What was taken of a gathered sender stays a prefix of what it
     /// pushed.
     pub fn take_next<R: Wait>(&self, rt: &R, taker: &mut Taker) -> Option<Item>
         requires { taker.old.inbox ≡ self.now }
@@ -311,6 +312,7 @@ impl Inbox {
         ensures made { OfMade taker.new.state.made taker.new.state.taken }
         ensures same { IfNone result (taker.new ≡ taker.old) }
         ensures none { IfNone result (known_of taker.old.state.gathered taker.old.state.taken ≡ 0) }
+        ensures empty { IfNone result (WasEmpty taker.old.state) }
     {
         let item = self.queue.pop_as::<Takes, R>(rt, &mut taker.pass)?;
         let gathered = count_taken(taker.first, &mut taker.counts, item.sender);

@@ -1,6 +1,7 @@
-use Rattle.std.proofs.Common.{◌≡◌, ap, subst}
+use Rattle.std.proofs.Common.{◌≡◌, [], ap, subst}
 use Rattle.copy_inbox.specs.declared.rule.TakerState.{TakerState}
 use Rattle.copy_inbox.specs.Gathered.{known_of}
+use Rattle.copy_inbox.specs.Rule.{SeenBy, WasEmpty}
 use Rattle.copy_inbox.specs.Handles.{taker_state_in, IsNextTaken}
 use Rattle.copy_inbox.proofs.Moves.{takes_as, learns}
 use Rattle.copy_inbox.proofs.Kept.{next_made, next_few, next_down, keeps_taken}
@@ -16,6 +17,13 @@ returns-in_err-item-clause-none g c =
     let none = none_known _ _ _ c.taker.invariant.0.taker told.1 in
     let P : TakerState → Type 0 = λ d. known_of d.gathered d.taken ≡ 0 in
     rw c.from_residual.ensures (subst P (ap (λ t. t.state) c.taker.view_is) none)
+
+pub returns-in_err-item-clause-empty : goal.returns-in_err-item-clause-empty
+returns-in_err-item-clause-empty g c =
+    let told = c.in_err-item.ensures.rule in
+    let v = c.taker.inside.pass.me.view.client in
+    let empty : WasEmpty (taker_state_in v) = subst (λ w. SeenBy w []) c.taker.invariant.0.taker.is told.1 in
+    rw c.from_residual.ensures (subst WasEmpty (ap (λ t. t.state) c.taker.view_is) empty)
 
 pub count_taken-gathered-requires-clause-made : goal.count_taken-gathered-requires-clause-made
 count_taken-gathered-requires-clause-made g c =
