@@ -298,9 +298,9 @@ impl Inbox {
         *known
     }
 
-    /// Takes the oldest copy or mark, with the number of its sender, without allocating. It returns `None` only if
-    /// the queue was found empty and nothing is known, and then nothing has changed. What was taken of a gathered sender stays a prefix of what it
-    /// pushed.
+    /// Takes the oldest copy or mark, with the number of its sender, without allocating. It returns `None` only if the
+    /// queue was found empty and nothing is known, and then nothing has changed. What was taken of a gathered sender
+    /// stays a prefix of what it pushed.
     pub fn take_next<R: Wait>(&self, rt: &R, taker: &mut Taker) -> Option<Item>
         requires { taker.old.inbox ≡ self.now }
         ensures inbox { taker.new.inbox ≡ taker.old.inbox }
