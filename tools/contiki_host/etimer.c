@@ -21,18 +21,6 @@ find_link(const struct etimer *et)
   return link;
 }
 
-/* The current process becomes the owner. A timer on the list keeps its place; another goes to the front. */
-static void
-add_timer(struct etimer *et)
-{
-  if(*find_link(et) == NULL) {
-    et->next = timer_list;
-    timer_list = et;
-  }
-  et->p = PROCESS_CURRENT();
-  etimer_request_poll();
-}
-
 /* A timer without an owner has expired. */
 static void
 remove_timer(struct etimer *et)
@@ -44,6 +32,18 @@ remove_timer(struct etimer *et)
     et->next = NULL;
   }
   et->p = PROCESS_NONE;
+}
+
+/* The current process becomes the owner. A timer on the list keeps its place; another goes to the front. */
+static void
+add_timer(struct etimer *et)
+{
+  if(*find_link(et) == NULL) {
+    et->next = timer_list;
+    timer_list = et;
+  }
+  et->p = PROCESS_CURRENT();
+  etimer_request_poll();
 }
 /*---------------------------------------------------------------------------*/
 /*

@@ -1,15 +1,19 @@
-"""The host, tools/contiki_host: two programs and a net written by hand, whose report is on a page."""
+"""The host, tools/contiki_host: its report of two programs written by hand, and that its rules are noticed."""
 from __future__ import annotations
 
 import re
 import shutil
 import subprocess
+import sys
 import tempfile
+import tomllib
 import unittest
 from pathlib import Path
 
 from here import TOOLS, TOP
-from skips import need_command
+from skips import need_command, need_program
+
+from motesim.runner.run import program_path
 
 HOST = TOOLS / 'contiki_host'
 BY_HAND = Path(__file__).resolve().parent / 'contiki_host'
@@ -66,6 +70,52 @@ class Host(unittest.TestCase):
         need_command(self, 'gcc', 'gcc')
         self.compile('gcc', '-DMOTESIM_FOR_CONTIKI', '-c', str(HOST / 'rime/motesim_radio.c'),
                      '-o', str(self.folder / 'radio.o'))
+
+
+class Rules(unittest.TestCase):
+    """The reports of two scenarios, exported to C, depend on every rule that mutants.toml has."""
+    def setUp(self) -> None:
+        need_command(self, 'make', 'make')
+        need_command(self, 'tcc', 'tcc')
+        self.folder = Path(tempfile.mkdtemp())
+        self.addCleanup(shutil.rmtree, self.folder)
+        self.scenarios = [BY_HAND / 'rules.toml', TOP / 'examples/small_network.toml']
+        for scenario in self.scenarios:
+            subprocess.run([sys.executable, str(TOOLS / 'export'), str(scenario), '--form', 'contiki', '--host',
+                            '-o', str(self.folder / scenario.stem)], check=True, capture_output=True)
+
+    def reports(self) -> list[str]:
+        return [self.report(self.folder / scenario.stem) for scenario in self.scenarios]
+
+    def report(self, folder: Path) -> str:
+        subprocess.run(['make', '-s', '-C', str(folder), 'host', 'HOSTCC=tcc'], check=True, capture_output=True)
+        return subprocess.run([str(folder / 'host')], check=True, capture_output=True, text=True, timeout=60).stdout
+
+    def reports_with(self, name: str, old: str, new: str) -> list[str]:
+        """Those of the host with an edit in a file of it."""
+        right = (HOST / name).read_text()
+        self.assertEqual(right.count(old), 1, '%s has not exactly one %r' % (name, old))
+        copies = [self.folder / scenario.stem / 'contiki_host' / name for scenario in self.scenarios]
+        try:
+            for copy in copies:
+                copy.write_text(right.replace(old, new))
+            return self.reports()
+        finally:
+            for copy in copies:
+                copy.write_text(right)
+
+    def test_the_reports_are_those_of_motesim(self) -> None:
+        need_program(self)
+        for scenario, report in zip(self.scenarios, self.reports()):
+            done = subprocess.run([str(program_path()), str(scenario)], check=True, capture_output=True, text=True)
+            self.assertEqual(report, done.stdout)
+
+    def test_each_rule_that_is_broken_changes_a_report(self) -> None:
+        right = self.reports()
+        for mutant in tomllib.loads((BY_HAND / 'mutants.toml').read_text())['mutant']:
+            with self.subTest(mutant['rule']):
+                wrong = self.reports_with(mutant['file'], mutant['from'], mutant['to'])
+                self.assertNotEqual(wrong, right)
 
 
 if __name__ == '__main__':
