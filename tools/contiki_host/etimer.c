@@ -47,9 +47,9 @@ add_timer(struct etimer *et)
 }
 /*---------------------------------------------------------------------------*/
 /*
- * Posts the event of each timer that is due. After each one the walk begins
- * again at the front. A timer that met a full queue stays on the list, and is
- * offered again at the next poll.
+ * Posts the event of each timer that is due. After an event is accepted, the
+ * walk begins again at the front. A timer that meets a full queue stays on the
+ * list, and is offered again at the next poll.
  */
 static void
 post_due_timers(void)

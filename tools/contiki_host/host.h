@@ -1,7 +1,7 @@
 /*
- * The tables by which the host knows the programs and the net. They are made
- * together with the programs: PROGRAM_host.c includes PROGRAM.c and has the
- * program's, net.c has those of the net.
+ * The tables that describe the programs and the net to the host. tools/export
+ * writes them: PROGRAM_host.c includes PROGRAM.c and has the tables of that
+ * program; net.c has those of the net.
  */
 #ifndef HOST_H_
 #define HOST_H_
@@ -13,8 +13,8 @@
 #include "process.h"
 
 /*
- * Everything that a program, or a file of the kernel, keeps from call to call.
- * A mote has a copy of its own, which is in place during its turns.
+ * An object that a program, or a file of the kernel, keeps from call to call.
+ * Each mote has its own copy, which is in place during the mote's turns.
  */
 struct host_memory {
   void *address;
@@ -58,7 +58,7 @@ struct host_mote {
   int queue;                            /* the length of the event queue */
 };
 
-/* On the way between two motes each packet is lost whose number plus one is divisible. */
+/* From one mote to another, each packet is lost whose number plus one is divisible by `every`. */
 struct host_loss {
   int from;
   int to;

@@ -1,9 +1,9 @@
 /*
- * Local continuations: a number that says where a function goes on. It is the
- * line at which the function was left, and 0 before its beginning.
+ * Local continuations: a number that says where a function continues. It is
+ * the line at which the function was left, and 0 at its beginning.
  *
- * The label of LC_SET is put behind `if(0)` so that no compiler takes the step
- * to it for a forgotten break.
+ * The label of LC_SET is behind `if(0)`, since compilers take a statement that
+ * falls through to a label for a forgotten break.
  */
 #ifndef LC_H_
 #define LC_H_

@@ -28,8 +28,8 @@ next_turn(int mote, uint64_t wakes)
 }
 
 /*
- * At each moment all motes that have something to do take their turns. What
- * one sends arrives later, so it doesn't matter who begins.
+ * At each moment all motes that have something to do take their turns. What a
+ * mote sends arrives later than this moment, so their order doesn't matter.
  */
 static void
 run(void)

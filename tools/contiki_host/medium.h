@@ -1,6 +1,6 @@
 /*
- * The medium: who hears whom, which copies are under way, and the log of what
- * was sent.
+ * The medium: which motes hear one another, which copies are under way, and the
+ * log of what was sent.
  */
 #ifndef MEDIUM_H_
 #define MEDIUM_H_
@@ -27,7 +27,7 @@ void medium_send(int from, uint64_t number, uint16_t value);
 /* The moment at which the next copy reaches a mote. */
 uint64_t medium_next_arrival(int to);
 
-/* Takes that copy. Those of one moment come by sender and number. */
+/* Takes that copy. Copies of one moment come in the order of sender and number. */
 struct copy medium_take(int to);
 
 const struct text *medium_log(void);

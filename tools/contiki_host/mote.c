@@ -62,9 +62,9 @@ mote_trace_of(int mote)
 }
 /*---------------------------------------------------------------------------*/
 /*
- * The memory of a mote, as Cooja has it: programs and kernel keep what they
- * know in static variables, of which there is one for all motes. So each mote
- * has a copy of them, which is brought into place before its turn.
+ * The memory of a mote. Programs and kernel keep their state in static
+ * variables, which exist once for all motes. So each mote has a copy of them,
+ * which is brought into place before its turn, as in Cooja.
  */
 extern const struct host_memory process_memory[], etimer_memory[], ctimer_memory[], radio_memory[];
 

@@ -14,7 +14,7 @@
 
 void motes_init(void);
 
-/* Takes a turn of a mote at this moment. The answer is the moment at which it wakes by itself. */
+/* Takes a turn of a mote at this moment. Returns the moment at which it wakes by itself. */
 uint64_t mote_turn(int mote);
 
 const struct text *mote_trace_of(int mote);

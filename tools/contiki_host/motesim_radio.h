@@ -1,6 +1,6 @@
 /*
- * What programs made from a motesim scenario use besides Contiki: the radio of
- * motesim, a line of output, and the arithmetic of the notation.
+ * Functions for programs that tools/export made from a motesim scenario: the
+ * radio of motesim, a line of output, and the division of the notation.
  *
  * A packet carries one value of 16 bits to every mote in range. On Contiki it
  * goes by Rime's broadcast (motesim_radio.c); on the host, by the simulated
@@ -20,15 +20,18 @@ void motesim_send(uint16_t value);
 uint16_t motesim_self(void);
 
 /*
- * Has packets that arrive posted to the receiver, as the event MOTESIM_PACKET.
- * Called once, when the mote boots.
+ * Names the process that gets each packet, as an event MOTESIM_PACKET. Called
+ * once, when the mote boots.
  */
 void motesim_radio_open(struct process *receiver);
 
 /* The mote that sent the packet; 0 if the event is no packet from the radio. */
 uint16_t motesim_from(process_event_t ev, process_data_t data);
 
-/* The number that an event carries: of a packet, its value. Not for timers and exits. */
+/*
+ * The number that an event carries; of a packet, its value. Not for
+ * PROCESS_EVENT_TIMER and PROCESS_EVENT_EXITED, whose data are pointers.
+ */
 uint16_t motesim_word(process_event_t ev, process_data_t data);
 
 #ifdef MOTESIM_HOST

@@ -38,9 +38,9 @@ const struct host_memory process_memory[] = {
 
 /*---------------------------------------------------------------------------*/
 /*
- * A walk visits the processes that are on the list when it begins, by the
- * order of the list. Each is kept with its incarnation: one that has left by
- * its turn isn't reached, also if it was started again since.
+ * A walk visits the processes that are on the list when it begins, in that
+ * order. It keeps the incarnation of each: a process that has left before its
+ * turn isn't reached, even if it was started again since.
  */
 struct walk {
   struct process *process[PROCESS_MAX];
@@ -95,7 +95,7 @@ static void exit_process(struct process *p, struct process *by);
 static void
 call_process(struct process *p, process_event_t ev, process_data_t data)
 {
-  char answer;
+  char result;
 
   if(p->state != PROCESS_STATE_RUNNING) {
     return;
@@ -103,8 +103,8 @@ call_process(struct process *p, process_event_t ev, process_data_t data)
   WORK();
   PROCESS_CONTEXT_BEGIN(p);
   p->state = PROCESS_STATE_CALLED;
-  answer = p->thread(&p->pt, ev, data);
-  if(answer == PT_EXITED || answer == PT_ENDED || ev == PROCESS_EVENT_EXIT) {
+  result = p->thread(&p->pt, ev, data);
+  if(result == PT_EXITED || result == PT_ENDED || ev == PROCESS_EVENT_EXIT) {
     exit_process(p, p);
   } else {
     p->state = PROCESS_STATE_RUNNING;
@@ -113,8 +113,8 @@ call_process(struct process *p, process_event_t ev, process_data_t data)
 }
 
 /*
- * The others hear of the exit first. Then p is called a last time, unless it
- * exits by itself, and leaves the list.
+ * The other processes are called with EXITED first. Then p is run once more,
+ * unless it exits by itself, and leaves the list.
  */
 static void
 exit_process(struct process *p, struct process *by)
@@ -282,7 +282,7 @@ do_event(void)
   }
 }
 
-/* How much is left to do. */
+/* How much is left to do: the events in the queue, and one more if a poll is requested. */
 int
 process_nevents(void)
 {

@@ -1,10 +1,11 @@
 /*
- * Protothreads: threads without a stack, which keep only where they stand.
+ * Protothreads: threads without a stack, which only keep the place where they
+ * wait.
  *
- * There is one difference from Contiki. A protothread that is called again
- * where it stands spends a unit of work: at a waiting statement, and at each
- * PT_SPAWN that the call passes on its way there. PT_BEGIN sees to that, so
- * that a program says WORK() only before its own statements.
+ * There is one difference from Contiki: a protothread that is called again
+ * where it waits spends a unit of work, for the waiting statement or for the
+ * PT_SPAWN whose thread waits. PT_BEGIN spends it, so a program has WORK() only
+ * before its own statements.
  */
 #ifndef PT_H_
 #define PT_H_
@@ -80,7 +81,7 @@ struct pt {
     return PT_EXITED;    \
   } while(0)
 
-/* True as long as the protothread goes on. */
+/* True as long as the protothread has neither exited nor ended. */
 #define PT_SCHEDULE(call) ((call) < PT_EXITED)
 
 #define PT_WAIT_THREAD(pt, thread) PT_WAIT_WHILE((pt), PT_SCHEDULE(thread))

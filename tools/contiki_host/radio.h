@@ -1,6 +1,7 @@
 /*
  * The radio of a mote: the ring in which packets wait, and the process that
- * hands them to the program. What programs use is in motesim_radio.h.
+ * posts them to the program. The functions for programs are in
+ * motesim_radio.h.
  */
 #ifndef RADIO_H_
 #define RADIO_H_

@@ -1,6 +1,6 @@
 /*
- * The trace of a mote: the kernel says here what it does, and each call writes
- * a line, which begins with the moment.
+ * The trace of a mote. The kernel calls these functions as it works; each
+ * writes a line, which begins with the moment.
  */
 #ifndef TRACE_H_
 #define TRACE_H_

@@ -1,9 +1,9 @@
 /*
  * Units of work. So that no program runs for ever, boot and each run of the
- * kernel may spend 10,000 units. A mote that wants one more halts.
+ * kernel may spend 10,000 units. A mote that needs one more halts.
  *
- * A program says WORK() before each of its statements, and at the end of the
- * block of a while, before the test is made again.
+ * A program has WORK() before each of its statements, and at the end of the
+ * block of a while, where the test is about to be made again.
  */
 #ifndef WORK_H_
 #define WORK_H_
