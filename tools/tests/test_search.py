@@ -372,7 +372,7 @@ class Searches(unittest.TestCase):
             status, said, _ = search(folder, '--faults', 'links')
             self.assertEqual(status, 0)
             self.assertIn('all 8 single faults: 8 run', said)
-            self.assertIn('1 of 1 expectations hold in every run; 8 runs in', said)
+            self.assertIn('1 of 1 expectations hold in every run; 8 runs\n', said)
 
     def test_failing_and_late_motes(self):
         with folder_with(sentences=[REACHED, 'no mote halts']) as folder:
@@ -403,6 +403,18 @@ class Searches(unittest.TestCase):
             status, said, _ = search(folder, '--faults', 'links')
             self.assertIn('broken without a fault, so left out: mote 0 prints\n', said)
             self.assertIn('1 of 1 expectations hold', said)
+
+    def test_the_bug_of_the_tutorial(self):
+        page = (TOP / 'docs/use/TUTORIAL.md').read_text()
+        text = page.split('```toml transfer.toml\n')[1].split('```\n')[0].replace('patience = 8', 'patience = 12')
+        words = '--faults', 'values', '--set', 'base=1..10'
+        with folder_with(text, ['mote 0 sends at most 10 times']) as folder:
+            # (an acknowledgement takes two delays, and the timer is 12 moments)
+            wanted = {frozenset(('base is %d' % it,)) for it in (7, 8, 9, 10)}
+            self.assertEqual(minimal_sets(folder, *words)[0], {'mote 0 sends at most 10 times': wanted})
+        mended = text.replace('if is(packet) {', 'if (is(packet) && (data == block)) {')
+        with folder_with(mended, ['mote 0 sends at most 10 times']) as folder:
+            self.assertEqual(minimal_sets(folder, *words)[0], {})
 
     def test_limit_on_runs(self):
         with folder_with() as folder:

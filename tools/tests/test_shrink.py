@@ -224,6 +224,19 @@ class Shrinks(unittest.TestCase):
             self.assertEqual(wrong.returncode, 2)
             self.assertIn('sentence 1 is not known', wrong.stderr)
 
+    def test_the_command_with_a_fault(self):
+        with folder_with() as folder:
+            words = [sys.executable, '-B', str(TOOLS / 'shrink'), 'diamond.toml', REACHED, '--fault']
+            done = subprocess.run([*words, 'silent 0'], cwd=folder, capture_output=True, text=True)
+            self.assertEqual(done.returncode, 0, done.stderr)
+            self.assertIn('now:    2 motes, 1 loss, 1 program', done.stdout)
+            for fault, wanted in (('silent 9', 'is no MOTE'), ('lynx 0', 'there is no fault `lynx 0`'),
+                                  ('lose 0 1', 'is to be lose SENDER RECEIVER EVERY'),
+                                  ('lose 0 1 1', 'by these faults alone')):
+                done = subprocess.run([*words, fault], cwd=folder, capture_output=True, text=True)
+                self.assertEqual((done.returncode, done.stdout), (2, ''))
+                self.assertIn(wanted, done.stderr)
+
     def test_a_search_shrinks_what_it_finds(self):
         with folder_with() as folder:
             status, said, _ = search(folder, '--faults', 'motes', '--shrink')

@@ -199,7 +199,7 @@ def last_line(search: Search, found: list[Found], folder: Path) -> str:
     which = 'every run' if is_whole(search) else 'every run that was made'
     said = '%d of %d expectations hold in %s' % (wanted - fails, wanted, which)
     said += ', %d %s broken' % (fails, 'is' if fails == 1 else 'are') if fails else ''
-    said += '; {:,} runs in {:.1f} seconds'.format(search.runs, search.seconds)
+    said += '; {:,} runs'.format(search.runs)
     if found:
         said += '\n%s in %s' % (counted(len(found), 'counter-example is', 'counter-examples are'), folder)
     if search.ended_by:
@@ -242,5 +242,5 @@ def status_of(words: argparse.Namespace) -> int:
     progress = Progress()
     with Break() as stop:
         search = asking.search(words.jobs, kept, progress.show, lambda: stop.is_asked)
-    progress.end()
+    progress.end(search)
     return told(words, asking, search, folder)

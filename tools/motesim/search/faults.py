@@ -95,6 +95,30 @@ EFFECTS: dict[str, Callable[..., None]] = {
 }
 
 
+# Of each effect what follows its first word.
+PARTS_OF = {'lose': 'SENDER RECEIVER EVERY', 'apart': 'MOTE MOTE', 'silent': 'MOTE', 'fails': 'MOTE MOMENT',
+            'late': 'MOTE MOMENT', 'collide': '', 'queue': 'PROGRAM LENGTH', 'number': 'NAME NUMBER', 'move': 'MOTE X Y'}
+
+
+def effect_of(words: str, motes: int) -> tuple[str | int, ...]:
+    """The effect that words as `lose 0 1 1` stand for."""
+    name, *rest = words.split() or ['']
+    wanted = PARTS_OF.get(name)
+    if wanted is None:
+        raise Fault('there is no fault `%s`; there may stand: %s' % (words, ', '.join(
+            ' '.join([it, parts]).strip() for it, parts in PARTS_OF.items())))
+    found: list[str | int] = [name]
+    for part, word in zip(wanted.split(), rest):
+        is_number = word.lstrip('-').isdecimal()
+        if is_number == (part in ('PROGRAM', 'NAME')) or (
+                part in ('MOTE', 'SENDER', 'RECEIVER') and not 0 <= int(word) < motes):
+            raise Fault('the fault `%s` is to be %s %s, and %s is no %s' % (words, name, wanted, word, part))
+        found.append(int(word) if is_number else word)
+    if len(rest) != len(wanted.split()):
+        raise Fault('the fault `%s` is to be %s %s' % (words, name, wanted))
+    return tuple(found)
+
+
 @dataclass
 class Asked:
     """Which faults are wanted.

@@ -126,7 +126,8 @@ def verdict_lines(search: Search, found: list[Found], sentences: list[str], show
     broken = {sentence: [it for it in found if sentence in it.sentences] for sentence in wanted}
     holding = [sentence for sentence in wanted if not broken[sentence]]
     if holding:
-        rows += ['', 'in every run that was made, this holds:', *('  ' + it for it in holding)]
+        runs = 'every run' if is_whole(search) else 'every run that was made'
+        rows += ['', 'holds in %s:' % runs, *('  ' + it for it in holding)]
     for sentence in wanted:
         sets = broken[sentence]
         if not sets:

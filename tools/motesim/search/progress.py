@@ -37,6 +37,8 @@ class Progress:
         print('\r\033[K' + text if self.is_terminal else text, end='' if self.is_terminal else '\n', file=sys.stderr,
               flush=True)
 
-    def end(self) -> None:
+    def end(self, search: Search) -> None:
+        """Takes the line away; on a terminal it says how long the search took."""
         if self.is_terminal:
-            print('\r\033[K', end='', file=sys.stderr, flush=True)
+            print('\r\033[K%.1f seconds, %d runs per second' % (
+                search.seconds, search.runs / max(search.seconds, 0.001)), file=sys.stderr, flush=True)

@@ -6,7 +6,6 @@ by a report that is no longer than the first one. It ends where no step is left,
 from __future__ import annotations
 
 import re
-import time
 from collections.abc import Callable, Iterator
 from dataclasses import dataclass, field
 from typing import NamedTuple
@@ -103,7 +102,6 @@ class Shrinking:
     is_over: Callable[[], bool] = lambda: False
     taken: list[str] = field(default_factory=list)
     runs: int = 0
-    begin: float = field(default_factory=time.monotonic)
     is_whole: bool = True
     last: int = 0
     longest: int | None = None
@@ -115,10 +113,6 @@ class Shrinking:
             more = ' by these faults alone' if self.case.effects else ', or breaks a sentence of --keep' * bool(
                 self.case.keeps)
             raise Fault('the scenario does not break `%s`%s' % (self.case.sentence, more))
-
-    @property
-    def seconds(self) -> float:
-        return time.monotonic() - self.begin
 
     def seen(self, text: str) -> Seen | None:
         """The report of a text, or None where there is none that is short enough."""

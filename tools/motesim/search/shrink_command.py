@@ -4,8 +4,8 @@
 
 Motes, losses, processes, statements, timers and constants are removed or made smaller, one step at a time, as long as
 the expectation is still broken in the same way; each step is checked by a run. A scenario may break an expectation for
-another reason once it is small: --keep names sentences that have to go on holding. Where motes get other numbers, the
-sentences follow. Where none is given, it is the first one of NAME.expect.toml, beside the scenario NAME.toml, that
+another reason once it is small. With --fault the expectation has to hold without the fault, and to be broken with it;
+--keep names sentences that have to go on holding. Where motes get other numbers, sentences and faults follow. Where none is given, it is the first one of NAME.expect.toml, beside the scenario NAME.toml, that
 is broken.
 
 The result goes to NAME.small.toml, with its expectation beside it. It is one-minimal: no single step more is possible.
@@ -25,6 +25,7 @@ from motesim.report.report import Report
 from motesim.runner.programs import program_path
 from motesim.scenario.scenario import Scenario
 from motesim.search.change import Base
+from motesim.search.faults import effect_of
 from motesim.search.found import toml_text, write_whole
 from motesim.search.net import net_of
 from motesim.search.one_program import Limits, OneProgram
@@ -73,6 +74,8 @@ def main() -> int:
     words.add_argument('-o', dest='output', metavar='FILE', help='the result; else NAME.small.toml')
     words.add_argument('--keep', action='append', default=[], metavar='SENTENCE',
                        help='what has to go on holding, so that what matters stays')
+    words.add_argument('--fault', action='append', default=[], metavar='FAULT',
+                       help='a fault that has to break it, as `lose 0 1 1`: without it the expectation has to hold')
     words.add_argument('--steps', action='store_true', help='show each step')
     words.add_argument('--seconds', type=float, default=Limits().seconds, metavar='N', help='the limit of a run')
     asked = words.parse_args()
@@ -81,8 +84,9 @@ def main() -> int:
     program = OneProgram(str(program_path().resolve()), Limits(asked.seconds))
     sentence = asked.expectation or first_broken(base, beside(path), program)
     read_all([sentence, *asked.keep], names_of(base.scenario_itself))
+    effects = tuple(effect_of(it, base.scenario_itself.motes) for it in asked.fault)
     with Break() as stop:
-        shrinking = Shrinking(program, case_of(base.source, sentence, (), tuple(asked.keep)), lambda: stop.is_asked)
+        shrinking = Shrinking(program, case_of(base.source, sentence, effects, tuple(asked.keep)), lambda: stop.is_asked)
         before = shrinking.text
         shrinking.run()
     output = Path(asked.output) if asked.output else Path(path.name.removesuffix('.toml') + '.small.toml')
@@ -92,8 +96,8 @@ def main() -> int:
             print('%3d %s' % (number, it))
     print('before: %s' % sizes(before))
     print('now:    %s' % sizes(shrinking.text))
-    print('%d steps, %d runs, %.1f seconds; %s' % (
-        len(shrinking.taken), shrinking.runs, shrinking.seconds,
+    print('%d steps, %d runs; %s' % (
+        len(shrinking.taken), shrinking.runs,
         'no step more is possible' if shrinking.is_whole else 'STOPPED: more steps may be possible'))
     print('%s breaks: %s' % (output, shrinking.case.sentence))
     return 0 if shrinking.is_whole else INTERRUPTED
