@@ -1,11 +1,12 @@
-"""Measures the program: tools/dev/bench [NAME ..] [--against PROGRAM] [--rounds N]
+"""Measures the program: tools/dev/bench [NAME ..] [--against PROGRAM] [--host] [--rounds N]
 
 Runs the program on the scenarios of bench/, on one thread and by workers of both kinds, each in turn with an earlier
 program where --against names one, and prints of each way to run: the seconds of the processor (user time, the best
 round), the seconds of the clock, and the most memory; and the instructions on one thread, where valgrind or perf is
 installed. A ratio is the middle one of the rounds' own ratios of this program to the earlier one, with the quarter and
 the three quarters. Each report is compared with the first one of its scenario. --small runs scenarios of a tenth of
-the length.
+the length. With --host, one thread is also compared with the C programs that tools/export makes of the scenario and the
+simulator in C that runs them (tools/contiki_host), compiled with -O2.
 
 Ends with status 0, or with 1 where a report differs.
 """
@@ -17,6 +18,7 @@ import re
 import shutil
 import statistics
 import subprocess
+import sys
 import tempfile
 import time
 from collections.abc import Callable, Sequence
@@ -142,6 +144,16 @@ def measured(programs: Sequence[str], words: Sequence[str], scenario: Path, roun
     return found
 
 
+def built_host(scenario: Path, folder: Path) -> str:
+    """The host of a scenario: its programs in C with the simulator that runs them."""
+    for words in ([sys.executable, str(TOP / 'tools/export'), str(scenario), '--form', 'contiki', '--host', '-o', str(folder)],
+                  ['make', '-s', '-C', str(folder), 'host', 'HOSTFLAGS=-O2']):
+        done = subprocess.run(words, capture_output=True, encoding='utf-8', errors='replace')
+        if done.returncode:
+            raise Fault('the host can\'t be built: %s' % done.stderr.strip()[:500])
+    return str(folder / 'host')
+
+
 def line_of(way: Sequence[str], runs: Sequence[Sequence[Ran]]) -> str:
     """The line of one way to run."""
     ours, others = runs[0], runs[1] if len(runs) > 1 else []
@@ -151,7 +163,7 @@ def line_of(way: Sequence[str], runs: Sequence[Sequence[Ran]]) -> str:
     return '  %-28s %s' % (' '.join(way) or 'one thread', '; '.join(cells))
 
 
-def measure(name: str, sizes: Sequence[int], programs: Sequence[str], rounds: int, counts: bool) -> bool:
+def measure(name: str, sizes: Sequence[int], programs: Sequence[str], rounds: int, counts: bool, host: bool) -> bool:
     """Measures one scenario, and returns whether all its reports are the same."""
     with tempfile.TemporaryDirectory() as room:
         scenario = Path(room) / 'scenario.toml'
@@ -162,6 +174,10 @@ def measure(name: str, sizes: Sequence[int], programs: Sequence[str], rounds: in
             runs = measured(programs, way, scenario, rounds)
             reports.update(it.report for of_program in runs for it in of_program)
             print(line_of(way, runs), flush=True)
+        if host:
+            runs = measured([programs[0], built_host(scenario, Path(room) / 'host')], [], scenario, rounds)
+            reports.update(it.report for of_program in runs for it in of_program)
+            print(line_of(['one thread, and the host'], runs), flush=True)
         if counts:
             scenario.write_bytes(generated(name, SCENARIOS[name][1]))
             count = counter(scenario, programs[0])
@@ -183,6 +199,7 @@ def main() -> int:
     words.add_argument('--against', metavar='PROGRAM', help='an earlier motesim, which is run in turn with this one')
     words.add_argument('--rounds', type=int, default=5, metavar='N', help='so many runs of each (5)')
     words.add_argument('--small', action='store_true', help='a tenth of the length')
+    words.add_argument('--host', action='store_true', help='compare one thread with the host in C')
     words.add_argument('--no-instructions', action='store_true', help='count no instructions')
     asked = words.parse_args()
     for name in asked.names:
@@ -191,6 +208,7 @@ def main() -> int:
     programs = [program_of(asked.program), *([program_of(asked.against)] if asked.against else [])]
     if len(programs) > 1:
         print('Each measure is that of %s, that of %s, and their ratio.' % tuple(programs))
-    same = [measure(name, SCENARIOS[name][asked.small], programs, max(1, asked.rounds), not asked.no_instructions)
+    same = [measure(name, SCENARIOS[name][asked.small], programs, max(1, asked.rounds), not asked.no_instructions,
+                    asked.host)
             for name in asked.names or SCENARIOS]
     return 0 if all(same) else 1

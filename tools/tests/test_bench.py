@@ -9,6 +9,7 @@ from pathlib import Path
 from unittest import mock
 
 from here import TOP
+from skips import need_command
 from motesim.notation.faults import find_fault
 from motesim.scenario import Scenario
 from project import bench
@@ -66,6 +67,14 @@ class Command(unittest.TestCase):
         said, code = self.said('marks', 'timers')
         self.assertEqual(code, 1)
         self.assertIn('THE REPORTS DIFFER', said)
+
+    def test_the_host_is_run_too(self):
+        for name in 'cc', 'make':
+            need_command(self, name, 'build-essential')
+        said, code = self.said('none', 'timers', '--host')
+        self.assertRegex(said, r'(?m)^  one thread, and the host +user .+ s, .+ s.*; clock ')
+        self.assertIn('THE REPORTS DIFFER', said)      # the stand-in's isn't that of the scenario
+        self.assertEqual(code, 1)
 
     def test_another_name_is_told(self):
         self.assertIn('there is no scenario x', self.said('none', 'x')[0])

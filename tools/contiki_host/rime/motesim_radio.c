@@ -23,14 +23,15 @@
 
 /*
  * The event of a packet points to its value and its sender. There is a place
- * for each event that can wait, and one for that which is being handled.
+ * for each event that can wait, one for the event that is being handled, and
+ * one for the packet that is received meanwhile.
  */
 struct packet {
   uint16_t value;
   uint16_t from;
 };
 
-#define PACKETS (PROCESS_CONF_NUMEVENTS + 1)
+#define PACKETS (PROCESS_CONF_NUMEVENTS + 2)
 
 static struct packet packets[PACKETS];
 static uint8_t next_packet;
