@@ -24,12 +24,13 @@ from motesim.faults import Fault, command
 from motesim.report import FIELDS, Mote, Report
 from motesim.runner.run import Run, read_run
 from motesim.scenario import Scenario
+from motesim.why.pages import causes_of
 from motesim.words import words_of
 
 PAGE = Path(__file__).resolve().parent / 'page'
 # The scripts that show runs, in the order in which they are put together; tools/studio has them too.
 SHARED = ['data.js', 'index.js', 'view.js', 'forms.js', 'lanes.js', 'arrows.js', 'map.js', 'details.js', 'search.js',
-          'play.js', 'main.js']
+          'why.js', 'chart.js', 'series.js', 'play.js', 'main.js']
 # The page's scripts: the last one opens it.
 SCRIPTS = [*SHARED, 'open.js']
 KINDS = list(FIELDS)
@@ -181,6 +182,7 @@ def page_of(title: str, runs: Sequence[Run], start: int | None = None, mote: int
     packed: list[str] = []
     for run in runs:
         of_run, columns = data_of(run)
+        of_run['why'] = causes_of(run)
         table.append(of_run)
         packed.append(base64.b64encode(columns).decode('ascii'))
     said = json.dumps({'title': title, 'start': start, 'mote': mote, 'runs': table},

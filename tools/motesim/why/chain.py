@@ -71,7 +71,7 @@ def in_words(program: Program, number: int) -> str:
     return 'line %d: `%s`' % (it.line, it.text if len(it.text) <= WIDEST else it.text[:WIDEST - 3] + '...')
 
 
-class _Words:
+class Explainer:
     """Says why the lines of one mote are there."""
 
     def __init__(self, source: Source, mote: int):
@@ -181,20 +181,19 @@ class _Words:
         return told
 
 
-def waited(source: Source, link: Link, at: int, before: int) -> tuple[int, str]:
-    """For how many moments a line waited since its cause, and for what."""
-    moments = at - before
+def wait_of(link: Link, at: int, before: int) -> str:
+    """For what a line waited since its cause, at an earlier moment or the same."""
     if link.how == 'timer':
-        return moments, 'full' if at > max(link.since + link.interval, link.since) else 'timer'
+        return 'full' if at > max(link.since + link.interval, link.since) else 'timer'
     if link.how == 'medium':
-        return moments, 'medium'
-    return moments, 'queue' if moments else ''
+        return 'medium'
+    return 'queue' if at > before else ''
 
 
 def chain(source: Source, where: At) -> list[Hop]:
     """The hops from a line back to the start of a mote."""
     found = places(source, where)
-    words = {at.mote: _Words(source, at.mote) for at in found if at.place >= 0}
+    words = {at.mote: Explainer(source, at.mote) for at in found if at.place >= 0}
     hops = []
     for place, at in enumerate(found):
         moment, text = source.traces.moment(at), source.traces.text(at)
@@ -203,10 +202,10 @@ def chain(source: Source, where: At) -> list[Hop]:
             hops.append(Hop(at, row, 0, text, 'the start', 'start', 0, '', '', 0))
             continue
         link = words[at.mote].replay.links[at.place]
-        moments, wait = waited(source, link, moment, source.traces.moment(found[place + 1]))
+        before = source.traces.moment(found[place + 1])
         program_row = source.program(at.mote).statement(link.row).line if link.row else 0
-        hops.append(Hop(at, row, moment, text.partition(' ')[2], words[at.mote].because(at.place), link.how, moments,
-                        wait, name if program_row else '', program_row))
+        hops.append(Hop(at, row, moment, text.partition(' ')[2], words[at.mote].because(at.place), link.how,
+                        moment - before, wait_of(link, moment, before), name if program_row else '', program_row))
     return hops
 
 
@@ -263,4 +262,4 @@ def rows(hops: list[Hop]) -> list[str]:
     return found
 
 
-__all__ = ['BOOT', 'Hop', 'Path', 'as_json', 'cause_of', 'chain', 'count', 'path_of', 'places', 'rows']
+__all__ = ['BOOT', 'Explainer', 'Hop', 'Path', 'as_json', 'cause_of', 'chain', 'count', 'path_of', 'places', 'rows', 'wait_of']

@@ -103,6 +103,7 @@ function tell(pane, show) {
   if (panes.length > 1) box.append(element('p', `In ${run.name}:`));
   if (k >= 0) tellPacket(box, pane);
   if (line >= 0 && [POST, TAKE, DROP].includes(run.kind[line])) tellEvent(box, pane);
+  if (line >= 0) offerWhy(box, pane);
   if (line >= 0) tellTurn(box, pane); else if (k < 0) tellMote(box, pane);
   box.classList.remove('empty');
   speak(pane);

@@ -130,11 +130,15 @@ function onKey(event) {
   else if (event.key === '}') walkLanes(pane, 1);
   else if (event.key === 'Enter') follow();
   else if (event.key === 'f' || event.key === 'F') zoomToChosen();
+  else if ((event.key === 'w' || event.key === 'W') && chosen && chosen.line >= 0) askWhy(chosen.pane, chosen.line);
   else if (event.key === 'n' || event.key === 'N') goTo(search.at + 1);
   else if (event.key === 'p' || event.key === 'P') goTo(search.at - 1);
   else if (event.key === '/') document.getElementById('words').focus();
   else if (event.key === 'Escape') {
-    if (isTyping) event.target.blur(); else selectNothing();
+    if (isTyping) event.target.blur(); else {
+      selectNothing();
+      closeWhy();
+    }
   } else if (KEYS[event.key]) act(KEYS[event.key]); else return;
   event.preventDefault();
 }
@@ -306,5 +310,5 @@ function showInstead(pane, run) {
 
 /** For tests, and for a reader's console. */
 const page = {draws: 0, drawn: 0, ready: false, panes, time, play, search, chosen: () => chosen, redraw, drawAll,
-  find, act, setNow, count};
+  find, act, setNow, count, seriesOf};
 window.motesim = page;

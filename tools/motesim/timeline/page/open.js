@@ -62,6 +62,7 @@ async function open() {
     runs.push(run);
   }
   showRuns(runs);
+  offerSeries();
   openAt(said);
   openAsAddressed();
   listen();

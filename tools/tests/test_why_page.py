@@ -1,0 +1,134 @@
+"""The causes in the page of a run: in a headless browser, what the chain and the plots show."""
+import tempfile
+import unittest
+import xml.etree.ElementTree
+from pathlib import Path
+
+from here import TOP
+import skips
+import test_summary
+import test_why
+from browser import Browser
+from motesim.report import Report
+from motesim.runner.run import Run, answer
+from motesim.scenario import Scenario
+from motesim.timeline.html import write_page
+from motesim.why.chain import chain
+from motesim.why.pages import Causes, causes_of
+from motesim.why.series import Series
+from motesim.why.source import At, Source, Traces
+
+
+def small_run() -> Run:
+    return Run('small', Report.parse(test_why.REPORT), Scenario.parse(test_why.SCENARIO))
+
+
+class Data(unittest.TestCase):
+    def test_causes_are_those_of_the_chains(self) -> None:
+        """Of the lines of both motes, how far back each cause is; 0 at the head. Mote 1's `recv` is line 22 of them."""
+        causes = Causes(Source('small', test_why.REPORT.encode(), Scenario.parse(test_why.SCENARIO)))
+        wanted = [0 if cause < 0 else 2 * (place - cause) for place, cause in enumerate(test_why.CAUSES)]
+        self.assertEqual(list(causes.causes)[:18], wanted)
+        self.assertEqual(causes.causes[22], 2 * (22 - 12))
+
+    def test_a_run_without_its_scenario_has_none(self) -> None:
+        self.assertIn('Without its scenario', causes_of(small_run()._replace(scenario=None))['none'])
+
+
+class Pages(unittest.TestCase):
+    browser: Browser
+
+    @classmethod
+    def setUpClass(cls) -> None:
+        browser, why = Browser.start()
+        if browser is None:
+            raise unittest.SkipTest(why)
+        cls.browser = browser
+        cls.room = tempfile.TemporaryDirectory()
+
+    @classmethod
+    def tearDownClass(cls) -> None:
+        cls.browser.close()
+        cls.room.cleanup()
+
+    def open(self, run: Run, fragment: str = '') -> None:
+        path = Path(self.room.name, 'page.html')
+        write_page(path, 'page', [run])
+        self.browser.open(path, fragment)
+
+    def script(self, text: str) -> object:
+        got = self.browser.run(text)
+        self.assertEqual(self.browser.faults, [])
+        return got
+
+    def ask(self) -> None:
+        self.script("document.getElementById('ask-why').click(); new Promise(done => setTimeout(done, 300))")
+
+    def test_the_chain_of_a_line(self) -> None:
+        self.open(small_run(), '#line=28')
+        self.ask()
+        said = str(self.script("document.getElementById('why-chain').innerText"))
+        self.assertIn('Critical path: 7 moments: 4 waiting for timers; 3 on the way, over 1 hop.', said)
+        shown = self.script("[...document.querySelectorAll('#why-chain li code')].map(it => it.textContent)")
+        self.assertEqual(shown, ['7 print h 8', '7 take 0 h', '7 post 0 h packet 8', '7 recv 0 0 8', '4 send 0 8',
+                                 '4 take 0 a', '4 post 0 a timer 0', '0 start a', '0 mote 0 talker'])
+
+    def test_each_hop_is_a_link(self) -> None:
+        self.open(small_run(), '#line=28')
+        self.ask()
+        self.script("[...document.querySelectorAll('#why-chain li button')][4].click()")
+        self.assertEqual(self.script('[motesim.chosen().mote, motesim.chosen().line]'), [0, 12])
+        self.script("document.querySelector('.chart circle[data-hop=\"6\"]').dispatchEvent(new MouseEvent('click'))")
+        self.assertEqual(self.script('motesim.chosen().line'), 5)
+
+    def test_the_reasons_are_those_of_the_command(self) -> None:
+        source = Source('small', test_why.REPORT.encode(), Scenario.parse(test_why.SCENARIO))
+        self.open(small_run())
+        for mote, place in (0, 12), (0, 9), (0, 17), (0, 15), (1, 7), (1, 4):
+            where = At(mote, place)
+            row = source.traces.row(where)
+            wanted = ['mote %d: %s' % (hop.where.mote, hop.because) for hop in chain(source, where)]
+            self.open(small_run(), '#line=%d' % row)
+            self.ask()
+            self.assertEqual(self.script("[...document.querySelectorAll('#why-chain .what')].map(it => it.textContent)"),
+                             wanted)
+
+    def test_the_chart_is_an_svg(self) -> None:
+        self.open(small_run(), '#line=28')
+        self.ask()
+        svg = xml.etree.ElementTree.fromstring(str(self.script("document.querySelector('.chart').innerHTML")))
+        texts = [it.text for it in svg.iter('{http://www.w3.org/2000/svg}text')]
+        self.assertIn('recv 0 0 8  (3 on the way)', texts)
+        self.assertEqual([it for it in texts if it and it.startswith('mote ')][:2], ['mote 0', 'mote 1'])
+
+    def test_a_run_without_its_scenario_says_so(self) -> None:
+        self.open(small_run()._replace(scenario=None), '#line=28')
+        self.ask()
+        self.assertIn("doesn't say what caused its lines",
+                      str(self.script("document.getElementById('why-chain').innerText")))
+
+    def test_plots_have_the_values_of_the_summary(self) -> None:
+        scenario = Scenario.parse(test_summary.SCENARIO.replace('talker = ""', 'talker = "process t; code t { body { } }"'
+                                                                ).replace('hearer = ""',
+                                                                          'hearer = "process t; code t { body { } }"'))
+        self.open(Run('sums', Report.parse(test_summary.REPORT), scenario))
+        rows = list(Series(Traces(test_summary.REPORT.encode()), 5, 10).rows())
+        script = '(() => {const its = %s; return %s;})()'
+        shown = self.script("(() => {document.getElementById('over-time').open = true; return true;})()")
+        self.assertTrue(shown)
+        for name in 'sent', 'received', 'lost', 'ring', 'collided', 'halted', 'late', 'queue':
+            got = self.script(script % ('motesim.seriesOf(motesim.panes[0].run, 5)', 'Array.from(its.%s)' % name))
+            self.assertEqual(got, [row[name] for row in rows], name)
+
+
+class Runs(unittest.TestCase):
+    def test_a_page_of_many_lines_opens(self) -> None:
+        """Of more lines than a page has causes of, it says where they are."""
+        skips.need_program(self)
+        data = (TOP / 'examples/trickle.toml').read_bytes()
+        run = Run('trickle', Report.parse(answer(data).report), Scenario.parse(data))
+        self.assertNotIn('none', causes_of(run))
+
+
+if __name__ == '__main__':
+    unittest.main()
