@@ -33,6 +33,7 @@ from pathlib import Path
 from typing import Any, Iterator
 
 from motesim.faults import Fault, command
+from motesim.runner.programs import is_compiled
 from motesim.words import words_of
 from project.tree import TOP, program_of, take_program
 
@@ -120,8 +121,8 @@ def answer(program: str, words: Sequence[str], text: bytes, stack: str) -> Answe
     """The status, the standard output and the standard error of a run with so many KB of stack, where some are
     named."""
     asked, executable = ['motesim', *words], program
-    # (what is built without a proof has checks that take more stack)
-    if stack and 'unproved' not in Path(program).parts:
+    # (what is compiled without a proof has checks that take more stack)
+    if stack and not is_compiled(Path(program)):
         asked, executable = ['sh', '-c', 'ulimit -s "$0" && exec "$@"', stack, program, *words], '/bin/sh'
     try:
         done = subprocess.run(asked, executable=executable, input=text, capture_output=True, timeout=SECONDS)

@@ -1,15 +1,15 @@
-"""How long a build still takes: by the crates' shares, held against the time that was needed so far."""
+"""How long a proof still takes: what each crate took where it was measured, times a pace that is measured on the way."""
 from __future__ import annotations
 
 import re
 import time
-from collections.abc import Iterable, Sequence
+from collections.abc import Mapping, Sequence
 from pathlib import Path
 from typing import Protocol
 
-# The part of the whole for which the figure of before counts beside what was measured here.
+# The part of the whole for which the pace of before counts beside what is measured here.
 WEIGHT = 0.15
-# By how much the time that is left may rise in a minute.
+# By how much the time that is left may rise in a minute: who looks twice is not to find another figure.
 MOST_RISE = 0.08
 
 
@@ -25,11 +25,10 @@ def minutes(seconds: float) -> str:
 
 
 class Log:
-    """Takes what the prover says of a crate, and finds in it how much is checked."""
+    """Takes what the prover says of a crate, and finds in it which share of the crate is checked."""
 
     def __init__(self, folder: str):
         self.path, self.share, self.began = Path(folder) / 'out/build.log', 0.0, time.monotonic()
-        self.ended: float | None = None
         self.path.parent.mkdir(exist_ok=True)
         self.file = open(self.path, 'w', encoding='utf-8')
 
@@ -44,74 +43,53 @@ class Log:
         self.file.flush()
 
 
-def longest_chain(crates: Iterable[Crate], left: dict[str, float]) -> float:
-    """The seconds of the longest chain of crates that stand on one another."""
-    chain: dict[str, float] = {}
-    for it in crates:
-        chain[it.name] = left[it.name] + max((chain.get(below.name, 0) for below in it.below()), default=0)
-    return max(chain.values(), default=0)
+def chains(crates: Sequence[Crate], seconds: Mapping[str, float]) -> dict[str, float]:
+    """The seconds of the longest chain of crates that wait for each crate, with its own; the lowest crate comes
+    first."""
+    after = {it.name: seconds[it.name] for it in crates}
+    for it in reversed(crates):
+        for below in it.below():
+            if below.name in after:
+                after[below.name] = max(after[below.name], seconds[below.name] + after[it.name])
+    return after
 
 
-def by_shares(crates: Sequence[Crate], left: dict[str, float], processors: int) -> float:
-    """The seconds for what is left of each crate: no less than the longest chain, and no less than all of them on all
-    processors."""
-    return max(longest_chain(crates, left), sum(left[it.name] for it in crates) / processors)
+def whole(crates: Sequence[Crate], seconds: Mapping[str, float], processors: int) -> float:
+    """The seconds of all crates: no less than the longest chain, and no less than all of them on all processors."""
+    return max([*chains(crates, seconds).values(), sum(seconds[it.name] for it in crates) / processors])
 
 
 class Estimate:
-    """What is left of a build. `pace` is how many seconds a second of the shares took where it was measured."""
+    """What is left of a proof. `pace` is how long a second of what was measured took in an earlier proof."""
 
-    def __init__(self, crates: Sequence[Crate], seconds: dict[str, float], processors: int, pace: float = 1):
-        self.crates, self.seconds, self.processors, self.pace = crates, seconds, processors, pace
+    def __init__(self, crates: Sequence[Crate], seconds: Mapping[str, float], processors: int, pace: float = 1):
+        self.crates, self.seconds, self.processors, self.pace_before = crates, seconds, processors, pace
         self.logs: dict[str, Log] = {}
         self.done: list[str] = []
         self.began = time.monotonic()
-        self.at_first = self.left_by_shares()
+        self.at_first = self.work()
         self.told, self.told_at = self.at_first * pace, self.began
 
-    def clock_pace(self) -> float:
-        """The pace of before and that of single crates, each by the clock, whatever else was going on."""
-        before, now = 0.05 * sum(self.seconds.values()), time.monotonic()
-        taken, whole = self.pace * before, before
-        for name, log in list(self.logs.items()):
-            share = 1 if name in self.done else log.share
-            if share > 0.1:
-                taken += (log.ended or now) - log.began
-                whole += self.seconds[name] * share
-        return taken / whole if whole else self.pace
-
     def left_of(self, crate: Crate) -> float:
-        """What is left of a crate, in seconds of its share."""
-        if crate.name in self.done:
-            return 0
-        whole, log = self.seconds[crate.name], self.logs.get(crate.name)
-        if not log:
-            return whole
-        # (a check tells late how far it is: till then it goes by the clock)
-        by_clock = min(0.8, (time.monotonic() - log.began) / (whole * max(1, self.clock_pace())))
-        return whole * (1 - max(0.9 * log.share, by_clock))
+        """What is left of a crate, of the seconds that were measured."""
+        of_crate, log = self.seconds[crate.name], self.logs.get(crate.name)
+        if crate.name in self.done or not log:
+            return 0 if crate.name in self.done else of_crate
+        # (a check says late how far it is: until then it goes by the clock)
+        by_clock = min(0.8, (time.monotonic() - log.began) / (of_crate * max(1, self.pace_before)))
+        return of_crate * (1 - (0.9 * log.share or by_clock))
 
-    def left_by_shares(self) -> float:
-        return by_shares(self.crates, {it.name: self.left_of(it) for it in self.crates}, self.processors)
-
-    def measured_pace(self) -> float:
-        """The pace of before and the one that was measured since, by how much is done."""
-        done, before = self.at_first - self.left_by_shares(), WEIGHT * self.at_first
-        elapsed = time.monotonic() - self.began
-        return (self.pace * before + elapsed) / (before + done) if self.at_first else self.pace
+    def work(self) -> float:
+        """What is left, in the seconds that were measured."""
+        return whole(self.crates, {it.name: self.left_of(it) for it in self.crates}, self.processors)
 
     def left(self) -> float:
-        """The seconds that are left. They rise slowly, so that nobody who looks twice finds another figure."""
-        now = time.monotonic()
+        """The seconds that are left."""
+        now, work, before = time.monotonic(), self.work(), WEIGHT * self.at_first
+        pace = (self.pace_before * before + now - self.began) / (before + self.at_first - work or 1)
         most = self.told * (1 + MOST_RISE * (now - self.told_at) / 60)
-        self.told, self.told_at = min(self.left_by_shares() * self.measured_pace(), most), now
+        self.told, self.told_at = min(work * pace, most), now
         return self.told
-
-    def ends(self, name: str) -> None:
-        """A crate is proved."""
-        if name in self.logs:
-            self.logs[name].ended = time.monotonic()
-        self.done.append(name)
 
     def state(self) -> str:
         elapsed = time.monotonic() - self.began

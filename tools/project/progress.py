@@ -24,8 +24,8 @@ def fitted(text: str, names: Sequence[str], width: int) -> str:
 class Line:
     """Standard error with a line that is renewed on a terminal, and lines that stay."""
 
-    def __init__(self, stream: TextIO):
-        self.stream, self.printing = stream, threading.Lock()
+    def __init__(self, stream: TextIO, name: str = 'motesim'):
+        self.stream, self.name, self.printing = stream, name, threading.Lock()
         self.is_terminal = stream.isatty() and os.environ.get('TERM', 'dumb') != 'dumb'
 
     def print(self, text: str, end: str) -> None:
@@ -34,12 +34,12 @@ class Line:
 
     def say(self, text: str) -> None:
         """A line that stays."""
-        self.print('motesim: ' + text, '\n')
+        self.print('%s: %s' % (self.name, text), '\n')
 
     def renew(self, text: str, names: Sequence[str]) -> None:
         """The line that is renewed, on a terminal."""
         if self.is_terminal:
-            self.print(fitted('motesim: ' + text, names, shutil.get_terminal_size().columns - 1), '')
+            self.print(fitted('%s: %s' % (self.name, text), names, shutil.get_terminal_size().columns - 1), '')
 
     def end(self) -> None:
         """The line that is renewed goes."""

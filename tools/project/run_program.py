@@ -1,10 +1,9 @@
-"""Runs the program, and builds it before where it isn't built: tools/run_program [the program's words], which is ./run
+"""Runs the program, and compiles it before if none is built: tools/run_program [arguments], which is ./run
 
-Where a source is newer than the program, or there is none, it is built first: that proves it and each crate that it
-stands on. With --unproved among the words it is compiled without any proof, once, and kept. Words that the program
-doesn't know, and a file that can't be read, are refused before that. The environment variable MOTESIM names another
-program. On a terminal a line more says how to learn why there is no report. With --help the options of ./run come
-below the program's.
+The proved program of these sources runs if it has been built. Else one is compiled without proving it, once, and is
+kept; a line on standard error says so. Arguments that the program doesn't know, and a file that can't be read, are
+refused before that. The environment variable MOTESIM names another program. On a terminal a line more says how to learn
+why there is no report. With --help the options of ./run come below the program's.
 """
 from __future__ import annotations
 
@@ -16,17 +15,20 @@ import sys
 from pathlib import Path
 from typing import NoReturn
 
-from motesim.runner.programs import is_program
+from motesim.faults import OF_ALL
+from motesim.runner.programs import hold, is_compiled, is_program, program_of_sources, say_not_proved
+from motesim.version import VERSION
 from project.asked import Asked, asked_by
 from project.attended import as_another_program, attend
-from project.tree import PROGRAM, TOP, is_built
+from project.compile import FIRST, start_fast
+from project.tree import TOP
 
-NAME = PROGRAM.name
+NAME = 'motesim'
 # (the program's own text, for which it needn't be built)
 HELP = Path(__file__).with_name('help.txt')
 HELP_OF_RUN = """
-Options of ./run itself, which builds the program where it isn't built:
-      --unproved     Compiles the program without any proof, in a minute or two, keeps it and runs it
+Options of ./run itself, which compiles the program if none is built:
+      --unproved     Runs a program that is compiled without a proof, even if a proved one is built
       --version      Says which version this is, and which kit it was proved with"""
 FAILED, MISUSED = 1, 2
 
@@ -64,9 +66,9 @@ def say_more(file: str | None) -> None:
 
 
 def say_version(is_unproved: bool) -> NoReturn:
-    """Has a tool say it, which is of the tree's version or of the unproved program's."""
-    tool = str(TOP / 'tools' / ('run_unproved' if is_unproved else 'explain'))
-    os.execv(tool, [tool, '--version'])
+    """Says which version this is: that of the tree, or of the program without a proof."""
+    print('motesim %s, compiled without a proof' % VERSION if is_unproved else OF_ALL)
+    sys.exit(0)
 
 
 def say_help_of_run() -> None:
@@ -99,29 +101,36 @@ def named_program(name: str) -> Path:
     return Path(name).resolve()
 
 
-def new_program(is_unproved: bool) -> Path:
-    """The program once it is built, or the tool that compiles it without a proof and runs it."""
-    if is_unproved:
-        return TOP / 'tools/run_unproved'
+def new_program() -> Path:
+    """The program once it is compiled."""
     if not shutil.which('rt'):
-        fail("the program isn't built, and to build it takes the Rattle kit's rt and Python 3.11")
+        fail("the program isn't built, and to compile it takes the Rattle kit: the command rt is not here")
     # (standard input is the program's)
-    if attend(TOP / 'tools/build', [NAME], subprocess.DEVNULL):
+    if attend(TOP / 'tools/compile', [NAME], subprocess.DEVNULL):
         sys.exit(FAILED)
-    return PROGRAM
+    found = program_of_sources(may_be_proved=False)
+    if found is None:
+        fail('a source has changed while the program was compiled: try again')
+    return found
 
 
 def program_for(asked: Asked) -> Path:
-    """The program that runs the words: one that is there answers them itself."""
+    """The program that runs the arguments: one that is there answers them itself."""
     named = os.environ.get('MOTESIM')
     if named and not asked.is_unproved:
         return named_program(named)
-    if is_built() and not asked.is_unproved:
-        return PROGRAM
-    if asked.wants_help:
-        say_help()
-    check_words(asked)
-    return new_program(asked.is_unproved)
+    found = program_of_sources(may_be_proved=not asked.is_unproved)
+    if found is None:
+        if asked.wants_help:
+            say_help()
+        check_words(asked)
+        found = new_program()
+    if is_compiled(found) and not asked.wants_help:
+        say_not_proved()
+    hold(found)
+    if found.name == FIRST and shutil.which('rt'):
+        start_fast()
+    return found
 
 
 def run_words(program: Path, asked: Asked) -> NoReturn:

@@ -1,27 +1,15 @@
-"""Where the parts of the repository are, whether its program is built, and which program its tools try."""
+"""Where the parts of the repository are, and which program its checks try."""
 from __future__ import annotations
 
 import argparse
-import os
 from pathlib import Path
 
 from motesim.faults import Fault
-from motesim.runner.programs import is_program, program_path
+from motesim.runner.programs import ALL_PARTS as PARTS
+from motesim.runner.programs import PROVED as PROGRAM
+from motesim.runner.programs import TOP, is_program, program_path
 
-TOP = Path(__file__).resolve().parent.parent.parent
-PROGRAM = TOP / 'crates/motesim/out/motesim'
-# The folders of a crate that a check reads.
-PARTS = 'src', 'specs', 'proofs'
-
-
-def is_built() -> bool:
-    """Whether the program is there, and none of the sources is newer."""
-    if not is_program(PROGRAM):
-        return False
-    folders = [it for part in PARTS for it in TOP.glob('crates/*/' + part)]
-    found = [os.path.join(at, name) for folder in folders for at, _, names in os.walk(folder) for name in ('', *names)]
-    found.append(str(TOP / 'crates.txt'))
-    return max(os.stat(it).st_mtime_ns for it in found) <= PROGRAM.stat().st_mtime_ns
+__all__ = ['PARTS', 'PROGRAM', 'TOP', 'program_of', 'take_program']
 
 
 def take_program(words: argparse.ArgumentParser) -> None:

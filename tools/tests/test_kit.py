@@ -39,20 +39,6 @@ class AtHand(unittest.TestCase):
         self.assertEqual(sorted(it.name for it in [*program.below(), program]), crates_of_program(here.TOP))
 
 
-class Linker(unittest.TestCase):
-    def test_what_the_linker_makes_is_kept(self):
-        with tempfile.TemporaryDirectory() as room:
-            own, script, made, kept = (Path(room) / name for name in ('own', 'ld.lld', 'made', 'kept'))
-            own.write_text('#!/bin/sh\n[ "$1" = fails ] && exit 3\nprintf linked >"$3"\n')
-            script.write_text(kit.LINKER.format(linker=own, kept=kept))
-            for it in own, script:
-                it.chmod(0o755)
-            self.assertEqual(subprocess.run([str(script), 'fails', '-o', str(made)]).returncode, 3)
-            self.assertFalse(kept.exists())
-            self.assertEqual(subprocess.run([str(script), '-pie', '-o', str(made), 'input-0']).returncode, 0)
-            self.assertEqual(kept.read_text(), 'linked')
-
-
 class Others(unittest.TestCase):
     def test_another_kit_is_told(self):
         said = 'the kit here is another kit, and what stands here was proved with %s' % KIT

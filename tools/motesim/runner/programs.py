@@ -1,26 +1,39 @@
-"""Which program the tools run: the one that MOTESIM names, the proved one of this tree, or one that is kept unproved.
+"""The program that all tools run, and where programs are kept.
 
-`./run --unproved` compiles the program without any proof and keeps it by a digest of its sources. While no proved
-program is built, every tool runs it, and says so in one line on standard error.
+`program_path` returns the program that MOTESIM names; else the proved one of these sources, if it has been built; else
+one that was compiled without a proof, and then says so in a line. Programs are kept in out/programs by a digest of what
+they were made of:
+
+    proved-DIGEST/motesim    what `./prove` or `./test` built; the digest is of the sources, the contracts and the proofs
+    compiled-DIGEST/fast     compiled without a proof, and optimized; the digest is of the sources
+    compiled-DIGEST/first    the same, compiled within the first minute: slow, and used until `fast` is there
+
+A file that is there is whole, and never changes. A process that has asked for the program holds it: it isn't deleted
+while that process lives.
 """
 from __future__ import annotations
 
+import contextlib
+import fcntl
 import functools
 import hashlib
 import os
-import re
+import shutil
 import sys
+from collections.abc import Iterator, Sequence
 from pathlib import Path
 
 from motesim.faults import Fault
 
 TOP = Path(__file__).resolve().parents[3]
+# What a proof builds, until the next one.
 PROVED = TOP / 'crates/motesim/out/motesim'
-UNPROVED = TOP / 'out/unproved'
+PROGRAMS = TOP / 'out/programs'
 # (of an archive of the tools, which has no crates)
 PACKED = TOP / 'motesim'
-NOTHING_PROVED = ('NOTHING IS PROVED of this run: its program has checks in place of the proofs '
-                  '(./run FILE.toml proves and builds one, in 20 to 40 minutes)')
+CODE, ALL_PARTS = ('src',), ('src', 'specs', 'proofs')
+# (./run has this line too, for machines without Python)
+NOT_PROVED = 'this program is compiled, not proved; ./prove proves it here'
 
 
 class ProgramFault(Fault):
@@ -30,6 +43,8 @@ class ProgramFault(Fault):
 def is_program(path: Path) -> bool:
     return path.is_file() and os.access(path, os.X_OK)
 
+
+# Sources.
 
 def crates_of_program(top: Path) -> list[str]:
     """The crates from which the program is made, by crates.txt: lines of a name, words on it, and the crates below."""
@@ -49,49 +64,156 @@ def crates_of_program(top: Path) -> list[str]:
     return sorted(found)
 
 
-def digest(top: Path = TOP) -> str:
-    """A digest of the sources from which the program is compiled, without their definitions and proofs."""
+def digest(top: Path = TOP, parts: Sequence[str] = CODE) -> str:
+    """A digest of these parts of all crates from which the program is made."""
     found = hashlib.sha256((top / 'crates.txt').read_bytes())
     for crate in crates_of_program(top):
-        for path in sorted((top / 'crates' / crate / 'src').rglob('*.rt')):
-            data = path.read_bytes()
-            found.update(b'%s %d\n' % (os.fsencode(path.relative_to(top)), len(data)))
-            found.update(data)
-    return found.hexdigest()[:32]
+        for part in parts:
+            for path in sorted((top / 'crates' / crate / part).rglob('*')):
+                if path.is_file():
+                    data = path.read_bytes()
+                    found.update(b'%s %d\n' % (os.fsencode(path.relative_to(top)), len(data)))
+                    found.update(data)
+    return found.hexdigest()[:24]
 
 
-def unproved_path(top: Path = TOP) -> Path:
-    """Where the unproved program of these sources is kept, whether or not it is there."""
-    return top / 'out/unproved' / digest(top) / 'motesim'
+def is_newer_than_sources(program: Path) -> bool:
+    """Whether a program is there, and no source, contract or proof has changed since it was built."""
+    if not is_program(program):
+        return False
+    folders = [it for part in ALL_PARTS for it in TOP.glob('crates/*/' + part)]
+    found = [os.path.join(at, name) for folder in folders for at, _, names in os.walk(folder) for name in ('', *names)]
+    found.append(str(TOP / 'crates.txt'))
+    return max(os.stat(it).st_mtime_ns for it in found) <= program.stat().st_mtime_ns
+
+
+# Programs that are kept.
+
+def keep_whole(given: Path, kept: Path) -> None:
+    """Copies a program to where it is kept: under another name first, so that a file that is there is whole."""
+    kept.parent.mkdir(parents=True, exist_ok=True)
+    new = kept.with_name('%s.%d' % (kept.name, os.getpid()))
+    try:
+        shutil.copy2(given, new)
+        os.replace(new, kept)
+    finally:
+        new.unlink(missing_ok=True)
+
+
+def _same(one: Path, other: Path) -> bool:
+    """Whether one of two programs is a copy of the other, by their sizes and times."""
+    about, of_other = one.stat(), other.stat()
+    return (about.st_size, about.st_mtime_ns) == (of_other.st_size, of_other.st_mtime_ns)
 
 
 @functools.cache
-def say_unproved() -> None:
-    """Says, once, that nothing is proved of what is run."""
-    print('motesim: %s' % NOTHING_PROVED, file=sys.stderr, flush=True)
+def compiled_folder(top: Path = TOP) -> Path:
+    """Where programs that are compiled from these sources without a proof are kept."""
+    return top / 'out/programs' / ('compiled-' + digest(top))
 
 
-def kept_unproved() -> Path | None:
-    """The unproved program of these sources, where one is kept."""
-    if not (UNPROVED.is_dir() and (TOP / 'crates.txt').is_file()):
+@functools.cache
+def proved_kept(top: Path = TOP) -> Path:
+    """Where the proved program of these sources is kept."""
+    return top / 'out/programs' / ('proved-' + digest(top, ALL_PARTS)) / PROVED.name
+
+
+def proved_program() -> Path | None:
+    """The proved program of these sources, if it has been built; it is copied to where it is kept."""
+    if is_newer_than_sources(PROVED):
+        for it in PROGRAMS.glob('proved-*/' + PROVED.name):
+            if is_program(it) and _same(it, PROVED):
+                return it
+        try:
+            keep_whole(PROVED, proved_kept())
+        except OSError:
+            # (a tree that can't be written to)
+            return PROVED
+    elif not any(PROGRAMS.glob('proved-*')):
         return None
-    path = unproved_path()
-    return path if is_program(path) else None
+    return proved_kept() if is_program(proved_kept()) else None
+
+
+def compiled_program() -> Path | None:
+    """The program that was compiled from these sources without a proof, the fast one if it is there."""
+    if not any(PROGRAMS.glob('compiled-*')):
+        return None
+    found = (compiled_folder() / name for name in ('fast', 'first'))
+    return next((it for it in found if is_program(it)), None)
+
+
+def program_of_sources(may_be_proved: bool = True) -> Path | None:
+    """The program of these sources to run, or None if none has been built."""
+    if not (TOP / 'crates.txt').is_file():
+        return PACKED if is_program(PACKED) else None
+    return (proved_program() if may_be_proved else None) or compiled_program()
+
+
+def is_proved(program: Path) -> bool:
+    """Whether a program is one that a proof built: that of this tree, or of an archive."""
+    program = program.resolve()
+    is_kept = program.parent.parent == PROGRAMS.resolve() and program.parent.name.startswith('proved-')
+    return is_kept or program in (PROVED.resolve(), PACKED.resolve())
+
+
+def is_compiled(program: Path) -> bool:
+    """Whether a program is one that was compiled here without a proof."""
+    program = program.resolve()
+    return program.parent.parent == PROGRAMS.resolve() and program.parent.name.startswith('compiled-')
+
+
+@functools.cache
+def hold(program: Path) -> None:
+    """Keeps a program from being deleted for as long as this process lives, and notes that it is used."""
+    with contextlib.suppress(OSError):
+        number = os.open(program, os.O_RDONLY)
+        fcntl.flock(number, fcntl.LOCK_SH)
+        os.utime(program.parent)
+
+
+@contextlib.contextmanager
+def unless_held(program: Path) -> Iterator[bool]:
+    """Whether no process holds a program; none can begin to until the block ends."""
+    try:
+        with open(program, 'rb') as file:
+            fcntl.flock(file, fcntl.LOCK_EX | fcntl.LOCK_NB)
+            yield True
+    except OSError:
+        yield False
+
+
+@functools.cache
+def say_not_proved() -> None:
+    """Says, once, that the program that is run was not proved."""
+    print('motesim: %s' % NOT_PROVED, file=sys.stderr, flush=True)
 
 
 def program_path() -> Path:
-    """The program to run: the one that the environment variable MOTESIM names, else this tree's."""
+    """The program to run: the one that the environment variable MOTESIM names, else that of these sources."""
     named = os.environ.get('MOTESIM')
     if named:
         if not is_program(Path(named)):
             raise ProgramFault('there is no program %s (the environment variable MOTESIM names it)' % named)
         return Path(named)
-    for path in PROVED, PACKED:
-        if is_program(path):
-            return path
-    kept = kept_unproved()
-    if kept is None:
-        raise ProgramFault('the program is not built: ./run --unproved FILE.toml compiles it in a minute or two, '
-                           './run FILE.toml proves and builds it in 20 to 40, and MOTESIM names a built one')
-    say_unproved()
-    return kept
+    found = _program_here()
+    if found is None:
+        raise ProgramFault('the program is not built yet: ./run FILE.toml compiles it within a minute or so, once')
+    if is_compiled(found):
+        say_not_proved()
+    hold(found)
+    return found
+
+
+class _Here:
+    """The program that this process found first, and the better ones that may come while it runs."""
+    found: Path | None = None
+
+
+def _program_here() -> Path | None:
+    """The program of these sources. A process that goes on for long keeps to the sources that it began with, and takes
+    the fast program once it is there."""
+    if _Here.found is None or not is_program(_Here.found):
+        _Here.found = program_of_sources()
+    elif _Here.found.name == 'first' and is_program(_Here.found.with_name('fast')):
+        _Here.found = _Here.found.with_name('fast')
+    return _Here.found

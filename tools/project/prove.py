@@ -1,9 +1,10 @@
-"""Proves the program and each library below it, each once, and builds the program: tools/build
+"""Proves everything on this machine, and builds the proved program: ./prove
 
-As many crates are proved side by side as there are processors and memory. On standard error it says how far it is: on
-a terminal one line that is renewed, else a line for each crate, and one each minute. Each crate keeps its work in its
-out/, so a build that was broken off goes on where it was. What the prover says goes into out/build.log of each crate,
-and is shown of a crate that isn't proved.
+From then on ./run and all tools run the proved program; until then they go on with the one that they have. It takes
+some 20 to 40 minutes on four cores, at a low priority, and says how far it is: on a terminal in one line that is
+renewed, else in a line for each crate, and one each minute. It can be interrupted at any time: started again, it goes
+on with the crates that are left. What the prover says of a crate goes into its out/build.log, and is shown if the crate
+isn't proved. ./test is the gate, which proves everything from nothing, and tests it.
 """
 from __future__ import annotations
 
@@ -16,18 +17,19 @@ from collections.abc import Sequence
 from concurrent.futures import FIRST_COMPLETED, Future, ThreadPoolExecutor, wait
 
 from motesim.faults import Fault, command
+from motesim.runner.programs import proved_program
 from motesim.words import words_of
 from project import kit
-from project.estimate import Crate, Estimate, Log, by_shares, minutes
+from project.estimate import Estimate, Log, chains, minutes, whole
 from project.progress import Line
 from project.shares import minutes_from_nothing, shares
-from project.tree import PROGRAM, TOP, is_built
+from project.tree import PROGRAM, TOP
 
 NAME = PROGRAM.name
 
 
 class Progress:
-    """Tells how far a build is."""
+    """Says how far a proof is."""
 
     def __init__(self, estimate: Estimate, line: Line):
         self.estimate, self.line, self.ended = estimate, line, threading.Event()
@@ -35,17 +37,14 @@ class Progress:
 
     def announce(self, built: int) -> None:
         estimate = self.estimate
-        number = 'the %d crates that it needs' % len(estimate.crates)
-        if built:
-            number = '%d crates (proved already: %d)' % (len(estimate.crates), built)
-        here = '%d processors here' % estimate.processors if estimate.processors > 1 else 'one processor here'
-        self.line.say('this proves %s first: about %s on the %s' % (number, minutes(estimate.left()), here))
-        self.line.say('an interrupted build goes on with the crates that are left; ./run --unproved FILE shows a report '
-                      'in minutes, and proves nothing')
+        proved = ' (%d are proved already)' % built if built else ''
+        here = '%d processors' % estimate.processors if estimate.processors > 1 else 'one processor'
+        self.line.say('proving %d crates%s: about %s on the %s here; interrupt it at any time, ./prove resumes' % (
+            len(estimate.crates), proved, minutes(estimate.left()), here))
         self.renewing.start()
 
     def renew(self) -> None:
-        """Renews the line on a terminal, or says a line each minute, until the build ends."""
+        """Renews the line on a terminal, or says a line each minute, until the proof ends."""
         while not self.ended.wait(1 if self.line.is_terminal else 60):
             if self.line.is_terminal:
                 self.line.renew(self.estimate.state(), self.estimate.at_work())
@@ -59,7 +58,7 @@ class Progress:
 
     def ends(self, crate: kit.Crate, is_proved: bool) -> None:
         if is_proved:
-            self.estimate.ends(crate.name)
+            self.estimate.done.append(crate.name)
             if not self.line.is_terminal:
                 self.line.say('%s is proved: %s' % (crate.name, self.estimate.state()))
             return
@@ -79,7 +78,7 @@ def make(crate: kit.Crate, jobs: int, began: float) -> bool:
         return False
     os.remove('%s/%s.o' % (crate.folder, new))
     new = '%s/%s' % (crate.folder, new)
-    # (what is edited while this build goes on is newer than what it built)
+    # (what is edited while this proof goes on is newer than what it built)
     os.utime(new, (began, began))
     os.replace(new, '%s/out/%s' % (crate.folder, crate.name))
     return True
@@ -97,35 +96,20 @@ def work(crate: kit.Crate, jobs: int, gives_way: bool, log: Log, began: float) -
         log.flush()
 
 
-def chains(crates: Sequence[Crate], seconds: dict[str, float]) -> dict[str, float]:
-    """Of each crate the seconds of the longest chain of crates that wait for it, with its own."""
-    after = {it.name: seconds[it.name] for it in crates}
-    for it in reversed(crates):
-        for below in it.below():
-            if below.name in after:
-                after[below.name] = max(after[below.name], seconds[below.name] + after[it.name])
-    return after
-
-
-def still_after(crate: Crate, after: dict[str, float], estimate: Estimate) -> float:
-    """The seconds of the longest chain of crates that wait for this one, with what is left of its own."""
-    return after[crate.name] - estimate.seconds[crate.name] + estimate.left_of(crate)
-
-
-def jobs_of(crate: Crate, ready: Sequence[Crate], running: Sequence[Crate], after: dict[str, float],
+def jobs_of(crate: kit.Crate, ready: Sequence[kit.Crate], running: Sequence[kit.Crate],
             estimate: Estimate) -> tuple[int, bool]:
     """How many jobs a crate is proved by, and whether it leaves the processors to others. The one that all wait for
     has all processors, and goes first on them; each other one has a fair part of those that are idle."""
-    chain = after[crate.name]
-    is_longest = all(still_after(it, after, estimate) <= chain for it in [*ready, *running])
+    left = chains(estimate.crates, {it.name: estimate.left_of(it) for it in estimate.crates})
+    is_longest = all(left[it.name] <= left[crate.name] for it in [*ready, *running])
     idle = max(1, estimate.processors - len(running))
     return (estimate.processors if is_longest else max(1, idle // len(ready))), not is_longest
 
 
 def prove(crates: Sequence[kit.Crate], built: Sequence[kit.Crate], progress: Progress) -> bool:
     """Proves the crates, those with the longest chain first."""
-    estimate, date = progress.estimate, time.time()
-    after, memory = chains(crates, estimate.seconds), 0.85 * kit.free()
+    estimate, date, memory = progress.estimate, time.time(), 0.85 * kit.free()
+    after = chains(crates, estimate.seconds)
     left, is_well = sorted(crates, key=lambda it: -after[it.name]), True
     running: dict[Future[bool], tuple[kit.Crate, float]] = {}
     proved = {it.name for it in built}
@@ -136,7 +120,7 @@ def prove(crates: Sequence[kit.Crate], built: Sequence[kit.Crate], progress: Pro
                 need, room = kit.need(crate), memory - sum(it for _, it in running.values())
                 if len(running) >= estimate.processors or (running and need > room):
                     continue
-                jobs, gives_way = jobs_of(crate, ready[at:], [it for it, _ in running.values()], after, estimate)
+                jobs, gives_way = jobs_of(crate, ready[at:], [it for it, _ in running.values()], estimate)
                 # (a job more takes some six tenths of the memory of the first)
                 jobs = max(1, min(jobs, 8, 1 + int((room / need - 1) / 0.6)))
                 left.remove(crate)
@@ -151,39 +135,40 @@ def prove(crates: Sequence[kit.Crate], built: Sequence[kit.Crate], progress: Pro
 
 
 def pace_of(crates: Sequence[kit.Crate], processors: int) -> float:
-    """How many seconds a second of the shares took in the build from nothing that README.md tells of."""
+    """How long a second of what was measured of the crates takes in a proof of all of them."""
     measured = minutes_from_nothing(processors)
-    whole = by_shares(crates, shares([it.name for it in crates]), processors)
-    return measured * 60 / whole if measured and whole else 1
+    of_crates = whole(crates, shares([it.name for it in crates]), processors)
+    return measured * 60 / of_crates if measured and of_crates else 1
 
 
-@command('motesim')
+@command('prove')
 def main() -> int:
-    words = words_of(__doc__, 'build')
-    words.parse_args()
-    line, began = Line(sys.stderr), time.monotonic()
-    line.say('building, since no program of these sources is here')
+    words_of(__doc__, './prove').parse_args()
+    line, began = Line(sys.stderr, 'prove'), time.monotonic()
     # With Python's own handler an interrupt would wait for the provers.
     signal.signal(signal.SIGINT, signal.SIG_DFL)
     if kit.another():
         line.say(str(kit.another()))
     os.chdir(TOP)
-    whole = kit.crates_to_build(NAME, TOP)
-    held = kit.lock(whole)
-    if is_built():
-        # (by another run, for which this one has waited)
+    os.nice(5)
+    crates = kit.crates_to_build(NAME, TOP)
+    # (this waits for another proof here)
+    held = kit.lock(crates)
+    if proved_program():
+        line.say('the proved program of these sources is built already')
         return 0
-    built = [it for it in whole if not it.is_program and it.is_built()]
-    crates = [it for it in whole if it not in built]
+    built = [it for it in crates if not it.is_program and it.is_built()]
+    left = [it for it in crates if it not in built]
     processors = kit.processors()
-    estimate = Estimate(crates, shares([it.name for it in crates]), processors, pace_of(whole, processors))
+    estimate = Estimate(left, shares([it.name for it in left]), processors, pace_of(crates, processors))
     progress = Progress(estimate, line)
     progress.announce(len(built))
-    is_well = prove(crates, built, progress)
+    is_well = prove(left, built, progress)
     progress.end()
     for it in held:
         os.close(it)
     if not is_well:
-        raise Fault('the build failed')
-    line.say('built in %s' % minutes(time.monotonic() - began))
+        raise Fault('not everything is proved; the lines above say why')
+    line.say('proved and built in %s%s' % (
+        minutes(time.monotonic() - began), '' if proved_program() else ', but sources have changed meanwhile'))
     return 0

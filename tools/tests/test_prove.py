@@ -1,4 +1,4 @@
-"""What build foretells, and what it reads of a check."""
+"""What ./prove estimates, and what it reads of a check."""
 import io
 import re
 import tempfile
@@ -9,7 +9,7 @@ from pathlib import Path
 
 from here import TOP as TREE
 
-from project import build, estimate, kit, progress, shares
+from project import estimate, kit, progress, prove, shares
 
 
 def crate(name, *below):
@@ -34,23 +34,23 @@ class Clock:
 
 class Foretold(unittest.TestCase):
     def test_a_chain_has_all_that_wait_for_a_crate(self):
-        self.assertEqual(build.chains(CRATES, SECONDS), {'low': 180, 'side': 50, 'middle': 80, 'top': 30})
+        self.assertEqual(estimate.chains(CRATES, SECONDS), {'low': 180, 'side': 50, 'middle': 80, 'top': 30})
 
     def test_what_is_left_is_the_longest_chain_or_the_work(self):
-        self.assertEqual(estimate.Estimate(CRATES, SECONDS, 4).left_by_shares(), 180)
-        self.assertEqual(estimate.Estimate(CRATES, SECONDS, 1).left_by_shares(), 200)
+        self.assertEqual(estimate.Estimate(CRATES, SECONDS, 4).work(), 180)
+        self.assertEqual(estimate.Estimate(CRATES, SECONDS, 1).work(), 200)
 
     def test_a_crate_that_is_done_leaves_nothing(self):
         it = estimate.Estimate(CRATES, SECONDS, 4)
         it.done.append('low')
-        self.assertEqual(it.left_by_shares(), 80)
+        self.assertEqual(it.work(), 80)
 
     def test_a_build_from_nothing_takes_what_the_readme_says(self):
         measured = shares.minutes_from_nothing(4)
         seconds = shares.shares([it.name for it in CRATES])
-        pace = build.pace_of(CRATES, 4)
+        pace = prove.pace_of(CRATES, 4)
         self.assertAlmostEqual(estimate.Estimate(CRATES, seconds, 4, pace).left(), measured * 60, 0)
-        least, most = re.search(r'(\d+) to (\d+) minutes on four', (TREE / 'README.md').read_text('utf-8')).groups()
+        least, most = re.search(r'(\d+) to (\d+) minutes\s+on\s+four', (TREE / 'README.md').read_text('utf-8')).groups()
         self.assertTrue(int(least) <= measured <= int(most))
 
     def told(self, pace):
@@ -79,7 +79,7 @@ class Jobs(unittest.TestCase):
     def asked(self, crate, ready, running, done=()):
         it = estimate.Estimate(CRATES, SECONDS, 4)
         it.done.extend(done)
-        return build.jobs_of(crate, ready, running, build.chains(CRATES, SECONDS), it)
+        return prove.jobs_of(crate, ready, running, it)
 
     def test_the_crate_that_all_wait_for_has_all_processors(self):
         self.assertEqual(self.asked(LOW, [LOW, SIDE], []), (4, False))
@@ -91,9 +91,8 @@ class Jobs(unittest.TestCase):
 
     def test_a_crate_that_is_nearly_proved_holds_up_no_longer_than_that(self):
         it = estimate.Estimate(CRATES, SECONDS, 4)
-        with unittest.mock.patch.object(it, 'left_of', lambda it: 0 if it is LOW else SECONDS[it.name]):
-            after = {**build.chains(CRATES, SECONDS), 'side': 90}
-            self.assertEqual(build.jobs_of(SIDE, [SIDE], [LOW], after, it), (4, False))
+        with unittest.mock.patch.object(it, 'left_of', lambda it: {'low': 0, 'side': 60}.get(it.name, SECONDS[it.name])):
+            self.assertEqual(prove.jobs_of(SIDE, [SIDE], [LOW], it), (4, False))
 
 
 class Libraries(unittest.TestCase):

@@ -1,0 +1,189 @@
+"""Compiles the program without proving it: tools/compile [--fast]
+
+./run calls this if no program of these sources is built. The first program is there within a minute, but isn't
+optimized. --fast makes an optimized one, from what the first has left if that is there; ./run starts this in the
+background. Both are kept in out/programs by a digest of the sources, and nothing is done if they are there already.
+"""
+from __future__ import annotations
+
+import contextlib
+import fcntl
+import os
+import shutil
+import signal
+import subprocess
+import sys
+import tempfile
+import threading
+import time
+from collections.abc import Iterator
+from pathlib import Path
+
+from motesim.faults import Fault, command
+from motesim.runner.programs import PROGRAMS, TOP, compiled_folder, is_program, proved_program, unless_held
+from motesim.words import words_of
+from project import kit
+from project.progress import Line
+
+NAME = 'motesim'
+FIRST, FAST = 'first', 'fast'
+# The levels of optimization. With a program that is seen as a whole, 1 takes no less time than 2.
+LEVELS = {FIRST: 0, FAST: 2}
+# What the first program leaves to make the fast one from, and where it is noted that the fast one can't be made.
+PARTS, FAILED = 'parts', 'fast.failed'
+# The seconds until the fast program is tried again after that.
+SECONDS_TO_RETRY = 600
+COMPILING = 'no program is built yet: compiling one, without proving it, takes about a minute'
+# The megabytes that compiling takes on the disk.
+MEGABYTES = 100
+# How many programs of other sources are kept, besides those that a process holds.
+MOST_KEPT = 6
+
+
+class Busy(Exception):
+    """Another process does the same."""
+
+
+@contextlib.contextmanager
+def alone(name: str, line: Line | None) -> Iterator[None]:
+    """Keeps other processes from doing the same. Waits for one that does, and says so; without a line, raises `Busy`."""
+    PROGRAMS.mkdir(parents=True, exist_ok=True)
+    with open(PROGRAMS / (name + '.lock'), 'w', encoding='ascii') as lock:
+        try:
+            fcntl.flock(lock, fcntl.LOCK_EX | fcntl.LOCK_NB)
+        except BlockingIOError:
+            if line is None:
+                raise Busy from None
+            line.say('another run is compiling the program; this one waits for it')
+            fcntl.flock(lock, fcntl.LOCK_EX)
+        yield
+
+
+@contextlib.contextmanager
+def room(name: str) -> Iterator[Path]:
+    """A folder beside the programs; one that a killed process has left is deleted."""
+    for left in PROGRAMS.glob('%s-room-*' % name):
+        shutil.rmtree(left, ignore_errors=True)
+    with tempfile.TemporaryDirectory(prefix='%s-room-' % name, dir=PROGRAMS) as folder:
+        yield Path(folder)
+
+
+def waited_for(ran: subprocess.Popen[str], line: Line | None, began: float) -> str:
+    """What a command says until it ends; meanwhile a terminal shows how long it has taken."""
+    said: list[str] = []
+    assert ran.stdout
+    reading = threading.Thread(target=lambda: said.extend(ran.stdout or ()), daemon=True)
+    reading.start()
+    while reading.is_alive():
+        if line:
+            line.renew('%s (%d s so far)' % (COMPILING, time.time() - began), [])
+        reading.join(1)
+    ran.wait()
+    if line:
+        line.end()
+    return ''.join(said)
+
+
+def megabytes_free() -> int:
+    return shutil.disk_usage(PROGRAMS).free >> 20
+
+
+def check_disk() -> None:
+    if megabytes_free() < MEGABYTES:
+        raise Fault('the disk is full: compiling the program takes %d megabytes in %s, and %d are free' % (
+            MEGABYTES, PROGRAMS, megabytes_free()))
+
+
+def make(name: str, line: Line | None) -> None:
+    """Makes a program, and keeps it once it is whole."""
+    folder, began = compiled_folder(), time.time()
+    check_disk()
+    with room(name) as work:
+        parts = folder / PARTS
+        if not parts.is_dir():
+            parts = work / PARTS
+            parts.mkdir()
+            check(kit.translate(NAME, TOP, parts, lambda ran: waited_for(ran, line, began)))
+        check(kit.link(parts, LEVELS[name], work / name, lambda ran: waited_for(ran, line, began)))
+        folder.mkdir(parents=True, exist_ok=True)
+        # (a source that is edited meanwhile is newer than the program)
+        os.utime(work / name, (began, began))
+        if name == FIRST and parts.parent == work:
+            os.replace(parts, folder / PARTS)
+        os.replace(work / name, folder / name)
+    if name == FAST:
+        shutil.rmtree(folder / PARTS, ignore_errors=True)
+
+
+def check(said: str | None) -> None:
+    """Raises a fault if something was said that explains why nothing was made."""
+    if said is None:
+        return
+    if 'No space left on device' in said:
+        raise Fault('the disk is full: compiling the program takes %d megabytes in %s' % (MEGABYTES, PROGRAMS))
+    raise Fault('the program was not compiled, as these lines say:\n%s' % said.rstrip())
+
+
+def clear_others() -> None:
+    """Deletes the programs of other sources that nobody holds, except for those that were used last."""
+    found = [it for it in PROGRAMS.iterdir() if it.name.startswith(('compiled-', 'proved-')) and it != compiled_folder()]
+    for folder in sorted(found, key=lambda it: -it.stat().st_mtime)[MOST_KEPT:]:
+        with contextlib.ExitStack() as held:
+            programs = [it for it in folder.iterdir() if it.is_file() and is_program(it)]
+            if all([held.enter_context(unless_held(it)) for it in programs]):
+                shutil.rmtree(folder, ignore_errors=True)
+
+
+def make_first(line: Line) -> None:
+    """Makes the first program of these sources, unless one is there."""
+    with alone(FIRST, line):
+        if any(is_program(compiled_folder() / it) for it in LEVELS):
+            return
+        if not line.is_terminal:
+            line.say(COMPILING)
+        if kit.another():
+            line.say(str(kit.another()))
+        make(FIRST, line)
+        clear_others()
+
+
+def is_wanted() -> bool:
+    """Whether a fast program would be used, and can be made now."""
+    failed = compiled_folder() / FAILED
+    has_failed = failed.is_file() and time.time() - failed.stat().st_mtime < SECONDS_TO_RETRY
+    return not (has_failed or is_program(compiled_folder() / FAST) or proved_program() or kit.is_proving(TOP))
+
+
+def make_fast() -> None:
+    """Makes the fast program of these sources, unless it is there or another process makes one."""
+    with contextlib.suppress(Busy), alone(FAST, None):
+        if is_wanted():
+            try:
+                make(FAST, None)
+            except Fault as fault:
+                with contextlib.suppress(OSError):
+                    (compiled_folder() / FAILED).write_text('%s\n' % fault, 'utf-8')
+                raise
+
+
+def start_fast() -> None:
+    """Starts a process in the background that makes the fast program. Nobody waits for it."""
+    with contextlib.suppress(OSError):
+        subprocess.Popen([sys.executable, str(TOP / 'tools/compile'), '--fast'], cwd='/', stdin=subprocess.DEVNULL,
+                         stdout=subprocess.DEVNULL, stderr=subprocess.DEVNULL, start_new_session=True,
+                         preexec_fn=lambda: os.nice(10))
+
+
+@command('motesim')
+def main() -> int:
+    words = words_of(__doc__)
+    words.add_argument('--fast', action='store_true', help='make the optimized program')
+    asked = words.parse_args()
+    # (so that what is begun is cleared away)
+    for number in signal.SIGTERM, signal.SIGHUP:
+        signal.signal(number, lambda number, _: sys.exit(128 + number))
+    if asked.fast:
+        make_fast()
+    else:
+        make_first(Line(sys.stderr))
+    return 0
