@@ -4,6 +4,7 @@
 
 #include "clock.h"
 #include "host.h"
+#include "run.h"
 
 /* A mote that hears another. */
 struct hearer {
@@ -164,6 +165,7 @@ send_copy(const struct hearer *hearer, struct copy copy)
     left++;
   } else {
     put_copy(&stations[hearer->mote], copy);
+    run_turn_at(hearer->mote, copy.arrival);
   }
 }
 
