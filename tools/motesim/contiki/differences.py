@@ -13,9 +13,9 @@ DIFFERENCES: tuple[tuple[frozenset[str], str], ...] = (
     (frozenset({'broadcast', 'kill', 'start', 'exit', 'gone', 'poll'}),
      'A broadcast, PROCESS_EVENT_EXITED and the polls reach exactly the processes that were on the list when they '
      'began, and have not left since; Contiki follows the list as it changes.'),
-    (frozenset({'set', 'reset', 'restart_timer'}),
-     'After an event timer has expired, motesim looks for the next one from the front of its list, and it goes on '
-     'behind a timer that meets a full queue; Contiki tries that timer again first.'),
+    (frozenset({'reset'}),
+     'A timer that is reset before it is due is due one interval later in motesim; Contiki subtracts without sign, '
+     'so it counts as expired at once.'),
     (frozenset({'data', 'fired'}),
      'The data of PROCESS_EVENT_TIMER and PROCESS_EVENT_EXITED are pointers in Contiki, numbers in the notation: '
      'compare them with the timer or process, as here.'),
