@@ -197,6 +197,56 @@ class Page(unittest.TestCase):
         self.wait('document.getElementById("fault").hidden && !document.body.classList.contains("stale")')
         self.assertEqual(self.value('document.querySelectorAll(".fault-mark, .fault-line").length'), 0)
 
+    def test_faults_are_searched_shown_and_shrunk(self):
+        self.open()
+        before = self.value('text')
+        self.value('document.getElementById("tab-faults").click()')
+        self.value('document.getElementById("faults-search").click()')
+        self.wait('m.faults.found')
+        # Mote 1 hears mote 0 alone, which sends two packets.
+        self.assertEqual(self.value('m.faults.found.broken'), ['mote 1 receives exactly 2'])
+        self.assertEqual(self.value('m.faults.found.found.map(it => it.faults)'),
+                         [['link 0 to 1 loses everything'], ['mote 0 is silent']])
+        self.assertEqual(self.value('document.getElementById("tab-faults").textContent'), 'Faults 1')
+        self.assertIn('all 4 single faults: 4 run', self.shown('faults'))
+        self.value('document.querySelector("#faults-found td button").click()')
+        self.wait('m.differs.first && document.getElementById("notice").innerText.includes("run with a fault")')
+        self.assertEqual(self.value('[m.differs.first.at, m.studio.pinned > 0]'), [10, True])
+        self.assertEqual(self.lines(1)[-1], '0 print talker 1')
+        self.assertEqual(self.value('text'), before)
+        self.value('document.querySelector("#notice button").click()')
+        self.wait('document.getElementById("notice").hidden && run.text(run.traceStart[2] - 1).endsWith("packet 6") || '
+                  'run.text(run.traceStart[2] - 1).startsWith("23 take")')
+        self.value('[...document.querySelectorAll("#faults-found button")].find('
+                   'it => it.textContent === "Shrink").click()')
+        self.wait('document.getElementById("notice").innerText.includes("smallest scenario")')
+        self.assertEqual(self.value('run.begins.length'), 2)
+
+    def test_a_changed_text_stops_the_search(self):
+        self.open()
+        self.value('document.getElementById("faults-most").value = "3"')
+        self.value('document.querySelectorAll("#faults-kinds input").forEach('
+                   'it => { it.checked = it.value !== "late"; })')
+        self.value('document.getElementById("faults-search").click()')
+        self.wait('m.faults.isGoing')
+        self.type_behind('print 1;', ' print 7;')
+        self.wait('!m.faults.isGoing')
+        self.assertEqual(self.value('document.getElementById("faults-state").textContent'),
+                         'The text was changed, so the search was stopped.')
+        self.wait('Array.from(run.w).includes(7) && m.studio.judged === m.studio.number')
+        self.assertIsNone(self.server.session.searches.going)
+
+    def test_it_begins_at_the_first_difference_from_another_scenario(self):
+        other = NET.replace('send 6;', 'send 9;')
+        session = Session(Desk(self.file), Runs(Limits()), against=other)
+        self.serve(Server(session, CODEMIRROR))
+        self.stack.callback(self.stop)
+        self.browser.size(1400, 900)
+        self.visit(self.server.address, READY)
+        self.wait('m.differs.first && m.studio.pinned')
+        self.assertEqual(self.value('m.differs.first.at'), 20)
+        self.assertEqual(self.value('text'), NET)
+
     def test_what_is_hardly_meant_is_warned_of(self):
         self.open()
         self.assertIn('Warning: the timer `beat` is never set.', self.shown('warnings'))

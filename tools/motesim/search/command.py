@@ -80,6 +80,7 @@ def arguments() -> argparse.ArgumentParser:
     words.add_argument('--all', action='store_true', help='show all that was found, and not ten for each expectation')
     words.add_argument('--shrink', action='store_true',
                        help='make the first counter-example of each broken expectation as small as it gets')
+    words.add_argument('--progress', action='store_true', help='say how far it is in lines of JSON, on standard error')
     words.add_argument('--studies', nargs='+', metavar='FILE',
                        help='check that the searches of these files come out as they say')
     words.add_argument('--resume', action='store_true', help='go on where the same search was stopped')
@@ -239,7 +240,7 @@ def status_of(words: argparse.Namespace) -> int:
     folder.mkdir(parents=True, exist_ok=True)
     kept = Kept()
     kept.open(folder / STATE, asking.digest(), words.resume)
-    progress = Progress()
+    progress = Progress(words.progress)
     with Break() as stop:
         search = asking.search(words.jobs, kept, progress.show, lambda: stop.is_asked)
     progress.end(search)

@@ -162,10 +162,12 @@ def as_json(search: Search, found: list[Found], sentences: list[str], name: str,
     wanted = [sentences[number] for number in numbers_of(search.known.wanted)]
     return json.dumps({
         'scenario': name, 'faults': len(search.known.faults),
+        'covered_lines': covered_lines(search),
         'covered': {size: tally(it) for size, it in search.tallies.items()},
         'sample': {**tally(search.sample), 'seed': search.bounds.seed} if search.sample.sets else None,
         'ended_by': search.ended_by or None, 'runs': search.runs, 'seconds': round(search.seconds, 3),
         'notes': notes, 'holds': [it for it in wanted if it not in broken],
+        'broken': [it for it in wanted if it in broken],
         'found': [{'faults': [fault.words for fault in it.faults], 'effects': [fault.effect for fault in it.faults],
                    'expectations': it.sentences, 'file': it.file} for it in found],
     }, indent=1, ensure_ascii=False) + '\n'

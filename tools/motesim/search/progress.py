@@ -1,9 +1,12 @@
 """How far a search is, on standard error."""
 from __future__ import annotations
 
+import json
 import sys
 import time
 from typing import TYPE_CHECKING
+
+from motesim.search.sets import count_of
 
 if TYPE_CHECKING:
     from motesim.search.search import Search
@@ -15,10 +18,11 @@ ON_TERMINAL, ELSEWHERE = 0.2, 30.0
 class Progress:
     """The sets that are done, the rate, and how long the others of this size will take."""
 
-    def __init__(self) -> None:
-        self.is_terminal = sys.stderr.isatty()
+    def __init__(self, as_json: bool = False) -> None:
+        self.as_json = as_json
+        self.is_terminal = sys.stderr.isatty() and not as_json
         self.last = time.monotonic()
-        self.every = ON_TERMINAL if self.is_terminal else ELSEWHERE
+        self.every = ON_TERMINAL if self.is_terminal or as_json else ELSEWHERE
         self.size, self.begun, self.done = 0, self.last, 0
 
     def show(self, search: Search, size: int, is_sample: bool) -> None:
@@ -29,6 +33,8 @@ class Progress:
         if now - self.last < self.every:
             return
         self.last = now
+        if self.as_json:
+            return self.say(search, size)
         rate = (tally.done - self.done) / max(now - self.begun, 0.001)
         left = round((tally.sets - tally.done) / max(rate, 0.001))
         text = '%s: %s of %s, %d runs per second, %d:%02d left, %d found' % (
@@ -36,6 +42,13 @@ class Progress:
             search.runs / max(search.seconds, 0.001), left // 60, left % 60, len(search.known.minimal))
         print('\r\033[K' + text if self.is_terminal else text, end='' if self.is_terminal else '\n', file=sys.stderr,
               flush=True)
+
+    def say(self, search: Search, size: int) -> None:
+        """A line for another program: how many sets there are up to the bound, and how many are done."""
+        sets = [count_of(search.known.faults, it) for it in range(1, search.bounds.at_most + 1)]
+        told = {'size': size, 'done': sum(it.done for it in search.tallies.values()), 'sets': sum(sets),
+                'runs': search.runs, 'found': len(search.known.minimal), 'seconds': round(search.seconds, 1)}
+        print(json.dumps(told), file=sys.stderr, flush=True)
 
     def end(self, search: Search) -> None:
         """Takes the line away; on a terminal it says how long the search took."""

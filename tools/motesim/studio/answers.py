@@ -154,6 +154,13 @@ def checks(done: Finished, saved: str, expected: tuple[str, str] | None) -> dict
         return {'name': name, 'told': [], 'fault': str(fault)}
 
 
+def sentences_for(text: str, saved: str, expected: tuple[str, str] | None) -> list[str]:
+    """The sentences that are about this text."""
+    if expected is None:
+        return []
+    return parts_for(text, saved, expectations.parts_of(expected[1], expected[0]))[0].sentences
+
+
 def changes_of(expected: tuple[str, str] | None) -> list[dict[str, Any]]:
     """The changes of a file of expectations, to be made by a button."""
     if expected is None:

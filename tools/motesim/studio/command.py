@@ -17,6 +17,7 @@ from collections.abc import Iterator
 from pathlib import Path
 
 from motesim.faults import Fault, command, in_words
+from motesim.judge.expectations import text_of
 from motesim.runner.programs import program_path
 from motesim.studio.desk import Desk
 from motesim.studio.runs import Limits, Runs
@@ -69,6 +70,8 @@ def serve(server: Server, is_open: bool) -> None:
 def main() -> int:
     words = words_of(__doc__, 'tools/studio')
     words.add_argument('file', nargs='?', metavar='FILE.toml', help='a scenario; where it is not there, a new one')
+    words.add_argument('--against', metavar='OTHER.toml',
+                       help='begin at the first difference from the run of this scenario')
     words.add_argument('--no-open', action='store_true', help='print the address, and open no browser')
     usual = Limits()
     words.add_argument('--seconds', type=positive, default=usual.seconds, metavar='N',
@@ -82,7 +85,7 @@ def main() -> int:
     gc.enable()
     program_path()
     runs = Runs(Limits(asked.seconds, asked.memory, asked.report))
-    session = Session(Desk(asked.file), runs)
+    session = Session(Desk(asked.file), runs, against=text_of(Path(asked.against)) if asked.against else None)
     session.desk.first()
     try:
         server = Server(session)
@@ -92,5 +95,6 @@ def main() -> int:
         with contextlib.suppress(KeyboardInterrupt):
             serve(server, not asked.no_open)
         runs.ask()
+        session.searches.stop()
     print('studio: ended', file=sys.stderr)
     return 0

@@ -13,10 +13,12 @@ from typing import Any, Callable, NamedTuple
 from motesim.faults import Fault
 from motesim.report import ReportFault
 from motesim.scenario import ScenarioFault
+from motesim.search.faults import KINDS
 from motesim.studio import answers, guides
 from motesim.studio.desk import Changed, Desk, Document
 from motesim.studio.edits import edit
 from motesim.studio.runs import LimitMet, Runs, Superseded
+from motesim.studio.searches import OF_PAGE, Searches, wanted_of
 from motesim.timeline.html import Columns, page_of, said_of
 
 MOST_KEPT = 4
@@ -53,14 +55,18 @@ def _text(asked: dict[str, Any], name: str) -> str:
 class Session:
     """Runs, files and edits for the page."""
 
-    def __init__(self, desk: Desk, runs: Runs, has_editor: bool = True):
+    def __init__(self, desk: Desk, runs: Runs, has_editor: bool = True, against: str | None = None):
         self.desk, self.runs, self.has_editor = desk, runs, has_editor
+        self.searches = Searches(runs.limits)
+        self.against = against
         self.kept: OrderedDict[int, answers.Finished] = OrderedDict()
         self.lock = threading.Lock()
         self.work = threading.Lock()
         self.does: dict[str, Callable[[dict[str, Any]], Answered]] = {
             'begin': self.begin, 'open': self.open, 'run': self.run, 'judge': self.judge, 'edit': self.edit,
-            'save': self.save, 'export': self.export, 'alive': self.alive}
+            'save': self.save, 'export': self.export, 'alive': self.alive, 'search': self.search,
+            'searched': self.searched, 'stop-search': self.stop_search, 'counter-example': self.counter_example,
+            'shrink': self.shrink}
 
     def answer(self, what: str, asked: dict[str, Any]) -> Answered:
         if what not in self.does:
@@ -85,7 +91,8 @@ class Session:
         files = [] if self.desk.folder == self.desk.examples else self.desk.names('folder')
         opened = json.loads(self.opened(self.desk.first()).data)
         return told({**opened, 'examples': examples, 'files': files, 'folder': str(self.desk.folder),
-                     'editor': self.has_editor, 'limits': self.runs.limits._asdict()})
+                     'editor': self.has_editor, 'limits': self.runs.limits._asdict(), 'against': self.against,
+                     'kinds': [[kind, KINDS[kind][1]] for kind in OF_PAGE]})
 
     def open(self, asked: dict[str, Any]) -> Answered:
         return self.opened(self.desk.read(_text(asked, 'where'), _text(asked, 'name')))
@@ -190,3 +197,28 @@ class Session:
             raise Fault('this run is not kept any more; change the text, and export again')
         title = _text(asked, 'title').removesuffix('.toml')
         return Answered(HTML, ''.join(page_of(title, [done.named(title)])).encode('utf-8'))
+
+    # Searches for faults.
+
+    def search(self, asked: dict[str, Any]) -> Answered:
+        """Starts a search for the faults that break what is expected of a text."""
+        text, expected = _text(asked, 'text'), self.expectations(asked)
+        sentences = answers.sentences_for(text, _text(asked, 'saved'), expected)
+        wanted = wanted_of(text, sentences, asked.get('kinds'), asked.get('at_most'))
+        return told({'number': self.searches.begin(wanted)})
+
+    def searched(self, asked: dict[str, Any]) -> Answered:
+        """How far a search is, and at its end what it found."""
+        return told(self.searches.of(asked.get('number')).state())
+
+    def stop_search(self, asked: dict[str, Any]) -> Answered:
+        self.searches.stop()
+        return told({})
+
+    def counter_example(self, asked: dict[str, Any]) -> Answered:
+        """The text of a scenario with faults that were found."""
+        return told({'text': self.searches.of(asked.get('number')).text(asked.get('index'))})
+
+    def shrink(self, asked: dict[str, Any]) -> Answered:
+        """The smallest scenario in which the same faults break the same sentence."""
+        return told(self.searches.of(asked.get('number')).shrunk(asked.get('index'), _text(asked, 'sentence')))

@@ -2,8 +2,8 @@
 
 const isDirty = () => studio.document && editor.text !== studio.saved;
 
-/** Shows a document that the server has read. */
-function take(opened) {
+/** Shows a document that the server has read, and, if there is a text to compare it with, where its run differs. */
+async function take(opened, against) {
   studio.document = opened.document;
   studio.saved = opened.document.text;
   studio.maySave = opened.may_save;
@@ -14,7 +14,13 @@ function take(opened) {
   unsay('changed');
   unsay('refused');
   unpin();
-  runNow();
+  stopSearch('');
+  forgetFaults();
+  if (typeof against !== 'string') return void runNow();
+  await runNow(against);
+  pin();
+  await runNow();
+  goToDifference();
 }
 
 function nameDocument() {

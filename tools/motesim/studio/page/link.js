@@ -60,7 +60,7 @@ async function beat(asked, told) {
 }
 
 // One line above the page for what isn't as it should be, the most urgent of what there is to say.
-const notices = new Map(), URGENT = ['lost', 'changed', 'limit', 'refused'];
+const notices = new Map(), URGENT = ['lost', 'changed', 'limit', 'refused', 'shown'];
 
 function say(kind, text, buttons = []) {
   notices.set(kind, {text, buttons});

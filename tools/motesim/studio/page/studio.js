@@ -1,7 +1,7 @@
 // The studio: the text is run when no key has come for a while, and what the run shows takes the place of the last one.
 const PAUSE = 200;
 const TABS = [['guide', 'Guide'], ['chosen', 'Selected'], ['steps', 'Steps'], ['compare', 'Differences'],
-  ['checks', 'Checks'], ['sums', 'Sums'], ['legend', 'Forms']];
+  ['checks', 'Checks'], ['faults', 'Faults'], ['sums', 'Sums'], ['legend', 'Forms']];
 const studio = {document: null, saved: '', maySave: false, folder: '', number: 0, before: 0, pinned: 0, asked: 0,
   changedAt: 0, programs: {}, knownStamp: '', fresh: true, timer: 0, asks: true, tab: 'guide', latency: [], judged: 0};
 let editor = null;
@@ -46,15 +46,19 @@ function beginTabs() {
 function typed() {
   studio.changedAt = performance.now();
   clearTimeout(studio.timer);
-  studio.timer = setTimeout(runNow, PAUSE);
+  studio.timer = setTimeout(() => runNow(), PAUSE);
   showState('busy', 'typing');
+  stopSearch('The text was changed, so the search was stopped.');
   nameDocument();
 }
 
-/** Runs the text as it is, and shows what comes of it, unless a newer text is asked for meanwhile. */
-async function runNow() {
+/** Runs the text as it is, or another one that is shown instead, and shows what comes of it, unless a newer text is
+    asked for meanwhile. */
+async function runNow(other) {
   clearTimeout(studio.timer);
-  const asked = ++studio.asked, {changedAt} = studio, text = editor.text;
+  const isOther = typeof other === 'string', text = isOther ? other : editor.text;
+  const asked = ++studio.asked, {changedAt} = studio;
+  if (!isOther) unsay('shown');
   if (!studio.document) return;
   showState('busy', 'running');
   let got;
@@ -237,11 +241,12 @@ async function beginStudio() {
   const began = await ask('begin', {});
   studio.folder = began.folder;
   fillOpen(began);
-  take(began);
+  beginFaults(began.kinds);
+  await take(began, began.against);
   beat(() => studio.document && {where: studio.document.where, name: studio.document.name}, lookedAt);
 }
 
-Object.assign(page, {studio, editor: () => editor, connection, differs, ground, maps, steps, searchesOf});
+Object.assign(page, {studio, editor: () => editor, connection, differs, ground, maps, steps, searchesOf, faults});
 beginStudio().catch(fault => {
   byId('about').textContent = `This page can't be shown here: ${fault.message}`;
   console.error(fault);

@@ -1,0 +1,170 @@
+"""Searches for faults, for the page: tools/search and tools/shrink in processes of their own, one at a time.
+
+    searches = Searches(limits)
+    number = searches.begin(Wanted(...))     # stops what went on before
+    searches.state(number)                   # how far it is, and at its end what it found
+"""
+from __future__ import annotations
+
+import contextlib
+import json
+import os
+import signal
+import subprocess
+import sys
+import tempfile
+import threading
+from pathlib import Path
+from typing import Any, NamedTuple
+
+from motesim.faults import Fault
+from motesim.search.faults import KINDS
+from motesim.studio.runs import MEGABYTE, Limits
+
+TOOLS = Path(__file__).resolve().parent.parent.parent
+SEARCH = 'from motesim.search.command import main; main()'
+SHRINK = 'from motesim.search.shrink_command import main; main()'
+# (the kind `values` takes values, which the page doesn't ask for)
+OF_PAGE = [kind for kind in KINDS if kind != 'values']
+MOST_FAULTS, NAME = 3, 'scenario.toml'
+GONE = 'this search is over; search again'
+
+
+class Wanted(NamedTuple):
+    """What is to be searched: a text with sentences, kinds of faults, and how many at once."""
+    text: str
+    sentences: list[str]
+    kinds: list[str]
+    at_most: int
+
+
+def wanted_of(text: str, sentences: list[str], kinds: object, at_most: object) -> Wanted:
+    """What the page asks for."""
+    if type(kinds) is not list or not kinds or not all(it in OF_PAGE for it in kinds):
+        raise Fault('Choose one kind of fault at least.')
+    if type(at_most) is not int or not 1 <= at_most <= MOST_FAULTS:
+        raise Fault('At most 1, 2 or 3 faults are put together here.')
+    if not sentences:
+        raise Fault('Nothing is expected of this scenario: put sentences into NAME.expect.toml beside NAME.toml.')
+    return Wanted(text, sentences, kinds, at_most)
+
+
+class Going:
+    """A process of a search, with the folder that it works in, and the last that it said of how far it is."""
+
+    def __init__(self, number: int, wanted: Wanted, limits: Limits):
+        self.number, self.wanted, self.limits = number, wanted, limits
+        self.room = tempfile.TemporaryDirectory(prefix='motesim-search-')
+        self.folder = Path(self.room.name)
+        self.progress: dict[str, Any] = {}
+        self.told = ''
+        self.found: dict[str, Any] | None = None
+        self.shrinking: subprocess.Popen[bytes] | None = None
+        (self.folder / NAME).write_text(wanted.text, 'utf-8', newline='')
+        words = [NAME, '--faults', ','.join(wanted.kinds), '--at-most', str(wanted.at_most), '--json', 'found.json',
+                 '-o', 'found', '--progress', '--seconds', str(limits.seconds), '--bytes',
+                 str(limits.output * MEGABYTE)]
+        for sentence in wanted.sentences:
+            words += ['--expect', sentence]
+        self.process = self.started(SEARCH, words)
+        self.reader = threading.Thread(target=self.read, daemon=True)
+        self.reader.start()
+
+    def started(self, code: str, words: list[str]) -> subprocess.Popen[bytes]:
+        here = {**os.environ, 'PYTHONPATH': str(TOOLS), 'PYTHONDONTWRITEBYTECODE': '1'}
+        if 'MOTESIM' in here:
+            here['MOTESIM'] = str(Path(here['MOTESIM']).resolve())
+        return subprocess.Popen([sys.executable, '-c', code, *words], cwd=self.folder, env=here,
+                                stdin=subprocess.DEVNULL, stdout=subprocess.DEVNULL, stderr=subprocess.PIPE,
+                                start_new_session=True)
+
+    def read(self) -> None:
+        """Takes what the search says of how far it is, up to its end."""
+        assert self.process.stderr
+        for row in self.process.stderr:
+            try:
+                self.progress = json.loads(row)
+            except ValueError:
+                self.told += row.decode('utf-8', 'backslashreplace')
+        self.process.stderr.close()
+        self.process.wait()
+        with contextlib.suppress(OSError, ValueError):
+            self.found = json.loads((self.folder / 'found.json').read_text('utf-8'))
+
+    def stop(self, process: subprocess.Popen[bytes]) -> None:
+        """Ends a process with those that it started."""
+        with contextlib.suppress(ProcessLookupError):
+            os.killpg(process.pid, signal.SIGKILL)
+        process.wait()
+
+    def close(self) -> None:
+        for process in self.process, self.shrinking:
+            if process:
+                self.stop(process)
+        self.reader.join(5)
+        self.room.cleanup()
+
+    def state(self) -> dict[str, Any]:
+        is_over = not self.reader.is_alive()
+        fault = ''
+        if is_over and self.found is None:
+            fault = self.told.strip().removeprefix('search: ') or 'the search ended without a word'
+        return {'progress': self.progress, 'over': is_over, 'fault': fault, 'found': self.found if is_over else None}
+
+    def one(self, index: object) -> dict[str, Any]:
+        """One of the sets that were found."""
+        found = self.found['found'] if self.found else []
+        if type(index) is not int or not 0 <= index < len(found):
+            raise Fault(GONE)
+        it: dict[str, Any] = found[index]
+        return it
+
+    def text(self, index: object) -> str:
+        """The scenario of a set that was found."""
+        return (self.folder / str(self.one(index)['file'])).read_text('utf-8')
+
+    def shrunk(self, index: object, sentence: str) -> dict[str, str]:
+        """The smallest scenario that holds without the faults of a set and breaks the sentence with them."""
+        words = [NAME, sentence, '-o', 'small.toml', '--seconds', str(self.limits.seconds)]
+        for effect in self.one(index)['effects']:
+            words += ['--fault', ' '.join(map(str, effect))]
+        process = self.started(SHRINK, words)
+        self.shrinking = process
+        told = process.communicate()[1].decode('utf-8', 'backslashreplace').strip()
+        if process.returncode:
+            raise Fault(told.removeprefix('shrink: ') or 'making it small was stopped')
+        return {'text': (self.folder / 'small.toml').read_text('utf-8')}
+
+
+class Searches:
+    """The search that goes on, or the last one."""
+
+    def __init__(self, limits: Limits):
+        self.limits = limits
+        self.lock = threading.Lock()
+        self.number = 0
+        self.going: Going | None = None
+
+    def begin(self, wanted: Wanted) -> int:
+        """Starts a search; the one before is stopped and forgotten."""
+        with self.lock:
+            self.forget()
+            self.number += 1
+            self.going = Going(self.number, wanted, self.limits)
+            return self.number
+
+    def forget(self) -> None:
+        if self.going:
+            self.going.close()
+            self.going = None
+
+    def stop(self) -> None:
+        """Stops the search that goes on."""
+        with self.lock:
+            self.forget()
+
+    def of(self, number: object) -> Going:
+        with self.lock:
+            if self.going is None or number != self.going.number:
+                raise Fault(GONE)
+            return self.going
