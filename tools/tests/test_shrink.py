@@ -241,7 +241,7 @@ class Shrinks(unittest.TestCase):
         with folder_with() as folder:
             status, said, _ = search(folder, '--faults', 'motes', '--shrink')
             self.assertEqual(status, 1)
-            self.assertIn('small_1.toml (2 motes, 1 loss, 1 program', said)
+            self.assertIn('small_1.toml breaks: mote 1 prints flood 7\n  2 motes, 1 loss, 1 program', said)
 
 
 if __name__ == '__main__':

@@ -184,7 +184,7 @@ def shrink_each(asking: Asking, found: list[Found], folder: Path, is_quiet: bool
         path = folder / ('small_%d.toml' % number)
         write_result(shrinking, Path(asking.base.name).name, path)
         if not is_quiet:
-            print('%s (%s) breaks: %s' % (path, sizes(shrinking.text), shrinking.case.sentence))
+            print('%s breaks: %s\n  %s' % (path, shrinking.case.sentence, sizes(shrinking.text)))
         if not shrinking.is_whole:
             break
     program.close()
