@@ -9,6 +9,7 @@ from unittest import mock
 
 from here import TOOLS, TOP
 import motesim
+from motesim.experiments import packages
 from stub import write_stub
 
 SCENARIO = '''version = 2
@@ -103,8 +104,10 @@ class Calls(unittest.TestCase):
 class Installed(unittest.TestCase):
     def test_pip_installs_it_with_its_pages(self):
         """The package is built and installed into a folder, and used from there; without a network."""
-        has = subprocess.run([sys.executable, '-c', 'import pip, setuptools, wheel'], capture_output=True)
-        if has.returncode:
+        # (Debian's packages are for Debian's own interpreter)
+        python = next((it for it in (sys.executable, packages.SYSTEM) if not subprocess.run(
+            [it, '-c', 'import setuptools, wheel, pip'], capture_output=True).returncode), None)
+        if python is None:
             self.skipTest('pip, setuptools and wheel are not installed')
         with tempfile.TemporaryDirectory() as folder:
             room = Path(folder)
@@ -113,7 +116,7 @@ class Installed(unittest.TestCase):
             source.mkdir()
             for name in 'motesim', 'pyproject.toml':
                 (room / name).rename(source / name)
-            done = subprocess.run([sys.executable, '-m', 'pip', 'install', '--quiet', '--no-build-isolation', '--no-index',
+            done = subprocess.run([python, '-m', 'pip', 'install', '--quiet', '--no-build-isolation', '--no-index',
                                    '--no-deps', '--target', str(room / 'there'), str(source)], capture_output=True, text=True)
             self.assertEqual(done.returncode, 0, done.stderr)
             use = 'import motesim, motesim.timeline.html as html; print(motesim.__file__); html.page_of; ' \
