@@ -1,4 +1,13 @@
-"""Reports: what a line, a packet and a report are, and how they are read."""
-from motesim.report.report import Copy, FIELDS, Line, MOST_MOMENT, MOST_WORD, Mote, Packet, Report, ReportFault
+"""Reports: what a line, a packet and a report are, and how they are read.
 
-__all__ = ['Copy', 'FIELDS', 'Line', 'MOST_MOMENT', 'MOST_WORD', 'Mote', 'Packet', 'Report', 'ReportFault']
+    lines    a line of a trace, a packet, a copy        strict   reads a report line by line, and finds its fault
+    columns  all lines and packets as arrays            fast     reads a report in large pieces, into columns
+    report   a report with its motes                    belongs  whether a report is of a scenario
+"""
+from motesim.report.columns import KINDS, LOST, NONE, Log, Trace
+from motesim.report.lines import FIELDS, MOST_MOMENT, MOST_WORD, Copy, Line, Packet
+from motesim.report.report import Mote, Outcome, Report
+from motesim.report.strict import ReportFault
+
+__all__ = ['FIELDS', 'KINDS', 'LOST', 'MOST_MOMENT', 'MOST_WORD', 'NONE', 'Copy', 'Line', 'Log', 'Mote', 'Outcome', 'Packet',
+           'Report', 'ReportFault', 'Trace']

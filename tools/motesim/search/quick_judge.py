@@ -12,7 +12,7 @@ from dataclasses import fields, is_dataclass
 from functools import cached_property, partial
 
 from motesim.judge.judge import Judge
-from motesim.report.report import FIELDS, Report
+from motesim.report import FIELDS, Report
 from motesim.scenario.scenario import Scenario
 from motesim.judge.sentences import (
     Copies, Count, Deed, Does, Hears, Lines, Motes, Packets, Pattern, Sentence, Value, Window,

@@ -13,7 +13,7 @@ from typing import NamedTuple
 from motesim.faults import Fault
 from motesim.judge.judge import Broken, Judge
 from motesim.judge.sentences import Sentence, SentenceFault, names_of, read_sentence
-from motesim.report.report import Report
+from motesim.report import Report
 from motesim.scenario.scenario import Scenario
 from motesim.search.change import Base, Change
 from motesim.search.faults import EFFECTS

@@ -21,7 +21,7 @@ from motesim.faults import INTERRUPTED, Fault, command
 from motesim.judge.expectations import beside, parts_of, read_all, text_of
 from motesim.judge.judge import Judge
 from motesim.judge.sentences import names_of
-from motesim.report.report import Report
+from motesim.report import Report
 from motesim.runner.programs import program_path
 from motesim.scenario.scenario import Scenario
 from motesim.search.change import Base

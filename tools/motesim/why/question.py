@@ -10,7 +10,7 @@ from dataclasses import dataclass
 
 from motesim.faults import Fault
 from motesim.judge.judge import Judge, Span, _Apart
-from motesim.report.report import FIELDS
+from motesim.report import FIELDS
 from motesim.judge.sentences import Copies, Count, Does, Hears, Packets, Pattern, Sentence, Value, names_of, read_sentence
 from motesim.why.source import At, Found, Source, Traces
 

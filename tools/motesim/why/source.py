@@ -9,7 +9,7 @@ from typing import NamedTuple
 
 from motesim.report.belongs import check_motes
 from motesim.faults import Fault
-from motesim.report.report import Mote, Report
+from motesim.report import Log, Report, Trace
 from motesim.runner.run import is_scenario, read_file, run_program
 from motesim.scenario.scenario import Scenario
 from motesim.why.replay import QUEUE, Replay
@@ -177,9 +177,10 @@ class Traces:
     @cached_property
     def bare(self) -> Report:
         """The report's motes without their lines, for what only asks how many there are."""
-        heads = zip(self.programs, self.head_rows)
-        return Report([Mote(number, name, row, []) for number, (name, row) in enumerate(heads)], [], 0,
-                      self.medium_row)
+        trace = Trace([])
+        for _ in self.programs:
+            trace.add([])
+        return Report(self.programs, trace, Log(), 0)
 
 
 class Source:

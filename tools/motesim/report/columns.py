@@ -1,0 +1,266 @@
+"""Reports as columns: arrays of numbers, by the kind of line.
+
+A `Trace` has the lines of all motes, one after another; a `Log` has the packets of the medium with their copies. What
+works on millions of lines goes through these arrays; `Line` and `Packet` are made of them when they are asked for.
+"""
+from __future__ import annotations
+
+from array import array
+from bisect import bisect_right
+from collections.abc import Callable, Iterable, Iterator, Sequence
+from functools import cached_property
+from itertools import accumulate, compress, repeat
+from typing import Any, overload
+
+from motesim.report.lines import FIELDS, FORMS, Copy, Line, Packet
+
+KINDS = tuple(FIELDS)
+CODES = {kind: code for code, kind in enumerate(KINDS)}
+# For each kind the bytes that pick its lines out of the codes of all lines.
+MASKS = [bytes(int(byte == code) for byte in range(256)) for code in range(len(KINDS))]
+# How large the numbers of a field may be, as array calls it.
+TYPES = {'process': 'H', 'event': 'H', 'word': 'H', 'value': 'H', 'sender': 'I', 'serial': 'Q', 'number': 'Q'}
+# The process or the event of a line that has none, and the arrival of a copy that the medium lost.
+NONE = 0xFFFF
+LOST = 2 ** 64 - 1
+
+Fields = dict[str, 'array[int]']
+
+
+def new_fields(kind: str) -> Fields:
+    """The columns of one kind of line, with nothing in them."""
+    return {field: array(TYPES[field]) for field in FIELDS[kind].split()}
+
+
+class Trace:
+    """The lines of all motes.
+
+    names   of processes and events
+    starts  the lines of mote m are starts[m] up to starts[m + 1]
+    at      the moment of each line
+    kind    the kind of each line: its place in KINDS
+    of      for each kind the fields of its lines, one array each, in the order of the lines
+    """
+
+    def __init__(self, names: list[str]) -> None:
+        self.names = names
+        self.starts = array('I', [0])
+        self.at = array('I')
+        self.kind = bytearray()
+        self.of: dict[str, Fields] = {kind: new_fields(kind) for kind in KINDS}
+
+    def __len__(self) -> int:
+        return len(self.at)
+
+    def extend(self, at: array[int], kind: bytes, of: dict[str, Fields]) -> None:
+        """Adds lines; where they end a trace, `starts` has to be added."""
+        self.at.extend(at)
+        self.kind += kind
+        for name, fields in of.items():
+            for field, column in fields.items():
+                self.of[name][field].extend(column)
+
+    def add(self, lines: Iterable[Line]) -> None:
+        """Adds the trace of the next mote, line by line."""
+        places = {name: place for place, name in enumerate(self.names)}
+        for line in lines:
+            self.at.append(line.at)
+            self.kind.append(CODES[line.kind])
+            for (field, column), value in zip(self.of[line.kind].items(), line[2:-1]):
+                if field in ('process', 'event'):
+                    if value not in places:
+                        places[value] = len(self.names)
+                        self.names.append(value)
+                    value = places[value]
+                column.append(value)
+        self.starts.append(len(self.at))
+
+    def mote_of(self, index: int) -> int:
+        """The mote whose line this is."""
+        return bisect_right(self.starts, index) - 1
+
+    @cached_property
+    def _before(self) -> list[list[int]]:
+        """For each mote, how many lines of each kind there are before its own."""
+        counts = [0] * len(KINDS)
+        found = [counts]
+        for begin, end in zip(self.starts, self.starts[1:]):
+            counts = [count + self.kind.count(code, begin, end) for code, count in enumerate(counts)]
+            found.append(counts)
+        return found
+
+    def place(self, mote: int, kind: str) -> slice:
+        """Where the lines of a kind that a mote has are among all lines of this kind."""
+        code = CODES[kind]
+        return slice(self._before[mote][code], self._before[mote + 1][code])
+
+    def rows(self, mote: int, kind: str) -> list[int]:
+        """The lines of a kind that a mote has, by their indices."""
+        begin, end = self.starts[mote], self.starts[mote + 1]
+        return list(compress(range(begin, end), self.kind[begin:end].translate(MASKS[CODES[kind]])))
+
+    def all_rows(self, kind: str) -> array[int]:
+        """All lines of a kind, by their indices."""
+        return array('I', compress(range(len(self)), self.kind.translate(MASKS[CODES[kind]])))
+
+    def _named(self, field: str, column: Iterable[int]) -> Iterable[Any]:
+        """Words in place of numbers, where a field has names."""
+        return map(self.names.__getitem__, column) if field in ('process', 'event') else column
+
+    def line(self, index: int) -> Line:
+        """A line by its index."""
+        mote, code = self.mote_of(index), self.kind[index]
+        kind = KINDS[code]
+        place = self._before[mote][code] + self.kind.count(code, self.starts[mote], index)
+        values = [next(iter(self._named(field, column[place:place + 1]))) for field, column in self.of[kind].items()]
+        made: Line = tuple.__new__(FORMS[kind], (mote, self.at[index], *values, kind))
+        return made
+
+    def lines(self, mote: int, first: int = 0, end: int | None = None) -> Iterator[Line]:
+        """The lines of a mote, from its first one on, or some of them."""
+        begin, last = self.starts[mote], self.starts[mote + 1]
+        end = last if end is None else min(last, begin + end)
+        first += begin
+        made: dict[int, Iterator[Line]] = {}
+        codes = self.kind[first:end]
+        for code in set(codes):
+            kind = KINDS[code]
+            place = self._before[mote][code] + self.kind.count(code, begin, first)
+            count = codes.count(code)
+            moments = compress(self.at[first:end], codes.translate(MASKS[code]))
+            fields = [self._named(field, column[place:place + count]) for field, column in self.of[kind].items()]
+            made[code] = map(tuple.__new__, repeat(FORMS[kind]), zip(repeat(mote), moments, *fields, repeat(kind)))
+        return map(next, map(made.__getitem__, codes))
+
+    def column(self, name: str, fields: dict[str, str], nothing: int) -> array[int]:
+        """A column in the order of the lines: for each kind the field that it takes, or nothing."""
+        parts: list[Iterator[int]] = [iter(self.of[kind][fields[kind]]) if kind in fields else repeat(nothing)
+                                      for kind in KINDS]
+        following: Callable[[Iterator[int]], int] = next
+        return array(name, map(following, map(parts.__getitem__, self.kind)))
+
+    def _of_field(self, type_of: str, names: str, nothing: int = 0) -> array[int]:
+        chosen = {kind: field for kind in KINDS for field in FIELDS[kind].split() if field in names.split()}
+        return self.column(type_of, chosen, nothing)
+
+    @cached_property
+    def process(self) -> array[int]:
+        """The process of each line: its place in `names`, or NONE."""
+        return self._of_field('H', 'process', NONE)
+
+    @cached_property
+    def event(self) -> array[int]:
+        """The event of each line that has one: its place in `names`, or NONE."""
+        return self._of_field('H', 'event', NONE)
+
+    @cached_property
+    def number(self) -> array[int]:
+        """The serial, or the number of the packet, of each line, or 0."""
+        return self._of_field('Q', 'serial number')
+
+    @cached_property
+    def sender(self) -> array[int]:
+        """The sender of each line that has one, or 0."""
+        return self._of_field('I', 'sender')
+
+    @cached_property
+    def value(self) -> array[int]:
+        """The value, or the word, of each line, or 0."""
+        return self._of_field('H', 'word value')
+
+
+class MoteLines(Sequence[Line]):
+    """The lines of one mote, which are made when they are asked for."""
+    __slots__ = ('trace', 'mote')
+
+    def __init__(self, trace: Trace, mote: int):
+        self.trace, self.mote = trace, mote
+
+    def __len__(self) -> int:
+        return self.trace.starts[self.mote + 1] - self.trace.starts[self.mote]
+
+    @overload
+    def __getitem__(self, index: int) -> Line: ...
+
+    @overload
+    def __getitem__(self, index: slice) -> list[Line]: ...
+
+    def __getitem__(self, index: int | slice) -> Line | list[Line]:
+        if isinstance(index, slice):
+            begin, end, step = index.indices(len(self))
+            if step == 1:
+                return list(self.trace.lines(self.mote, begin, end)) if begin < end else []
+            return [self[it] for it in range(begin, end, step)]
+        count = len(self)
+        if not -count <= index < count:
+            raise IndexError('the mote has %d lines' % count)
+        return self.trace.line(self.trace.starts[self.mote] + index % count)
+
+    def __iter__(self) -> Iterator[Line]:
+        return self.trace.lines(self.mote)
+
+    def __eq__(self, other: object) -> bool:
+        return isinstance(other, Sequence) and len(self) == len(other) and all(a == b for a, b in zip(self, other))
+
+    __hash__ = None  # type: ignore[assignment]
+
+
+class Log(Sequence[Packet]):
+    """The log of the medium: packets, and their copies.
+
+    at, sender, number, value   of each packet
+    first        the copies of packet k are first[k] up to first[k + 1]
+    to, arrival  of each copy; LOST if the medium lost it
+    """
+
+    def __init__(self) -> None:
+        self.at, self.sender, self.number, self.value = array('I'), array('I'), array('Q'), array('H')
+        self.first = array('I', [0])
+        self.to, self.arrival = array('I'), array('Q')
+
+    def extend(self, at: list[int], sender: list[int], number: list[int], value: list[int], copies: list[int],
+               to: list[int], arrival: list[int]) -> None:
+        """Adds packets: their columns, how many copies each has, and the columns of the copies."""
+        self.at.extend(at)
+        self.sender.extend(sender)
+        self.number.extend(number)
+        self.value.extend(value)
+        self.first.extend(accumulate(copies, initial=self.first.pop()))
+        self.to.extend(to)
+        self.arrival.extend(arrival)
+
+    def add(self, packets: Iterable[Packet]) -> None:
+        """Adds packets one by one."""
+        for at, sender, number, value, copies in packets:
+            self.extend([at], [sender], [number], [value], [len(copies)], [copy.to for copy in copies],
+                        [LOST if copy.at is None else copy.at for copy in copies])
+
+    def __len__(self) -> int:
+        return len(self.at)
+
+    def packet(self, index: int) -> Packet:
+        """A packet by its place."""
+        begin, end = self.first[index], self.first[index + 1]
+        copies = tuple(Copy(to, None if at == LOST else at) for to, at in zip(self.to[begin:end], self.arrival[begin:end]))
+        return Packet(self.at[index], self.sender[index], self.number[index], self.value[index], copies)
+
+    @overload
+    def __getitem__(self, index: int) -> Packet: ...
+
+    @overload
+    def __getitem__(self, index: slice) -> list[Packet]: ...
+
+    def __getitem__(self, index: int | slice) -> Packet | list[Packet]:
+        if isinstance(index, slice):
+            return [self.packet(it) for it in range(*index.indices(len(self)))]
+        if not -len(self) <= index < len(self):
+            raise IndexError('the log has %d packets' % len(self))
+        return self.packet(index % len(self))
+
+    def __iter__(self) -> Iterator[Packet]:
+        return map(self.packet, range(len(self)))
+
+    def __eq__(self, other: object) -> bool:
+        return isinstance(other, Sequence) and len(self) == len(other) and all(a == b for a, b in zip(self, other))
+
+    __hash__ = None  # type: ignore[assignment]

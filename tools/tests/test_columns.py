@@ -1,0 +1,156 @@
+"""Reports read in large pieces, against the same texts read line by line."""
+import random
+import unittest
+from unittest import mock
+
+import here  # (it puts tools/ on the path)
+from motesim.report import LOST, Report, ReportFault, fast, strict
+
+SMALL = '''mote 0 talker
+0 start etimer
+0 start ctimer
+0 start radio
+0 start talk
+0 start busy
+4 post 0 talk timer 1
+4 full all msg 65535
+4 take 0 talk
+4 print talk 7
+4 send 0 7
+9 post 1 busy packet 3
+9 drop 1 busy
+9 busy busy
+mote 1 hearer
+0 start hear
+6 recv 0 0 7
+6 leave hear
+7 lost 0 1
+7 collide 0 2
+7 deaf 0 4611686018427387903
+8 halt
+mote 2 hearer
+medium
+4 0 0 7 1@6 2@lost
+4 2 0 9
+9 0 1 3 1@12
+left 1
+'''
+WORDS = ['', ' ', '\n', '-', '0', '00', '1', '65535', '65536', '4611686018427387904', '1000001', 'take', 'halt', 'lost', 'a', 'A',
+         'send', 'all', 'true', 'null', '1@6', '@', '1@lost', 'medium', 'left 0', 'mote 3 x', 'mote 1 hearer', '\t', '\r', 'é']
+
+
+def read_strictly(data):
+    """What the reader line by line finds, or None."""
+    try:
+        return strict.read(strict.text_of(data))
+    except ReportFault:
+        return None
+
+
+class Reading(unittest.TestCase):
+    def check(self, data):
+        """Compares both readers, and returns whether the text is a report."""
+        found, wanted = fast.read(data), read_strictly(data)
+        self.assertEqual(found is None, wanted is None, data)
+        if found is None:
+            return False
+        report = Report(*found)
+        self.assertEqual(report.text().encode(), data)
+        self.assertEqual([(mote.program, mote.row, list(mote.lines)) for mote in report.motes], wanted.motes, data)
+        self.assertEqual((list(report.medium), report.left, report.medium_row), wanted[1:], data)
+        return True
+
+    def test_every_kind_of_line_is_read(self):
+        self.assertTrue(self.check(SMALL.encode()))
+
+    def test_texts_that_are_changed_at_random(self):
+        """What one reader refuses the other refuses, and what both read is the same; in pieces of any size."""
+        chance = random.Random(5)
+        kept = 0
+        for turn in range(4000):
+            text = SMALL
+            for _ in range(chance.choice([1, 1, 2])):
+                rows = text.split('\n')
+                one, other = chance.randrange(len(rows)), chance.randrange(len(rows))
+                words = rows[one].split(' ')
+                how = chance.randrange(5)
+                if how == 0:
+                    words[chance.randrange(len(words))] = chance.choice(WORDS)
+                elif how == 1:
+                    words.insert(chance.randrange(len(words) + 1), chance.choice(WORDS))
+                elif how == 2:
+                    del words[chance.randrange(len(words))]
+                rows[one] = ' '.join(words)
+                if how == 3:
+                    rows[one], rows[other] = rows[other], rows[one]
+                elif how == 4:
+                    rows.insert(one, rows[other])
+                text = '\n'.join(rows)
+            with mock.patch.object(fast, 'PIECE', chance.choice([1, 20, 100, 1 << 19])):
+                kept += self.check(text.encode('utf-8'))
+        # (not all changes make the text a wrong one)
+        self.assertGreater(kept, 200)
+
+    def test_a_trace_in_pieces_has_its_order_and_its_end(self):
+        for size in 1, 16, 40:
+            with mock.patch.object(fast, 'PIECE', size):
+                self.assertTrue(self.check(SMALL.encode()))
+                self.assertFalse(self.check(SMALL.replace('9 drop', '3 drop').encode()))
+                self.assertFalse(self.check(SMALL.replace('7 deaf', '7 halt\n7 deaf').encode()))
+
+    def test_several_processes_read_the_same(self):
+        rows = ['mote %d p%s' % (mote, '\n%d start %s' % (mote, 'abcdef'[mote % 6])) for mote in range(40)]
+        text = '\n'.join([*rows, 'medium', 'left 0', ''])
+        with mock.patch.object(fast, 'MANY', 10), mock.patch.object(fast, 'PIECE', 60), \
+                mock.patch('os.cpu_count', return_value=3):
+            self.assertTrue(self.check(text.encode()))
+            self.assertFalse(self.check(text.replace('7 start', '7 stort').encode()))
+
+
+class Columns(unittest.TestCase):
+    def setUp(self):
+        self.report = Report.parse(SMALL)
+
+    def test_the_columns_are_those_of_the_lines(self):
+        report, trace = self.report, self.report.trace
+        lines = [line for mote in report.motes for line in mote.lines]
+        self.assertEqual((len(trace), list(trace.starts)), (len(lines), [0, 13, 20, 20]))
+        for index, line in enumerate(lines):
+            names = [report.names[it] if it != 0xFFFF else None for it in (trace.process[index], trace.event[index])]
+            self.assertEqual((trace.at[index], names), (line.at, [line.process, line.event]), line)
+            self.assertEqual(trace.number[index], line.serial or line.number or 0, line)
+            self.assertEqual(trace.sender[index], line.sender or 0, line)
+            self.assertEqual(trace.value[index], line.word or line.value or 0, line)
+            self.assertEqual((trace.line(index), trace.mote_of(index)), (line, line.mote))
+
+    def test_rows_of_a_kind(self):
+        trace = self.report.trace
+        self.assertEqual(trace.rows(0, 'start'), [0, 1, 2, 3, 4])
+        self.assertEqual((trace.rows(1, 'start'), trace.rows(2, 'start')), ([13], []))
+        self.assertEqual(trace.place(1, 'start'), slice(5, 6))
+        self.assertEqual(list(trace.all_rows('start')), [0, 1, 2, 3, 4, 13])
+
+    def test_lines_of_a_mote_are_a_sequence(self):
+        lines = self.report.motes[0].lines
+        self.assertEqual([str(it) for it in lines[4:6]], ['0 start busy', '4 post 0 talk timer 1'])
+        self.assertEqual([str(it) for it in lines[::6]], ['0 start etimer', '4 full all msg 65535', '9 busy busy'])
+        self.assertEqual((str(lines[-1]), len(lines), lines[9:2]), ('9 busy busy', 13, []))
+        self.assertEqual([str(it) for it in reversed(lines)][0], '9 busy busy')
+        for index in 13, -14:
+            with self.assertRaises(IndexError):
+                lines[index]
+        self.assertEqual(lines, list(lines))
+        self.assertNotEqual(lines, self.report.motes[1].lines)
+
+    def test_the_log(self):
+        log = self.report.log
+        self.assertEqual((list(log.at), list(log.first), list(log.to)), ([4, 4, 9], [0, 2, 2, 3], [1, 2, 1]))
+        self.assertEqual(list(log.arrival), [6, LOST, 12])
+        self.assertEqual([str(it) for it in log[1:]], ['4 2 0 9', '9 0 1 3 1@12'])
+        self.assertEqual(str(log[-1]), '9 0 1 3 1@12')
+        with self.assertRaises(IndexError):
+            log[3]
+
+
+if __name__ == '__main__':
+    unittest.main()
