@@ -11,13 +11,15 @@ Ends with status 0 where the reports are the same, 1 where they differ, and 2 wh
 from __future__ import annotations
 
 from collections import Counter
+from collections.abc import Iterator, Sequence
 from itertools import compress, count
 from operator import ne
-from typing import Any, Iterator, NamedTuple
+from typing import Any, NamedTuple
 
 from motesim.comparison import scenarios as scenario_differences
+from motesim.comparison.columns import MEDIUM, Both
 from motesim.faults import Fault, command
-from motesim.report import FIELDS, Line, Packet, Report
+from motesim.report import FIELDS, KINDS, Line, Packet, Report
 from motesim.runner.run import Run, read_run
 from motesim.timeline.html import write_page
 from motesim.words import words_of
@@ -25,8 +27,6 @@ from motesim.words import words_of
 LETTERS = 'AB'
 PACKETS_BEFORE, EVENTS_BEFORE = 3, 4
 OF_PACKETS = ('send', 'recv', 'lost', 'collide', 'deaf')
-MEDIUM = -1
-
 
 Pair = tuple[Report, Report]
 # How many lines, by mote and kind, only the one and only the other has.
@@ -52,26 +52,30 @@ def number_of(n: int, what: str) -> str:
     return '%d %s%s' % (n, what, '' if n == 1 else 's')
 
 
-def part(a: list[Any], b: list[Any]) -> int | None:
+def part(a: Sequence[Any], b: Sequence[Any]) -> int | None:
     """The first place at which two lists differ, or None."""
-    if a == b:
-        return None
-    return next(compress(count(), map(ne, a, b)), min(len(a), len(b)))
+    shorter = min(len(a), len(b))
+    return next(compress(count(), map(ne, a, b)), None if len(a) == len(b) else shorter)
 
 
-def lists_of(report: Report) -> dict[int, list[Any]]:
+def lists_of(report: Report) -> dict[int, Sequence[Any]]:
     """The lines of each mote, and those of the medium."""
-    return {**{mote.number: mote.lines for mote in report.motes}, MEDIUM: report.medium}
+    found: dict[int, Sequence[Any]] = {mote.number: mote.lines for mote in report.motes}
+    found[MEDIUM] = report.medium
+    return found
 
 
 def differences(a: Report, b: Report) -> list[Difference]:
     """Where the traces of each mote part, and the logs of the medium, in the order of moments.
 
-    At one moment the motes stand in their order, and the medium behind them.
+    At one moment the motes are in their order, and the medium comes behind them.
     """
     ours, others, found = lists_of(a), lists_of(b), []
+    columns = Both(a, b)
     for mote in sorted(ours | others):
-        pair = ours.get(mote, []), others.get(mote, [])
+        if columns.are_same(mote):
+            continue
+        pair = ours.get(mote, ()), others.get(mote, ())
         index = part(*pair)
         if index is not None:
             found.append(Difference(min(lines[index].at for lines in pair if index < len(lines)), mote, index))
@@ -93,8 +97,8 @@ def heads(a: Report, b: Report) -> list[str]:
 def collisions(report: Report) -> Met:
     """The packets that met, by moment and mote."""
     found: Met = {}
-    for line in report.lines():
-        if line.kind == 'collide' and line.packet:
+    for line in report.lines('collide'):
+        if line.packet:
             found.setdefault((line.at, line.mote), []).append(line.packet)
     return found
 
@@ -163,7 +167,7 @@ def side_in_words(letter: str, report: Report, it: Difference) -> list[str]:
     return shown + (['      (%s)' % why] if why else [])
 
 
-def before(lines: list[Line]) -> list[Line]:
+def before(lines: Sequence[Line]) -> list[Line]:
     """The last packets and the last other lines, in their order."""
     kept, left = [], {True: PACKETS_BEFORE, False: EVENTS_BEFORE}
     for line in reversed(lines):
@@ -221,12 +225,13 @@ def few(numbers: list[int]) -> str:
 def only_in(reports: Pair, found: list[Difference]) -> Counts:
     """How many lines only the one and only the other has, by mote (or MEDIUM) and kind."""
     counts: Counts = (Counter(), Counter())
-    ours, others = map(lists_of, reports)
+    columns = Both(*reports)
     for it in found:
-        left, right = (Counter(lists.get(it.mote, [])[it.place:]) for lists in (ours, others))
-        for into, lines in (counts[0], left - right), (counts[1], right - left):
-            for line, number in lines.items():
-                into[it.mote, 'medium' if it.mote == MEDIUM else line.kind] += number
+        for kind in ('medium',) if it.mote == MEDIUM else KINDS:
+            left, right = (Counter(columns.lines(side, it.mote, kind)) for side in (0, 1))
+            for into, lines in (counts[0], left - right), (counts[1], right - left):
+                if lines:
+                    into[it.mote, kind] += lines.total()
     return counts
 
 

@@ -5,6 +5,7 @@
 from __future__ import annotations
 
 import itertools
+from collections.abc import Sequence
 from dataclasses import dataclass, replace
 from pathlib import Path
 from typing import Any, NamedTuple
@@ -110,7 +111,7 @@ def read_all(sentences: list[str], names: Names) -> list[Sentence]:
     return found
 
 
-def more_of(broken: Broken, rows: list[str]) -> list[str]:
+def more_of(broken: Broken, rows: Sequence[str]) -> list[str]:
     """What is shown of a broken sentence."""
     why = broken.why.split('\n')
     if broken.row is None:
@@ -119,7 +120,7 @@ def more_of(broken: Broken, rows: list[str]) -> list[str]:
     return [*why, 'line %d: %s' % (broken.row, row if len(row) <= LONGEST_SHOWN else row[:LONGEST_SHOWN] + '..')]
 
 
-def same_report(rows: list[str], wanted: str) -> Told:
+def same_report(rows: Sequence[str], wanted: str) -> Told:
     """Whether the report is the one that is written down."""
     for number, (row, line) in enumerate(itertools.zip_longest(rows, wanted.splitlines(), fillvalue='the end'), 1):
         if row != line:

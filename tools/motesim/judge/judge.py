@@ -4,14 +4,16 @@
 """
 from __future__ import annotations
 
+from collections.abc import Iterator, Sequence
 from functools import cached_property
-from typing import Iterator, NamedTuple
+from itertools import compress, count as counting
+from typing import NamedTuple
 
 from motesim.judge import relations
 from motesim.judge.sentences import (
     Copies, Count, Deed, Does, Hears, Lines, MediumLine, Motes, Packets, Pattern, Refused, Sentence, Value, Window,
 )
-from motesim.report import FIELDS, Line, Report
+from motesim.report import FIELDS, LOST, Line, Report, Rows
 from motesim.scenario import Scenario
 
 BECAME = {'collided': 'collide', 'received': 'recv', 'full': 'lost'}
@@ -63,12 +65,17 @@ class Judge:
 
     def __init__(self, report: Report, scenario: Scenario):
         self.report, self.scenario = report, scenario
-        self.events = [list(map(Event._make, enumerate(mote.lines, mote.row + 1))) for mote in report.motes]
         self.hops_from: dict[int, dict[int, int]] = {}
 
     @cached_property
-    def rows(self) -> list[str]:
-        return list(self.report.rows())
+    def rows(self) -> Sequence[str]:
+        """The lines of the report's text."""
+        return Rows(self.report)
+
+    def events(self, mote: int, kind: str) -> Iterator[Event]:
+        """The lines of a kind that a mote has, with their rows."""
+        trace = self.report.trace
+        return map(Event, (row + mote + 2 for row in trace.rows(mote, kind)), trace.lines(mote, kinds=(kind,)))
 
     def hears(self, r: int, s: int) -> bool:
         """Whether mote r hears mote s by a link that doesn't lose all."""
@@ -113,10 +120,9 @@ class Judge:
                  for index, it in enumerate(pattern[1:], 2) if it is not None]
         if len(pattern) > 1 + len(FIELDS[str(pattern[0])].split()):
             return
-        for event in self.events[mote]:
-            if event.line.kind == pattern[0]:
-                if all(str(event.line[index]) in allowed for index, allowed in tests):
-                    yield event
+        for event in self.events(mote, str(pattern[0])):
+            if all(str(event.line[index]) in allowed for index, allowed in tests):
+                yield event
 
     def done(self, deed: Deed, motes: tuple[int, ...]) -> list[Event]:
         """The lines of these motes that show a deed."""
@@ -271,8 +277,8 @@ class Judge:
     def part_of_copies(self, it: Copies) -> Broken | None:
         """Whether such a part of the copies that were due has an outcome."""
         motes = set(range(len(self.report.motes)) if it.motes is None else it.motes)
-        due = sum(copy.at is None or copy.at <= self.scenario.end
-                  for packet in self.report.medium for copy in packet.copies if copy.to in motes)
+        log, end = self.report.log, self.scenario.end
+        due = sum(at == LOST or at <= end for to, at in zip(log.to, log.arrival) if to in motes)
         found = self.of_copies(it)
         if it.count.admits(len(found), due):
             return None
@@ -283,15 +289,15 @@ class Judge:
         """The rows that tell this outcome of copies, each as often as it does."""
         motes = set(range(len(self.report.motes)) if it.motes is None else it.motes)
         if it.outcome == 'lost':
-            return [row for row, packet in zip(self.of_packets(), self.report.medium)
-                    for copy in packet.copies if copy.at is None and copy.to in motes]
-        return [Row(row, line.at, mote) for mote in sorted(motes) for row, line in self.events[mote]
-                if line.kind == BECAME[it.outcome]]
+            log, rows = self.report.log, self.of_packets()
+            lost = compress(zip(log.of_copies(range(len(log))), log.to), map(LOST.__eq__, log.arrival))
+            return [rows[packet] for packet, to in lost if to in motes]
+        return [Row(row, line.at, mote) for mote in sorted(motes) for row, line in self.events(mote, BECAME[it.outcome])]
 
     def of_packets(self) -> list[Row]:
         """The rows of the packets."""
-        medium = enumerate(self.report.medium, self.report.medium_row + 1)
-        return [Row(row, packet.at, packet.sender) for row, packet in medium]
+        log = self.report.log
+        return list(map(Row, counting(self.report.medium_row + 1), log.at, log.sender))
 
     def rows_in(self, what: str, found: list[Row], count: Count, window: Window) -> Broken | None:
         """Whether so many of the rows are in a window, or in each of its parts."""
@@ -333,7 +339,7 @@ class Judge:
         if isinstance(it, Lines):
             return self.lines(it.count)
         if isinstance(it, MediumLine):
-            rows = (row.split(' ') for row in self.rows[self.report.medium_row:-1])
+            rows = (str(packet).split(' ') for packet in self.report.log)
             if any(tuple(words[:len(it.words)]) == it.words for words in rows):
                 return None
             return Broken('no line of the medium is so', self.report.medium_row)

@@ -6,8 +6,8 @@
 """
 from motesim.report.columns import KINDS, LOST, NONE, Log, Trace
 from motesim.report.lines import FIELDS, MOST_MOMENT, MOST_WORD, Copy, Line, Packet
-from motesim.report.report import Mote, Outcome, Report
+from motesim.report.report import OUTCOMES, Mote, Outcome, Report, Rows
 from motesim.report.strict import ReportFault
 
-__all__ = ['FIELDS', 'KINDS', 'LOST', 'MOST_MOMENT', 'MOST_WORD', 'NONE', 'Copy', 'Line', 'Log', 'Mote', 'Outcome', 'Packet',
-           'Report', 'ReportFault', 'Trace']
+__all__ = ['FIELDS', 'KINDS', 'LOST', 'MOST_MOMENT', 'MOST_WORD', 'NONE', 'OUTCOMES', 'Copy', 'Line', 'Log', 'Mote', 'Outcome', 'Packet',
+           'Report', 'ReportFault', 'Rows', 'Trace']

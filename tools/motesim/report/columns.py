@@ -9,7 +9,7 @@ from array import array
 from bisect import bisect_right
 from collections.abc import Callable, Iterable, Iterator, Sequence
 from functools import cached_property
-from itertools import accumulate, compress, repeat
+from itertools import accumulate, chain, compress, repeat
 from typing import Any, overload
 
 from motesim.report.lines import FIELDS, FORMS, Copy, Line, Packet
@@ -99,6 +99,17 @@ class Trace:
         begin, end = self.starts[mote], self.starts[mote + 1]
         return list(compress(range(begin, end), self.kind[begin:end].translate(MASKS[CODES[kind]])))
 
+    def is_named(self, name: str) -> bool:
+        """Whether a line has a process of this name."""
+        if name not in self.names:
+            return False
+        place = self.names.index(name)
+        return any(place in fields['process'] for fields in self.of.values() if 'process' in fields)
+
+    def processes(self) -> set[str]:
+        """The names of all processes of which there are lines."""
+        return {self.names[it] for fields in self.of.values() for it in set(fields.get('process', ()))}
+
     def all_rows(self, kind: str) -> array[int]:
         """All lines of a kind, by their indices."""
         return array('I', compress(range(len(self)), self.kind.translate(MASKS[CODES[kind]])))
@@ -116,21 +127,23 @@ class Trace:
         made: Line = tuple.__new__(FORMS[kind], (mote, self.at[index], *values, kind))
         return made
 
-    def lines(self, mote: int, first: int = 0, end: int | None = None) -> Iterator[Line]:
-        """The lines of a mote, from its first one on, or some of them."""
+    def lines(self, mote: int, first: int = 0, end: int | None = None, kinds: Iterable[str] = KINDS) -> Iterator[Line]:
+        """The lines of a mote, from one up to another; only those of some kinds, if these are given."""
         begin, last = self.starts[mote], self.starts[mote + 1]
         end = last if end is None else min(last, begin + end)
         first += begin
         made: dict[int, Iterator[Line]] = {}
         codes = self.kind[first:end]
-        for code in set(codes):
+        wanted = {CODES[kind] for kind in kinds}
+        for code in wanted.intersection(codes):
             kind = KINDS[code]
             place = self._before[mote][code] + self.kind.count(code, begin, first)
             count = codes.count(code)
             moments = compress(self.at[first:end], codes.translate(MASKS[code]))
             fields = [self._named(field, column[place:place + count]) for field, column in self.of[kind].items()]
             made[code] = map(tuple.__new__, repeat(FORMS[kind]), zip(repeat(mote), moments, *fields, repeat(kind)))
-        return map(next, map(made.__getitem__, codes))
+        others = bytes(code for code in range(len(KINDS)) if code not in wanted)
+        return map(next, map(made.__getitem__, codes.translate(None, others) if others else codes))
 
     def column(self, name: str, fields: dict[str, str], nothing: int) -> array[int]:
         """A column in the order of the lines: for each kind the field that it takes, or nothing."""
@@ -237,6 +250,11 @@ class Log(Sequence[Packet]):
 
     def __len__(self) -> int:
         return len(self.at)
+
+    def of_copies(self, column: Iterable[int]) -> Iterator[int]:
+        """For each copy, what a column has of its packet."""
+        counts = map(int.__sub__, self.first[1:], self.first)
+        return chain.from_iterable(repeat(value, count) for value, count in zip(column, counts))
 
     def packet(self, index: int) -> Packet:
         """A packet by its place."""

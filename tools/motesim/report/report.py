@@ -7,12 +7,15 @@ byte for byte. A text that is no report is a `ReportFault`, which has its line.
 """
 from __future__ import annotations
 
-from collections.abc import Callable, Iterator, Sequence
+from array import array
+from bisect import bisect_right
+from collections.abc import Iterator, Sequence
 from functools import cached_property
-from typing import Any, NamedTuple
+from itertools import repeat
+from typing import NamedTuple, overload
 
 from motesim.report import fast, strict
-from motesim.report.columns import Log, MoteLines, Trace
+from motesim.report.columns import KINDS, LOST, Log, MoteLines, Trace
 from motesim.report.lines import Copy, Line, Packet
 
 
@@ -47,6 +50,7 @@ class Outcome(NamedTuple):
 
 
 OUTCOMES = ('received', 'lost', 'full', 'collided', 'halted', 'left')
+_LOST, _HALTED, _LEFT = (OUTCOMES.index(it) for it in ('lost', 'halted', 'left'))
 _BECAME = {'recv': 'received', 'lost': 'full', 'collide': 'collided'}
 
 
@@ -85,10 +89,10 @@ class Report:
         log.add(by_line.medium)
         return cls([program for program, _, _ in by_line.motes], trace, log, by_line.left)
 
-    def lines(self) -> Iterator[Line]:
-        """The lines of all traces, mote after mote."""
+    def lines(self, *kinds: str) -> Iterator[Line]:
+        """The lines of all traces, mote after mote; only those of some kinds, if these are named."""
         for mote in self.motes:
-            yield from mote.lines
+            yield from self.trace.lines(mote.number, kinds=kinds or KINDS)
 
     def rows(self) -> Iterator[str]:
         """The lines of the report's text, without their ends."""
@@ -98,6 +102,21 @@ class Report:
         yield 'medium'
         yield from map(str, self.medium)
         yield 'left %d' % self.left
+
+    def row(self, number: int) -> str:
+        """A line of the report's text by its number, counted from 1, without its end."""
+        if number == self.medium_row:
+            return 'medium'
+        if number > self.medium_row:
+            packet = number - self.medium_row - 1
+            return str(self.log[packet]) if packet < len(self.log) else 'left %d' % self.left
+        mote = self.motes[bisect_right(self.motes, number, key=lambda it: it.row) - 1]
+        return str(mote) if number == mote.row else str(mote.lines[number - mote.row - 1])
+
+    @property
+    def length(self) -> int:
+        """How many lines the report's text has."""
+        return self.medium_row + len(self.log) + 1
 
     def text(self) -> str:
         """The report as it was read."""
@@ -109,30 +128,70 @@ class Report:
         return {(packet.sender, packet.number): packet for packet in self.medium}
 
     def outcomes(self) -> list[Outcome]:
-        """What became of each copy, in the order of the log of the medium.
+        """What became of each copy, in the order of the log of the medium. `fates` has it as numbers."""
+        became = iter(self.fates)
+        return [Outcome(packet, copy, OUTCOMES[next(became)]) for packet in self.log for copy in packet.copies]
+
+    @cached_property
+    def fates(self) -> bytearray:
+        """What became of each copy in the columns of the log: its place in OUTCOMES.
 
         A copy without a line was lost by the medium, came to a mote that had halted, or is one of the `left`, which
         would arrive last of all.
         """
-        became: dict[tuple[int, int, int], str] = {}
-        for mote in self.motes:
-            here = mote.number
-            for line in mote.lines:
-                if line.kind in _BECAME and line.packet:
-                    became[(here, *line.packet)] = _BECAME[line.kind]
-        found: list[Outcome] = []
+        log = self.log
+        senders, numbers = array('I', log.of_copies(log.sender)), array('Q', log.of_copies(log.number))
+        coming: list[array[int]] = [array('I') for _ in self.motes]
+        found = bytearray(len(log.to))
+        for index, (to, at) in enumerate(zip(log.to, log.arrival)):
+            if at == LOST:
+                found[index] = _LOST
+            else:
+                coming[to].append(index)
         silent: list[int] = []
-        new: Callable[..., Any] = tuple.__new__
-        for packet in self.medium:
-            _, sender, number, _, copies = packet
-            for copy in copies:
-                to, at = copy
-                what = 'lost' if at is None else became.get((to, sender, number), '')
-                if not what:
-                    silent.append(len(found))
-                found.append(new(Outcome, (packet, copy, what)))
-        silent.sort(key=lambda index: found[index].copy.at or 0)
-        halted = len(silent) - self.left
+        for mote, indices in enumerate(coming):
+            became = self._became(mote)
+            for index in indices:
+                fate = became.get((senders[index], numbers[index]))
+                if fate is None:
+                    silent.append(index)
+                else:
+                    found[index] = fate
+        silent.sort(key=lambda index: (log.arrival[index], index))
         for place, index in enumerate(silent):
-            found[index] = found[index]._replace(what='halted' if place < halted else 'left')
+            found[index] = _HALTED if place < len(silent) - self.left else _LEFT
         return found
+
+    def _became(self, mote: int) -> dict[tuple[int, int], int]:
+        """What a mote's lines say of the packets that came to it, by sender and number."""
+        found: dict[tuple[int, int], int] = {}
+        for kind, fate in _BECAME.items():
+            place, fields = self.trace.place(mote, kind), self.trace.of[kind]
+            found.update(zip(zip(fields['sender'][place], fields['number'][place]), repeat(OUTCOMES.index(fate))))
+        return found
+
+
+class Rows(Sequence[str]):
+    """The lines of a report's text, without their ends, which are made when they are asked for."""
+
+    def __init__(self, report: Report):
+        self.report = report
+
+    def __len__(self) -> int:
+        return self.report.length
+
+    @overload
+    def __getitem__(self, index: int) -> str: ...
+
+    @overload
+    def __getitem__(self, index: slice) -> list[str]: ...
+
+    def __getitem__(self, index: int | slice) -> str | list[str]:
+        if isinstance(index, slice):
+            return [self.report.row(it + 1) for it in range(*index.indices(len(self)))]
+        if not -len(self) <= index < len(self):
+            raise IndexError('the report has %d lines' % len(self))
+        return self.report.row(index % len(self) + 1)
+
+    def __iter__(self) -> Iterator[str]:
+        return self.report.rows()

@@ -5,7 +5,8 @@ import re
 from typing import Any, NamedTuple
 
 from motesim.judge import expectations
-from motesim.comparison.reports import MEDIUM, compared, differences, packet_of
+from motesim.comparison.columns import MEDIUM
+from motesim.comparison.reports import compared, differences, packet_of
 from motesim.explain.explanation import explanation, place_of_fault, place_of_token
 from motesim.faults import Fault
 from motesim.explain.lint import warnings

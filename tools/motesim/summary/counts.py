@@ -51,7 +51,7 @@ from typing import Any, Iterator
 from motesim.faults import command
 from motesim.summary.flows import NAMES as FLOW_NAMES
 from motesim.summary.flows import flow_rows, silent
-from motesim.report import Report
+from motesim.report import KINDS, LOST, OUTCOMES, Report
 from motesim.runner.run import Run, read_run
 from motesim.scenario import Scenario
 from motesim.why.series import NAMES as SERIES_NAMES
@@ -88,7 +88,8 @@ def by_mote(report: Report, became: Counter[Any]) -> list[Row]:
     """A row for each mote."""
     rows = []
     for mote in report.motes:
-        kinds = Counter(line.kind for line in mote.lines)
+        begin, end = report.trace.starts[mote.number], report.trace.starts[mote.number + 1]
+        kinds = {kind: report.trace.kind.count(code, begin, end) for code, kind in enumerate(KINDS)}
         rows.append({'mote': mote.number, 'program': mote.program, 'sent': kinds['send'],
                      **copies_row(became, mote.number), **{name: kinds[kind] for kind, name in COUNTED.items()},
                      'halt': mote.halted()})
@@ -106,14 +107,18 @@ def of_net(motes: list[Row]) -> Row:
     return row
 
 
+def links_of(report: Report) -> Iterator[tuple[int, int]]:
+    """The sender and the receiver of each copy."""
+    return zip(report.log.of_copies(report.log.sender), report.log.to)
+
+
 def by_link(report: Report, scenario: Scenario | None, became: Counter[Any]) -> list[Row]:
     """A row for each pair of sender and receiver between which copies went, and for all pairs of a scenario."""
     delays: dict[tuple[int, int], int | None] = {}
-    for packet in report.medium:
-        for copy in packet.copies:
-            link = packet.sender, copy.to
-            if delays.get(link) is None:
-                delays[link] = None if copy.at is None else copy.at - packet.at
+    log = report.log
+    for link, sent, arrival in zip(links_of(report), log.of_copies(log.at), log.arrival):
+        if delays.get(link) is None:
+            delays[link] = None if arrival == LOST else arrival - sent
     if scenario:
         for s in range(scenario.motes):
             delays.update(((s, r), scenario.delay(s, r)) for r in scenario.hearers(s))
@@ -123,7 +128,7 @@ def by_link(report: Report, scenario: Scenario | None, became: Counter[Any]) -> 
 
 def summary(run: Run) -> tuple[list[Row], Row, list[Row]]:
     """The rows of the motes, that of the net, and those of the links."""
-    links = Counter(((it.packet.sender, it.copy.to), it.what) for it in run.report.outcomes())
+    links = Counter(zip(links_of(run.report), map(OUTCOMES.__getitem__, run.report.fates)))
     receivers: Counter[Any] = Counter()
     for ((_, to), what), number in links.items():
         receivers[to, what] += number

@@ -74,7 +74,7 @@ def check_processes(report: Report, scenario: Scenario, marks: tuple[Mark, Mark]
     """Whether each process of a flow is one of the scenario's."""
     for process in {it.process for it in marks if it.process}:
         known = set(names_of(scenario).processes or ())
-        if process not in known and not any(line.process == process for line in report.lines()):
+        if process not in known and not report.trace.is_named(process):
             raise FlowFault('no flow: the scenario has no process %s%s' % (
                 process, like(process, scenario, known)))
 
@@ -83,16 +83,17 @@ def silent(report: Report, scenario: Scenario | None, words: str) -> Iterator[st
     """Why a flow has nothing to show: no line begins a message, or none is a delivery."""
     begin, end = read_flow(words)
     for mark, what in (begin, 'no message began'), (end, 'nothing was delivered'):
-        if not any(map(mark.has, report.lines())):
-            told = {line.process for line in report.lines() if line.process}.difference({'all'})
-            more = like(mark.process, scenario, told) if mark.process and mark.process not in told else ''
+        if not any(map(mark.has, report.lines(mark.kind))):
+            known = report.trace.processes() - {'all'}
+            more = like(mark.process, scenario, known) if mark.process and mark.process not in known else ''
             yield 'the report has no line `%s V`, so %s%s' % (mark, what, more)
             return
 
 
 def messages(report: Report, begin: Mark, end: Mark) -> dict[int, Message]:
     """The messages of a flow, by their values. A line before its message began belongs to none."""
-    lines = sorted((it for it in report.lines() if begin.has(it) or end.has(it)), key=lambda it: it.at)
+    marked = (it for it in report.lines(begin.kind, end.kind) if begin.has(it) or end.has(it))
+    lines = sorted(marked, key=lambda it: it.at)
     found: dict[int, Message] = {}
     for line in lines:
         value = line.value
@@ -142,7 +143,7 @@ def _row(origin: int | str, its: list[Message], scenario: Scenario | None) -> Ro
     delivered = [it for it in its if it.delivered]
     pairs = [(it, mote, moments) for it in its for mote, moments in it.delivered.items()]
     delays = sorted(moments[0] - it.at for it, _, moments in pairs)
-    far = {it.origin: hops_from(scenario, it.origin) for it in its} if scenario else {}
+    far = {origin: hops_from(scenario, origin) for origin in {it.origin for it in its}} if scenario else {}
     hops = [far[it.origin][mote] for it, mote, _ in pairs if scenario and mote in far[it.origin]]
     copies = sum(len(moments) for _, _, moments in pairs)
     return {

@@ -17,11 +17,15 @@ import json
 import sys
 import zlib
 from array import array
+from collections.abc import Callable, Iterable, Iterator, Sequence
+from itertools import chain, repeat
+from operator import sub
 from pathlib import Path
-from typing import Any, Iterable, Sequence
+from typing import Any
 
 from motesim.faults import Fault, command
-from motesim.report import FIELDS, Mote, Report
+from motesim.notation.keywords import EVENTS
+from motesim.report import KINDS, LOST, Log, Report, Trace
 from motesim.runner.run import Run, read_run
 from motesim.scenario import Scenario
 from motesim.why.pages import causes_of
@@ -33,106 +37,113 @@ SHARED = ['data.js', 'index.js', 'view.js', 'forms.js', 'lanes.js', 'arrows.js',
           'why.js', 'chart.js', 'series.js', 'play.js', 'main.js']
 # The page's scripts: the last one opens it.
 SCRIPTS = [*SHARED, 'open.js']
-KINDS = list(FIELDS)
 ALL = 0xFFFF
+LEVEL = 6
+# The column of a page that a field of a line belongs to.
+OF_FIELDS = {'process': 'p', 'sender': 'p', 'serial': 'x', 'number': 'x', 'event': 'e', 'word': 'w', 'value': 'w'}
 ARRAYS = {'u8': 'B', 'u16': 'H', 'u32': 'I'}
 
 
-class _Names(dict[str | None, int]):
-    """Names in the order in which they were met, each with its place."""
-
-    def __missing__(self, name: str | None) -> int:
-        self[name] = place = len(self)
-        return place
+def _zigzag(numbers: Sequence[int]) -> list[int]:
+    """Each number as its difference from the one that is expected: small if it is near, and never negative."""
+    steps = map(sub, numbers, chain((-1,), numbers))
+    return [2 * step - 2 if step > 0 else 1 - 2 * step for step in steps]
 
 
-def _zigzag(difference: int) -> int:
-    """A number that is small where the difference is near 0, and never negative."""
-    return 2 * difference if difference >= 0 else -2 * difference - 1
+def _in_row(numbers: array[int]) -> bool:
+    """Whether numbers are 0, 1, 2, .."""
+    return not numbers or numbers[-1] == len(numbers) - 1 and numbers == array(numbers.typecode, range(len(numbers)))
+
+
+def _differences(numbers: Sequence[int]) -> Iterator[int]:
+    return map(sub, numbers, chain((0,), numbers))
 
 
 class Columns:
     """The columns of a run. `names` has their order, each with its kind of number."""
     names = {'traceStart': 'u32', 'at': 'u32', 'x': 'u32', 'packetAt': 'u32', 'copyAfter': 'u32', 'w': 'u16',
-        'p': 'u16', 'e': 'u16',
-             'begins': 'u16', 'packetSender': 'u16', 'packetValue': 'u16', 'copyCount': 'u16', 'copyTo': 'u16',
-             'kind': 'u8'}
+             'p': 'u16', 'e': 'u16', 'begins': 'u16', 'packetSender': 'u16', 'packetValue': 'u16', 'copyCount': 'u16',
+             'copyTo': 'u16', 'kind': 'u8'}
 
     def __init__(self, report: Report):
         self.columns = {name: array(ARRAYS[kind]) for name, kind in self.names.items()}
-        self.processes, self.events, self.programs = _Names(), _Names(), _Names()
+        trace = report.trace
+        known = trace.processes()
+        self.processes = [name for name in trace.names if name in known and name != 'all']
+        self.events = [name for name in trace.names if name in EVENTS]
+        self.programs = list(dict.fromkeys(mote.program for mote in report.motes))
         try:
-            self.columns['traceStart'].append(0)
-            for mote in report.motes:
-                self.add_trace(mote)
-            self.add_medium(report)
+            self._add_traces(report, trace)
+            self._add_medium(report.log, len(report.motes))
         except OverflowError:
             raise Fault('the report has a number that is too great for a page') from None
 
-    def add_trace(self, mote: Mote) -> None:
-        """The lines of one mote. Moments stand as differences, serials and numbers as those from what is expected."""
-        columns, processes, events = self.columns, self.processes, self.events
-        add_at, add_kind, add_p = columns['at'].append, columns['kind'].append, columns['p'].append
-        add_x, add_e, add_w = columns['x'].append, columns['e'].append, columns['w'].append
-        kinds = {kind: number for number, kind in enumerate(KINDS)}
-        last, now = dict.fromkeys(KINDS, -1), 0
-        for line in mote.lines:
-            kind = line.kind
-            add_at(line.at - now)
-            now = line.at
-            add_kind(kinds[kind])
-            p = x = e = w = 0
-            if kind in ('post', 'take', 'drop'):
-                serial = line.serial or 0
-                x, last[kind] = _zigzag(serial - last[kind] - 1), serial
-            elif kind in ('send', 'recv', 'lost', 'collide', 'deaf'):
-                number = line.number or 0
-                x, last[kind] = _zigzag(number - last[kind] - 1), number
-            if kind in ('recv', 'lost', 'collide', 'deaf'):
-                p = line.sender or 0
-            elif kind not in ('send', 'halt'):
-                p = ALL if line.process == 'all' else processes[line.process]
-            if kind in ('post', 'full'):
-                e, w = events[line.event], line.word or 0
-            elif kind in ('print', 'send', 'recv'):
-                w = line.value or 0
-            add_p(p)
-            add_x(x)
-            add_e(e)
-            add_w(w)
-        columns['begins'].append(self.programs[mote.program])
-        columns['traceStart'].append(len(columns['at']))
+    def _add_traces(self, report: Report, trace: Trace) -> None:
+        """The lines of all motes. Moments are differences, serials and numbers those from what is expected."""
+        columns = self.columns
+        columns['traceStart'].extend(trace.starts)
+        columns['kind'].frombytes(trace.kind)
+        columns['begins'].extend(map(self.programs.index, (mote.program for mote in report.motes)))
+        for begin, end in zip(trace.starts, trace.starts[1:]):
+            columns['at'].extend(_differences(trace.at[begin:end]))
+        for name in 'x', 'p', 'e', 'w':
+            parts = [self._part(trace, kind, name) for kind in KINDS]
+            following: Callable[[Iterator[int]], int] = next
+            columns[name].extend(map(following, map(parts.__getitem__, trace.kind)))
 
-    def add_medium(self, report: Report) -> None:
-        """The packets with their copies; 0 stands for the time of a copy that is lost."""
-        columns, now = self.columns, 0
-        sent = [0] * len(report.motes)
-        for packet in report.medium:
-            if packet.number != sent[packet.sender]:
-                raise Fault('the packets of mote %d are not numbered 0, 1, 2, ..' % packet.sender)
-            sent[packet.sender] += 1
-            columns['packetAt'].append(packet.at - now)
-            now = packet.at
-            columns['packetSender'].append(packet.sender)
-            columns['packetValue'].append(packet.value)
-            columns['copyCount'].append(len(packet.copies))
-            columns['copyTo'].extend([copy.to for copy in packet.copies])
-            columns['copyAfter'].extend([0 if copy.at is None else copy.at - packet.at for copy in packet.copies])
+    def _part(self, trace: Trace, kind: str, name: str) -> Iterator[int]:
+        """What the lines of a kind have in a column, in their order."""
+        for field, column in trace.of[kind].items():
+            if OF_FIELDS[field] != name:
+                continue
+            if name == 'x':
+                return self._numbers(trace, kind, column)
+            if name in 'pe' and field != 'sender':
+                places = {it: place for place, it in enumerate(self.events if name == 'e' else self.processes)}
+                table = [places.get(it, ALL) for it in trace.names]
+                return map(table.__getitem__, column)
+            return iter(column)
+        return repeat(0)
 
-    def joined(self) -> bytes:
+    def _numbers(self, trace: Trace, kind: str, column: array[int]) -> Iterator[int]:
+        """Serials or numbers, as differences from those that are expected."""
+        for mote in range(len(trace.starts) - 1):
+            numbers = column[trace.place(mote, kind)]
+            yield from repeat(0, len(numbers)) if _in_row(numbers) else _zigzag(numbers)
+
+    def _add_medium(self, log: Log, motes: int) -> None:
+        """The packets with their copies; 0 is the time of a copy that is lost."""
+        columns = self.columns
+        sent = [0] * motes
+        for sender, number in zip(log.sender, log.number):
+            if number != sent[sender]:
+                raise Fault('the packets of mote %d are not numbered 0, 1, 2, ..' % sender)
+            sent[sender] += 1
+        columns['packetAt'].extend(_differences(log.at))
+        columns['packetSender'].extend(iter(log.sender))
+        columns['packetValue'].extend(log.value)
+        columns['copyCount'].extend(map(sub, log.first[1:], log.first))
+        columns['copyTo'].extend(iter(log.to))
+        columns['copyAfter'].extend(0 if arrival == LOST else arrival - at
+                                    for arrival, at in zip(log.arrival, log.of_copies(log.at)))
+
+    def parts(self) -> Iterator[bytes]:
         """All columns one after another, each at a multiple of 4."""
-        parts = []
         for column in self.columns.values():
             if sys.byteorder == 'big':
                 column = column[:]
                 column.byteswap()
-            part = column.tobytes()
-            parts.append(part + bytes(-len(part) % 4))
-        return b''.join(parts)
+            yield column.tobytes()
+            yield bytes(-len(column) * column.itemsize % 4)
+
+    def joined(self) -> bytes:
+        """All columns as one."""
+        return b''.join(self.parts())
 
     def packed(self) -> bytes:
         """All columns, compressed."""
-        return zlib.compress(self.joined(), 6)
+        packer = zlib.compressobj(LEVEL)
+        return b''.join([*map(packer.compress, self.parts()), packer.flush()])
 
     def said(self) -> list[list[Any]]:
         """What the page has to know of the columns: name, kind of number, length."""
@@ -141,8 +152,9 @@ class Columns:
 
 def _last_moment(report: Report) -> int:
     """The end of a run whose scenario isn't known: the last moment at which anything was written or sent."""
-    moments = [mote.lines[-1].at for mote in report.motes if mote.lines]
-    return max(moments + [packet.at for packet in report.medium[-1:]], default=0)
+    starts, at = report.trace.starts, report.trace.at
+    moments = [at[end - 1] for begin, end in zip(starts, starts[1:]) if begin < end]
+    return max(moments + list(report.log.at[-1:]), default=0)
 
 
 def _said_of_scenario(scenario: Scenario | None) -> dict[str, Any]:
@@ -161,7 +173,7 @@ def said_of(run: Run, columns: Columns) -> dict[str, Any]:
     end = run.scenario.end if run.scenario else _last_moment(run.report)
     return {
         'name': run.name, 'end': max(end, _last_moment(run.report)), 'left': run.report.left,
-        'programs': list(columns.programs), 'processes': list(columns.processes), 'events': list(columns.events),
+        'programs': columns.programs, 'processes': columns.processes, 'events': columns.events,
         'columns': columns.said(), **_said_of_scenario(run.scenario),
     }
 
