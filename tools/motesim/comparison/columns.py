@@ -2,8 +2,8 @@
 from __future__ import annotations
 
 from array import array
-from collections.abc import Iterable, Iterator
-from typing import Any
+from collections import Counter
+from collections.abc import Iterator
 
 from motesim.report import KINDS, Report
 
@@ -55,12 +55,24 @@ class Both:
             return False
         return all(self.fields(0, mote, kind) == self.fields(1, mote, kind) for kind in KINDS)
 
-    def lines(self, side: int, mote: int, kind: str) -> Iterable[Any]:
-        """What says each line of a kind: its moment and its fields; of the log of the medium its packets."""
-        if mote == MEDIUM:
-            return self.reports[side].log
-        return self._lines(side, mote, kind) if self.has(side, mote) else ()
-
-    def _lines(self, side: int, mote: int, kind: str) -> Iterator[Any]:
+    def lines(self, side: int, mote: int, kind: str) -> Iterator[tuple[int, ...]]:
+        """What the lines of a kind say that a mote has: their moments and fields."""
+        if not self.has(side, mote):
+            return iter(())
         trace = self.reports[side].trace
         return zip(map(trace.at.__getitem__, trace.rows(mote, kind)), *self.fields(side, mote, kind))
+
+    def only_lines(self, mote: int, kind: str) -> tuple[int, int]:
+        """How many lines of a kind only the one and only the other side has of a mote."""
+        left, right = (Counter(self.lines(side, mote, kind)) for side in (0, 1))
+        return (left - right).total(), (right - left).total()
+
+    def only_packets(self) -> tuple[int, int]:
+        """How many lines of the log only the one and only the other side has. Logs are in order."""
+        a, b = (report.log for report in self.reports)
+        one = other = same = 0
+        while one < len(a) and other < len(b):
+            left, right = ((log.at[place], log.sender[place], log.number[place]) for log, place in ((a, one), (b, other)))
+            same += left == right and a[one] == b[other]
+            one, other = one + (left <= right), other + (right <= left)
+        return len(a) - same, len(b) - same

@@ -228,10 +228,10 @@ def only_in(reports: Pair, found: list[Difference]) -> Counts:
     columns = Both(*reports)
     for it in found:
         for kind in ('medium',) if it.mote == MEDIUM else KINDS:
-            left, right = (Counter(columns.lines(side, it.mote, kind)) for side in (0, 1))
-            for into, lines in (counts[0], left - right), (counts[1], right - left):
-                if lines:
-                    into[it.mote, kind] += lines.total()
+            only = columns.only_packets() if it.mote == MEDIUM else columns.only_lines(it.mote, kind)
+            for into, number in zip(counts, only):
+                if number:
+                    into[it.mote, kind] = number
     return counts
 
 
