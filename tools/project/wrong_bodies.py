@@ -16,14 +16,17 @@ The libraries below are those that lie in crates/*/out; what is missing or older
 --built they are taken as they lie there: rt ci has just built them, or taken them from what it keeps on this machine,
 whose files are older than a fresh clone's sources. What is tried is noted in log/wrong_bodies.tsv, with a digest of all
 that the answer rests on; --changed leaves out those that are noted there as refused over the very same, as a second try
-could only answer the same. As many checks run side by side as there are processors and memory, or as RT_JOBS says. The
+could only answer the same. --tenth takes a tenth of all, another one with each commit, so that each is tried again every
+few landings, whatever the log says. As many checks run side by side as there are processors and memory, or as RT_JOBS says. The
 last line is `N passed, M failed`, and the status 1 where one failed.
 """
 from __future__ import annotations
 
 import argparse
+import hashlib
 import os
 import resource
+import subprocess
 import time
 from collections.abc import Collection, Sequence
 from pathlib import Path
@@ -49,6 +52,7 @@ def words() -> argparse.Namespace:
                        help='take the libraries as rt ci has left them, and build none')
     asked.add_argument('--changed', action='store_true',
                        help='leave out what log/wrong_bodies.tsv notes as refused, where nothing has changed since')
+    asked.add_argument('--tenth', action='store_true', help='take a tenth of them, chosen by the commit')
     asked.add_argument('names', nargs='*', metavar='CRATE or CRATE/NAME',
                        help='crates, or single wrong bodies; without them, all')
     return asked.parse_args()
@@ -93,6 +97,25 @@ def changed(of_crates: Sequence[Bodies], folders: Sequence[str]) -> list[Bodies]
     known = tried.refused(digests(of_crates))
     print('%d were refused before, and nothing has changed since (log/wrong_bodies.tsv)' % len(known), flush=True)
     left = [(bodies.crate, [edit.name for edit in bodies.edits if label(bodies, edit) not in known]) for bodies in of_crates]
+    return [Bodies(crate, folders, names) for crate, names in left if names]
+
+
+def commit() -> str:
+    """The commit of this tree, or an empty text outside a repository."""
+    return subprocess.run(['git', 'rev-parse', 'HEAD'], capture_output=True, text=True).stdout.strip()
+
+
+def is_of_tenth(name: str, seed: str) -> bool:
+    """Whether a wrong body is in the tenth that this seed chooses."""
+    return hashlib.sha256(('%s %s' % (seed, name)).encode()).digest()[0] * 10 < 256
+
+
+def tenth(of_crates: Sequence[Bodies], folders: Sequence[str], seed: str) -> list[Bodies]:
+    """A tenth of these wrong bodies, chosen by a seed, the commit."""
+    left = [(bodies.crate, [edit.name for edit in bodies.edits if is_of_tenth(label(bodies, edit), seed)])
+            for bodies in of_crates]
+    print('%d of %d, chosen by the commit %s' % (sum(len(names) for _, names in left),
+                                                 sum(len(bodies.edits) for bodies in of_crates), seed[:8]), flush=True)
     return [Bodies(crate, folders, names) for crate, names in left if names]
 
 
@@ -161,6 +184,8 @@ def main() -> int:
     kit.guarded()
     folders = [asked.folder] if asked.folder else FOLDERS
     of_crates = bodies_asked_for(asked.names, folders)
+    if asked.tenth:
+        of_crates = tenth(of_crates, folders, commit())
     if asked.changed:
         of_crates = changed(of_crates, folders)
     if asked.list:

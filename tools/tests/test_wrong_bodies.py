@@ -217,5 +217,25 @@ class Changed(unittest.TestCase):
         self.assertEqual(self.left(set()), [['a', 'b']])
 
 
+class Tenth(unittest.TestCase):
+    def of(self, seed):
+        """The names of a thousand wrong bodies that this seed chooses."""
+        edits = [types.SimpleNamespace(name=str(number)) for number in range(1000)]
+        bodies = types.SimpleNamespace(crate=types.SimpleNamespace(name='low'), edits=edits)
+        with unittest.mock.patch.object(wrong_bodies, 'Bodies', lambda crate, folders, names: names), \
+                contextlib.redirect_stdout(io.StringIO()):
+            return wrong_bodies.tenth([bodies], ['gate-bodies'], seed)[0]
+
+    def test_it_is_about_a_tenth(self):
+        self.assertTrue(70 < len(self.of('one')) < 130)
+
+    def test_the_same_commit_has_the_same_and_another_has_another(self):
+        self.assertEqual(self.of('one'), self.of('one'))
+        self.assertNotEqual(self.of('one'), self.of('two'))
+
+    def test_each_is_tried_in_the_end(self):
+        self.assertEqual(len({name for seed in range(200) for name in self.of(str(seed))}), 1000)
+
+
 if __name__ == '__main__':
     unittest.main()
