@@ -25,13 +25,18 @@ pub mapped-drop : {X Y : Type 0} (g : Y → List ℕ) (f : X → Y) (xs : List X
 mapped-drop g f xs i d h =
     flat_map-map g f (drop i xs) ∙ flat_map-drop (λ x. g (f x)) xs i d h ∙ ap (λ l. g (f (get_or xs i d)) ++ l) (sym (flat_map-map g f (drop (i + 1) xs)))
 
+-- the next of the remaining pieces is put
+pub mapped_more : {X Y : Type 0} (g : Y → List ℕ) (f : X → Y) (xs : List X) (i : ℕ) (d : X) (p q whole : List ℕ) → i < length xs
+    → q ≡ p ++ g (f (get_or xs i d)) → p ++ flat_map g (map f (drop i xs)) ≡ whole → q ++ flat_map g (map f (drop (i + 1) xs)) ≡ whole
+mapped_more g f xs i d p q whole h is before =
+    let rest = flat_map g (map f (drop (i + 1) xs)) in
+    ap (λ l. l ++ rest) is ∙ append_assoc p (g (f (get_or xs i d))) rest
+    ∙ ap (λ l. p ++ l) (sym (mapped-drop g f xs i d h)) ∙ before
+
 -- the next of the remaining words is put after a space
 pub spaced_more : {X : Type 0} (f : X → List ℕ) (xs : List X) (i : ℕ) (d : X) (p q whole : List ℕ) → i < length xs → q ≡ p ++ 32 ∷ f (get_or xs i d)
     → p ++ flat_map (λ w. 32 ∷ w) (map f (drop i xs)) ≡ whole → q ++ flat_map (λ w. 32 ∷ w) (map f (drop (i + 1) xs)) ≡ whole
-spaced_more f xs i d p q whole h is before =
-    let rest = flat_map (λ w. 32 ∷ w) (map f (drop (i + 1) xs)) in
-    ap (λ l. l ++ rest) is ∙ append_assoc p (32 ∷ f (get_or xs i d)) rest
-    ∙ ap (λ l. p ++ l) (sym (mapped-drop (λ w. 32 ∷ w) f xs i d h)) ∙ before
+spaced_more f = mapped_more (λ w. 32 ∷ w) f
 
 -- no item is left
 pub flat_map-end : {X : Type 0} (f : X → List ℕ) (xs : List X) (i : ℕ) → length xs ≤ i → flat_map f (drop i xs) ≡ []
@@ -40,11 +45,16 @@ flat_map-end f [] (suc i) h = refl
 flat_map-end f (x ∷ xs) zero h = absurd (omega arith)
 flat_map-end f (x ∷ xs) (suc i) h = flat_map-end f xs i (omega arith)
 
+-- no piece is left
+pub mapped_end : {X Y : Type 0} (g : Y → List ℕ) (f : X → Y) (xs : List X) (i : ℕ) (p whole : List ℕ) → length xs ≤ i
+    → p ++ flat_map g (map f (drop i xs)) ≡ whole → p ≡ whole
+mapped_end g f xs i p whole h before =
+    sym (append-nil p) ∙ ap (λ l. p ++ l) (sym (flat_map-map g f (drop i xs) ∙ flat_map-end (λ x. g (f x)) xs i h)) ∙ before
+
 -- no word is left
 pub spaced_end : {X : Type 0} (f : X → List ℕ) (xs : List X) (i : ℕ) (p whole : List ℕ) → length xs ≤ i
     → p ++ flat_map (λ w. 32 ∷ w) (map f (drop i xs)) ≡ whole → p ≡ whole
-spaced_end f xs i p whole h before =
-    sym (append-nil p) ∙ ap (λ l. p ++ l) (sym (flat_map-map (λ w. 32 ∷ w) f (drop i xs) ∙ flat_map-end (λ x. 32 ∷ f x) xs i h)) ∙ before
+spaced_end f = mapped_end (λ w. 32 ∷ w) f
 
 -- what a mote with this name and this program shows
 mote_shows : (n : ℕ) (m : MoteSetup) (name : List ℕ) (tree : Tree) (lines : List Line) → Some m.program ≡ Some name → Some m.tree ≡ Some tree

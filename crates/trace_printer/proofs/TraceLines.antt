@@ -8,10 +8,11 @@ use Rattle.std.proofs.Math.ListN.{drop_of_length-le}
 use Rattle.std.proofs.Math.Seq.{take-nil, drop-nil, take-add}
 use Rattle.program_tree.specs.Code.{Tree}
 use Rattle.trace_lines.specs.declared.line.Line.{Line}
-use Rattle.mote_net.specs.Net.{MoteSetup}
-use Rattle.mote_net.specs.Report.{lines_in}
-use Rattle.trace_printer.specs.ReportText.{line_text, motes_text}
-use Rattle.trace_printer.specs.TraceLines.{mote_lines, lines_from, part_text}
+use Rattle.mote_net.specs.Net.{MoteSetup, NetTold}
+use Rattle.mote_net.specs.Report.{Packet, lines_in, told_line}
+use Rattle.mote_net.specs.declared.report.LogLine.{LogLine}
+use Rattle.trace_printer.specs.ReportText.{line_text, medium_text, motes_text, packet_text}
+use Rattle.trace_printer.specs.TraceLines.{mote_lines, lines_from, lines_of, medium_lines, part_text}
 use Rattle.trace_printer.specs.Words.{line_of}
 
 -- no line
@@ -19,11 +20,11 @@ pub part_nothing : (skip count : ℕ) → part_text [] skip count ≡ []
 part_nothing skip count = rw (drop-nil {A = List ℕ} skip, take-nil {A = List ℕ} count) refl
 
 -- mapped lines
-mapped_lines : (f : Line → List ℕ) (lines : List Line) → concat (map f lines) ≡ flat_map f lines
+mapped_lines : {X : Type 0} (f : X → List ℕ) (lines : List X) → concat (map f lines) ≡ flat_map f lines
 mapped_lines f [] = refl
 mapped_lines f (l ∷ ls) = ap (λ t. f l ++ t) (mapped_lines f ls)
 
-mapped_part : (f : Line → List ℕ) (trace : List Line) (skip count : ℕ) → flat_map f (take count (drop skip trace)) ≡ part_text (map f trace) skip count
+mapped_part : {X : Type 0} (f : X → List ℕ) (trace : List X) (skip count : ℕ) → flat_map f (take count (drop skip trace)) ≡ part_text (map f trace) skip count
 mapped_part f trace skip count = rw (drop-map f skip trace, take-map f count (drop skip trace), mapped_lines f (take count (drop skip trace))) refl
 
 pub drop_drop : (a b : ℕ) (xs : List (List ℕ)) → drop b (drop a xs) ≡ drop (a + b) xs
@@ -62,15 +63,15 @@ part_both (x ∷ xs) ys (suc s) c =
 pub part_sum : (lines : List (List ℕ)) (skip a b : ℕ) → part_text lines skip (a + b) ≡ part_text lines skip a ++ part_text lines (skip + a) b
 part_sum lines skip a b = rw (take-add a b (drop skip lines), concat-append (take a (drop skip lines)) (take b (drop a (drop skip lines))), drop_drop skip a lines) refl
 
--- the lines after the first of a mote
-pub part_later : (f : Line → List ℕ) (head : List ℕ) (trace lines : List Line) (skip count : ℕ) → 0 < skip → lines ≡ take count (drop (skip - 1) trace) → flat_map f lines ≡ part_text (head ∷ map f trace) skip count
+-- the lines after the first of a mote or of the medium
+pub part_later : {X : Type 0} (f : X → List ℕ) (head : List ℕ) (trace lines : List X) (skip count : ℕ) → 0 < skip → lines ≡ take count (drop (skip - 1) trace) → flat_map f lines ≡ part_text (head ∷ map f trace) skip count
 part_later f head trace lines zero count some is = absurd (omega arith)
 part_later f head trace lines (suc s) count some is =
     let before : suc s - 1 ≡ s = omega arith in
     ap (flat_map f) (is ∙ ap (λ n. take count (drop n trace)) before) ∙ mapped_part f trace s count
 
--- the first line of a mote, and some of those after it
-pub part_first : (f : Line → List ℕ) (head : List ℕ) (trace lines : List Line) (count : ℕ) → 0 < count → lines ≡ take (count - 1) (drop 0 trace) → head ++ flat_map f lines ≡ part_text (head ∷ map f trace) 0 count
+-- the first line of a mote or of the medium, and some of those after it
+pub part_first : {X : Type 0} (f : X → List ℕ) (head : List ℕ) (trace lines : List X) (count : ℕ) → 0 < count → lines ≡ take (count - 1) (drop 0 trace) → head ++ flat_map f lines ≡ part_text (head ∷ map f trace) 0 count
 part_first f head trace lines zero some is = absurd (omega arith)
 part_first f head trace lines (suc c) some is =
     let after : suc c - 1 ≡ c = omega arith in
@@ -115,3 +116,15 @@ pub part_next : (page put : List ℕ) (all lines rest : List (List ℕ)) (whole 
 part_next page put all lines rest whole skip count skip_on count_on is more skips counts before =
     rw (more, skips, counts) (append_assoc page (part_text lines skip count) (part_text rest (skip - length lines) (count - (length lines - skip)))
     ∙ ap (λ (l : List ℕ). page ++ l) (sym (part_both lines rest skip count)) ∙ ap (λ (l : List (List ℕ)). page ++ part_text l skip count) (sym is) ∙ before)
+
+-- some packets of a log
+pub packets_some : (log some : List LogLine) (skip count : ℕ) → some ≡ take count (drop skip log)
+    → map told_line some ≡ take count (drop skip (map told_line log))
+packets_some log some skip count is =
+    ap (map told_line) is ∙ rw (drop-map told_line skip log, take-map told_line count (drop skip log)) refl
+
+-- the text of all lines is that of the motes, and then that of the medium
+pub all_text : (net : NetTold) (ts : List (List Line)) (log : List Packet)
+    → concat (lines_of net ts ++ medium_lines log) ≡ motes_text 0 net.motes ts ++ medium_text log
+all_text net ts log =
+    rw (concat-append (lines_of net ts) (medium_lines log), lines_text 0 net.motes ts, mapped_lines packet_text log) refl

@@ -1,18 +1,22 @@
--- The traces' text in parts.
-use Rattle.std.specs.Prelude.{◌≡◌, ℕ, ◌+◌, List, [], ◌∷◌, length, map}
+-- The text of the traces and the medium in parts.
+use Rattle.std.specs.Prelude.{◌≡◌, ℕ, ◌+◌, List, [], ◌∷◌, ◌++◌, length, map}
 use Rattle.mote_net.specs.Net.{net_of}
-use Rattle.mote_net.specs.Report.{lines_in}
-use Rattle.trace_printer.specs.TraceLines.{lines_of, part_text}
+use Rattle.mote_net.specs.Report.{lines_in, told_line}
+use Rattle.trace_printer.specs.TraceLines.{lines_of, medium_lines, part_text}
 use Rattle.trace_printer.specs.declared.part.Part.{Part}
 use Rattle.trace_printer.specs.declared.part.Traces.{Traces}
 
--- there is one trace for each mote
-abbrev pub HasTraces : Traces → Type 0
-HasTraces t = length t.traces.now ≡ length (net_of t.net.now).motes
-
 -- the lines that all motes show
+abbrev pub traces_told : Traces → List (List ℕ)
+traces_told t = lines_of (net_of t.net.now) (map lines_in t.traces.now)
+
+-- there is one trace for each mote, and their lines are counted
+abbrev pub HasTraces : Traces → Type 0
+HasTraces t = (length t.traces.now ≡ length (net_of t.net.now).motes) × (length (traces_told t) ≡ t.lines)
+
+-- the lines that all motes show, and then those of the medium
 abbrev pub lines_told : Traces → List (List ℕ)
-lines_told t = lines_of (net_of t.net.now) (map lines_in t.traces.now)
+lines_told t = traces_told t ++ medium_lines (map told_line t.medium.now)
 
 -- from the first line to the last each part begins where the one before it ends, and nothing is put on its page yet
 abbrev pub Adjoin : (first : ℕ) → List Part → (last : ℕ) → Type 0

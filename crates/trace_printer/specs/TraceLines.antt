@@ -1,9 +1,10 @@
--- The lines of all traces, numbered through, and the text of some of them.
+-- The lines of a report but the last, numbered through, and the text of some of them.
 use Rattle.std.specs.Prelude.{ℕ, ◌+◌, List, [], ◌∷◌, ◌++◌, codes, decimal, map, take, drop}
 use Rattle.std.specs.List.{concat}
 use Rattle.trace_lines.specs.declared.line.Line.{Line}
 use Rattle.mote_net.specs.Net.{MoteSetup, NetTold}
-use Rattle.trace_printer.specs.ReportText.{line_text}
+use Rattle.mote_net.specs.Report.{Packet}
+use Rattle.trace_printer.specs.ReportText.{line_text, packet_text}
 use Rattle.trace_printer.specs.Words.{line_of}
 
 -- the line that begins what a mote shows, and those of its trace
@@ -19,6 +20,10 @@ lines_from mote (m ∷ ms) [] = []
 -- the lines that the motes of a net show
 abbrev pub lines_of : NetTold → List (List Line) → List (List ℕ)
 lines_of net traces = lines_from 0 net.motes traces
+
+-- the line that begins the log of the medium, and those of its packets
+abbrev pub medium_lines : List Packet → List (List ℕ)
+medium_lines log = line_of (codes "medium") [] ∷ map packet_text log
 
 -- the text of at most `count` lines, after the first `skip`
 abbrev pub part_text : (lines : List (List ℕ)) → (skip count : ℕ) → List ℕ

@@ -1,5 +1,5 @@
 //! A report, round by round.
-ghost use Rattle.std.specs.Prelude.{◌≡◌, ◌≤◌, [], length, map, vec_len, IfSome};
+ghost use Rattle.std.specs.Prelude.{◌≡◌, ◌≤◌, ◌<◌, ◌+◌, ◌^◌, [], length, map, vec_len, IfSome};
 ghost use Rattle.std.specs.List.{concat};
 ghost use Rattle.mote_net.specs.Net.{NetTold, net_of};
 ghost use Rattle.mote_net.specs.Report.{lines_in, report_of};
@@ -13,9 +13,9 @@ use crate::error::PrintError;
 use crate::numbered::count_lines;
 use crate::page::Page;
 use crate::part::Traces;
-use crate::report::{write_medium, write_report};
+use crate::report::{write_end, write_report};
 use crate::round::write_round;
-use mote_net::{Net, Report};
+use mote_net::{LogLine, Net, Report};
 use std::alloc::Global;
 use std::io::Write;
 use std::sync::Wait;
@@ -28,7 +28,7 @@ const ROUND: usize = 65_536;
 /// The least number of lines for which workers are started.
 const MANY: usize = 16_384;
 
-/// Writes the lines of all traces, `lines` in number, round by round.
+/// Writes the lines of all traces and of the medium, `lines` in number, round by round.
 fn write_traces<R: Threads + Wait + Sync, W: Write>(
     rt: &R,
     alloc: Global,
@@ -52,21 +52,23 @@ fn write_traces<R: Threads + Wait + Sync, W: Write>(
     Ok(())
 }
 
-/// How many lines the traces have, if workers are to put them: if these are two or more, and the lines `MANY` or more.
-fn many_lines(workers: u16, traces: &[Vec<Line>]) -> Option<usize>
-    ensures { (net : NetTold) → length traces.now ≡ length net.motes
+/// How many lines the traces have, if workers are to put them and those of the medium: if these are two or more, and
+/// the lines of the traces `MANY` or more.
+fn many_lines(workers: u16, traces: &[Vec<Line>], log: &[LogLine]) -> Option<usize>
+    ensures lines { (net : NetTold) → length traces.now ≡ length net.motes
         → IfSome result (λ count. length (lines_of net (map lines_in traces.now)) ≡ count) }
+    ensures all { IfSome result (λ count. count + length log.now + 1 < 2 ^ 64) }
 {
     if workers < 2 {
         return None;
     }
     match count_lines(traces) {
-        Some(lines) if lines >= MANY => Some(lines),
+        Some(lines) if lines >= MANY && lines < usize::MAX - log.len() => Some(lines),
         _ => None,
     }
 }
 
-/// Writes a report by workers, where its traces have `lines` lines. The page for what comes after them is made first.
+/// Writes a report by workers, where its traces have `lines` lines. The page for its last line is made first.
 fn write_by<R: Threads + Wait + Sync, W: Write>(
     rt: &R,
     alloc: Global,
@@ -78,7 +80,8 @@ fn write_by<R: Threads + Wait + Sync, W: Write>(
 ) -> Result<(), PrintError>
     requires some { 1 ≤ workers }
     requires traces { vec_len report.now.traces ≡ length (net_of net.now).motes }
-    requires all { length (lines_of (net_of net.now) (report_of report.now).traces) ≡ lines }
+    requires lines { length (lines_of (net_of net.now) (report_of report.now).traces) ≡ lines }
+    requires all { lines + vec_len report.now.medium + 1 < 2 ^ 64 }
     ensures { let text = report_text (net_of net.now) (report_of report.now)
         in Writes (W.contents writer.old) (W.contents writer.new) result text }
 {
@@ -86,13 +89,17 @@ fn write_by<R: Threads + Wait + Sync, W: Write>(
     let traces = Traces {
         net,
         traces: &report.traces,
+        lines,
+        medium: &report.medium,
     };
-    write_traces(rt, alloc, workers, &traces, lines, writer)?;
-    write_medium(writer, &mut page, report)
+    let all = lines + report.medium.len() + 1;
+    write_traces(rt, alloc, workers, &traces, all, writer)?;
+    write_end(writer, &mut page, report.left)
 }
 
 /// Writes the report of a net as text, the same as `write_report`. If its traces have many lines, the workers put them
-/// on pages, each in a thread of its own, and this thread writes the pages; it puts what follows the traces itself.
+/// and the log of the medium on pages, each in a thread of its own, and this thread writes the pages; it puts the last
+/// line itself.
 ///
 /// This thread waits for the workers, so the promise holds if the call returns.
 ///
@@ -113,7 +120,7 @@ pub fn write_report_by<R: Threads + Wait + Sync, W: Write>(
     ensures { let text = report_text (net_of net.now) (report_of report.now)
         in Writes (W.contents writer.old) (W.contents writer.new) result text }
 {
-    match many_lines(workers, &report.traces) {
+    match many_lines(workers, &report.traces, &report.medium) {
         Some(lines) => write_by(rt, alloc, workers, net, report, lines, writer),
         None => write_report(alloc, net, report, writer),
     }

@@ -1,16 +1,18 @@
-//! A part of the traces' text: some of their lines, numbered through.
+//! A part of the text of the traces and the medium: some of their lines, numbered through.
 ghost use Rattle.std.specs.Prelude.{◌≡◌, [], ◌∷◌, ◌++◌, length, map, take, drop, codes, decimal, IfSome, OnOk};
 ghost use Rattle.std.specs.List.{flat_map};
 ghost use Rattle.program_tree.specs.Program.{tree_of};
 ghost use Rattle.mote_net.specs.Net.{NetTold, net_of};
-ghost use Rattle.mote_net.specs.Report.{lines_in};
-ghost use Rattle.trace_printer.specs.ReportText.{line_text};
-ghost use Rattle.trace_printer.specs.TraceLines.{part_text, lines_of};
+ghost use Rattle.mote_net.specs.Report.{lines_in, told_line};
+ghost use Rattle.trace_printer.specs.Parts.{HasTraces, lines_told};
+ghost use Rattle.trace_printer.specs.ReportText.{line_text, packet_text};
+ghost use Rattle.trace_printer.specs.TraceLines.{part_text, lines_of, medium_lines};
 ghost use Rattle.trace_printer.specs.Words.{line_of};
 
-use crate::lines::{put_head, put_trace_line};
+use crate::lines::{put_head, put_medium, put_packet, put_trace_line};
 use crate::page::Page;
-use mote_net::Net;
+use crate::part::Traces;
+use mote_net::{LogLine, Net};
 use program_tree::Program;
 use std::alloc::AllocError;
 use trace_lines::Line;
@@ -28,11 +30,11 @@ pub fn count_lines(traces: &[Vec<Line>]) -> Option<usize>
     Some(count)
 }
 
-/// At most `count` lines of a trace, after the first `skip`.
-fn some_of(trace: &[Line], skip: usize, count: usize) -> &[Line]
-    ensures { result.now ≡ take count (drop skip trace.now) }
+/// At most `count` lines of a trace or of the medium, after the first `skip`.
+fn some_of<T>(lines: &[T], skip: usize, count: usize) -> &[T]
+    ensures { result.now ≡ take count (drop skip lines.now) }
 {
-    let rest = &trace[skip.min(trace.len())..];
+    let rest = &lines[skip.min(lines.len())..];
     &rest[..count.min(rest.len())]
 }
 
@@ -101,4 +103,50 @@ pub fn put_part(
         before = before.saturating_sub(lines);
     }
     Ok(())
+}
+
+/// Puts lines of the medium.
+fn put_packets(page: &mut Page, log: &[LogLine]) -> Result<(), AllocError>
+    ensures { OnOk result (page.new ≡ page.old ++ flat_map packet_text (map told_line log.now)) }
+{
+    for line in log {
+        put_packet(page, line)?;
+    }
+    Ok(())
+}
+
+/// Puts at most `count` of the lines of the medium, after the first `skip`.
+fn put_medium_part(
+    page: &mut Page,
+    log: &[LogLine],
+    skip: usize,
+    count: usize,
+) -> Result<(), AllocError>
+    ensures { OnOk result (page.new ≡ page.old ++ part_text (medium_lines (map told_line log.now)) skip count) }
+{
+    if skip > 0 {
+        return put_packets(page, some_of(log, skip - 1, count));
+    }
+    if count == 0 {
+        return Ok(());
+    }
+    put_medium(page)?;
+    put_packets(page, some_of(log, 0, count - 1))
+}
+
+/// Puts at most `count` of all lines, after the first `skip`: of those that the motes show, and then of those of the
+/// medium.
+pub fn put_all_part(
+    page: &mut Page,
+    traces: &Traces<'_>,
+    skip: usize,
+    count: usize,
+) -> Result<(), AllocError>
+    requires { HasTraces traces.now }
+    ensures { OnOk result (page.new ≡ page.old ++ part_text (lines_told traces.now) skip count) }
+{
+    put_part(page, traces.net, traces.traces, skip, count)?;
+    let left = count.saturating_sub(traces.lines.saturating_sub(skip));
+    let before = skip.saturating_sub(traces.lines);
+    put_medium_part(page, traces.medium, before, left)
 }

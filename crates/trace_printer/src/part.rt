@@ -1,14 +1,14 @@
-//! A part of the traces' text, which one worker puts on a page.
+//! A part of the text of the traces and the medium, which one worker puts on a page.
 ghost use Rattle.std.specs.Prelude.{◌≡◌, []};
 
-use crate::numbered::put_part;
+use crate::numbered::put_all_part;
 use crate::page::Page;
 use fork_join::{Refused, Work};
-use mote_net::Net;
+use mote_net::{LogLine, Net};
 use std::alloc::Global;
 use trace_lines::Line;
 
-/// A part of the traces' text: `count` of their lines, after the first `skip`, and the page on which they are put.
+/// A part of the text: `count` of its lines, after the first `skip`, and the page on which they are put.
 #[derive(Drop)]
 pub struct Part {
     pub skip: usize,
@@ -31,15 +31,22 @@ impl Part {
     }
 }
 
-/// A net and the trace of each of its motes.
+/// A net, the trace of each of its motes with the number of lines that these show, and the log of the medium.
 pub struct Traces<'a> {
     pub net: &'a Net,
     pub traces: &'a [Vec<Line>],
+    pub lines: usize,
+    pub medium: &'a [LogLine],
 }
 
 impl Drop for Traces<'_> {
     fn drop(self) {
-        let Traces { net: _, traces: _ } = self;
+        let Traces {
+            net: _,
+            traces: _,
+            lines: _,
+            medium: _,
+        } = self;
     }
 }
 
@@ -57,7 +64,7 @@ impl Work<Part> for Traces<'_> {
             count,
             mut page,
         } = part;
-        put_part(&mut page, self.net, self.traces, skip, count)?;
+        put_all_part(&mut page, self, skip, count)?;
         Ok(Part { skip, count, page })
     }
 

@@ -127,7 +127,7 @@ fn print_medium<W: Write>(
 }
 
 /// Puts the last line, and writes all that waits.
-fn write_end<W: Write>(writer: &mut W, page: &mut Page, left: u64) -> Result<(), PrintError>
+pub fn write_end<W: Write>(writer: &mut W, page: &mut Page, left: u64) -> Result<(), PrintError>
     ensures { Writes (W.contents writer.old) (W.contents writer.new) result (page.old ++ left_text left) }
 {
     put_left(page, left)?;

@@ -7,7 +7,7 @@ ghost use Rattle.trace_printer.specs.TraceLines.{part_text};
 ghost use Rattle.trace_printer.specs.Parts.{Adjoin, HasTraces, lines_told, page_of};
 
 use crate::error::PrintError;
-use crate::numbered::put_part;
+use crate::numbered::put_all_part;
 use crate::output::WriteFault;
 use crate::page::Page;
 use crate::part::{Part, Traces};
@@ -76,11 +76,11 @@ fn write_alone<W: Write>(
         in Prints (W.contents writer.old) (W.contents writer.new) [] [] result text }
 {
     let mut page = Page::empty(alloc);
-    put_part(&mut page, traces.net, traces.traces, skip, count)?;
+    put_all_part(&mut page, traces, skip, count)?;
     Ok(page.write(writer)?)
 }
 
-/// Writes `count` lines of the traces, after the first `skip`. If an allocation of a worker fails, or its thread
+/// Writes `count` lines of the traces and the medium, after the first `skip`. If an allocation of a worker fails, or its thread
 /// can't be started, this thread puts them all itself.
 pub fn write_round<R: Threads + Wait + Sync, W: Write>(
     rt: &R,

@@ -5,7 +5,7 @@ use Rattle.mote_net.specs.Report.{lines_in}
 use Rattle.trace_printer.specs.TraceLines.{lines_of}
 use Rattle.trace_printer.proofs.by_workers.write_report_by.Goals as goal
 
-pub write_by-requires-clause-all : goal.write_by-requires-clause-all
-write_by-requires-clause-all g c κs within =
+pub write_by-requires-clause-lines : goal.write_by-requires-clause-lines
+write_by-requires-clause-lines g c κs within =
     ap (λ (ts : List (Vec Line Global)). length (lines_of (net_of c.args.net.now) (map lines_in ts))) (sym c.deref.ensures.value)
-    ∙ c.in-Some.ensures (net_of c.args.net.now) (c.deref.ensures.len ∙ c.requires.traces)
+    ∙ c.in-Some.ensures.lines (net_of c.args.net.now) (c.deref.ensures.len ∙ c.requires.traces)

@@ -1,0 +1,14 @@
+use Rattle.std.proofs.Common.{◌∙◌, ◌++◌, ap, arith}
+use Rattle.mote_net.specs.Report.{told_line}
+use Rattle.mote_net.specs.declared.report.LogLine.{LogLine}
+use Rattle.trace_printer.specs.ReportText.{packet_text}
+use Rattle.trace_printer.proofs.Pieces.{mapped_more, mapped_end}
+use Rattle.trace_printer.proofs.numbered.put_packets.Goals as goal
+
+pub loop-line-preserved : goal.loop-line-preserved
+loop-line-preserved c =
+    mapped_more packet_text told_line c.args.log.now c.loop-line.line-index c.line-item.result c.loop-line.page _ _ (omega arith)
+    (c.in_ok-put_packet.ensures ∙ ap (λ (l : LogLine). c.loop-line.page ++ packet_text (told_line l)) c.line-item.is) c.loop-line.invariant
+
+pub returns : goal.returns
+returns c = mapped_end packet_text told_line c.args.log.now c.loop-line.line-index c.loop-line.page _ (omega arith) c.loop-line.invariant
