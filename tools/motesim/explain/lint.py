@@ -8,6 +8,7 @@ from __future__ import annotations
 from collections.abc import Iterator
 from typing import NamedTuple
 
+from motesim.explain.resonance import resonances
 from motesim.notation.faults import WAITS, Token, tokens_of
 from motesim.report import Report
 from motesim.scenario import Scenario
@@ -114,6 +115,8 @@ def of_net(scenario: Scenario, programs: dict[str, Program], report: Report | No
             what = 'a loss from mote %d to mote %d, which doesn\'t hear it, loses nothing' % (s, r)
             yield Warned(what, loss=number)
     if report is not None:
+        for it in resonances(scenario, report):
+            yield Warned(str(it), loss=it.place)
         for mote in report.motes:
             halted = mote.halted()
             if halted is not None:

@@ -1,0 +1,105 @@
+"""Losses that hit one kind of packet: the rhythm in which a mote sends, and the period of a loss.
+
+A loss with `every = 2` loses each second packet of its sender. If the sender alternates between two kinds of packet, it
+loses all of one kind and none of the other, though the summary says 0.500. `resonances(scenario, report)` finds the
+losses of which that is so in a run: one kind of value is lost far more often than the period says.
+"""
+from __future__ import annotations
+
+from collections import Counter, defaultdict
+from collections.abc import Iterator, Sequence
+from math import comb
+from typing import NamedTuple
+
+from motesim.report import Report
+from motesim.scenario import Scenario
+
+# A value that is sent so often is a kind of its own; others are of one kind if their upper bytes are the same.
+REPEATED = 3
+# A kind of fewer packets says nothing; nor does what comes about by chance once in so many runs.
+LEAST_PACKETS = 5
+RARE = 1e-3
+PRIMES = (2, 3, 5, 7, 11, 13, 17, 19, 23, 29, 31, 37, 41, 43, 47)
+
+
+class Kind(NamedTuple):
+    """A kind of packet on a link: how many there are, how many are lost, and the least and the greatest value."""
+    packets: int
+    lost: int
+    least: int
+    most: int
+
+    def __str__(self) -> str:
+        values = 'the value %d' % self.least if self.least == self.most else 'the values %d to %d' % (
+            self.least, self.most)
+        return '%s of the %d packets with %s' % ('all' if self.lost == self.packets else self.lost, self.packets, values)
+
+
+class Resonance(NamedTuple):
+    """A loss by its place in the scenario and its link, the kind that it hits, and a period that doesn't."""
+    place: int
+    sender: int
+    to: int
+    every: int
+    kind: Kind
+    better: int | None
+
+    def __str__(self) -> str:
+        more = ': with `every = %d` it does not' % self.better if self.better else ''
+        return ('the loss from mote %d to mote %d, every = %d, is in step with the rhythm in which mote %d sends: it loses '
+                '%s, where 1 in %d would be %d%s' % (
+                    self.sender, self.to, self.every, self.sender, self.kind, self.every,
+                    round(self.kind.packets / self.every), more))
+
+
+def kinds_of(values: Sequence[int]) -> list[tuple[int, int]]:
+    """Of each packet its kind."""
+    counts = Counter(values)
+    return [(1, value) if counts[value] >= REPEATED else (0, value >> 8) for value in values]
+
+
+def _chance(packets: int, lost: int, of: int, all_lost: int) -> float:
+    """The chance that so many or more of a kind are lost, if as many packets were lost anywhere."""
+    most = min(packets, all_lost)
+    if comb(of, all_lost) == 0:
+        return 1.0
+    return sum(comb(packets, it) * comb(of - packets, all_lost - it) for it in range(lost, most + 1)) / comb(of, all_lost)
+
+
+def hit(values: Sequence[int], every: int) -> Kind | None:
+    """The kind of packet that a loss of this period hits far more than others."""
+    if every < 2 or len(values) < 2 * LEAST_PACKETS:
+        return None
+    groups: dict[tuple[int, int], list[int]] = defaultdict(list)
+    for number, kind in enumerate(kinds_of(values)):
+        groups[kind].append(number)
+    all_lost = len(values) // every
+    worst: tuple[float, Kind] | None = None
+    for numbers in groups.values():
+        lost = sum((number + 1) % every == 0 for number in numbers)
+        if len(numbers) < LEAST_PACKETS or len(numbers) == len(values) or lost * every < 1.8 * len(numbers):
+            continue
+        chance = _chance(len(numbers), lost, len(values), all_lost)
+        its = [values[number] for number in numbers]
+        if chance < RARE and (worst is None or chance < worst[0]):
+            worst = chance, Kind(len(numbers), lost, min(its), max(its))
+    return worst[1] if worst else None
+
+
+def resonances(scenario: Scenario, report: Report) -> Iterator[Resonance]:
+    """The losses that hit one kind of packet."""
+    sent: dict[int, list[int]] = defaultdict(list)
+    for packet in report.medium:
+        sent[packet.sender].append(packet.value)
+    found: dict[tuple[int, int], tuple[Kind | None, int | None]] = {}
+    for place, ((sender, to), every) in enumerate(scenario.losses.items()):
+        if not scenario.hears(to, sender):
+            continue
+        if (sender, every) not in found:
+            values = sent[sender]
+            kind = hit(values, every)
+            nearest = sorted(PRIMES, key=lambda it: (abs(it - every), it)) if kind else []
+            found[sender, every] = kind, next((it for it in nearest if it != every and not hit(values, it)), None)
+        kind, better = found[sender, every]
+        if kind:
+            yield Resonance(place, sender, to, every, kind, better)
