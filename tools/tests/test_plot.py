@@ -103,9 +103,9 @@ class PlotTest(unittest.TestCase):
     def test_what_cannot_be_shown_is_told(self) -> None:
         for words, told in [
             (('--measure', 'speed', '--against', 'period'), 'there is no measure speed; there are: sent, late'),
-            (('--measure', 'sent', '--against', 'late'), 'there is no parameter late; there are: period, density,'),
+            (('--measure', 'sent', '--against', 'none'), 'there is no parameter none; there are: period, density,'),
             (('--measure', 'sent'), '--against NAME'),
-            (('--measure', 'sent', '--against', 'period', '-o', 'a.gif'), 'SVG or PNG'),
+            (('--measure', 'sent', '--against', 'period', '-o', 'a.gif'), 'SVG, PDF or PNG'),
             (('--measure', 'sent', '--against', 'period', '--where', 'seed=9'), 'no runs of a sweep with these'),
             (('--plan', 'no.toml'), 'no.toml: No such file'),
         ]:

@@ -10,7 +10,7 @@ from pathlib import Path
 from here import TOOLS, TOP
 from motesim.experiments import packages
 from motesim.plan.plan import Plan
-from motesim.experiments.plot import wishes_of
+from motesim.experiments.plot import table_path, wishes_of
 from skips import need_program
 
 STUDIES = TOP / 'examples/studies'
@@ -32,7 +32,8 @@ class StudiesTest(unittest.TestCase):
         self.assertEqual(done.returncode, 0 if has_pictures else 1, done)
         pictures = {wish.file for wish in wishes_of(Plan.read(plan))}
         made = {it.name for it in self.folder.iterdir()} - {name + '.csv'}
-        self.assertEqual(made, pictures if has_pictures else set())
+        tables = {str(table_path(Path(it))) for it in pictures}
+        self.assertEqual(made, pictures | tables if has_pictures else set())
         with open(self.folder / (name + '.csv'), newline='') as file:
             return list(csv.DictReader(file))
 

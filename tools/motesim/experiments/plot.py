@@ -1,193 +1,51 @@
-"""Shows a measure of a sweep against a parameter: tools/plot RESULTS --measure NAME --against NAME
+"""Shows a measure of a sweep: tools/plot RESULTS --measure NAME --against NAME
 
-  tools/plot net.csv --measure ratio --against period                    a table
-  tools/plot net.csv --measure ratio --against period --by density -o ratio.svg
-  tools/plot net.csv --plan net.plan.toml                                what the plan's `plot` says
+  tools/plot net.csv --measure ratio --against period                        a table: medians with quartiles
+  tools/plot net.csv --measure ratio --against period --show mean            means with confidence intervals
+  tools/plot net.csv --measure ratio --against motes --by period --show mean --threshold 0.9 -o ratio.pdf
+  tools/plot net.csv --measure delay --against sent                          a measure on either axis
+  tools/plot net.csv --measure delay --by period --show cdf -o delay.svg
+  tools/plot a.csv --compare b.csv --measure ratio --against period          run by run, both with the same parameters
+  tools/plot net.csv --plan net.plan.toml                                    what the plan's `plot` says
 
-RESULTS is what tools/sweep wrote. Each point is the median over the other parameters, as the seed, with the quartiles
-around it. --by draws a line for each value of another parameter, and --where seed=3 takes only some of the runs. The
-picture is SVG or PNG, as its name says. It takes matplotlib (on Debian: apt-get install python3-matplotlib); without
-it there is a table, and a line that says so. docs/use/EXPERIMENTS.md shows it at work.
+RESULTS is what tools/sweep wrote. Each point stands for the runs that differ in the other parameters, as the seed.
+--show says what is shown of them: median (with quartiles), mean (with an interval by --interval t or bootstrap), points
+(all runs), cdf (which part of the runs has at most so much) or heat (a map of --against and --by). --where seed=3 takes
+only some of the runs. A picture is SVG, PDF or PNG, as its name says, and the table behind it is put beside it, as
+NAME.table.csv. Pictures need matplotlib (on Debian: apt-get install python3-matplotlib); without it there is a table,
+and a line that says so. docs/use/EXPERIMENTS.md shows all of it at work.
 
 Ends with status 0, with 1 where there is a table in place of a picture, or with 2 where there is nothing to show.
 """
 from __future__ import annotations
 
 import argparse
-import statistics
 import sys
 from collections.abc import Sequence
 from pathlib import Path
-from typing import Any, NamedTuple
 
+from motesim.analysis import drawing, text
+from motesim.analysis.drawing import FORMATS
+from motesim.analysis.estimates import MEANS, quartiles as quartiles
+from motesim.analysis.paired import differences, pairs_of
+from motesim.analysis.points import SHOWS, Wish, measures_of, order, parameters_of, shown_of
 from motesim.experiments import packages
+from motesim.experiments.results import Row, cell, read_results
 from motesim.faults import Fault, command
-from motesim.experiments.measures import Cell
 from motesim.plan.plan import Plan
 from motesim.plan.tables import Tables, needed, optional
-from motesim.experiments.results import Row, cell, read_results, text_of
 from motesim.summary.counts import table
 from motesim.words import words_of
 
-FORMATS = ('.svg', '.png')
-MOST_TICKS = 12
-PLOT = {'file': needed(str), 'measure': needed(str), 'against': needed(str), 'by': optional(str, ''),
-        'title': optional(str, ''), 'x': optional(str, ''), 'y': optional(str, ''), 'log': optional(bool, False)}
-# Colours that are told apart by those who see fewer of them (Okabe and Ito); lines differ by their marks too.
-COLOURS = ['#0072b2', '#d55e00', '#009e73', '#cc79a7', '#e69f00', '#56b4e9', '#000000']
-MARKS = ['o', 's', '^', 'D', 'v', 'P', 'X']
-STROKES = ['-', '--', '-.', ':']
+PLOT = {'file': needed(str), 'measure': needed(str), 'against': optional(str, ''), 'by': optional(str, ''),
+        'title': optional(str, ''), 'x': optional(str, ''), 'y': optional(str, ''), 'log': optional(bool, False),
+        'show': optional(str, 'median'), 'interval': optional(str, 't'), 'confidence': optional(int, 95, 50, 99),
+        'threshold': optional(str, ''), 'over': optional(str, '')}
 
 
-class Wish(NamedTuple):
-    """What is to be shown, and the words around it."""
-    measure: str
-    against: str
-    by: str = ''
-    file: str = ''
-    title: str = ''
-    x: str = ''
-    y: str = ''
-    log: bool = False
-
-
-class Point(NamedTuple):
-    """The runs with the same values of the two parameters."""
-    by: Cell
-    against: Cell
-    runs: int
-    first: float
-    median: float
-    third: float
-
-
-class Shown(NamedTuple):
-    points: list[Point]
-    over: list[str]
-    faults: int
-    empty: int
-
-
-def parameters_of(rows: Sequence[Row]) -> list[str]:
-    return str(rows[0].get('parameters') or '').split()
-
-
-def order(value: Cell) -> tuple[bool, float, str]:
-    """Numbers by their size, and then texts."""
-    return (True, 0.0, str(value)) if value is None or type(value) is str else (False, float(value), '')
-
-
-def quartiles(values: Sequence[float]) -> tuple[float, float, float]:
-    """The first quartile, the median and the third quartile, between the values nearest to them."""
-    if len(values) == 1:
-        return values[0], values[0], values[0]
-    first, median, third = statistics.quantiles(values, n=4, method='inclusive')
-    return first, median, third
-
-
-def shown_of(rows: Sequence[Row], wish: Wish) -> Shown:
-    """The points that are to be shown."""
-    parameters = parameters_of(rows)
-    for name in [wish.against] + ([wish.by] if wish.by else []):
-        if name not in parameters:
-            raise Fault('there is no parameter %s; there are: %s' % (name, ', '.join(parameters)))
-    measures = [name for name in list(rows[0])[:list(rows[0]).index('fault')] if name not in parameters]
-    if wish.measure not in measures:
-        raise Fault('there is no measure %s; there are: %s' % (wish.measure, ', '.join(measures)))
-    good = [row for row in rows if not row['fault']]
-    groups: dict[tuple[Cell, Cell], list[float]] = {}
-    empty = 0
-    for row in good:
-        value = row[wish.measure]
-        if type(value) is str:
-            raise Fault('the measure %s has texts, as %r' % (wish.measure, value))
-        group = groups.setdefault((row[wish.by] if wish.by else None, row[wish.against]), [])
-        if value is None:
-            empty += 1
-        else:
-            group.append(float(value))
-    over = [name for name in parameters if name not in (wish.against, wish.by)
-            and len({row[name] for row in good}) > 1]
-    keys = sorted(groups, key=lambda key: (order(key[0]), order(key[1])))
-    points = [Point(*key, len(groups[key]), *quartiles(groups[key])) for key in keys if groups[key]]
-    return Shown(points, over, len(rows) - len(good), empty)
-
-
-def table_of(shown: Shown, wish: Wish) -> list[str]:
-    """The points as a table, with what it leaves out."""
-    rows: list[dict[str, Any]] = []
-    for point in shown.points:
-        row: dict[str, Any] = {wish.by: point.by} if wish.by else {}
-        rows.append({**row, wish.against: point.against, 'runs': point.runs, 'first quartile': point.first,
-                     'median': point.median, 'third quartile': point.third})
-    return [heading(shown, wish), *table(rows, list(rows[0]))] + left_out(shown, wish)
-
-
-def heading(shown: Shown, wish: Wish) -> str:
-    over = ', over ' + ', '.join(shown.over) if shown.over else ''
-    return '%s against %s%s' % (wish.measure, wish.against, over)
-
-
-def left_out(shown: Shown, wish: Wish) -> list[str]:
-    """What isn't shown."""
-    lines = []
-    if shown.faults:
-        lines.append('left out: %d runs with a fault' % shown.faults)
-    if shown.empty:
-        lines.append('left out: %d runs without a value of %s' % (shown.empty, wish.measure))
-    return lines
-
-
-def draw(shown: Shown, wish: Wish, path: Path) -> None:
-    """Draws the points into a file."""
-    matplotlib: Any = packages.load('matplotlib')
-    matplotlib.use('Agg')
-    # (the same picture has the same bytes)
-    matplotlib.rcParams.update({'svg.hashsalt': 'motesim', 'svg.fonttype': 'none', 'font.size': 10})
-    pyplot: Any = packages.load('matplotlib.pyplot')
-    figure, axes = pyplot.subplots(figsize=(6.4, 4.2), layout='constrained')
-    places = sorted({point.against for point in shown.points}, key=order)
-    is_scale = all(type(it) in (int, float) for it in places)
-    if wish.log and not all(isinstance(it, int | float) and it > 0 for it in places):
-        raise Fault('values of %s are not above 0, and --log takes only such' % wish.against)
-    groups: dict[Cell, list[Point]] = {}
-    for point in shown.points:
-        groups.setdefault(point.by, []).append(point)
-    for number, (by, points) in enumerate(groups.items()):
-        xs = [it.against if is_scale else places.index(it.against) for it in points]
-        look = {'color': COLOURS[number % len(COLOURS)], 'marker': MARKS[number % len(MARKS)],
-                'linestyle': STROKES[number % len(STROKES)]}
-        label = '%s %s' % (wish.by, text_of(by)) if wish.by else None
-        axes.plot(xs, [it.median for it in points], label=label, **look)
-        axes.fill_between(xs, [it.first for it in points], [it.third for it in points], alpha=0.18, linewidth=0,
-                          color=look['color'])
-    if is_scale and wish.log:
-        axes.set_xscale('log', base=2)
-    if not is_scale or len(places) <= MOST_TICKS:
-        axes.set_xticks(places if is_scale else range(len(places)), [text_of(it) for it in places])
-        axes.minorticks_off()
-    axes.set_xlabel(wish.x or wish.against)
-    axes.set_ylabel(wish.y or wish.measure)
-    axes.set_title(wish.title or heading(shown, wish), loc='left')
-    runs = max(point.runs for point in shown.points)
-    note = 'median, and quartiles over %s (%d runs)' % (', '.join(shown.over), runs) if shown.over else ''
-    notes = [it for it in [note, *left_out(shown, wish)] if it]
-    axes.annotate('; '.join(notes), (1, 0), (0, -34), 'axes fraction', 'offset points', ha='right', va='top',
-                  fontsize=7, color='#555555')
-    # (from 0 on, unless all values would lie in the upper half)
-    if 0 <= 2 * min(point.first for point in shown.points) < max(point.third for point in shown.points):
-        axes.set_ylim(bottom=0)
-    axes.grid(True, color='#dddddd', linewidth=0.6)
-    axes.spines[['top', 'right']].set_visible(False)
-    if wish.by:
-        axes.legend(frameon=False)
-    metadata: dict[str, str | None] = {'Date': None} if path.suffix == '.svg' else {'Software': 'motesim'}
-    try:
-        figure.savefig(path, dpi=150, metadata=metadata)
-    except OSError as fault:
-        raise Fault('%s: %s' % (path, fault.strerror)) from None
-    finally:
-        pyplot.close(figure)
+def table_path(picture: Path) -> Path:
+    """Where the table behind a picture is put."""
+    return picture.with_suffix('.table.csv')
 
 
 def wishes_of(plan: Plan) -> list[Wish]:
@@ -197,11 +55,26 @@ def wishes_of(plan: Plan) -> list[Wish]:
     for path, given in tables.array('plot'):
         values = tables.read(given, path, PLOT, 'A plot')
         if Path(values['file']).suffix not in FORMATS:
-            raise tables.fault(path + ('file',), 'A picture is SVG or PNG.', 'a name that ends in `.svg` or `.png`')
-        found.append(Wish(**values))
+            raise tables.fault(path + ('file',), 'A picture is SVG, PDF or PNG.',
+                               'a name that ends in `.svg`, `.pdf` or `.png`')
+        for key, known in ('show', SHOWS), ('interval', tuple(MEANS)):
+            if values[key] not in known:
+                raise tables.fault(path + (key,), 'A plot has no such `%s`.' % key, ', '.join('`"%s"`' % it for it in known))
+        wish = Wish(**values)
+        if not wish.against and wish.show != 'cdf':
+            raise tables.fault(path, 'A plot needs the key `against`, and it is not there.', '`against`: a text', False)
+        found.append(wish)
     if not found:
         raise Fault('%s has no `plot`' % plan.name)
     return found
+
+
+def write_table(path: Path, rows: Sequence[text.Row]) -> None:
+    """Writes the table behind a picture."""
+    try:
+        path.write_text(text.csv_of(rows), encoding='utf-8', newline='')
+    except OSError as fault:
+        raise Fault('%s: %s' % (path, fault.strerror)) from None
 
 
 def show(rows: Sequence[Row], wish: Wish, folder: Path) -> bool:
@@ -210,21 +83,49 @@ def show(rows: Sequence[Row], wish: Wish, folder: Path) -> bool:
     if not shown.points:
         raise Fault('there is no value of %s to show' % wish.measure)
     if wish.file and packages.is_here('matplotlib'):
-        draw(shown, wish, folder / wish.file)
+        drawing.draw(shown, wish, folder / wish.file)
+        write_table(table_path(folder / wish.file), text.rows_of(shown, wish))
         print(folder / wish.file)
+        print('\n'.join(text.crossings(shown, wish)), end='\n' if wish.threshold else '')
         return True
-    print('\n'.join(table_of(shown, wish)))
+    print('\n'.join(text.table_of(shown, wish)))
+    return not wish.file
+
+
+def compare(rows: Sequence[Row], others: Sequence[Row], wish: Wish, names: tuple[str, str], kept: Sequence[str]) -> bool:
+    """Compares two sides run by run; gives whether there is a picture if one was wanted."""
+    if wish.measure not in measures_of(rows) or wish.measure not in measures_of(others):
+        raise Fault('there is no measure %s on both sides; there are: %s' % (
+            wish.measure, ', '.join(it for it in measures_of(rows) if it in measures_of(others))))
+    if wish.against not in kept:
+        raise Fault('there is no parameter %s on both sides; there are: %s' % (wish.against, ', '.join(kept)))
+    found = differences(pairs_of(rows, others, wish.measure, kept, wish.against), wish.part, wish.interval)
+    found.sort(key=lambda it: order(it.against))
+    by = 'Student\'s t' if wish.interval == 't' else 'the bootstrap'
+    words = '%s against %s: %s less %s, run by run, with intervals of %d %% by %s' % (
+        wish.measure, wish.against, names[1], names[0], wish.confidence, by)
+    made = text.rows_of_differences(found, wish.against, *names)
+    if wish.file and packages.is_here('matplotlib'):
+        drawing.draw_differences(found, wish, words, Path(wish.file))
+        write_table(table_path(Path(wish.file)), made)
+        print(wish.file)
+        return True
+    print('\n'.join([words, *table(made, list(made[0]))]))
     return not wish.file
 
 
 def wishes(asked: argparse.Namespace) -> list[Wish]:
     if asked.plan:
         return wishes_of(Plan.read(asked.plan))
-    if not asked.measure or not asked.against:
+    if not asked.measure or not asked.against and asked.show != 'cdf':
         raise Fault('what is to be shown? --measure NAME --against NAME, or --plan PLAN')
     if asked.output and Path(asked.output).suffix not in FORMATS:
-        raise Fault('%s: a picture is SVG or PNG, and its name ends so' % asked.output)
-    return [Wish(asked.measure, asked.against, asked.by or '', asked.output or '', asked.title or '', log=asked.log)]
+        raise Fault('%s: a picture is SVG, PDF or PNG, and its name ends so' % asked.output)
+    if asked.show == 'heat' and not asked.by:
+        raise Fault('--show heat needs --by: the parameter from below upwards')
+    return [Wish(asked.measure, asked.against or '', asked.by or '', asked.output or '', asked.title or '',
+                 log=asked.log, show=asked.show, interval=asked.interval, confidence=asked.confidence,
+                 threshold=asked.threshold or '', over=asked.over or '')]
 
 
 def chosen(rows: Sequence[Row], where: Sequence[str]) -> list[Row]:
@@ -238,29 +139,74 @@ def chosen(rows: Sequence[Row], where: Sequence[str]) -> list[Row]:
     return found
 
 
-@command('plot')
-def main() -> int:
+def runs_of(path: str, where: Sequence[str]) -> list[Row]:
+    """The runs of a file of results."""
+    columns, rows = read_results(Path(path))
+    rows = chosen(rows, where)
+    if not rows or not {'fault', 'parameters'} <= set(columns):
+        raise Fault('%s has no runs of a sweep%s' % (path, ' with these values' if where else ''))
+    return rows
+
+
+def sides_of(asked: argparse.Namespace, rows: list[Row]) -> tuple[list[Row], list[Row], tuple[str, str], list[str]]:
+    """The two sides of a comparison: two files, or two values of a parameter."""
+    parameters = parameters_of(rows)
+    if asked.compare:
+        others = runs_of(asked.compare, asked.where)
+        names = Path(asked.results).stem, Path(asked.compare).stem
+        if names[0] == names[1]:
+            names = asked.results, asked.compare
+        return rows, others, names, [it for it in parameters if it in parameters_of(others)]
+    name, _, values = asked.pair.partition('=')
+    sides = values.split(',')
+    if name not in parameters or len(sides) != 2:
+        raise Fault('--pair takes NAME=ONE,OTHER with a parameter (%s), and not %r' % (', '.join(parameters), asked.pair))
+    one, other = ([row for row in rows if row[name] == cell(side)] for side in sides)
+    if not one or not other:
+        raise Fault('no run has %s = %s' % (name, sides[0] if not one else sides[1]))
+    return one, other, ('%s %s' % (name, sides[0]), '%s %s' % (name, sides[1])), [it for it in parameters if it != name]
+
+
+def arguments() -> argparse.Namespace:
     words = words_of(__doc__)
     words.add_argument('results', metavar='RESULTS', help='a file that tools/sweep wrote')
     words.add_argument('--measure', metavar='NAME', help='what is shown')
-    words.add_argument('--against', metavar='NAME', help='the parameter from left to right')
+    words.add_argument('--against', metavar='NAME', help='the parameter, or the measure, from left to right')
     words.add_argument('--by', metavar='NAME', help='a parameter with a line for each value')
+    words.add_argument('--show', choices=SHOWS, default='median', help='what is shown of the runs; else their median')
+    words.add_argument('--interval', choices=tuple(MEANS), default='t', help='how intervals of means are found; else t')
+    words.add_argument('--confidence', type=int, default=95, metavar='PERCENT', help='of the intervals; else 95')
+    words.add_argument('--threshold', metavar='VALUE', help='say where each mean crosses this value')
+    words.add_argument('--over', metavar='NAMES', help='with a measure to the right: the runs of a point differ in these '
+                       'parameters; else the seed')
+    words.add_argument('--compare', metavar='RESULTS', help='the other side of a comparison, run by run')
+    words.add_argument('--pair', metavar='NAME=ONE,OTHER', help='compare two values of a parameter, run by run')
     words.add_argument('--where', action='append', default=[], metavar='NAME=VALUE', help='only runs with this value')
     words.add_argument('--title', help='the words above the picture')
     words.add_argument('--log', action='store_true', help='a step to the right doubles the parameter')
     words.add_argument('--plan', metavar='PLAN', help="show what this plan's `plot` says")
-    words.add_argument('-o', dest='output', metavar='FILE', help='the picture, NAME.svg or NAME.png')
+    words.add_argument('-o', dest='output', metavar='FILE', help='the picture, NAME.svg, NAME.pdf or NAME.png')
     asked = words.parse_args()
+    if not 50 <= asked.confidence <= 99:
+        words.error('--confidence is 50 to 99')
+    return asked
+
+
+@command('plot')
+def main() -> int:
+    asked = arguments()
     wanted = wishes(asked)
     if any(wish.file for wish in wanted):
         packages.hand_on('plot', 'matplotlib', sys.argv)
-    columns, rows = read_results(Path(asked.results))
-    rows = chosen(rows, asked.where)
-    if not rows or not {'fault', 'parameters'} <= set(columns):
-        raise Fault('%s has no runs of a sweep%s' % (asked.results, ' with these values' if asked.where else ''))
+    rows = runs_of(asked.results, asked.where)
     folder = Path(asked.results).parent if asked.plan else Path()
-    # (a list, so that each is shown)
-    if all([show(rows, wish, folder) for wish in wanted]):
+    if asked.compare or asked.pair:
+        one, other, names, kept = sides_of(asked, rows)
+        are_drawn = compare(one, other, wanted[0], names, kept)
+    else:
+        # (a list, so that each is shown)
+        are_drawn = all([show(rows, wish, folder) for wish in wanted])
+    if are_drawn:
         return 0
     print('plot: tables in place of pictures, since %s' % packages.how_to_install('matplotlib'), file=sys.stderr)
     return 1

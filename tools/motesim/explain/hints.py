@@ -41,8 +41,8 @@ WISHES = {
     'wait': 'Write `wait_until` or `yield_until` and a test, `pause`, or `acquire` and a semaphore.',
     'printf': 'A program prints numbers: `print x;`.',
     'println': 'A program prints numbers: `print x;`.',
-    'random': 'There is no chance in a mote: each run is the same. A seed of its own serves, as '
-              '`seed = ((seed * 25173) + 13849); send (seed % 100);`, begun with `self` so that motes differ.',
+    'random': 'There is no chance in a mote: each run is the same. A generator of its own serves, begun with '
+              '`dice = (self * 7919);`: `dice = ((dice * 25173) + 13849); if (dice < 6554) { .. }` is so 1 time in 10.',
     'id': 'A mote\'s number is `self`.',
     'time': 'The current moment is `now` (its low 16 bits).',
     'clock': 'The current moment is `now` (its low 16 bits).',
@@ -288,7 +288,8 @@ def _of_key(path: tuple[str | int, ...], name: str, tables: dict[str, object] | 
         return '`%s` belongs to version 2: begin the scenario with `version = 2`.' % name
     if name in CHANCE:
         return 'Nothing happens by chance here: a loss `[[loss]]` from one mote to another loses every k-th packet ' \
-               '(`every = k`). tools/scenario makes nets, and losses by rule, from a seed.'
+               '(`every = k`). A receiver may ignore packets by a generator with a seed: docs/use/EXPERIMENTS.md has a ' \
+               'tested pattern under "Losses by chance". tools/scenario makes nets, and losses by rule, from a seed.'
     tables_of = {'medium': [*MEDIUM, 'collide'], 'loss': [*LOSS], 'mote': [*MOTE]}
     like = nearest(name, tables_of.get(str(path[0]), [*TOP]) if len(path) > 1 else [*TOP, 'queue'])
     if like:

@@ -45,11 +45,10 @@ class Resonance(NamedTuple):
     better: int | None
 
     def __str__(self) -> str:
-        more = ': with `every = %d` it does not' % self.better if self.better else ''
-        return ('the loss from mote %d to mote %d, every = %d, is in step with the rhythm in which mote %d sends: it loses '
-                '%s, where 1 in %d would be %d%s' % (
-                    self.sender, self.to, self.every, self.sender, self.kind, self.every,
-                    round(self.kind.packets / self.every), more))
+        more = '; every = %d is not in step' % self.better if self.better else ''
+        return ('the loss from mote %d to mote %d, every = %d, is in step with the rhythm of mote %d: it loses %s (1 in '
+                '%d would be %d)%s' % (self.sender, self.to, self.every, self.sender, self.kind, self.every,
+                                       round(self.kind.packets / self.every), more))
 
 
 def kinds_of(values: Sequence[int]) -> list[tuple[int, int]]:

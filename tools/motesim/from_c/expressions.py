@@ -40,7 +40,8 @@ NO_REALS = 'Numbers are whole, 0 to 65,535: there is no point in them.'
 NO_CALLS = ('There are no functions: a `thread` without waits serves as one. It is run by `spawn`, and shares the '
             'variables of its process.')
 NO_CHANCE = ('There is no chance in a mote: each run is the same. A generator of its own serves, with a seed that differs '
-             'by mote: `seed = ((seed * 25173) + 13849);`, and `((seed / 256) % 10)` is 0 to 9.')
+             'by mote, `dice = (self * 7919);`: then `dice = ((dice * 25173) + 13849);` and `((dice / 256) % 10)`, or '
+             '`(dice < 6554)`, which is so 1 time in 10.')
 TOO_LARGE = 'Numbers have 16 bits, 0 to 65,535: a larger one is counted in parts, as thousands in a second variable.'
 TICKS = 'A timer is set in moments: there is no `CLOCK_SECOND`. Decide how many moments a second has, and write that.'
 

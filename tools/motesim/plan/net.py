@@ -7,7 +7,7 @@ from pathlib import PurePath
 from typing import Any
 
 from motesim.notation import faults as program_faults
-from motesim.plan import places
+from motesim.plan import places, primes
 from motesim.plan.chance import Chance
 from motesim.faults import Fault
 from motesim.plan.places import Crowd, NoPlace, Point
@@ -272,6 +272,8 @@ class Builder:
             return {self.pair(values['from'], values['to'], path, len(motes)): values['every']}
         if rule == 'csv':
             return self.losses_of_csv(values['file'], path + ('file',), len(motes))
+        if rule == 'primes':
+            return primes.periods(links, values['about'], values['seed'])
         every = values['every']
         if rule == 'all':
             return dict.fromkeys(links, every)

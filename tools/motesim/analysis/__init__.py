@@ -1,0 +1,9 @@
+"""Statistics of sweeps: estimates with their intervals, crossings of a threshold, paired comparison, pictures.
+
+    from motesim.analysis import frame
+
+    runs = frame('beacon.csv')          # a pandas DataFrame: a row for each run
+"""
+from motesim.analysis.frames import frame
+
+__all__ = ['frame']

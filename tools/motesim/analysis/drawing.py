@@ -1,0 +1,190 @@
+"""Pictures of points, by matplotlib: SVG, PDF or PNG. The same points have the same bytes."""
+from __future__ import annotations
+
+from collections.abc import Callable, Sequence
+from pathlib import Path
+from typing import Any
+
+from motesim.analysis.paired import Difference
+from motesim.analysis.points import Point, Shown, Wish, order
+from motesim.analysis.text import crossings, heading, left_out, threshold_of
+from motesim.experiments import packages
+from motesim.experiments.measures import Cell
+from motesim.experiments.results import text_of
+from motesim.faults import Fault
+
+FORMATS = ('.svg', '.pdf', '.png')
+MOST_TICKS = 12
+# Colours that are told apart by those who see fewer of them (Okabe and Ito); lines differ by their marks too.
+COLOURS = ['#0072b2', '#d55e00', '#009e73', '#cc79a7', '#e69f00', '#56b4e9', '#000000']
+MARKS = ['o', 's', '^', 'D', 'v', 'P', 'X']
+STROKES = ['-', '--', '-.', ':']
+METADATA: dict[str, dict[str, str | None]] = {
+    '.svg': {'Date': None}, '.png': {'Software': 'motesim'}, '.pdf': {'CreationDate': None, 'Producer': 'motesim'}}
+
+
+def _pyplot() -> Any:
+    matplotlib: Any = packages.load('matplotlib')
+    matplotlib.use('Agg')
+    matplotlib.rcParams.update({'svg.hashsalt': 'motesim', 'svg.fonttype': 'none', 'pdf.fonttype': 42, 'font.size': 10})
+    return packages.load('matplotlib.pyplot')
+
+
+def _look(number: int) -> dict[str, str]:
+    return {'color': COLOURS[number % len(COLOURS)], 'marker': MARKS[number % len(MARKS)],
+            'linestyle': STROKES[number % len(STROKES)]}
+
+
+def _groups(shown: Shown) -> dict[Cell, list[Point]]:
+    groups: dict[Cell, list[Point]] = {}
+    for point in shown.points:
+        groups.setdefault(point.by, []).append(point)
+    return groups
+
+
+def _save(figure: Any, pyplot: Any, path: Path) -> None:
+    try:
+        figure.savefig(path, dpi=150, metadata=METADATA[path.suffix])
+    except OSError as fault:
+        raise Fault('%s: %s' % (path, fault.strerror)) from None
+    finally:
+        pyplot.close(figure)
+
+
+def _errors(points: Sequence[Point], of: Callable[[Point], Any]) -> list[list[float]]:
+    """How far the intervals go to each side."""
+    found = [of(it) for it in points]
+    return [[0.0 if it.low is None else it.middle - it.low for it in found],
+            [0.0 if it.high is None else it.high - it.middle for it in found]]
+
+
+def _draw_points(axes: Any, points: list[Point], xs: list[float], wish: Wish, look: dict[str, str],
+                 label: str | None) -> None:
+    """A curve with its intervals, or all the points."""
+    if wish.show == 'points':
+        places = [(x, value) for x, point in zip(xs, points) for value in point.values]
+        axes.plot([x for x, _ in places], [y for _, y in places], label=label, color=look['color'],
+                  marker=look['marker'], linestyle='', alpha=0.55, markersize=4)
+        return
+    middles = [it.estimate.middle for it in points]
+    if wish.show == 'median' and points[0].across is None:
+        axes.plot(xs, middles, label=label, **look)
+        axes.fill_between(xs, [it.estimate.low for it in points], [it.estimate.high for it in points], alpha=0.18,
+                          linewidth=0, color=look['color'])
+        return
+    across = _errors(points, lambda it: it.across) if points[0].across else None
+    axes.errorbar(xs, middles, yerr=_errors(points, lambda it: it.estimate), xerr=across, label=label, capsize=3,
+                  elinewidth=1, **look)
+
+
+def _draw_steps(axes: Any, points: list[Point], look: dict[str, str], label: str | None) -> None:
+    """The part of the runs whose value is at most x."""
+    values = sorted(value for point in points for value in point.values)
+    axes.step([values[0], *values], [0, *((number + 1) / len(values) for number in range(len(values)))], where='post',
+              label=label, color=look['color'], linestyle=look['linestyle'])
+
+
+def _draw_heat(figure: Any, axes: Any, shown: Shown, wish: Wish) -> None:
+    """A cell for each pair of values, with its number."""
+    xs = sorted({point.against for point in shown.points}, key=order)
+    ys = sorted({point.by for point in shown.points}, key=order)
+    cells: list[list[float]] = [[float('nan')] * len(xs) for _ in ys]
+    for point in shown.points:
+        cells[ys.index(point.by)][xs.index(point.against)] = point.estimate.middle
+    picture = axes.imshow(cells, origin='lower', aspect='auto', cmap='cividis')
+    figure.colorbar(picture, ax=axes, label=wish.measure)
+    for row, y in enumerate(cells):
+        for column, value in enumerate(y):
+            if value == value:
+                axes.text(column, row, '%.3g' % value, ha='center', va='center', fontsize=8,
+                          color='white' if picture.norm(value) < 0.6 else 'black')
+    axes.set_xticks(range(len(xs)), [text_of(it) for it in xs])
+    axes.set_yticks(range(len(ys)), [text_of(it) for it in ys])
+    axes.set_xlabel(wish.x or wish.against)
+    axes.set_ylabel(wish.y or wish.by)
+
+
+def _scale(axes: Any, places: list[Cell], wish: Wish, is_scale: bool) -> None:
+    """The axis from left to right."""
+    if wish.log and not all(isinstance(it, int | float) and it > 0 for it in places):
+        raise Fault('values of %s are not above 0, and --log takes only such' % wish.against)
+    if is_scale and wish.log:
+        axes.set_xscale('log', base=2)
+    if not is_scale or len(places) <= MOST_TICKS:
+        axes.set_xticks(places if is_scale else range(len(places)), [
+            '%.4g' % it if type(it) is float else text_of(it) for it in places])
+        axes.minorticks_off()
+
+
+def _note(shown: Shown, wish: Wish) -> str:
+    """The words below a picture."""
+    runs = max(point.estimate.runs for point in shown.points)
+    what = {'median': 'median, and quartiles', 'points': 'all runs', 'cdf': 'part of the runs', 'heat': 'median'}.get(
+        wish.show, 'mean, and intervals of %d %%' % wish.confidence)
+    note = '%s over %s (%d runs)' % (what, ', '.join(shown.over), runs) if shown.over else ''
+    first = '; '.join(it for it in [note, *left_out(shown, wish)] if it)
+    return '\n'.join(it for it in [first, *crossings(shown, wish)] if it)
+
+
+def draw(shown: Shown, wish: Wish, path: Path) -> None:
+    """Draws the points into a file."""
+    pyplot = _pyplot()
+    figure, axes = pyplot.subplots(figsize=(6.4, 4.2), layout='constrained')
+    if wish.show == 'heat':
+        _draw_heat(figure, axes, shown, wish)
+    else:
+        _draw_curves(axes, shown, wish)
+    axes.set_title(wish.title or heading(shown, wish), loc='left', fontsize=11 if wish.title else 9)
+    axes.annotate(_note(shown, wish), (1, 0), (0, -34), 'axes fraction', 'offset points', ha='right', va='top',
+                  fontsize=7, color='#555555')
+    _save(figure, pyplot, path)
+
+
+def _draw_curves(axes: Any, shown: Shown, wish: Wish) -> None:
+    places = sorted({point.against for point in shown.points}, key=order)
+    is_scale = all(type(it) in (int, float) for it in places)
+    for number, (by, points) in enumerate(_groups(shown).items()):
+        label = '%s %s' % (wish.by, text_of(by)) if wish.by else None
+        if wish.show == 'cdf':
+            _draw_steps(axes, points, _look(number), label)
+        else:
+            xs = [it.x if is_scale else float(places.index(it.against)) for it in points]
+            _draw_points(axes, points, xs, wish, _look(number), label)
+    threshold = threshold_of(wish)
+    if threshold is not None:
+        axes.axhline(threshold, color='#555555', linewidth=0.8, linestyle=(0, (6, 3)))
+    if wish.show != 'cdf':
+        is_measure = shown.points[0].across is not None
+        _scale(axes, [] if is_measure else places, wish, is_scale) if not is_measure or wish.log else None
+        # (from 0 on, unless all values would lie in the upper half)
+        lows = [it.estimate.middle if it.estimate.low is None else it.estimate.low for it in shown.points]
+        highs = [it.estimate.middle if it.estimate.high is None else it.estimate.high for it in shown.points]
+        if 0 <= 2 * min(lows) < max(highs):
+            axes.set_ylim(bottom=0)
+    axes.set_xlabel(wish.x or (wish.measure if wish.show == 'cdf' else wish.against))
+    axes.set_ylabel(wish.y or ('part of runs' if wish.show == 'cdf' else wish.measure))
+    axes.grid(True, color='#dddddd', linewidth=0.6)
+    axes.spines[['top', 'right']].set_visible(False)
+    if wish.by:
+        axes.legend(frameon=False)
+
+
+def draw_differences(found: Sequence[Difference], wish: Wish, words: str, path: Path) -> None:
+    """Draws the differences of a paired comparison, with their intervals."""
+    pyplot = _pyplot()
+    figure, axes = pyplot.subplots(figsize=(6.4, 4.2), layout='constrained')
+    places = [it.against for it in found]
+    is_scale = all(type(it) in (int, float) for it in places)
+    xs = [float(it) if isinstance(it, int | float) and is_scale else number for number, it in enumerate(places)]
+    gaps = [it.difference for it in found]
+    axes.errorbar(xs, [it.middle for it in gaps], capsize=3, elinewidth=1, **_look(0),
+                  yerr=[[0.0 if it.low is None else it.middle - it.low for it in gaps],
+                        [0.0 if it.high is None else it.high - it.middle for it in gaps]])
+    axes.axhline(0, color='#555555', linewidth=0.8)
+    _scale(axes, places, wish, is_scale)
+    axes.set_xlabel(wish.x or wish.against)
+    axes.set_ylabel(wish.y or 'difference of %s' % wish.measure)
+    axes.set_title(wish.title or words, loc='left', fontsize=11 if wish.title else 9)
+    axes.grid(True, color='#dddddd', linewidth=0.6)
+    axes.spines[['top', 'right']].set_visible(False)
+    _save(figure, pyplot, path)

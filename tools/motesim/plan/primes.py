@@ -1,0 +1,33 @@
+"""Different prime periods for the losses of links, so that no two links of a sender lose in step."""
+from __future__ import annotations
+
+from collections.abc import Iterable
+
+from motesim.plan.chance import Chance
+from motesim.plan.keys import LOSS_STREAM, PRIMES
+
+Link = tuple[int, int]
+
+
+def is_prime(number: int) -> bool:
+    return number > 1 and all(number % it for it in range(2, int(number ** 0.5) + 1))
+
+
+def near(about: int, count: int = PRIMES) -> list[int]:
+    """Primes in a row whose losses, one in so many packets, are on average as near to one in `about` as may be."""
+    primes = [it for it in range(2, 20 * about + 100) if is_prime(it)]
+    rows = [primes[begin:begin + count] for begin in range(len(primes) - count + 1)]
+    return min(rows, key=lambda row: abs(sum(1 / it for it in row) / count - 1 / about))
+
+
+def periods(links: Iterable[Link], about: int, seed: int) -> dict[Link, int]:
+    """The period of each link: of one sender's links, each has another prime as long as there are any left."""
+    chance, primes = Chance(seed, LOSS_STREAM), near(about)
+    found: dict[Link, int] = {}
+    left: dict[int, list[int]] = {}
+    for link in links:
+        its = left.setdefault(link[0], [])
+        if not its:
+            its += primes
+        found[link] = its.pop(chance.below(len(its)))
+    return found

@@ -1,0 +1,205 @@
+"""Statistics of sweeps: estimates against tables and by hand, crossings, pairs, and what is shown of them."""
+import csv
+import math
+import os
+import subprocess
+import sys
+import tempfile
+import unittest
+from pathlib import Path
+
+from here import TOOLS
+from motesim.analysis import estimates
+from motesim.analysis.crossings import crossing, place
+from motesim.analysis.paired import Pair, differences, pairs_of
+from motesim.analysis.points import Wish, shown_of
+from motesim.experiments.results import Row
+from motesim.faults import Fault
+from motesim.plan.chance import Chance
+from skips import interpreter_with
+
+# From a printed table of Student's t: the confidence, the degrees of freedom, and the value.
+OF_T = [(0.95, 1, 12.706), (0.95, 2, 4.303), (0.95, 4, 2.776), (0.95, 9, 2.262), (0.95, 29, 2.045), (0.95, 120, 1.980),
+        (0.99, 1, 63.657), (0.99, 9, 3.250), (0.90, 9, 1.833), (0.90, 1, 6.314), (0.50, 10, 0.700), (0.95, 100_000, 1.960)]
+
+
+class Estimates(unittest.TestCase):
+    def test_students_t_is_that_of_the_tables(self) -> None:
+        for confidence, freedom, value in OF_T:
+            with self.subTest(confidence=confidence, freedom=freedom):
+                self.assertAlmostEqual(estimates.student_t(confidence, freedom), value, delta=0.0006)
+
+    def test_a_mean_by_hand(self) -> None:
+        # The mean of 1 to 5 is 3, the standard deviation is the root of 2.5, and t for 4 degrees is 2.776.
+        found = estimates.mean_by_t([1, 2, 3, 4, 5], 0.95)
+        self.assertEqual((found.runs, found.middle), (5, 3))
+        self.assertAlmostEqual((found.high or 0) - 3, 2.776 * math.sqrt(2.5 / 5), delta=0.001)
+        self.assertAlmostEqual(3 - (found.low or 0), 2.776 * math.sqrt(2.5 / 5), delta=0.001)
+
+    def test_one_run_has_no_interval(self) -> None:
+        for how in estimates.MEANS.values():
+            self.assertEqual(how([7.0], 0.95), (1, 7.0, None, None))
+
+    def test_intervals_hold_the_mean_as_often_as_they_say(self) -> None:
+        chance, held = Chance(5), dict.fromkeys(estimates.MEANS, 0)
+        for _ in range(120):
+            # (sums of twelve even draws are near to normal: mean 6, standard deviation 1)
+            values = [sum(chance.below(10_001) for _ in range(12)) / 10_000 for _ in range(15)]
+            for name, how in estimates.MEANS.items():
+                found = how(values, 0.9)
+                held[name] += (found.low or 0) <= 6 <= (found.high or 0)
+        for name, count in held.items():
+            with self.subTest(name):
+                self.assertGreater(count, 95)
+                self.assertLess(count, 119)
+
+    def test_the_bootstrap_is_the_same_each_time(self) -> None:
+        values = [3.0, 1.0, 4.0, 1.0, 5.0, 9.0]
+        self.assertEqual(estimates.mean_by_bootstrap(values, 0.95), estimates.mean_by_bootstrap(values, 0.95))
+
+
+class Crossings(unittest.TestCase):
+    def test_the_place_by_hand(self) -> None:
+        self.assertEqual(place([(0, 0), (10, 5), (20, 10)], 7.5), (15, True))
+        self.assertEqual(place([(0, 1), (4, 0)], 0.25), (3, False))
+        self.assertIsNone(place([(0, 1), (4, 2)], 3))
+
+    def test_runs_that_agree_have_a_narrow_interval(self) -> None:
+        found = crossing([(x, [x / 10] * 5) for x in range(11)], 0.45, 0.95)
+        assert found
+        self.assertAlmostEqual(found.at, 4.5)
+        self.assertAlmostEqual(found.low, 4.5)
+        self.assertAlmostEqual(found.high, 4.5)
+        self.assertEqual((found.is_rising, found.share), (True, 1.0))
+
+    def test_runs_that_differ_have_a_wide_one(self) -> None:
+        curve = [(float(x), [x / 10 - 0.2, x / 10 - 0.1, x / 10, x / 10 + 0.1, x / 10 + 0.2]) for x in range(0, 11, 5)]
+        found = crossing(curve, 0.45, 0.95)
+        assert found
+        self.assertLess(found.low, 4.2)
+        self.assertGreater(found.high, 4.8)
+        self.assertIsNone(crossing(curve, 3, 0.95))
+
+
+def row(period: int, seed: int, sent: float | None, **more: int | str | None) -> Row:
+    return {'period': period, 'seed': seed, **more, 'sent': sent, 'ratio': period / 10, 'fault': None,
+            'parameters': ' '.join(['period', 'seed', *more])}
+
+
+class Pairs(unittest.TestCase):
+    def test_by_hand(self) -> None:
+        one = [row(1, seed, 10 * seed) for seed in (1, 2, 3, 4)]
+        other = [row(1, seed, 10 * seed + seed % 2) for seed in (2, 3, 4, 5)]
+        pairs = pairs_of(one, other, 'sent', ['period', 'seed'], 'period')
+        self.assertEqual(pairs, [Pair(1, 20, 20), Pair(1, 30, 31), Pair(1, 40, 40)])
+        found, = differences(pairs, 0.95, 't')
+        self.assertEqual((found.against, found.one, found.greater, found.less), (1, 30, 1, 0))
+        self.assertAlmostEqual(found.difference.middle, 1 / 3)
+        # (the gaps 0, 1, 0 have the standard deviation 0.5774, and t for 2 degrees is 4.303)
+        self.assertAlmostEqual(found.difference.high or 0, 1 / 3 + 4.303 * 0.57735 / math.sqrt(3), delta=0.001)
+
+    def test_sides_without_a_run_in_common(self) -> None:
+        with self.assertRaises(Fault):
+            pairs_of([row(1, 1, 1)], [row(1, 2, 1)], 'sent', ['period', 'seed'], 'period')
+
+
+class Shown(unittest.TestCase):
+    def test_a_measure_on_either_axis(self) -> None:
+        rows = [row(period, seed, 10 * period + seed) for period in (1, 2) for seed in (1, 2, 3)]
+        found = shown_of(rows, Wish('ratio', 'sent', show='mean'))
+        self.assertEqual([(it.against, round(it.estimate.middle, 9), it.estimate.runs) for it in found.points],
+                         [(12.0, 0.1, 3), (22.0, 0.2, 3)])
+        across = found.points[0].across
+        assert across
+        self.assertAlmostEqual((across.high or 0) - 12, 4.303 / math.sqrt(3), delta=0.001)
+        self.assertEqual(found.over, ['seed'])
+
+
+HEAD = 'period,density,seed,sent,ratio,fault,parameters\n'
+
+
+def results(extra: int = 0) -> str:
+    """`sent` is ten times the period and the seed, and more in the dense net; `ratio` rises with the period."""
+    return HEAD + ''.join('%d,%s,%d,%d,%s,,period density seed\n' % (
+        period, density, seed, 10 * period + seed + extra + 5 * (density == 'dense'), period / 10 + seed / 1000)
+        for period in (1, 4, 8) for density in ('thin', 'dense') for seed in range(1, 6))
+
+
+class Command(unittest.TestCase):
+    def setUp(self) -> None:
+        scratch = tempfile.TemporaryDirectory()
+        self.addCleanup(scratch.cleanup)
+        self.folder = Path(scratch.name)
+        (self.folder / 'net.csv').write_text(results())
+        (self.folder / 'more.csv').write_text(results(2))
+
+    def plot(self, *words: str, status: int = 0) -> list[list[str]]:
+        done = subprocess.run([sys.executable, '-B', str(TOOLS / 'plot'), 'net.csv', *words], cwd=self.folder,
+                              env=dict(os.environ), capture_output=True, text=True)
+        self.assertEqual(done.returncode, status, done)
+        self.told = done.stderr
+        return [line.split() for line in done.stdout.split('\n') if line]
+
+    def test_means_with_intervals(self) -> None:
+        rows = self.plot('--measure', 'sent', '--against', 'period', '--where', 'density=thin', '--show', 'mean')
+        self.assertEqual(' '.join(rows[0]), "sent against period, over seed: means with intervals of 95 % by Student's t")
+        # (the seeds 1 to 5 around 3: 2.776 * 0.7071 = 1.963)
+        self.assertEqual(rows[2], ['1', '5', '13.000', '11.037', '14.963'])
+        rows = self.plot('--measure', 'sent', '--against', 'period', '--show', 'mean', '--interval', 'bootstrap',
+                         '--confidence', '90')
+        self.assertIn('90 % by the bootstrap', ' '.join(rows[0]))
+
+    def test_a_crossing(self) -> None:
+        rows = self.plot('--measure', 'ratio', '--against', 'period', '--by', 'density', '--show', 'mean',
+                         '--threshold', '0.6')
+        self.assertIn('density thin: the mean rises above 0.6 at period 5.97', ' '.join(rows[-1]))
+        self.plot('--measure', 'ratio', '--against', 'density', '--threshold', '0.6', status=2)
+
+    def test_pairs_of_two_files_and_of_two_values(self) -> None:
+        rows = self.plot('--measure', 'sent', '--against', 'period', '--compare', 'more.csv')
+        self.assertEqual(rows[1], ['period', 'pairs', 'net', 'more', 'difference', 'low', 'high', 'greater', 'less'])
+        self.assertEqual(rows[2][:2] + rows[2][4:], ['1', '10', '2.000', '2.000', '2.000', '10', '0'])
+        rows = self.plot('--measure', 'sent', '--against', 'period', '--pair', 'density=thin,dense')
+        self.assertEqual(rows[2][1:2] + rows[2][-5:], ['5', '5.000', '5.000', '5.000', '5', '0'])
+        self.plot('--measure', 'sent', '--against', 'period', '--pair', 'density=thin', status=2)
+
+    def test_points_and_parts_of_runs(self) -> None:
+        rows = self.plot('--measure', 'sent', '--against', 'period', '--where', 'density=thin', '--show', 'points')
+        self.assertEqual([row[:2] for row in rows[2:5]], [['1', '11.000'], ['1', '12.000'], ['1', '13.000']])
+        rows = self.plot('--measure', 'sent', '--where', 'density=thin', '--where', 'period=1', '--show', 'cdf')
+        self.assertEqual([row for row in rows[2:4]], [['11.000', '0.200'], ['12.000', '0.400']])
+        self.plot('--measure', 'sent', '--against', 'period', '--show', 'heat', status=2)
+
+    def test_pictures_of_each_kind_with_their_tables(self) -> None:
+        interpreter_with(self, 'matplotlib')
+        for name, head, words in (
+                ('a.svg', b'<?xml', ('--against', 'period', '--show', 'mean', '--threshold', '20')),
+                ('b.pdf', b'%PDF-', ('--against', 'period', '--show', 'points')), ('c.png', b'\x89PNG', ('--show', 'cdf')),
+                ('d.svg', b'<?xml', ('--against', 'period', '--by', 'density', '--show', 'heat')),
+                ('e.svg', b'<?xml', ('--against', 'ratio')), ('f.pdf', b'%PDF-', ('--against', 'period', '--compare',
+                                                                                 'more.csv'))):
+            with self.subTest(words=words, name=name):
+                self.plot('--measure', 'sent', *words, '-o', name)
+                self.assertTrue((self.folder / name).read_bytes().startswith(head))
+                with open(self.folder / name.replace(name[1:], '.table.csv'), newline='') as file:
+                    self.assertGreater(len(list(csv.DictReader(file))), 1)
+
+    def test_the_same_pdf_has_the_same_bytes(self) -> None:
+        interpreter_with(self, 'matplotlib')
+        made = []
+        for name in 'a.pdf', 'b.pdf':
+            self.plot('--measure', 'sent', '--against', 'period', '--show', 'mean', '-o', name)
+            made.append((self.folder / name).read_bytes())
+        self.assertEqual(made[0], made[1])
+
+    def test_a_sweep_as_a_frame_of_data(self) -> None:
+        interpreter = interpreter_with(self, 'pandas')
+        script = ('from motesim.analysis import frame\nruns = frame("net.csv")\n'
+                  'print(len(runs), runs.sent.mean(), runs.groupby("period").sent.max().to_list())')
+        done = subprocess.run([interpreter, '-B', '-c', script], cwd=self.folder, capture_output=True, text=True,
+                              env={**os.environ, 'PYTHONPATH': str(TOOLS)})
+        self.assertEqual(done.stdout, '30 48.833333333333336 [20, 50, 90]\n', done.stderr)
+
+
+if __name__ == '__main__':
+    unittest.main()
