@@ -119,7 +119,7 @@ def _scale(axes: Any, places: list[Cell], wish: Wish, is_scale: bool) -> None:
 def _note(shown: Shown, wish: Wish) -> str:
     """The words below a picture."""
     runs = max(point.estimate.runs for point in shown.points)
-    what = {'median': 'median, and quartiles', 'points': 'all runs', 'cdf': 'part of the runs', 'heat': 'median'}.get(
+    what = {'median': 'median, and quartiles', 'points': 'all runs', 'cdf': 'part of the runs', 'heat': 'mean'}.get(
         wish.show, 'mean, and intervals of %d %%' % wish.confidence)
     note = '%s over %s (%d runs)' % (what, ', '.join(shown.over), runs) if shown.over else ''
     first = '; '.join(it for it in [note, *left_out(shown, wish)] if it)

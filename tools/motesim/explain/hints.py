@@ -41,8 +41,8 @@ WISHES = {
     'wait': 'Write `wait_until` or `yield_until` and a test, `pause`, or `acquire` and a semaphore.',
     'printf': 'A program prints numbers: `print x;`.',
     'println': 'A program prints numbers: `print x;`.',
-    'random': 'There is no chance in a mote: each run is the same. A generator of its own serves, begun with '
-              '`dice = (self * 7919);`: `dice = ((dice * 25173) + 13849); if (dice < 6554) { .. }` is so 1 time in 10.',
+    'random': 'There is no chance in a mote: each run is the same. A generator with a seed serves, as '
+              '`dice = (self * 7919);`, then `dice = ((dice * 25173) + 13849); if (dice < 6554) { .. }` is so 1 time in 10.',
     'id': 'A mote\'s number is `self`.',
     'time': 'The current moment is `now` (its low 16 bits).',
     'clock': 'The current moment is `now` (its low 16 bits).',
