@@ -24,8 +24,8 @@ from motesim.timeline.html import SHARED
 PAGE = Path(__file__).resolve().parent / 'page'
 CODEMIRROR = Path('/usr/share/javascript/codemirror')
 # The page's own scripts, after those that it shares with the pages of tools/timeline.
-SCRIPTS = ['link.js', 'notation.js', 'editor.js', 'difference.js', 'checks.js', 'guide.js', 'steps.js', 'motes.js',
-           'files.js', 'faults.js', 'studio.js']
+SCRIPTS = ['link.js', 'notation.js', 'editor.js', 'difference.js', 'checks.js', 'guide.js', 'steps.js', 'states.js',
+           'whys.js', 'log.js', 'motes.js', 'files.js', 'faults.js', 'studio.js']
 # What is taken of Debian's package libjs-codemirror.
 EDITOR = ['lib/codemirror.js', 'lib/codemirror.css', 'mode/toml/toml.js', 'addon/edit/matchbrackets.js',
           'addon/edit/closebrackets.js', 'addon/dialog/dialog.js', 'addon/dialog/dialog.css',

@@ -4,6 +4,7 @@
 """
 from __future__ import annotations
 
+import functools
 import json
 import struct
 import threading
@@ -20,6 +21,7 @@ from motesim.studio.edits import edit
 from motesim.studio.runs import LimitMet, Runs, Superseded
 from motesim.studio.searches import OF_PAGE, Searches, wanted_of
 from motesim.timeline.html import Columns, page_of, said_of
+from motesim.why.studio import Causes
 
 MOST_KEPT = 4
 JSON, BYTES, HTML = 'application/json', 'application/octet-stream', 'text/html; charset=utf-8'
@@ -67,6 +69,9 @@ class Session:
             'save': self.save, 'export': self.export, 'alive': self.alive, 'search': self.search,
             'searched': self.searched, 'stop-search': self.stop_search, 'counter-example': self.counter_example,
             'shrink': self.shrink}
+        self.causes = Causes()
+        for what in 'why', 'state', 'values', 'lines':
+            self.does[what] = functools.partial(self.cause, what)
 
     def answer(self, what: str, asked: dict[str, Any]) -> Answered:
         if what not in self.does:
@@ -181,6 +186,13 @@ class Session:
             return self.desk.expectations(_text(asked, 'where'), _text(asked, 'name'))
         except Fault:
             return None
+
+    def cause(self, what: str, asked: dict[str, Any]) -> Answered:
+        """What a question on a kept run comes to."""
+        done = self.kept_run(asked.get('number'))
+        if done is None:
+            return told({'said': 'This run is not kept any more: change the text, and ask again.'})
+        return told(self.causes.answer(what, done.number, done.run, asked))
 
     def edit(self, asked: dict[str, Any]) -> Answered:
         """What an edit on the map changes in the text."""

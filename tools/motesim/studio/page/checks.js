@@ -82,6 +82,8 @@ function sumTable([names, ...rows]) {
 
 function showSums(said) {
   const box = byId('sums');
-  box.replaceChildren(sumTable(said.motes), sumTable(said.links));
+  const plots = element('div');
+  if (panes.length) showSeries(panes[0].run, plots);
+  box.replaceChildren(sumTable(said.motes), plots, sumTable(said.links));
   if (said.more) box.append(element('p', `${count(said.more, 'link')} more: tools/summary shows them.`));
 }

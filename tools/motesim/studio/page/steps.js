@@ -92,35 +92,16 @@ function runToStop(by) {
 
 /** What the report tells of a mote after a line: lines from `first` up to `last` have been written. */
 function stateAfter(run, mote, last) {
-  const {kind, p, x, at} = run, first = run.traceStart[mote], state = {list: [], running: -1, printed: new Map(),
-    posted: -1, taken: -1};
+  const {kind, p, at} = run, first = run.traceStart[mote], state = {list: [], running: -1, printed: new Map()};
   for (let i = first; i <= last; i++) {
     if (kind[i] === START) state.list.unshift(p[i]);
     else if (kind[i] === LEAVE) state.list = state.list.filter(it => it !== p[i]);
-    else if (kind[i] === POST) state.posted = x[i];
-    else if (kind[i] === TAKE || kind[i] === DROP) state.taken = Math.max(state.taken, x[i]);
     else if (kind[i] === PRINT) state.printed.set(p[i], i);
     if (kind[i] === START || kind[i] === TAKE) state.running = i;
     else if (kind[i] === DROP || kind[i] === HALT) state.running = -1;
   }
   if (state.running >= 0 && at[state.running] !== at[last]) state.running = -1;
-  state.waiting = [];
-  for (let serial = state.taken + 1; serial <= state.posted; serial++) {
-    const post = run.postOf(mote, serial);
-    if (post >= 0) state.waiting.push(post);
-  }
-  state.timers = timersAfter(run, mote, last);
   return state;
-}
-
-/** The timers whose event is still to come, each with the line that posts it. */
-function timersAfter(run, mote, last) {
-  const {kind, e, w, p, timerEvent} = run, found = new Map();
-  if (timerEvent < 0) return [];
-  for (let i = last + 1; i < run.traceStart[mote + 1]; i++) {
-    if ((kind[i] === POST || kind[i] === FULL) && e[i] === timerEvent && !found.has(w[i])) found.set(w[i], i);
-  }
-  return [...found].map(([number, line]) => ({number, line, process: p[line]}));
 }
 
 /** Which line the state is of: the one that is selected, or the last of the mote up to the moment that is shown. */
@@ -139,21 +120,10 @@ function card(title, items, empty) {
   return made;
 }
 
-/** A timer by its name in the program, where the text tells it. */
-function timerName(program, number) {
-  const found = studio.programs[program] && studio.programs[program].timers[number];
-  return found ? `${found[1]} of ${found[0]}` : `timer ${number}`;
-}
-
 /** What a process prints, as its text has it: one variable, or several of which one was printed. */
 function printedName(program, process) {
   const found = studio.programs[program] && studio.programs[program].prints[process];
   return found && found.length ? found.join(' or ') : 'a value';
-}
-
-function eventWords(run, line) {
-  const name = run.events[run.e[line]], target = run.process(run.p[line]);
-  return `${name} ${run.w[line]} for ${target}`;
 }
 
 function cardsOf(pane, mote, line) {
@@ -166,12 +136,6 @@ function cardsOf(pane, mote, line) {
   }
   const others = state.list.map(it => run.process(it)).join(', ');
   const cards = [card('Runs now', [...runs, ...(others ? [`started: ${others}`] : [])], 'nothing')];
-  cards.push(card(`Events that wait (${state.waiting.length})`, state.waiting.slice(0, 12).map(post =>
-    `${eventWords(run, post)}, posted at ${run.at[post]}`).concat(state.waiting.length > 12 ?
-    [`and ${state.waiting.length - 12} more`] : []), 'the queue is empty'));
-  cards.push(card('Timers that will fire', state.timers.map(({number, line: next}) =>
-    `${timerName(program, number)}: at ${run.at[next]}, in ${count(run.at[next] - run.at[line], 'moment')}`),
-  'none fires any more'));
   cards.push(card('Printed last', [...state.printed].map(([process, i]) =>
     [element('code', printedName(program, run.process(process))), ` = ${run.w[i]}`,
       ` (${run.process(process)}, at ${run.at[i]})`]), 'nothing yet'));
@@ -193,6 +157,7 @@ function showStep(pane) {
   at.replaceChildren(element('strong', `Mote ${mote} at moment ${run.at[line]}`),
     `, after line ${run.numberOf(line, mote)}: `, element('code', run.text(line)));
   byId('cards').replaceChildren(...cardsOf(pane, mote, line));
+  showMoteState(pane, mote, line, key);
 }
 
 function beginSteps() {
@@ -214,13 +179,16 @@ function beginSteps() {
   const label = Object.assign(element('label', 'Stop where'), {htmlFor: 'stop-at'});
   bar.append(button('« moment', 'The moment before', () => stepMoment(-1)),
     button('‹ event', 'The line before', () => stepLine(-1)), button('event ›', 'The next line', () => stepLine(1)),
-    button('moment »', 'The next moment', () => stepMoment(1)), of, label, stop,
+    button('moment »', 'The next moment', () => stepMoment(1)),
+    button('‹ call', 'The start of the call before', () => stepCall(-1)),
+    button('call ›', 'The start of the next call', () => stepCall(1)), of, label, stop,
     button('‹', 'Back to the stop before', () => runToStop(-1)),
     button('On ›', 'On to the next stop', () => runToStop(1)),
     Object.assign(element('output'), {id: 'stopped'}));
   box.append(bar, Object.assign(element('p'), {id: 'step-at'}), Object.assign(element('div'), {id: 'cards'}));
-  const note = Object.assign(element('p', 'A report tells when a timer fires, and not when it is set: a timer stands ' +
-    'here if it will still fire.'), {className: 'note'});
+  const note = Object.assign(element('p', 'The variables, waits, timers and the queue come from a replay of the mote, ' +
+    'which has to write the same trace. Variables that changed after this line are marked.'), {className: 'note'});
   box.append(note);
+  beginStates();
   overlays.push(pane => { if (!byId('steps').hidden) showStep(pane); });
 }

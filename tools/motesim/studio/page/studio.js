@@ -1,7 +1,8 @@
 // The studio: the text is run when no key has come for a while, and what the run shows takes the place of the last one.
 const PAUSE = 200;
-const TABS = [['guide', 'Guide'], ['chosen', 'Selected'], ['steps', 'Steps'], ['compare', 'Differences'],
-  ['checks', 'Checks'], ['faults', 'Faults'], ['sums', 'Sums'], ['legend', 'Forms']];
+const TABS = [['guide', 'Guide'], ['chosen', 'Selected'], ['steps', 'Steps'], ['why', 'Why'],
+  ['log', 'Log'], ['compare', 'Differences'], ['checks', 'Checks'], ['faults', 'Faults'], ['sums', 'Sums'],
+  ['legend', 'Forms']];
 const studio = {document: null, saved: '', maySave: false, folder: '', number: 0, before: 0, pinned: 0, asked: 0,
   changedAt: 0, programs: {}, knownStamp: '', fresh: true, timer: 0, asks: true, tab: 'guide', latency: [], judged: 0};
 let editor = null;
@@ -235,6 +236,8 @@ async function beginStudio() {
   editor = new Editor(typed);
   beginTabs();
   beginSteps();
+  beginWhy();
+  beginLog();
   beginButtons();
   watchChosen();
   connection.back = () => runNow();
@@ -246,7 +249,8 @@ async function beginStudio() {
   beat(() => studio.document && {where: studio.document.where, name: studio.document.name}, lookedAt);
 }
 
-Object.assign(page, {studio, editor: () => editor, connection, differs, ground, maps, steps, searchesOf, faults});
+Object.assign(page, {studio, editor: () => editor, connection, differs, ground, maps, steps, states, searchesOf,
+  faults});
 beginStudio().catch(fault => {
   byId('about').textContent = `This page can't be shown here: ${fault.message}`;
   console.error(fault);

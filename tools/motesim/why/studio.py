@@ -1,0 +1,109 @@
+"""What the studio asks of a run: why a line is there, the state of a mote, values over time, the lines of a sentence."""
+from __future__ import annotations
+
+import threading
+from collections import OrderedDict
+from typing import Any
+
+from motesim.faults import Fault
+from motesim.report import FIELDS
+from motesim.runner.run import Run
+from motesim.why.chain import as_json as chain_as_json
+from motesim.why.chain import chain
+from motesim.why.log import Filter, of_sentence
+from motesim.why.miss import as_json as misses_as_json
+from motesim.why.miss import misses
+from motesim.why.pages import source_of
+from motesim.why.question import Asked, Asker
+from motesim.why.source import At, Source
+from motesim.why.state import after_line, after_moment
+from motesim.why.state import as_json as state_as_json
+from motesim.why.watch import read_watch, replayed
+
+MOST_KEPT, MOST_LINES, MOST_VALUES = 4, 100_000, 20_000
+Said = dict[str, Any]
+
+
+def _whole(asked: Said, name: str) -> int:
+    value = asked.get(name)
+    if type(value) is not int:
+        raise Fault('the page asked without a number %s' % name)
+    return value
+
+
+class Causes:
+    """The runs that were asked about last."""
+
+    def __init__(self) -> None:
+        self.kept: OrderedDict[int, Source] = OrderedDict()
+        self.lock = threading.Lock()
+
+    def source(self, number: int, run: Run) -> Source:
+        if number not in self.kept:
+            self.kept[number] = source_of(run)
+            while len(self.kept) > MOST_KEPT:
+                self.kept.popitem(last=False)
+        return self.kept[number]
+
+    def answer(self, what: str, number: int, run: Run, asked: Said) -> Said:
+        """What a question comes to; what can't be said has its reason in `said`."""
+        does = {'why': self.why, 'state': self.state, 'values': self.values, 'lines': self.lines}
+        with self.lock:
+            try:
+                return does[what](self.source(number, run), asked)
+            except Fault as fault:
+                return {'said': str(fault)}
+
+    def why(self, source: Source, asked: Said) -> Said:
+        """The chain of a line or of a sentence, or what came near."""
+        if 'row' in asked:
+            where = source.traces.at_row(_whole(asked, 'row'))
+            if where is None:
+                raise Fault('this line is in no trace')
+            return chain_as_json(source, chain(source, where))
+        asker = Asker(source)
+        found = asker.about(str(asked.get('question', '')))
+        if isinstance(found, Asked):
+            return {**chain_as_json(source, chain(source, found.where)), 'holds': found.holds, 'about': found.remark}
+        return misses_as_json(found, misses(asker, found))
+
+    def state(self, source: Source, asked: Said) -> Said:
+        """The state of a mote after a line, or at the end of a moment, and which variables the line's step changed."""
+        mote = _whole(asked, 'mote')
+        if not 0 <= mote < source.traces.motes:
+            raise Fault('there is no mote %d' % mote)
+        if 'row' not in asked:
+            at = _whole(asked, 'at')
+            return {**state_as_json(after_moment(source, mote, at), at), 'changed': []}
+        where = source.traces.at_row(_whole(asked, 'row'))
+        if where is None or where.mote != mote or where.place < 0:
+            raise Fault('this line is not in the trace of mote %d' % mote)
+        state = state_as_json(after_line(source, where), source.traces.moment(where))
+        return {**state, 'changed': self.changed(source, where)}
+
+    @staticmethod
+    def changed(source: Source, where: At) -> list[str]:
+        """The variables that got a value between this line and the next one, or before its moment's end."""
+        replay, program = source.replay(where.mote), source.program(where.mote)
+        names = [{place: name for name, place in it.variables.items()} for it in program.processes]
+        at = source.traces.moment(where)
+        return sorted({'%s.%s' % (program.processes[it.process].name, names[it.process][it.variable])
+                       for it in replay.changes if it.lines == where.place + 1 and it.at == at})
+
+    def values(self, source: Source, asked: Said) -> Said:
+        """The values of variables on all motes that have them: mote, line of the report, moment, name and value."""
+        if source.traces.medium_row > MOST_LINES:
+            raise Fault('the run has more than %d lines; tools/why --watch shows the values of some motes' % MOST_LINES)
+        motes, watched = read_watch(source, 'every mote %s' % asked.get('names', ''))
+        found = replayed(source, motes, watched)
+        return {'values': [[it.mote, it.row, it.at, it.variable, it.value] for it in found[:MOST_VALUES]],
+                'more': max(0, len(found) - MOST_VALUES)}
+
+    def lines(self, source: Source, asked: Said) -> Said:
+        """The lines that a sentence is about, in chronological order."""
+        wanted = Filter(None, tuple(FIELDS), None, None, (0, None))
+        log = of_sentence(source, str(asked.get('sentence', '')), wanted)
+        return {'rows': [log.rows[place] for place in log.order]}
+
+
+__all__ = ['Causes']

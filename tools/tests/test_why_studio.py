@@ -1,0 +1,158 @@
+"""Causes, states, values and the log in the studio, on runs of the built program."""
+import json
+import tempfile
+import threading
+import unittest
+from pathlib import Path
+from typing import Any
+
+from here import TOP
+import skips
+import test_why
+from browser import Browser
+from motesim.report import Report
+from motesim.runner.run import Run
+from motesim.scenario import Scenario
+from motesim.studio.desk import Desk
+from motesim.studio.runs import Limits, Runs
+from motesim.studio.server import CODEMIRROR, Server, has_editor
+from motesim.studio.session import Session
+from motesim.why.studio import Causes
+
+READY = 'window.motesim && motesim.ready && motesim.studio.judged'
+
+
+class Answers(unittest.TestCase):
+    """What the server answers on the report of test_why."""
+
+    def ask(self, what: str, **asked: object) -> dict[str, Any]:
+        run = Run('small', Report.parse(test_why.REPORT), Scenario.parse(test_why.SCENARIO))
+        return Causes().answer(what, 1, run, dict(asked))
+
+    def test_why(self) -> None:
+        self.assertEqual([it['line'] for it in self.ask('why', row=28)['chain']], [28, 27, 26, 25, 14, 8, 7, 6, 1])
+        self.assertEqual(self.ask('why', question='mote 1 prints h 8')['line'], 28)
+        self.assertEqual(self.ask('why', question='mote 1 prints h 9')['motes'][0]['misses'][0]['words'],
+                         'it prints 1 value: 8 at 7')
+        self.assertIn('no trace', self.ask('why', row=99)['said'])
+        self.assertIn('a process', self.ask('why', question='mote 1 prints x 9')['said'])
+
+    def test_states(self) -> None:
+        self.assertEqual(self.ask('state', mote=0, row=9)['queue'][0]['word'], 5)
+        self.assertEqual(self.ask('state', mote=0, at=4)['timers'][0]['due'], 6)
+        for asked in {'mote': 0, 'row': 28}, {'mote': 7, 'at': 3}, {'mote': 0}, {'row': 9}:
+            self.assertIn('said', self.ask('state', **asked))
+
+    def test_lines_of_a_sentence(self) -> None:
+        self.assertEqual(self.ask('lines', sentence='mote 0 prints'), {'rows': [11, 12, 16, 19]})
+        self.assertIn('said', self.ask('lines', sentence='mote 0 frobs'))
+
+    def test_values(self) -> None:
+        self.assertIn('no variable', self.ask('values', names='x')['said'])
+
+
+class Page(unittest.TestCase):
+    browser: Browser
+    room: 'tempfile.TemporaryDirectory[str]'
+
+    @classmethod
+    def setUpClass(cls) -> None:
+        browser, why = Browser.start()
+        if browser is None:
+            raise unittest.SkipTest(why)
+        cls.browser = browser
+
+    @classmethod
+    def tearDownClass(cls) -> None:
+        cls.browser.close()
+
+    def setUp(self) -> None:
+        skips.need_program(self)
+        room = tempfile.TemporaryDirectory()
+        self.addCleanup(room.cleanup)
+        file = Path(room.name, 'flooding.toml')
+        file.write_text((TOP / 'examples/flooding.toml').read_text())
+        self.server = Server(Session(Desk(file), Runs(Limits())), CODEMIRROR)
+        threading.Thread(target=self.server.serve_forever, kwargs={'poll_interval': 0.05}, daemon=True).start()
+        self.addCleanup(self.stop)
+        self.browser.size(1500, 1100)
+        self.browser.run('if (window.motesim && motesim.studio) motesim.studio.asks = false')
+        self.browser.visit(self.server.address, READY)
+
+    def stop(self) -> None:
+        self.server.session.runs.ask()
+        self.server.shutdown()
+        self.server.server_close()
+
+    def tearDown(self) -> None:
+        self.assertEqual(self.browser.faults, [])
+
+    def write(self, field: str, text: str) -> None:
+        """Writes into a field, and sends its form."""
+        self.browser.run("(() => {const it = document.getElementById('%s'); it.value = %s; it.form.requestSubmit();})()"
+                         % (field, json.dumps(text)))
+
+    def tab(self, name: str) -> None:
+        self.browser.run("document.getElementById('tab-%s').click()" % name)
+
+    def text(self, name: str) -> str:
+        return str(self.browser.run("document.getElementById('%s').innerText" % name))
+
+    def wait(self, name: str, text: str) -> None:
+        self.browser.wait("document.getElementById('%s').innerText.includes(%s)" % (name, json.dumps(text)))
+
+    def test_why_and_why_not(self) -> None:
+        self.tab('why')
+        self.write('why-asked', 'mote 6 prints flood 1')
+        self.wait('why', 'Critical path: 46 moments: 40 waiting for timers; 6 on the way, over 2 hops.')
+        self.assertEqual(self.browser.run('[motesim.chosen().mote, motesim.chosen().line]')[0], 6)
+        self.write('why-asked', 'mote 1 prints flood 2 by 85')
+        self.wait('why', 'the medium lost it, as it loses one packet in 2 from 0 to 1')
+        self.browser.run("[...document.querySelectorAll('#why-chain button')][0].click()")
+        self.assertEqual(self.browser.run('motesim.chosen().mote'), 1)
+
+    def test_steps_and_values(self) -> None:
+        """Mote 3 takes message 1 at 49, in line 113; the step after it changes `newest`, which line 114 prints."""
+        self.tab('steps')
+        self.browser.run("document.getElementById('stop-at').value = 'mote 3 prints 1'")
+        self.browser.run("[...document.querySelectorAll('#steps button')].find(it => it.textContent === 'On ›').click()")
+        self.wait('state-cards', 'newest = 1')
+        self.assertEqual(self.browser.run("document.querySelectorAll('#state-cards .changed').length"), 0)
+        self.browser.run(
+            "[...document.querySelectorAll('#steps button')].find(it => it.textContent === '‹ call').click()")
+        self.wait('state-cards', 'newest = 1 (changed)')
+        self.wait('step-at', 'take 0 flood')
+        self.browser.run("document.getElementById('values-asked').value = 'newest';"
+                         "document.getElementById('values-asked').nextSibling.click()")
+        self.browser.wait('motesim.states.values && motesim.states.values.length === 25 + 25 * 3')
+
+    def test_hover_over_a_variable(self) -> None:
+        if not has_editor(CODEMIRROR):
+            self.skipTest('the editor is not installed')
+        self.tab('steps')
+        self.browser.run("document.getElementById('stop-at').value = 'mote 3 prints 2'")
+        self.browser.run("[...document.querySelectorAll('#steps button')].find(it => it.textContent === 'On ›').click()")
+        self.wait('state-cards', 'newest = 2')
+        self.browser.run('''(() => {
+          const {mirror} = motesim.editor(), row = mirror.getValue().split('\\n').findIndex(it => /send newest/.test(it));
+          mirror.scrollIntoView({line: row, ch: 0});
+          const column = mirror.getLine(row).indexOf('newest') + 2, at = mirror.charCoords({line: row, ch: column});
+          const event = new MouseEvent('mousemove', {clientX: at.left, clientY: at.top + 5, bubbles: true});
+          mirror.getWrapperElement().dispatchEvent(event);
+        })()''')
+        self.assertEqual(self.browser.run('motesim.editor().mirror.getWrapperElement().title'),
+                         'newest = 2 at mote 3, moment 95')
+
+    def test_the_log(self) -> None:
+        self.tab('log')
+        self.wait('log', '970 of 970 lines')
+        self.write('log-asked', 'send mote 3')
+        self.wait('log', '3 of 970 lines: send 3')
+        self.write('log-asked', 'motes 3 to 7 print flood 2 by 90')
+        self.wait('log', '3 of 970 lines: print 3')
+        self.browser.run("document.querySelectorAll('#log-lines button')[0].click()")
+        self.assertEqual(self.browser.run('motesim.chosen().mote'), 5)
+
+
+if __name__ == '__main__':
+    unittest.main()
