@@ -62,6 +62,8 @@ def cut(made: Made) -> Made:
     """An expression whose value has 16 bits."""
     if made.low >= 0 and made.high <= MOST:
         return made
+    if is_constant(made):
+        return number(made.low & MOST)
     return Made('(uint16_t)%s' % made.inside(UNARY), UNARY, 0, MOST)
 
 
@@ -71,10 +73,11 @@ def is_constant(made: Made) -> bool:
 
 def condition(made: Made) -> Made:
     """An expression that is 0 exactly if its value of 16 bits is 0."""
-    if made.level == PRODUCT:
-        # (compilers warn of a product as a condition)
-        return truth('%s != 0' % cut(made).inside(ORDER), EQUAL)
-    return made if made.low >= -MOST and made.high <= MOST and made.type != 'unsigned' else cut(made)
+    if made.level in (PRODUCT, SUM) and not is_constant(made):
+        # (compilers warn of a product as a condition, and take some sums for one)
+        is_exact = made.type != 'unsigned' and max(-made.low, made.high) <= MOST
+        return truth('%s != 0' % (made if is_exact else cut(made)).inside(ORDER), EQUAL)
+    return cut(made)
 
 
 def truth_of(made: Made) -> Made:
@@ -170,6 +173,8 @@ class Expressions:
         if isinstance(expression, Operation):
             made = self.operation(expression)
             # (a constant is calculated here if C would take another value on its way, or warn)
+            if constant is None and is_constant(made):
+                constant = made.low & MOST
             is_plain = made.type == 'signed' and made.low == made.high == constant
             return made if constant is None or is_plain else number(constant)
         if constant is not None:
@@ -267,6 +272,8 @@ class Expressions:
         if operator in ('&&', '||'):
             return self.logic(expression)
         left, right = self.loose(expression.left), self.loose(expression.right)
+        if operator == '-' and expression.left == expression.right:
+            return number(0)
         if operator in ('+', '-', '*'):
             return self.arithmetic(operator, left, right)
         if operator in ('/', '%'):
@@ -334,4 +341,6 @@ class Expressions:
         if 'unsigned' in (left.type, right.type):
             left, right = (it if it.type == 'unsigned' or it.level >= UNARY else
                            Made('(uint16_t)%s' % it.inside(UNARY), UNARY, it.low, it.high) for it in (left, right))
-        return truth('%s %s %s' % (left.inside(SUM), operator, right.inside(SUM)), LEVELS[operator])
+        # (they warn of a negation there, too)
+        one, other = ('(%s)' % it.text if it.text.startswith('!') else it.inside(SUM) for it in (left, right))
+        return truth('%s %s %s' % (one, operator, other), LEVELS[operator])

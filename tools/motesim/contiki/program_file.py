@@ -57,6 +57,8 @@ class ProgramFile:
         self.program = program
         self.counts_work = counts_work
         self.use = use_of(program)
+        # (the callbacks that something names: those that are only reset are named by what the first process does once)
+        self.called = self.use.set_timers | (self.use.again if program.autostart else set())
         self.names = Names(program)
         self.numbers = {timer: number for number, timer in enumerate(program.timers())}
         self.init = self.names.helper('init_program')
@@ -205,7 +207,7 @@ class ProgramFile:
 
     def _pointers_to_callbacks(self) -> list[str]:
         """Prototypes of the callbacks that are named before they are defined."""
-        names = [self.names.inside(*it) for it in sorted(self.use.called)]
+        names = [self.names.inside(*it) for it in sorted(self.called)]
         return ['', *('static void %s(void *ptr);' % self._callback(it) for it in names)] if names else []
 
     def _word_function(self) -> list[str]:
@@ -238,7 +240,7 @@ class ProgramFile:
             if self._used(code, part.name):
                 lines += self._thread(code, part)
         for part in code.ctimers:
-            if (code.process, part.name) in self.use.called:
+            if (code.process, part.name) in self.called:
                 name = self.names.inside(code.process, part.name)
                 block = self._simple(code, part, Known('timer', part.name))
                 lines += [RULE, *self._said(part, name), 'static void', '%s(void *ptr)' % self._callback(name), '{',
@@ -370,7 +372,9 @@ class _Block:
         """A statement without blocks in C: one line, or two."""
         kind, value = statement.kind, statement.value
         if kind == '=':
-            return ['%s = %s' % (self.local(statement.target), self.expressions.loose(value).text)]
+            name, text = self.local(statement.target), self.expressions.loose(value).text
+            # (compilers warn of an assignment of a variable to itself)
+            return ['%s = %s%s' % (name, '(uint16_t)' if text == name else '', text)]
         if kind == 'print':
             return ['MOTESIM_PRINT(%s)' % self.expressions.value(value).text]
         if kind == 'send':

@@ -13,8 +13,8 @@ class Use:
     """What is used: names of the program, and pairs of a process and a name of its code."""
     names: set[str] = field(default_factory=set)
     inside: set[tuple[str, str]] = field(default_factory=set)
-    # (the callback timers whose callbacks can run, and those that are reset or restarted)
-    called: set[tuple[str, str]] = field(default_factory=set)
+    # (the callback timers that are set, and those that are reset or restarted)
+    set_timers: set[tuple[str, str]] = field(default_factory=set)
     again: set[tuple[str, str]] = field(default_factory=set)
     # (the keywords of statements, and the words and tests of expressions)
     words: set[str] = field(default_factory=set)
@@ -58,9 +58,7 @@ class _CodeUse:
             if kind in SETS or kind == 'stop':
                 self.local(target)
                 if kind in SETS and target in self.ctimers:
-                    self.use.called.add((self.code.process, target))
-                    if kind != 'set':
-                        self.use.again.add((self.code.process, target))
+                    (self.use.set_timers if kind == 'set' else self.use.again).add((self.code.process, target))
                     self.part(target)
             elif kind == 'spawn':
                 self.local(target)

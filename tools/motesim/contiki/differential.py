@@ -1,0 +1,248 @@
+"""Compares motesim with the host on random scenarios: tools/differential [--seed S] [--count N]
+
+Each scenario is run by motesim on one thread and by workers of both kinds, and by the host, a second simulator in C
+(docs/use/CONTIKI.md). All of them have to write the same bytes. If they don't, the scenario is made as small as it
+gets, and written to a file.
+
+  tools/differential --count 1000              the scenarios of seeds from 0
+  tools/differential --seed 7000 --count 50000 those from another seed
+  tools/differential net.toml ..               scenarios of your own
+  tools/differential --gate                    all examples and cases, and 300 scenarios whose seed is the commit
+
+Says in the end what the scenarios reached. Ends with status 0 if all agree, 1 if some differ, and 2 if there is no
+program or no C compiler.
+"""
+from __future__ import annotations
+
+import contextlib
+import subprocess
+import sys
+import tempfile
+import time
+from collections import Counter
+from collections.abc import Callable, Iterator
+from pathlib import Path
+from typing import NamedTuple
+
+from motesim.contiki.coverage import Coverage
+from motesim.contiki.host_runs import HostFault, HostRuns, compilers
+from motesim.contiki.random_scenario import random_scenario
+from motesim.faults import Fault, command
+from motesim.runner import Limits, Runner, run_each
+from motesim.runner.programs import program_path
+from motesim.scenario import Scenario, ScenarioFault
+from motesim.words import words_of
+
+GATE_COUNT = 300
+STRICT_EACH = 10
+WORKERS: tuple[tuple[str, ...], ...] = (('--workers', '2', '--cut', 'block', '--sync', 'joins'),
+                                        ('--workers', '3', '--cut', 'stripe', '--sync', 'marks'))
+LIMITS = Limits(seconds=60.0, memory=2 << 30, report=256 << 20)
+
+
+class Item(NamedTuple):
+    """A scenario to be compared: its name, and its text or the seed that makes it."""
+    name: str
+    scenario: bytes = b''
+    seed: str = ''
+    is_strict: bool = False
+
+
+class Compared(NamedTuple):
+    """What came of a comparison: which simulator differs and how, or ''; and what the scenario reached."""
+    difference: str
+    reached: Counter[str]
+    bytes: int = 0
+
+
+def first_difference(one: bytes, other: bytes) -> str:
+    """The first line in which two reports differ."""
+    lines, others = one.split(b'\n'), other.split(b'\n')
+    for number, (line, against) in enumerate(zip(lines, others), 1):
+        if line != against:
+            return 'line %d: `%s` and `%s`' % (number, line.decode('ascii', 'replace'),
+                                              against.decode('ascii', 'replace'))
+    return 'one has %d lines, the other %d' % (len(lines), len(others))
+
+
+class Comparison:
+    """Compares the answers of motesim and of the host."""
+
+    def __init__(self, host: HostRuns, runner: Runner, with_workers: bool = True):
+        self.host = host
+        self.runner = runner
+        self.with_workers = with_workers
+
+    def difference(self, scenario: bytes, is_strict: bool = False) -> tuple[str, bytes]:
+        """Which simulator differs from motesim on one thread, and how, or ''; and the report of that."""
+        answer = self.runner.answer(scenario)
+        if answer.status:
+            raise ScenarioFault('motesim refuses it: %s' % answer.fault.decode(errors='replace').strip())
+        for arguments in WORKERS if self.with_workers else ():
+            other = self.runner.answer(scenario, *arguments)
+            if other != answer:
+                return 'motesim %s: %s' % (' '.join(arguments), first_difference(answer.report, other.report) if not
+                                           other.status else other.fault.decode(errors='replace')), answer.report
+        try:
+            report = self.host.report(scenario, is_strict)
+        except HostFault as fault:
+            return 'the host: %s' % fault, answer.report
+        return ('' if report == answer.report else
+                'motesim and the host: ' + first_difference(answer.report, report)), answer.report
+
+    def compare(self, item: Item) -> Compared:
+        reached: Counter[str] = Counter()
+        scenario = item.scenario or random_scenario(item.seed, reached)
+        difference, report = self.difference(scenario, item.is_strict)
+        reached.update(Coverage.of_report(report))
+        return Compared(difference, reached, len(report))
+
+    def smallest(self, scenario: bytes, say: Callable[[str], None]) -> bytes:
+        """The scenario without all that the difference doesn't need."""
+        # (needed when something differs only)
+        from motesim.search.net import loss_steps, mote_steps, net_of, number_steps, program_steps
+        net = net_of(Scenario.parse(scenario))
+        is_smaller = True
+        while is_smaller:
+            is_smaller = False
+            for steps in mote_steps, loss_steps, program_steps, number_steps:
+                at = 0
+                while True:
+                    tried = list(steps(net))
+                    for offset in range(len(tried)):
+                        step = tried[(at + offset) % len(tried)]
+                        if self.is_different(step.net.text.encode()):
+                            net, at, is_smaller = step.net, (at + offset) % len(tried), True
+                            break
+                    else:
+                        break
+                say('smaller: %d bytes' % len(net.text))
+        return net.text.encode()
+
+    def is_different(self, scenario: bytes) -> bool:
+        try:
+            return bool(self.difference(scenario)[0])
+        except Fault:
+            return False
+
+
+def items_of_files(names: list[str]) -> Iterator[Item]:
+    for name in names:
+        try:
+            yield Item(name, Path(name).read_bytes(), is_strict=True)
+        except OSError as fault:
+            raise Fault('%s: %s' % (name, fault.strerror)) from None
+
+
+def random_items(seed: str, count: int) -> Iterator[Item]:
+    """The items of seeds: those from a number on, or those of a word, such as a commit."""
+    for number in range(count):
+        name = str(int(seed) + number) if seed.isdecimal() else '%s-%d' % (seed, number)
+        yield Item('the scenario of seed %s' % name, seed=name, is_strict=number % STRICT_EACH == 0)
+
+
+def commit(top: Path) -> str:
+    """The commit of a tree; 'none' if it has none."""
+    done = subprocess.run(['git', '-C', str(top), 'rev-parse', '--short=12', 'HEAD'], capture_output=True, text=True)
+    return done.stdout.strip() or 'none'
+
+
+def compare_all(items: Iterator[Item], work: Comparison, folder: Path, workers: int | None, say: Callable[[str], None],
+                most: int) -> tuple[int, int, Coverage]:
+    """Compares items; says how many agree and differ, and what was reached."""
+    agreed = differing = size = 0
+    coverage = Coverage()
+    begin = last = time.monotonic()
+    with contextlib.closing(run_each(work.compare, items, workers=workers, seconds=300.0)) as found:
+        for done in found:
+            difference = done.fault or (done.result.difference if done.result else 'no answer')
+            if done.result:
+                coverage.add(done.result.reached)
+                size += done.result.bytes
+            if not difference:
+                agreed += 1
+            else:
+                differing += 1
+                print('%s differs: %s' % (done.item.name, difference), flush=True)
+                scenario = done.item.scenario or random_scenario(done.item.seed)
+                if differing <= most and not done.fault:
+                    scenario = work.smallest(scenario, lambda told: None)
+                    print('  the smallest that differs: %s' % (work.difference(scenario)[0],))
+                if differing <= most:
+                    path = folder / ('differs_%d.toml' % differing)
+                    path.write_bytes(scenario)
+                    print('  %s has it' % path, flush=True)
+            now = time.monotonic()
+            if now - last > 20:
+                last = now
+                say('%d agree, %d differ, %d MB of reports, %d s' % (agreed, differing, size >> 20, now - begin))
+    say('%d agree, %d differ, %d MB of reports, %d s' % (agreed, differing, size >> 20, time.monotonic() - begin))
+    return agreed, differing, coverage
+
+
+@command('differential')
+def main() -> int:
+    words = words_of(__doc__)
+    words.add_argument('scenario', nargs='*', metavar='SCENARIO', help='scenarios to compare instead of random ones')
+    words.add_argument('--seed', default='0', help='the first seed: a number, or a word, whose scenarios are counted')
+    words.add_argument('--count', type=int, default=100, metavar='N', help='how many random scenarios (100)')
+    words.add_argument('--jobs', type=int, metavar='N', help='how many processes (as many as there are processors)')
+    words.add_argument('--one-thread', action='store_true', help='leave out the runs by workers')
+    words.add_argument('--gate', action='store_true', help='compare all examples and cases, and %d random scenarios '
+                       'whose seed is the commit' % GATE_COUNT)
+    words.add_argument('-o', dest='folder', default='.', metavar='FOLDER', help='where scenarios that differ are written')
+    asked = words.parse_args()
+    compilers()
+    runner = Runner(program=program_path(), limits=LIMITS)
+    with tempfile.TemporaryDirectory(prefix='differential-') as name:
+        work = Comparison(HostRuns(Path(name)), runner, not asked.one_thread)
+        return run_asked(work, asked.scenario, asked.seed, asked.count, asked.gate, asked.jobs, Path(asked.folder))
+
+
+def say_progress(line: str) -> None:
+    print(line, file=sys.stderr, flush=True)
+
+
+def run_asked(work: Comparison, names: list[str], seed: str, count: int, is_gate: bool, jobs: int | None,
+              folder: Path) -> int:
+    from motesim.contiki.folder import HERE
+    top = HERE.parent.parent.parent
+    if names:
+        items = items_of_files(names)
+    elif is_gate:
+        seed = commit(top)
+        print('the random scenarios are those of --seed %s --count %d' % (seed, GATE_COUNT))
+        items = iter([*fixed_items(top), *random_items(seed, GATE_COUNT)])
+    else:
+        items = random_items(seed, count)
+    agreed, differing, coverage = compare_all(items, work, folder, jobs, say_progress, 3)
+    if not names:
+        for line in coverage.lines():
+            print(line)
+    print('%d passed, %d failed' % (agreed, differing))
+    return 1 if differing else 0
+
+
+def fixed_items(top: Path) -> Iterator[Item]:
+    """All examples and cases that have a report."""
+    paths = [it for it in sorted((top / 'examples').glob('*.toml')) if not it.name.endswith('.expect.toml')]
+    paths += [it for it in sorted((top / 'tests/cases').glob('*/*.toml')) if it.with_suffix('.expected').exists()
+              and it.parent.name != 'command']
+    for path in paths:
+        data = path.read_bytes()
+        if path.name != 'wrong.toml':
+            yield Item(str(path.relative_to(top)), data, is_strict=True)
+    yield from made_items(top)
+
+
+def made_items(top: Path) -> Iterator[Item]:
+    """The cases whose scenarios are made by Python, as they are long."""
+    for path in sorted((top / 'tests/cases').glob('*/*.make')):
+        if path.with_suffix('.stderr').exists():
+            continue
+        names: dict[str, object] = {}
+        exec(compile(path.read_text('utf-8'), str(path), 'exec'), names)
+        make = names.get('scenario')
+        if callable(make):
+            text = make()
+            yield Item(str(path.relative_to(top)), text.encode() if isinstance(text, str) else text)

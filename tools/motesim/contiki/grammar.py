@@ -1,0 +1,117 @@
+"""The grammar of programs as data: the text that docs/use/NOTATION.md has, and its productions.
+
+A production is a list of alternatives, each of which is a list of parts: a quoted text, a symbol, or such a list in
+brackets or braces.
+"""
+from __future__ import annotations
+
+import re
+from collections.abc import Iterator
+from dataclasses import dataclass
+from functools import cache
+
+GRAMMAR = '''
+program    = { "event" NAME ";" } { "semaphore" NAME "=" NUMBER ";" }
+             "process" NAME { "," NAME } ";"
+             [ "autostart" PROCESS { "," PROCESS } ";" ] [ "receiver" PROCESS ";" ] { code }
+code       = "code" PROCESS "{" { "var" NAME "=" NUMBER ";" } { "etimer" NAME ";" } { "ctimer" NAME block }
+             { "thread" NAME block } [ "onpoll" block ] [ "onexit" block ] "body" block "}"
+block      = "{" { statement } "}"
+statement  = VARIABLE "=" expression ";"
+           | "print" expression ";" | "send" expression ";"
+           | "if" expression block [ "else" block ] | "while" expression block
+           | "yield" ";" | "yield_until" expression ";" | "wait_until" expression ";" | "wait_while" expression ";"
+           | "spawn" THREAD ";" | "restart" ";" | "exit" ";" | "pause" ";"
+           | "acquire" SEMAPHORE ";" | "signal" SEMAPHORE ";"
+           | "post" PROCESS sent expression into ";" | "broadcast" cast expression into ";"
+           | "synch" PROCESS sent expression ";"
+           | "poll" PROCESS ";" | "start" PROCESS ";" | "kill" PROCESS ";"
+           | "set" TIMER expression ";" | "reset" TIMER ";" | "restart_timer" TIMER ";" | "stop" TIMER ";"
+into       = [ "into" VARIABLE ]
+cast       = EVENT | "continue" | "msg" | "com" | "packet"
+sent       = cast | "exit"
+any        = sent | "init" | "poll" | "exited" | "timer"
+expression = NUMBER | VARIABLE | "data" | "from" | "now" | "self"
+           | "is" "(" any ")" | "fired" "(" TIMER ")" | "expired" "(" TIMER ")"
+           | "gone" "(" PROCESS ")" | "running" "(" PROCESS ")" | "count" "(" SEMAPHORE ")"
+           | "!" expression | "(" expression operator expression ")"
+operator   = "+" | "-" | "*" | "/" | "%" | "==" | "!=" | "<" | "<=" | ">" | ">=" | "&&" | "||"
+'''
+TOKEN = re.compile(r'"[^"]+"|\w+|[={}\[\]|]')
+
+
+@dataclass(frozen=True)
+class Text:
+    """A token as it is written."""
+    text: str
+
+
+@dataclass(frozen=True)
+class Symbol:
+    """Another production, or a name or number if it has capitals."""
+    name: str
+
+
+@dataclass(frozen=True)
+class Maybe:
+    """Parts that may be left out."""
+    parts: tuple[Part, ...]
+
+
+@dataclass(frozen=True)
+class Repeated:
+    """Parts any number of times."""
+    parts: tuple[Part, ...]
+
+
+Part = Text | Symbol | Maybe | Repeated
+Alternative = tuple[Part, ...]
+
+
+def name_of(alternative: Alternative) -> str:
+    """The name of an alternative: its first text; the symbol of one that has none."""
+    first = alternative[0]
+    if isinstance(first, Text):
+        return first.text
+    return first.name if isinstance(first, Symbol) else 'into'
+
+
+def symbols_of(parts: tuple[Part, ...]) -> Iterator[str]:
+    """The symbols that can't be left out."""
+    for part in parts:
+        if isinstance(part, Symbol):
+            yield part.name
+
+
+@cache
+def productions() -> dict[str, list[Alternative]]:
+    """The alternatives of each production, by its name."""
+    tokens = TOKEN.findall(GRAMMAR)
+    begins = [place - 1 for place, token in enumerate(tokens) if token == '=']
+    found = {}
+    for begin, end in zip(begins, [*begins[1:], len(tokens)]):
+        found[tokens[begin]] = _alternatives(tokens[begin + 2:end])
+    return found
+
+
+def _alternatives(tokens: list[str]) -> list[Alternative]:
+    alternatives: list[Alternative] = []
+    begin = 0
+    while begin <= len(tokens):
+        parts, begin = _parts(tokens, begin, '|')
+        alternatives.append(parts)
+    return alternatives
+
+
+def _parts(tokens: list[str], at: int, end: str) -> tuple[tuple[Part, ...], int]:
+    """The parts from a place to the next `end`, and the place after that."""
+    parts: list[Part] = []
+    while at < len(tokens) and tokens[at] != end:
+        token = tokens[at]
+        if token in '[{':
+            inner, at = _parts(tokens, at + 1, ']' if token == '[' else '}')
+            parts.append(Maybe(inner) if token == '[' else Repeated(inner))
+            continue
+        parts.append(Text(token[1:-1]) if token[0] == '"' else Symbol(token))
+        at += 1
+    return tuple(parts), at + 1

@@ -1,0 +1,282 @@
+"""Random programs, by the grammar as data: every statement and every expression can come, in every place that takes it.
+
+The weights make programs that do something: most wait in a loop, set their timers to near moments, and post to one
+another. All else is chance.
+"""
+from __future__ import annotations
+
+import random
+from collections import Counter
+from collections.abc import Sequence
+
+from motesim.contiki.grammar import Alternative, Maybe, Symbol, Text, name_of, productions, symbols_of
+
+WAITS = frozenset({'yield', 'yield_until', 'wait_until', 'wait_while', 'spawn', 'restart', 'exit', 'acquire', 'pause'})
+# How often a statement comes, compared with one of weight 4.
+WEIGHTS = {'exit': 1, 'restart': 1, 'while': 2, 'if': 5, 'kill': 2, 'print': 6, 'VARIABLE': 5, 'set': 6, 'post': 7,
+           'send': 5, 'yield': 3, 'yield_until': 6, 'wait_until': 3, 'acquire': 2, 'wait_while': 2, 'broadcast': 3}
+LEAVES = frozenset({'NUMBER', 'VARIABLE', 'data', 'from', 'now', 'self', 'is', 'fired', 'expired', 'gone', 'running',
+                    'count'})
+SYMBOLS = ('VARIABLE', 'PROCESS', 'EVENT', 'TIMER', 'SEMAPHORE', 'THREAD')
+ODD_NUMBERS = (255, 256, 257, 4095, 9999, 10000, 32767, 32768, 40000, 65534, 65535)
+MOST_LEVELS, MOST_STATEMENTS, MOST_TIMERS = 32, 4096, 64
+# (names that C or Contiki has come too, so that their new names are tried)
+NAMES = tuple('int char log done list timer_set pt ptr main word ev motesim_self index double abcdefghijklmnop '
+              'process_poll a_process t_pt case x1 y0 z9z'.split())
+
+
+class RandomProgram:
+    """Writes one random program. What came is counted in `reached`, by the symbol and the alternative."""
+
+    def __init__(self, chance: random.Random, reached: Counter[str], limit: str = ''):
+        self.chance = chance
+        self.reached = reached
+        self.limit = limit
+        self.names: dict[str, list[str]] = {it: [] for it in SYMBOLS}
+        self.taken: set[str] = set()
+        self.lines: list[str] = []
+        self.statements = 0
+        self.is_simple = False
+        self.timers_left = MOST_TIMERS
+
+    # Names
+
+    def new_name(self, short: str) -> str:
+        """A name that nothing has yet."""
+        if self.chance.random() < 0.03:
+            name = self.chance.choice(NAMES)
+            if name not in self.taken:
+                self.taken.add(name)
+                return name
+        number = 0
+        while '%s%s' % (short, number or '') in self.taken:
+            number += 1
+        name = '%s%s' % (short, number or '')
+        self.taken.add(name)
+        return name
+
+    def declare(self, symbol: str, short: str) -> str:
+        name = self.new_name(short)
+        self.names[symbol].append(name)
+        return name
+
+    def few(self, most: int, what: str, limit: int) -> int:
+        """How many of something there are: few, or as many as there may be."""
+        if self.limit == what:
+            self.reached['limit %s' % what] += 1
+            return limit
+        return self.chance.choice([0, *range(1, most + 1), *range(1, most)])
+
+    # The program
+
+    def text(self) -> str:
+        """The whole text."""
+        chance = self.chance
+        for _ in range(self.few(2, 'events', 117)):
+            self.lines.append('event %s;' % self.declare('EVENT', 'e'))
+        for _ in range(self.few(2, 'semaphores', 64)):
+            self.lines.append('semaphore %s = %s;' % (self.declare('SEMAPHORE', 's'), self.number()))
+        count = 64 if self.limit == 'processes' else chance.choice([1, 1, 2, 2, 3, 3, 4, 5])
+        self.reached['limit processes'] += self.limit == 'processes'
+        processes = [self.declare('PROCESS', 'p') for _ in range(count)]
+        self.lines.append('process %s;' % ', '.join(processes))
+        if chance.random() < 0.97:
+            started = chance.sample(processes, chance.randint(max(1, count // 2), count))
+            self.lines.append('autostart %s;' % ', '.join(started))
+            self.reached['autostart'] += 1
+        if chance.random() < 0.8:
+            self.lines.append('receiver %s;' % chance.choice(processes))
+            self.reached['receiver'] += 1
+        for process in processes:
+            self.code(process)
+        return '\n'.join(self.lines) + '\n'
+
+    def code(self, process: str) -> None:
+        """The code of one process."""
+        chance = self.chance
+        before = set(self.taken)
+        for symbol in 'VARIABLE', 'TIMER', 'THREAD':
+            self.names[symbol] = []
+        self.lines.append('code %s {' % process)
+        for _ in range(self.few(3, 'variables', 64)):
+            self.lines.append('  var %s = %s;' % (self.declare('VARIABLE', 'v'), self.number()))
+            self.reached['var'] += 1
+        timers = MOST_TIMERS if self.limit == 'timers' and self.timers_left == MOST_TIMERS else 0
+        self.reached['limit timers'] += timers > 0
+        for short, most in ('t', 2), ('c', 1):
+            for _ in range(min(timers // 2 or chance.randint(0, most), self.timers_left)):
+                self.timers_left -= 1
+                if short == 't':
+                    self.lines.append('  etimer %s;' % self.declare('TIMER', 't'))
+                    self.reached['etimer'] += 1
+                else:
+                    self.lines.append('  ctimer %s {' % self.declare('TIMER', 'c'))
+                    self.simple_block('ctimer')
+        for _ in range(self.few(2, 'threads', 7) if chance.random() < 0.5 or self.limit == 'threads' else 0):
+            name = self.new_name('r')
+            self.lines.append('  thread %s {' % name)
+            self.reached['thread'] += 1
+            if self.limit == 'threads' and self.names['THREAD']:
+                self.statement_lines(['spawn %s;' % self.names['THREAD'][-1]], '    ')
+            self.block('    ', chance.randint(0, 4), 2)
+            self.lines.append('  }')
+            self.names['THREAD'].append(name)
+        for handler in 'onpoll', 'onexit':
+            if chance.random() < 0.3:
+                self.lines.append('  %s {' % handler)
+                self.simple_block(handler)
+        self.lines.append('  body {')
+        self.body()
+        self.lines += ['  }', '}']
+        self.taken = before
+
+    def simple_block(self, what: str) -> None:
+        self.reached[what] += 1
+        self.is_simple = True
+        self.block('    ', self.chance.randint(0, 3), 3)
+        self.is_simple = False
+        self.lines.append('  }')
+
+    def body(self) -> None:
+        """A body: some statements, and mostly a loop that waits."""
+        chance = self.chance
+        if self.limit == 'statements':
+            self.reached['limit statements'] += 1
+            room = MOST_STATEMENTS - self.statements - 200
+            self.limit = ''
+            for _ in range(room):
+                self.statement_lines([self.statement_of('VARIABLE' if self.names['VARIABLE'] else 'print')], '    ')
+        if self.limit == 'levels':
+            self.reached['limit levels'] += 1
+            self.limit = ''
+            for depth in range(MOST_LEVELS - 2):
+                self.statement_lines(['if 1 {'], '    ')
+            self.statement_lines(['print now;'], '    ')
+            self.lines += ['    }'] * (MOST_LEVELS - 2)
+            self.statement_lines(['print %s7;' % ('!' * (MOST_LEVELS - 1))], '    ')
+        self.block('    ', chance.randint(0, 4), 0)
+        if chance.random() < 0.75 and self.statements < MOST_STATEMENTS - 40:
+            self.statement_lines(['while 1 {'], '    ')
+            wait = chance.choice(['yield', 'yield_until', 'yield_until', 'wait_until', 'pause', 'acquire'])
+            if self.can_come(self.alternative(wait)):
+                self.statement_lines([self.statement_of(wait)], '      ')
+            else:
+                self.statement_lines(['yield;'], '      ')
+            self.block('      ', chance.randint(1, 6), 1)
+            self.lines.append('    }')
+
+    def block(self, indent: str, count: int, depth: int) -> None:
+        """The statements of a block."""
+        for _ in range(count):
+            if self.statements > MOST_STATEMENTS - 60:
+                return
+            self.random_statement(indent, depth)
+
+    # Statements
+
+    def alternative(self, name: str, symbol: str = 'statement') -> Alternative:
+        return next(it for it in productions()[symbol] if name_of(it) == name)
+
+    def can_come(self, alternative: Alternative) -> bool:
+        """Whether all names that an alternative needs are there."""
+        return all(self.names[it] for it in symbols_of(alternative) if it in self.names)
+
+    def random_statement(self, indent: str, depth: int) -> None:
+        kinds = [it for it in productions()['statement'] if self.can_come(it)
+                 and not (self.is_simple and name_of(it) in WAITS) and not (depth > 3 and name_of(it) in ('if', 'while'))]
+        kind = name_of(self.chance.choices(kinds, [WEIGHTS.get(name_of(it), 4) for it in kinds])[0])
+        if kind == 'while' and self.names['VARIABLE'] and self.chance.random() < 0.7:
+            self.counted_loop(indent, depth)
+        elif kind in ('if', 'while'):
+            self.reached['statement %s' % kind] += 1
+            self.statement_lines(['%s %s {' % (kind, self.expression(2))], indent)
+            self.block(indent + '  ', self.chance.randint(0, 3), depth + 1)
+            if kind == 'if' and self.chance.random() < 0.4:
+                self.reached['else'] += 1
+                self.lines.append(indent + '} else {')
+                self.block(indent + '  ', self.chance.randint(0, 2), depth + 1)
+            self.lines.append(indent + '}')
+        else:
+            comment = '  // %s' % self.chance.choice(['a', '*/ /* b', 'c ?' + '?/', '"']) \
+                if self.chance.random() < 0.02 else ''
+            self.statement_lines([self.statement_of(kind) + comment], indent)
+
+    def counted_loop(self, indent: str, depth: int) -> None:
+        """A loop that comes to an end, unless its block changes its variable."""
+        self.reached['statement while'] += 1
+        name = self.chance.choice(self.names['VARIABLE'])
+        self.statement_lines(['%s = 0;' % name, 'while (%s < %d) {' % (name, self.chance.choice([1, 2, 3, 9, 12, 40]))],
+                             indent)
+        self.block(indent + '  ', self.chance.randint(0, 2), depth + 1)
+        self.statement_lines(['%s = (%s + 1);' % (name, name)], indent + '  ')
+        self.lines.append(indent + '}')
+
+    def statement_lines(self, lines: Sequence[str], indent: str) -> None:
+        self.statements += len(lines)
+        self.lines += [indent + it for it in lines]
+
+    def statement_of(self, kind: str) -> str:
+        """A statement without blocks."""
+        self.reached['statement %s' % kind] += 1
+        if kind == 'set' and self.chance.random() < 0.8:
+            return 'set %s %d;' % (self.chance.choice(self.names['TIMER']), self.chance.choice([0, 1, 1, 2, 2, 3, 4, 7]))
+        if kind == 'yield_until' and self.chance.random() < 0.4:
+            return 'yield_until %s;' % self.test()
+        return self.joined(self.expand(self.alternative(kind), 3))
+
+    def test(self) -> str:
+        """A test of the event, as programs mostly wait for one."""
+        kinds = [it for it in productions()['expression'] if name_of(it) in ('is', 'fired', 'gone')
+                 and self.can_come(it)]
+        chosen = self.chance.choice(kinds)
+        self.reached['expression %s' % name_of(chosen)] += 1
+        return self.joined(self.expand(chosen, 0))
+
+    @staticmethod
+    def joined(tokens: list[str]) -> str:
+        return ' '.join(tokens)
+
+    # The grammar
+
+    def expand(self, parts: Alternative, depth: int) -> list[str]:
+        """The tokens of an alternative, with names that are known and expressions at most so deep."""
+        tokens: list[str] = []
+        for part in parts:
+            if isinstance(part, Text):
+                tokens.append(part.text)
+            elif isinstance(part, Maybe):
+                if self.can_come(part.parts) and self.chance.random() < 0.4:
+                    tokens += self.expand(part.parts, depth)
+                    self.reached['into'] += 1
+            elif isinstance(part, Symbol):
+                tokens += self.symbol(part.name, depth)
+        return tokens
+
+    def symbol(self, name: str, depth: int) -> list[str]:
+        if name == 'NUMBER':
+            return [self.number()]
+        if name in self.names:
+            return [self.chance.choice(self.names[name])]
+        if name == 'expression':
+            return [self.expression(depth)]
+        alternatives = [it for it in productions()[name] if self.can_come(it)]
+        weights = [8 if name_of(it) in ('cast', 'sent') else 2 if name_of(it) == 'EVENT' else 1 for it in alternatives]
+        chosen = self.chance.choices(alternatives, weights)[0]
+        if len(productions()[name]) > 1:
+            self.reached['%s %s' % (name, name_of(chosen))] += 1
+        return self.expand(chosen, depth)
+
+    def number(self) -> str:
+        chance = self.chance
+        if chance.random() < 0.85:
+            return str(chance.choice([0, 0, 1, 1, 1, 2, 3, 4, 5, 7, 9, 12, 20]))
+        self.reached['odd number'] += 1
+        return str(chance.choice(ODD_NUMBERS) if chance.random() < 0.7 else chance.randrange(65536))
+
+    def expression(self, depth: int) -> str:
+        chosen = [it for it in productions()['expression'] if self.can_come(it)
+                  and (depth > 0 or name_of(it) in LEAVES)]
+        weights = [{'(': 9, 'NUMBER': 6, 'VARIABLE': 8, '!': 1}.get(name_of(it), 2) for it in chosen]
+        alternative = self.chance.choices(chosen, weights)[0]
+        self.reached['expression %s' % name_of(alternative)] += 1
+        return self.joined(self.expand(alternative, depth - 1))
