@@ -97,7 +97,7 @@ class Comparison:
         reached.update(Coverage.of_report(report))
         return Compared(difference, reached, len(report))
 
-    def smallest(self, scenario: bytes, say: Callable[[str], None]) -> bytes:
+    def smallest(self, scenario: bytes) -> bytes:
         """The scenario without all that the difference doesn't need."""
         # (needed when something differs only)
         from motesim.search.net import loss_steps, mote_steps, net_of, number_steps, program_steps
@@ -116,7 +116,6 @@ class Comparison:
                             break
                     else:
                         break
-                say('smaller: %d bytes' % len(net.text))
         return net.text.encode()
 
     def is_different(self, scenario: bytes) -> bool:
@@ -166,7 +165,7 @@ def compare_all(items: Iterator[Item], work: Comparison, folder: Path, workers: 
                 print('%s differs: %s' % (done.item.name, difference), flush=True)
                 scenario = done.item.scenario or random_scenario(done.item.seed)
                 if differing <= most and not done.fault:
-                    scenario = work.smallest(scenario, lambda told: None)
+                    scenario = work.smallest(scenario)
                     print('  the smallest that differs: %s' % (work.difference(scenario)[0],))
                 if differing <= most:
                     path = folder / ('differs_%d.toml' % differing)

@@ -9,6 +9,7 @@ import re
 from collections.abc import Iterator
 from dataclasses import dataclass
 from functools import cache
+from typing import NamedTuple
 
 GRAMMAR = '''
 program    = { "event" NAME ";" } { "semaphore" NAME "=" NUMBER ";" }
@@ -68,6 +69,13 @@ Part = Text | Symbol | Maybe | Repeated
 Alternative = tuple[Part, ...]
 
 
+class Form(NamedTuple):
+    """An alternative of a production: its name, the symbols that can't be left out, and its parts."""
+    name: str
+    needs: tuple[str, ...]
+    parts: Alternative
+
+
 def name_of(alternative: Alternative) -> str:
     """The name of an alternative: its first text; the symbol of one that has none."""
     first = alternative[0]
@@ -81,6 +89,16 @@ def symbols_of(parts: tuple[Part, ...]) -> Iterator[str]:
     for part in parts:
         if isinstance(part, Symbol):
             yield part.name
+
+
+@cache
+def forms(symbol: str) -> list[Form]:
+    """The alternatives of a production."""
+    return [form_of(it) for it in productions()[symbol]]
+
+
+def form_of(parts: Alternative) -> Form:
+    return Form(name_of(parts), tuple(symbols_of(parts)), parts)
 
 
 @cache

@@ -40,18 +40,13 @@ def called(arguments: list[str], folder: Path) -> None:
 class HostRuns:
     """The host, compiled into a folder. Each process that uses it works in a folder of its own."""
 
-    def __init__(self, folder: Path, source: Path = HOST, optimise: str = '-O2'):
+    def __init__(self, folder: Path, source: Path = HOST, is_optimised: bool = True):
         self.folder = folder
         self.source = source
         own, self.compiler = compilers()
-        self.optimise = optimise
         folder.mkdir(parents=True, exist_ok=True)
-        sources = [str(it) for it in sorted(source.glob('*.c'))]
-        if own == 'tcc':
-            for path in sources:
-                called([own, *STANDARD, '-I%s' % source, '-c', path], folder)
-        else:
-            called([own, *STANDARD, optimise, '-I%s' % source, '-c', *sources], folder)
+        for path in sorted(source.glob('*.c')):
+            called([own if is_optimised else self.compiler, *STANDARD, '-O2', '-I%s' % source, '-c', str(path)], folder)
         self.objects = [str(it) for it in sorted(folder.glob('*.o'))]
         self.strict = next((it for it in ('gcc', 'clang') if shutil.which(it)), '')
         self.number = itertools.count()

@@ -3,6 +3,7 @@ from __future__ import annotations
 
 import re
 import textwrap
+from functools import lru_cache
 
 WIDTH = 80
 RULE = '/*%s*/' % ('-' * 75)
@@ -11,7 +12,7 @@ OPERATORS = frozenset('+ - * / % == != < <= > >= && || = ? :'.split())
 
 def cleaned(comment: str) -> str:
     """A comment's text that may stand between /* and */."""
-    plain = ''.join(it if it.isprintable() else ' ' for it in comment)
+    plain = comment if comment.isprintable() else ''.join(it if it.isprintable() else ' ' for it in comment)
     return re.sub(r'\?\?', '? ?', plain.replace('*/', '* /').replace('/*', '/ *')).strip()
 
 
@@ -22,12 +23,17 @@ def comment_lines(comments: list[str], indent: str) -> list[str]:
         texts.pop()
     if not any(texts):
         return []
-    lines = [line for text in texts for line in textwrap.wrap(
-        text, WIDTH - len(indent) - 6, break_long_words=False, break_on_hyphens=False,
-        subsequent_indent='  ' if text.startswith('- ') else '') or ['']]
+    lines = [line for text in texts for line in _wrapped(text, WIDTH - len(indent) - 6)]
     if len(lines) == 1:
         return ['%s/* %s */' % (indent, lines[0])]
     return ['%s/*' % indent] + [('%s * %s' % (indent, line)).rstrip() for line in lines] + ['%s */' % indent]
+
+
+@lru_cache(1000)
+def _wrapped(text: str, width: int) -> list[str]:
+    """The lines of a text; those after the first of a bullet are indented."""
+    return textwrap.wrap(text, width, break_long_words=False, break_on_hyphens=False,
+                         subsequent_indent='  ' if text.startswith('- ') else '') or ['']
 
 
 def code_lines(code: str, indent: str) -> list[str]:

@@ -64,7 +64,6 @@ class ProgramFile:
         self.init = self.names.helper('init_program')
         self.init_done = self.names.helper('init_done')
         self.word = self.names.helper('word_of')
-        self.uses_word = False
         # (of each thread what it needs beyond its pt)
         self.needs: dict[tuple[str, str], list[str]] = {}
         self.image = Image()
@@ -126,7 +125,7 @@ class ProgramFile:
         for declared in map(self._code_declarations, self.program.codes):
             lines += declared
         lines += self._pointers_to_callbacks()
-        if self.uses_word:
+        if any(self.word + '(' in line for function in functions for line in function):
             lines += self._word_function()
         if self._has_init():
             lines += self._init_function()
@@ -328,16 +327,11 @@ class _Block:
         self.function.lines = whole + written[:at] + work + written[at:]
         if statement.kind in WAITS:
             self.expressions.known = self.known_after(statement)
-        self.note_word()
 
     def work(self, indent: str) -> None:
         """Counts a unit of work."""
         if self.file.counts_work:
             self.function.lines.append(indent + WORK)
-
-    def note_word(self) -> None:
-        if any(self.file.word + '(' in line for line in self.function.lines):
-            self.file.uses_word = True
 
     def known_after(self, statement: Statement) -> Known | None:
         """The event that is known to be there when a waiting statement is left."""
@@ -366,7 +360,6 @@ class _Block:
             self.write(statement.otherwise, indent + '  ')
         self.function.lines.append(indent + '}')
         self.expressions.known = None if waits and not self.is_simple else known
-        self.note_word()
 
     def codes(self, statement: Statement) -> list[str]:
         """A statement without blocks in C: one line, or two."""

@@ -9,12 +9,13 @@ import random
 from collections import Counter
 from collections.abc import Sequence
 
-from motesim.contiki.grammar import Alternative, Maybe, Symbol, Text, name_of, productions, symbols_of
+from motesim.contiki.grammar import Alternative, Form, Maybe, Symbol, Text, form_of, forms
 
 WAITS = frozenset({'yield', 'yield_until', 'wait_until', 'wait_while', 'spawn', 'restart', 'exit', 'acquire', 'pause'})
 # How often a statement comes, compared with one of weight 4.
 WEIGHTS = {'exit': 1, 'restart': 1, 'while': 2, 'if': 5, 'kill': 2, 'print': 6, 'VARIABLE': 5, 'set': 6, 'post': 7,
            'send': 5, 'yield': 3, 'yield_until': 6, 'wait_until': 3, 'acquire': 2, 'wait_while': 2, 'broadcast': 3}
+EXPRESSION_WEIGHTS = {'(': 9, 'NUMBER': 6, 'VARIABLE': 8, '!': 1}
 LEAVES = frozenset({'NUMBER', 'VARIABLE', 'data', 'from', 'now', 'self', 'is', 'fired', 'expired', 'gone', 'running',
                     'count'})
 SYMBOLS = ('VARIABLE', 'PROCESS', 'EVENT', 'TIMER', 'SEMAPHORE', 'THREAD')
@@ -155,10 +156,13 @@ class RandomProgram:
             self.lines += ['    }'] * (MOST_LEVELS - 2)
             self.statement_lines(['print %s7;' % ('!' * (MOST_LEVELS - 1))], '    ')
         self.block('    ', chance.randint(0, 4), 0)
+        if self.names['TIMER'] and chance.random() < 0.15:
+            # (what became of a timer whose process has left)
+            self.statement_lines(['print expired(%s);' % chance.choice(self.names['TIMER'])], '    ')
         if chance.random() < 0.75 and self.statements < MOST_STATEMENTS - 40:
             self.statement_lines(['while 1 {'], '    ')
             wait = chance.choice(['yield', 'yield_until', 'yield_until', 'wait_until', 'pause', 'acquire'])
-            if self.can_come(self.alternative(wait)):
+            if self.can_come(self.statement_form(wait)):
                 self.statement_lines([self.statement_of(wait)], '      ')
             else:
                 self.statement_lines(['yield;'], '      ')
@@ -170,21 +174,36 @@ class RandomProgram:
         for _ in range(count):
             if self.statements > MOST_STATEMENTS - 60:
                 return
-            self.random_statement(indent, depth)
+            if self.chance.random() < 0.05:
+                self.revival(indent)
+            else:
+                self.random_statement(indent, depth)
+
+    def revival(self, indent: str) -> None:
+        """A process that is killed and started again at once, in the midst of what goes on."""
+        name = self.chance.choice(self.names['PROCESS'])
+        lines = ['kill %s;' % name, 'start %s;' % name, 'poll %s;' % name, 'post %s msg 1;' % name]
+        kept = [it for it in lines if self.chance.random() < 0.75]
+        if self.chance.random() < 0.3:
+            self.chance.shuffle(kept)
+        self.statement_lines(kept, indent)
 
     # Statements
 
-    def alternative(self, name: str, symbol: str = 'statement') -> Alternative:
-        return next(it for it in productions()[symbol] if name_of(it) == name)
+    def statement_form(self, name: str) -> Form:
+        return next(it for it in forms('statement') if it.name == name)
 
-    def can_come(self, alternative: Alternative) -> bool:
+    def can_come(self, form: Form) -> bool:
         """Whether all names that an alternative needs are there."""
-        return all(self.names[it] for it in symbols_of(alternative) if it in self.names)
+        for symbol in form.needs:
+            if symbol in self.names and not self.names[symbol]:
+                return False
+        return True
 
     def random_statement(self, indent: str, depth: int) -> None:
-        kinds = [it for it in productions()['statement'] if self.can_come(it)
-                 and not (self.is_simple and name_of(it) in WAITS) and not (depth > 3 and name_of(it) in ('if', 'while'))]
-        kind = name_of(self.chance.choices(kinds, [WEIGHTS.get(name_of(it), 4) for it in kinds])[0])
+        kinds = [it.name for it in forms('statement') if self.can_come(it)
+                 and not (self.is_simple and it.name in WAITS) and not (depth > 3 and it.name in ('if', 'while'))]
+        kind = self.chance.choices(kinds, [WEIGHTS.get(it, 4) for it in kinds])[0]
         if kind == 'while' and self.names['VARIABLE'] and self.chance.random() < 0.7:
             self.counted_loop(indent, depth)
         elif kind in ('if', 'while'):
@@ -222,15 +241,14 @@ class RandomProgram:
             return 'set %s %d;' % (self.chance.choice(self.names['TIMER']), self.chance.choice([0, 1, 1, 2, 2, 3, 4, 7]))
         if kind == 'yield_until' and self.chance.random() < 0.4:
             return 'yield_until %s;' % self.test()
-        return self.joined(self.expand(self.alternative(kind), 3))
+        return self.joined(self.expand(self.statement_form(kind).parts, 3))
 
     def test(self) -> str:
         """A test of the event, as programs mostly wait for one."""
-        kinds = [it for it in productions()['expression'] if name_of(it) in ('is', 'fired', 'gone')
-                 and self.can_come(it)]
+        kinds = [it for it in forms('expression') if it.name in ('is', 'fired', 'gone') and self.can_come(it)]
         chosen = self.chance.choice(kinds)
-        self.reached['expression %s' % name_of(chosen)] += 1
-        return self.joined(self.expand(chosen, 0))
+        self.reached['expression %s' % chosen.name] += 1
+        return self.joined(self.expand(chosen.parts, 0))
 
     @staticmethod
     def joined(tokens: list[str]) -> str:
@@ -245,7 +263,7 @@ class RandomProgram:
             if isinstance(part, Text):
                 tokens.append(part.text)
             elif isinstance(part, Maybe):
-                if self.can_come(part.parts) and self.chance.random() < 0.4:
+                if self.can_come(form_of(part.parts)) and self.chance.random() < 0.4:
                     tokens += self.expand(part.parts, depth)
                     self.reached['into'] += 1
             elif isinstance(part, Symbol):
@@ -259,12 +277,12 @@ class RandomProgram:
             return [self.chance.choice(self.names[name])]
         if name == 'expression':
             return [self.expression(depth)]
-        alternatives = [it for it in productions()[name] if self.can_come(it)]
-        weights = [8 if name_of(it) in ('cast', 'sent') else 2 if name_of(it) == 'EVENT' else 1 for it in alternatives]
+        alternatives = [it for it in forms(name) if self.can_come(it)]
+        weights = [8 if it.name in ('cast', 'sent') else 2 if it.name == 'EVENT' else 1 for it in alternatives]
         chosen = self.chance.choices(alternatives, weights)[0]
-        if len(productions()[name]) > 1:
-            self.reached['%s %s' % (name, name_of(chosen))] += 1
-        return self.expand(chosen, depth)
+        if len(forms(name)) > 1:
+            self.reached['%s %s' % (name, chosen.name)] += 1
+        return self.expand(chosen.parts, depth)
 
     def number(self) -> str:
         chance = self.chance
@@ -274,9 +292,7 @@ class RandomProgram:
         return str(chance.choice(ODD_NUMBERS) if chance.random() < 0.7 else chance.randrange(65536))
 
     def expression(self, depth: int) -> str:
-        chosen = [it for it in productions()['expression'] if self.can_come(it)
-                  and (depth > 0 or name_of(it) in LEAVES)]
-        weights = [{'(': 9, 'NUMBER': 6, 'VARIABLE': 8, '!': 1}.get(name_of(it), 2) for it in chosen]
-        alternative = self.chance.choices(chosen, weights)[0]
-        self.reached['expression %s' % name_of(alternative)] += 1
-        return self.joined(self.expand(alternative, depth - 1))
+        kinds = [it for it in forms('expression') if self.can_come(it) and (depth > 0 or it.name in LEAVES)]
+        chosen = self.chance.choices(kinds, [EXPRESSION_WEIGHTS.get(it.name, 2) for it in kinds])[0]
+        self.reached['expression %s' % chosen.name] += 1
+        return self.joined(self.expand(chosen.parts, depth - 1))

@@ -1,0 +1,178 @@
+"""The comparison of motesim with the host: what its scenarios reach, and that it notices what differs."""
+from __future__ import annotations
+
+import itertools
+import os
+import shutil
+import subprocess
+import sys
+import tempfile
+import tomllib
+import unittest
+from collections import Counter
+from collections.abc import Iterator
+from functools import cache
+from pathlib import Path
+
+from here import TOOLS, TOP
+from motesim.contiki import differential
+from motesim.contiki.coverage import LIMITS, Coverage
+from motesim.contiki.grammar import GRAMMAR, productions
+from motesim.contiki.host_runs import HostFault, HostRuns, compilers
+from motesim.contiki.random_scenario import random_scenario
+from motesim.notation.faults import find_fault
+from motesim.runner import Runner
+from motesim.runner.programs import program_path
+from motesim.scenario import Scenario
+from skips import need_program
+
+HOST = TOOLS / 'contiki_host'
+MUTANTS = Path(__file__).resolve().parent / 'contiki_host/mutants.toml'
+# How many random scenarios may go by before a mutant is noticed.
+MOST_SCENARIOS = 400
+# Mutants whose rule random scenarios hardly ever reach.
+RARE: frozenset[str] = frozenset()
+
+
+def need_compiler(test: unittest.TestCase) -> None:
+    try:
+        compilers()
+    except HostFault as fault:
+        test.skipTest(str(fault))
+
+
+@cache
+def answered(seed: int) -> tuple[bytes, bytes]:
+    """A random scenario, and the report that motesim writes."""
+    scenario = random_scenario(seed)
+    return scenario, Runner(program=program_path()).report(scenario)
+
+
+class Generator(unittest.TestCase):
+    def test_the_grammar_is_that_of_the_page(self) -> None:
+        page = (TOP / 'docs/use/NOTATION.md').read_text('utf-8')
+        self.assertIn('```\n%s```' % GRAMMAR.lstrip('\n'), page.replace('```ebnf', '```'))
+        self.assertEqual(len(productions()['statement']), 25)
+        self.assertEqual(len(productions()['operator']), 13)
+
+    def test_scenarios_are_right_and_reach_all_that_there_is(self) -> None:
+        coverage = Coverage()
+        for seed in range(400):
+            reached: Counter[str] = Counter()
+            scenario = Scenario.parse(random_scenario(seed, reached))
+            if seed % 4 == 0:
+                for text in scenario.programs.values():
+                    self.assertIsNone(find_fault(text), seed)
+            coverage.add(reached)
+        missing = [name for sort, names in coverage.wanted().items() if sort != 'forms of lines' for name in names
+                   if not coverage.reached[name]]
+        self.assertEqual(missing, [])
+
+    def test_a_seed_has_one_scenario(self) -> None:
+        self.assertEqual(random_scenario('abc-1'), random_scenario('abc-1'))
+        self.assertNotEqual(random_scenario('abc-1'), random_scenario('abc-2'))
+
+    def test_the_limits_are_met(self) -> None:
+        """Of each limit there is a program with exactly as many as there may be."""
+        found: dict[str, int] = {}
+        for seed in itertools.count():
+            reached: Counter[str] = Counter()
+            scenario = random_scenario(seed, reached)
+            for limit in LIMITS:
+                if reached['limit %s' % limit] and limit not in found:
+                    text = next(iter(Scenario.parse(scenario).programs.values()))
+                    found[limit] = {'events': text.count('event '), 'semaphores': text.count('semaphore '),
+                                    'processes': text.count('code '), 'timers': text.count('  etimer ') + text.count('  ctimer '),
+                                    'variables': max(it.count('  var ') for it in text.split('code ')),
+                                    'threads': max(it.count('  thread ') for it in text.split('code '))}.get(limit, 0)
+            if len(found) == len(LIMITS):
+                break
+        self.assertEqual({it: found[it] for it in LIMITS if found[it]}, {
+            'events': 117, 'semaphores': 64, 'processes': 64, 'variables': 64, 'timers': 64, 'threads': 7})
+
+
+class Mutants(unittest.TestCase):
+    """Each edit of the host that breaks a rule is noticed by some random scenario."""
+
+    def setUp(self) -> None:
+        need_program(self)
+        need_compiler(self)
+        self.folder = Path(tempfile.mkdtemp())
+        self.addCleanup(shutil.rmtree, self.folder)
+
+    def mutant(self, number: int, edit: dict[str, str]) -> HostRuns:
+        """The host with one edit."""
+        source = self.folder / ('source_%d' % number)
+        shutil.copytree(HOST, source)
+        path = source / edit['file']
+        text = path.read_text('utf-8')
+        self.assertEqual(text.count(edit['from']), 1, edit['rule'])
+        path.write_text(text.replace(edit['from'], edit['to']), 'utf-8')
+        return HostRuns(self.folder / ('built_%d' % number), source, is_optimised=False)
+
+    def noticed(self, host: HostRuns) -> Iterator[int]:
+        """The seeds of scenarios whose reports differ."""
+        for seed in range(MOST_SCENARIOS):
+            scenario, report = answered(seed)
+            try:
+                if host.report(scenario) != report:
+                    yield seed
+            except HostFault:
+                yield seed
+
+    def test_each_is_noticed(self) -> None:
+        edits = tomllib.loads(MUTANTS.read_text('utf-8'))['mutant']
+        unnoticed = [edit['rule'] for number, edit in enumerate(edits)
+                     if next(self.noticed(self.mutant(number, edit)), None) is None]
+        self.assertLessEqual(set(unnoticed), RARE)
+        self.assertGreaterEqual(len(edits) - len(unnoticed), 12)
+
+
+class Command(unittest.TestCase):
+    def setUp(self) -> None:
+        need_program(self)
+        need_compiler(self)
+        self.folder = Path(tempfile.mkdtemp())
+        self.addCleanup(shutil.rmtree, self.folder)
+
+    def run_tool(self, *arguments: str, **environment: str) -> subprocess.CompletedProcess[str]:
+        return subprocess.run([sys.executable, str(TOOLS / 'differential'), *arguments], capture_output=True, text=True,
+                              env={**os.environ, **environment}, cwd=self.folder)
+
+    def test_all_agree(self) -> None:
+        done = self.run_tool('--seed', '31', '--count', '12', '--jobs', '2')
+        self.assertEqual(done.returncode, 0, done.stdout)
+        self.assertEqual(done.stdout.splitlines()[-1], '12 passed, 0 failed')
+        self.assertIn('forms of lines: ', done.stdout)
+
+    def test_a_scenario_of_ones_own(self) -> None:
+        done = self.run_tool(str(TOP / 'examples/processes.toml'), '--jobs', '1')
+        self.assertEqual((done.returncode, done.stdout), (0, '1 passed, 0 failed\n'))
+
+    def test_without_a_compiler(self) -> None:
+        folder = self.folder / 'bin'
+        folder.mkdir()
+        done = subprocess.run([sys.executable, str(TOOLS / 'differential'), '--count', '1'], capture_output=True, text=True,
+                              env={**os.environ, 'PATH': str(folder)}, cwd=self.folder)
+        self.assertEqual((done.returncode, done.stderr),
+                         (2, 'differential: there is no C compiler: on Debian `apt-get install tcc` installs one\n'))
+
+    def test_a_difference_becomes_small(self) -> None:
+        """A host that loses packets by their numbers, instead of their numbers plus one."""
+        source = self.folder / 'source'
+        shutil.copytree(HOST, source)
+        path = source / 'medium.c'
+        path.write_text(path.read_text('utf-8').replace('(copy.number + 1) % ', 'copy.number % '), 'utf-8')
+        work = differential.Comparison(HostRuns(self.folder / 'built', source, is_optimised=False),
+                                       Runner(program=program_path()), with_workers=False)
+        scenario = (TOP / 'examples/small_network.toml').read_bytes()
+        self.assertTrue(work.is_different(scenario))
+        smallest = work.smallest(scenario)
+        self.assertTrue(work.is_different(smallest))
+        found = Scenario.parse(smallest)
+        self.assertEqual((found.motes, len(found.losses)), (2, 1))
+        self.assertLess(len(smallest), 400)
+
+
+if __name__ == '__main__':
+    unittest.main()
