@@ -316,15 +316,15 @@ class _Block:
             self.work(indent)
             self.branch(statement, indent)
             return
-        whole = self.function.lines
-        self.function.lines = []
+        own = _Function()
         for code in self.codes(statement):
-            self.function.add(code + ';', indent)
-        written = self.file._with_comments(statement.comments, self.function.lines, indent)
-        at = len(written) - len(self.function.lines)
+            own.add(code + ';', indent)
+        written = self.file._with_comments(statement.comments, own.lines, indent)
+        at = len(written) - len(own.lines)
         # (the unit of work is counted below the comments)
         work = [indent + WORK] if self.file.counts_work else []
-        self.function.lines = whole + written[:at] + work + written[at:]
+        self.function.lines += written[:at] + work + written[at:]
+        self.function.uses |= own.uses
         if statement.kind in WAITS:
             self.expressions.known = self.known_after(statement)
 
