@@ -339,7 +339,7 @@ class Expressions:
             return number(int(answer))
         # (compilers warn where they take an operand of an unsigned comparison for a negative one)
         if 'unsigned' in (left.type, right.type):
-            left, right = (it if it.type == 'unsigned' or it.level >= UNARY else
+            left, right = (it if it.type == 'unsigned' or it.type == 'short' and it.level >= UNARY else
                            Made('(uint16_t)%s' % it.inside(UNARY), UNARY, it.low, it.high) for it in (left, right))
         # (they warn of a negation there, too)
         one, other = ('(%s)' % it.text if it.text.startswith('!') else it.inside(SUM) for it in (left, right))

@@ -156,7 +156,7 @@ class RandomProgram:
             self.lines += ['    }'] * (MOST_LEVELS - 2)
             self.statement_lines(['print %s7;' % ('!' * (MOST_LEVELS - 1))], '    ')
         self.block('    ', chance.randint(0, 4), 0)
-        if self.names['TIMER'] and chance.random() < 0.15:
+        if self.names['TIMER'] and chance.random() < 0.35:
             # (what became of a timer whose process has left)
             self.statement_lines(['print expired(%s);' % chance.choice(self.names['TIMER'])], '    ')
         if chance.random() < 0.75 and self.statements < MOST_STATEMENTS - 40:
@@ -174,7 +174,7 @@ class RandomProgram:
         for _ in range(count):
             if self.statements > MOST_STATEMENTS - 60:
                 return
-            if self.chance.random() < 0.05:
+            if self.chance.random() < 0.07:
                 self.revival(indent)
             else:
                 self.random_statement(indent, depth)
