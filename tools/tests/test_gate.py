@@ -22,6 +22,7 @@ class Gate(unittest.TestCase):
         shutil.copy(TOP / 'test', self.room / 'test')
         for name in TOOLS:
             self.put('tools/dev/' + name, 'echo "2 passed, 0 failed"')
+        self.put('tools/differential', 'echo "2 passed, 0 failed"')
         for name in 'rt', 'nproc':
             self.put('bin/' + name, 'echo 1')
         self.put('crates/motesim/out/motesim', 'true')

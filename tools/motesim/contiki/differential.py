@@ -97,7 +97,7 @@ class Comparison:
         reached.update(Coverage.of_report(report))
         return Compared(difference, reached, len(report))
 
-    def smallest(self, scenario: bytes) -> bytes:
+    def smallest(self, scenario: bytes, is_strict: bool = False) -> bytes:
         """The scenario without all that the difference doesn't need."""
         # (needed when something differs only)
         from motesim.search.net import loss_steps, mote_steps, net_of, number_steps, program_steps
@@ -111,16 +111,16 @@ class Comparison:
                     tried = list(steps(net))
                     for offset in range(len(tried)):
                         step = tried[(at + offset) % len(tried)]
-                        if self.is_different(step.net.text.encode()):
+                        if self.is_different(step.net.text.encode(), is_strict):
                             net, at, is_smaller = step.net, (at + offset) % len(tried), True
                             break
                     else:
                         break
         return net.text.encode()
 
-    def is_different(self, scenario: bytes) -> bool:
+    def is_different(self, scenario: bytes, is_strict: bool = False) -> bool:
         try:
-            return bool(self.difference(scenario)[0])
+            return bool(self.difference(scenario, is_strict)[0])
         except Fault:
             return False
 
@@ -165,8 +165,8 @@ def compare_all(items: Iterator[Item], work: Comparison, folder: Path, workers: 
                 print('%s differs: %s' % (done.item.name, difference), flush=True)
                 scenario = done.item.scenario or random_scenario(done.item.seed)
                 if differing <= most and not done.fault:
-                    scenario = work.smallest(scenario)
-                    print('  the smallest that differs: %s' % (work.difference(scenario)[0],))
+                    scenario = work.smallest(scenario, done.item.is_strict)
+                    print('  the smallest that differs: %s' % work.difference(scenario, done.item.is_strict)[0])
                 if differing <= most:
                     path = folder / ('differs_%d.toml' % differing)
                     path.write_bytes(scenario)

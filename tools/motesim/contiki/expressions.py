@@ -173,10 +173,10 @@ class Expressions:
         if isinstance(expression, Operation):
             made = self.operation(expression)
             # (a constant is calculated here if C would take another value on its way, or warn)
-            if constant is None and is_constant(made):
-                constant = made.low & MOST
+            if constant is None:
+                return number(made.low & MOST) if is_constant(made) else made
             is_plain = made.type == 'signed' and made.low == made.high == constant
-            return made if constant is None or is_plain else number(constant)
+            return made if is_plain else number(constant)
         if constant is not None:
             return number(constant)
         return self.negation(expression) if isinstance(expression, Not) else self.leaf(expression)

@@ -2,6 +2,7 @@
 from __future__ import annotations
 
 import random
+import re
 from collections import Counter
 
 from motesim.contiki.random_program import RandomProgram
@@ -9,14 +10,14 @@ from motesim.contiki.random_program import RandomProgram
 PROGRAM_NAMES = ('p', 'q', 'sink', 'A-b_9', 'list', 'process', 'node')
 LIMITS = ('events', 'semaphores', 'processes', 'variables', 'timers', 'threads', 'statements', 'levels')
 QUEUES = (1, 1, 2, 3, 4, 5, 8, 31, 32, 33, 128)
-MOST_MOTES, MOST_END = 1000, 1_000_000
+LIMIT_EACH = 20
 
 
 def random_scenario(seed: int | str, reached: Counter[str] | None = None) -> bytes:
     """The scenario of a seed; what it has is counted in `reached`."""
     reached = Counter() if reached is None else reached
     chance = random.Random(seed)
-    limit = chance.choice(LIMITS) if chance.random() < 0.04 else ''
+    limit = _limit_of(str(seed))
     names = chance.sample(PROGRAM_NAMES, chance.choice([1, 1, 1, 2, 2, 3]))
     programs = {name: RandomProgram(chance, reached, limit if name == names[0] else '').text() for name in names}
     version = chance.choice([1, 2, 2])
@@ -40,6 +41,13 @@ def random_scenario(seed: int | str, reached: Counter[str] | None = None) -> byt
         reached['loss'] += 1
         lines += ['[[loss]]', 'from = %d' % s, 'to = %d' % r, 'every = %d' % chance.choice([1, 1, 2, 2, 3, 7])]
     return ('\n'.join(lines) + '\n').encode()
+
+
+def _limit_of(seed: str) -> str:
+    """The limit that a scenario meets, or '': each comes once among 160 seeds that follow one another."""
+    digits = re.search('[0-9]*$', seed)
+    number = int(digits[0]) if digits and digits[0] else 1
+    return LIMITS[number // LIMIT_EACH % len(LIMITS)] if number % LIMIT_EACH == 0 else ''
 
 
 def _end(chance: random.Random, limit: str) -> int:
