@@ -5,7 +5,7 @@ Each scenario is run by motesim on one thread and by workers of both kinds, and 
 gets, and written to a file.
 
   tools/differential --count 1000              the scenarios of seeds from 0
-  tools/differential --seed 7000 --count 50000 those from another seed
+  tools/differential --seed 7000 --count 50000 those from another seed on
   tools/differential net.toml ..               scenarios of your own
   tools/differential --gate                    all examples and cases, and 300 scenarios whose seed is the commit
 
@@ -14,17 +14,18 @@ program or no C compiler.
 """
 from __future__ import annotations
 
-import contextlib
 import subprocess
 import sys
 import tempfile
 import time
 from collections import Counter
-from collections.abc import Callable, Iterator
+from collections.abc import Iterable, Iterator
+from itertools import chain
 from pathlib import Path
 from typing import NamedTuple
 
 from motesim.contiki.coverage import Coverage
+from motesim.contiki.folder import HERE
 from motesim.contiki.host_runs import HostFault, HostRuns, compilers
 from motesim.contiki.random_scenario import random_scenario
 from motesim.faults import Fault, command
@@ -34,7 +35,9 @@ from motesim.scenario import Scenario, ScenarioFault
 from motesim.words import words_of
 
 GATE_COUNT = 300
-STRICT_EACH = 10
+# (of how many scenarios that differ a file is written)
+MOST_SHOWN = 3
+TOP = HERE.parent.parent.parent
 WORKERS: tuple[tuple[str, ...], ...] = (('--workers', '2', '--cut', 'block', '--sync', 'joins'),
                                         ('--workers', '3', '--cut', 'stripe', '--sync', 'marks'))
 LIMITS = Limits(seconds=60.0, memory=2 << 30, report=256 << 20)
@@ -133,11 +136,11 @@ def items_of_files(names: list[str]) -> Iterator[Item]:
             raise Fault('%s: %s' % (name, fault.strerror)) from None
 
 
-def random_items(seed: str, count: int) -> Iterator[Item]:
+def random_items(seed: str, count: int, is_strict: bool = False) -> Iterator[Item]:
     """The items of seeds: those from a number on, or those of a word, such as a commit."""
     for number in range(count):
         name = str(int(seed) + number) if seed.isdecimal() else '%s-%d' % (seed, number)
-        yield Item('the scenario of seed %s' % name, seed=name, is_strict=number % STRICT_EACH == 0)
+        yield Item('the scenario of seed %s' % name, seed=name, is_strict=is_strict)
 
 
 def commit(top: Path) -> str:
@@ -146,36 +149,34 @@ def commit(top: Path) -> str:
     return done.stdout.strip() or 'none'
 
 
-def compare_all(items: Iterator[Item], work: Comparison, folder: Path, workers: int | None, say: Callable[[str], None],
-                most: int) -> tuple[int, int, Coverage]:
-    """Compares items; says how many agree and differ, and what was reached."""
+def compare_all(items: Iterable[Item], work: Comparison, folder: Path, jobs: int | None) -> tuple[int, int, Coverage]:
+    """Compares items; returns how many agree and differ, and what was reached."""
     agreed = differing = size = 0
     coverage = Coverage()
     begin = last = time.monotonic()
-    with contextlib.closing(run_each(work.compare, items, workers=workers, seconds=300.0)) as found:
-        for done in found:
-            difference = done.fault or (done.result.difference if done.result else 'no answer')
-            if done.result:
-                coverage.add(done.result.reached)
-                size += done.result.bytes
-            if not difference:
-                agreed += 1
-            else:
-                differing += 1
-                print('%s differs: %s' % (done.item.name, difference), flush=True)
-                scenario = done.item.scenario or random_scenario(done.item.seed)
-                if differing <= most and not done.fault:
-                    scenario = work.smallest(scenario, done.item.is_strict)
-                    print('  the smallest that differs: %s' % work.difference(scenario, done.item.is_strict)[0])
-                if differing <= most:
-                    path = folder / ('differs_%d.toml' % differing)
-                    path.write_bytes(scenario)
-                    print('  %s has it' % path, flush=True)
-            now = time.monotonic()
-            if now - last > 20:
-                last = now
-                say('%d agree, %d differ, %d MB of reports, %d s' % (agreed, differing, size >> 20, now - begin))
-    say('%d agree, %d differ, %d MB of reports, %d s' % (agreed, differing, size >> 20, time.monotonic() - begin))
+    for done in run_each(work.compare, items, workers=jobs, seconds=300.0):
+        difference = done.fault or (done.result.difference if done.result else 'no answer')
+        if done.result:
+            coverage.add(done.result.reached)
+            size += done.result.bytes
+        if not difference:
+            agreed += 1
+        else:
+            differing += 1
+            print('%s differs: %s' % (done.item.name, difference), flush=True)
+            scenario = done.item.scenario or random_scenario(done.item.seed)
+            if differing <= MOST_SHOWN and not done.fault:
+                scenario = work.smallest(scenario, done.item.is_strict)
+                print('  the smallest that differs: %s' % work.difference(scenario, done.item.is_strict)[0])
+            if differing <= MOST_SHOWN:
+                path = folder / ('differs_%d.toml' % differing)
+                path.write_bytes(scenario)
+                print('  %s has it' % path, flush=True)
+        now = time.monotonic()
+        if now - last > 20:
+            last = now
+            print('%d agree, %d differ, %d MB of reports, %d s' % (agreed, differing, size >> 20, now - begin),
+                  file=sys.stderr, flush=True)
     return agreed, differing, coverage
 
 
@@ -187,6 +188,7 @@ def main() -> int:
     words.add_argument('--count', type=int, default=100, metavar='N', help='how many random scenarios (100)')
     words.add_argument('--jobs', type=int, metavar='N', help='how many processes (as many as there are processors)')
     words.add_argument('--one-thread', action='store_true', help='leave out the runs by workers')
+    words.add_argument('--strict', action='store_true', help='have gcc or clang look for warnings in the programs too')
     words.add_argument('--gate', action='store_true', help='compare all examples and cases, and %d random scenarios '
                        'whose seed is the commit' % GATE_COUNT)
     words.add_argument('-o', dest='folder', default='.', metavar='FOLDER', help='where scenarios that differ are written')
@@ -195,29 +197,17 @@ def main() -> int:
     runner = Runner(program=program_path(), limits=LIMITS)
     with tempfile.TemporaryDirectory(prefix='differential-') as name:
         work = Comparison(HostRuns(Path(name)), runner, not asked.one_thread)
-        return run_asked(work, asked.scenario, asked.seed, asked.count, asked.gate, asked.jobs, Path(asked.folder))
-
-
-def say_progress(line: str) -> None:
-    print(line, file=sys.stderr, flush=True)
-
-
-def run_asked(work: Comparison, names: list[str], seed: str, count: int, is_gate: bool, jobs: int | None,
-              folder: Path) -> int:
-    from motesim.contiki.folder import HERE
-    top = HERE.parent.parent.parent
-    if names:
-        items = items_of_files(names)
-    elif is_gate:
-        seed = commit(top)
-        print('the random scenarios are those of --seed %s --count %d' % (seed, GATE_COUNT))
-        items = iter([*fixed_items(top), *random_items(seed, GATE_COUNT)])
-    else:
-        items = random_items(seed, count)
-    agreed, differing, coverage = compare_all(items, work, folder, jobs, say_progress, 3)
-    if not names:
-        for line in coverage.lines():
-            print(line)
+        if asked.scenario:
+            items, is_random = items_of_files(asked.scenario), False
+        elif asked.gate:
+            seed = commit(TOP)
+            print('the random scenarios are those of --seed %s --count %d' % (seed, GATE_COUNT))
+            items, is_random = chain(fixed_items(TOP), random_items(seed, GATE_COUNT)), True
+        else:
+            items, is_random = random_items(asked.seed, asked.count, asked.strict), True
+        agreed, differing, coverage = compare_all(items, work, Path(asked.folder), asked.jobs)
+    for line in coverage.lines() if is_random else ():
+        print(line)
     print('%d passed, %d failed' % (agreed, differing))
     return 1 if differing else 0
 

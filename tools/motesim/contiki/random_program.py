@@ -66,7 +66,8 @@ class RandomProgram:
         if self.limit == what:
             self.reached['limit %s' % what] += 1
             return limit
-        return self.chance.choice([0, *range(1, most + 1), *range(1, most)])
+        counts: list[int] = [0, *range(1, most + 1), *range(1, most)]
+        return self.chance.choice(counts)
 
     # The program
 
