@@ -1,12 +1,14 @@
 """Makes one archive for a classroom: tools/pack [-o FILE]
 
-The archive motesim-VERSION.tar.gz has the built program, the tools for users, the pages for users, the examples, and
-a page PROVED.md on what was proved of the program, and with which kit. It runs on any Linux for x86-64 with Python
-3.11 or newer, from any folder: nothing is installed, and nothing is fetched from a network.
+The archive motesim-VERSION.tar.gz has the program, the tools and pages for users, the examples, and the terms under
+which all of it may be passed on. It runs on any Linux for x86-64, the tools with Python 3.11 or newer, from any folder:
+nothing is installed, and nothing is fetched from a network.
 
     tar xzf motesim-VERSION.tar.gz && cd motesim-VERSION && ./run examples/flooding.toml
 
-The same tree and program give the same archive, byte for byte. A program that is older than the sources is refused.
+The program is the proved one of these sources, if ./prove has built it, and then a page PROVED.md says what was proved
+and with which kit. Else it is one that is compiled without a proof; tools/pack and the archive's ./run say so. The
+same tree and program give the same archive, byte for byte.
 """
 from __future__ import annotations
 
@@ -18,17 +20,21 @@ import tarfile
 from pathlib import Path
 
 from motesim.faults import Fault, command
-from motesim.runner.programs import PROVED, TOP, is_program
+from motesim.runner.programs import COMPILED, TOP, is_proved, program_of_sources
 from motesim.version import KIT, VERSION
 from motesim.words import words_of
+from project import compile as compiling
 from project import kit
 
-SOURCES = ('crates.txt', 'crates')
 # What goes into the archive besides the program: files, and folders with all that git knows in them.
-PARTS = ('CHANGES.md', 'docs/use', 'examples', 'tools/motesim')
+PARTS = ('CHANGES.md', 'CITATION.cff', 'LICENSE', 'docs/use', 'examples', 'tools/motesim')
 RUN = """#!/bin/sh
 # Simulates a scenario: ./run FILE, or ./run with the scenario on standard input. ./run --help has the options.
 here=$(dirname "$(readlink -f "$0")")
+if [ ! -f "$here/PROVED.md" ]; then
+  [ "$*" = --version ] && echo 'motesim %(version)s, compiled without a proof' && exit
+  echo 'motesim: %(compiled)s' >&2
+fi
 [ "$*" = --version ] && exec "$here/tools/explain" --version
 exec "$here/motesim" "$@"
 """
@@ -39,18 +45,30 @@ options. The tools take Python 3.11 or newer; each says by `--help` what it does
 
 %(tools)s
 
-docs/use/TUTORIAL.md is half an hour with two motes; docs/use/EXAMPLES.md has protocols with tasks. PROVED.md says what
-was proved of this program.
+- docs/use/TUTORIAL.md is half an hour with two motes; docs/use/EXAMPLES.md has protocols with tasks.
+- %(proof)s
+- LICENSES.md has the terms under which all of this may be passed on.
+"""
+LICENSES = """# Terms
+
+The motesim simulator, its tools, pages and examples are under the terms of LICENSE. The program also contains code of
+libraries of the Rattle kit, under the terms of the texts that the kit has for them:
+
+| Library | Terms |
+|---|---|
+%(rows)s
+
+Of the libraries without a text, ask whoever gave you the kit. Some code of the C library and of GCC that starts a
+program is linked in too; the C library itself is the machine's.
 """
 PROVED_PAGE = """# What was proved of this program
 
-For whoever asks what stands behind the bytes of a report.
-
-*Take any scenario, any number of workers from 1 to 16, of either kind, and any cut of the motes among them. A run that
-answers Ok has written the very traces and medium log of one thread, and nothing else.* It is a clause in the contract
-of the call `simulate`, which the prover checks from nothing. It rests on the definitions of that contract, and on the
-Rattle toolchain, LLVM, the C library and the machine. That a run ends, that a waiting thread goes on, and how fast
-anything is, is not proved. The tools are Python, and tested.
+*Take any scenario, any number of workers from 1 to 16, of either kind, and any cut of the motes among them. If the
+call `simulate` returns Ok, and the reader and the writer that it was given report their bytes faithfully, then it has
+written the report of one thread, and nothing else.* This is a clause in the contract of `simulate`, which the prover
+checks. It rests on the definitions of that contract, and on the Rattle toolchain, LLVM, the C library and the machine.
+That a run ends, that a waiting thread goes on, and how fast anything is, is not proved. The tools are Python, and
+tested.
 
 | What | Which |
 |---|---|
@@ -59,8 +77,8 @@ anything is, is not proved. The tools are Python, and tested.
 | proved and built with | %(kit)s |
 | the program's SHA-256 | %(digest)s |
 
-Whoever has that commit and that kit proves it all anew, from nothing, by `./test`. Its pages in docs/proof/ say
-exactly what is promised.
+With that commit and that kit, `./test` proves all of it from nothing. The pages in its docs/proof/ say exactly what is
+promised.
 """
 
 
@@ -72,16 +90,26 @@ def git(*words: str) -> str:
         return ''
 
 
-def program() -> bytes:
-    """The built program, which no source is newer than."""
-    if not is_program(PROVED):
-        raise Fault('the program is not built: ./run FILE.toml builds it')
-    built = PROVED.stat().st_mtime
-    for part in SOURCES:
-        for it in [TOP / part, *(TOP / part).glob('*/src/**/*'), *(TOP / part).glob('*/specs/**/*')]:
-            if it.is_file() and it.stat().st_mtime > built:
-                raise Fault('%s is newer than the built program: ./run FILE.toml builds it anew' % it.relative_to(TOP))
-    return PROVED.read_bytes()
+def program() -> Path:
+    """The proved program of these sources; without one, the fast one that is compiled without a proof."""
+    found = program_of_sources()
+    if found is None or found.name == compiling.FIRST:
+        compiling.make_fast()
+        found = program_of_sources()
+    if found is None or found.name == compiling.FIRST:
+        raise Fault('the program is being compiled in the background: try again in a minute')
+    return found
+
+
+def licenses() -> dict[str, bytes]:
+    """The terms of the kit's libraries in the program: a page, and the texts."""
+    found: dict[str, bytes] = {}
+    rows = []
+    for name, texts in kit.licenses('motesim', TOP).items():
+        names = ['licenses/%s/%s' % (name, it.name) for it in texts]
+        found.update(zip(names, (it.read_bytes() for it in texts)))
+        rows.append('| %s | %s |' % (name, ', '.join(names) or 'the kit has no text'))
+    return {'LICENSES.md': (LICENSES % {'rows': '\n'.join(rows)}).encode(), **found}
 
 
 def kit_at_hand() -> str:
@@ -106,16 +134,18 @@ def summary_of(name: str) -> str:
     return path.read_text('utf-8').split('"""')[1].split('\n')[0].split(': tools/')[0].rstrip('.')
 
 
-def files() -> dict[str, tuple[bytes, int]]:
+def files(program: Path) -> dict[str, tuple[bytes, int]]:
     """What the archive holds: of each name its bytes and its mode."""
-    tools, built = user_commands(), program()
+    tools, built = user_commands(), program.read_bytes()
     shown = '\n'.join('- `tools/%s`: %s' % (it, summary_of(it)) for it in tools)
-    proved = PROVED_PAGE % {'version': VERSION, 'commit': git('rev-parse', 'HEAD').strip() or 'not known',
-                            'kit': kit_at_hand(), 'digest': hashlib.sha256(built).hexdigest()}
-    found: dict[str, tuple[bytes, int]] = {
-        'motesim': (built, 0o755), 'run': (RUN.encode(), 0o755), 'PROVED.md': (proved.encode(), 0o644),
-        'README.md': ((README % {'version': VERSION, 'tools': shown}).encode(), 0o644),
-    }
+    about = {'version': VERSION, 'commit': git('rev-parse', 'HEAD').strip() or 'not known', 'kit': kit_at_hand(),
+             'digest': hashlib.sha256(built).hexdigest(), 'tools': shown, 'compiled': COMPILED,
+             'proof': 'PROVED.md says what was proved of this program.' if is_proved(program) else
+                      'The program is compiled, not proved.'}
+    texts = {'README.md': README % about, **({'PROVED.md': PROVED_PAGE % about} if is_proved(program) else {})}
+    found = {name: (text.encode(), 0o644) for name, text in texts.items()}
+    found.update((name, (data, 0o644)) for name, data in licenses().items())
+    found.update({'motesim': (built, 0o755), 'run': ((RUN % about).encode(), 0o755)})
     for it in tools:
         found['tools/' + it] = (TOP / 'tools' / it).read_bytes(), 0o755
     for part in PARTS:
@@ -126,11 +156,11 @@ def files() -> dict[str, tuple[bytes, int]]:
     return found
 
 
-def archive(folder: str) -> bytes:
+def archive(folder: str, program: Path) -> bytes:
     """The archive, with all in one folder."""
     plain, packed = io.BytesIO(), io.BytesIO()
     with tarfile.open(fileobj=plain, mode='w', format=tarfile.USTAR_FORMAT) as tar:
-        for name, (data, mode) in sorted(files().items()):
+        for name, (data, mode) in sorted(files(program).items()):
             entry = tarfile.TarInfo('%s/%s' % (folder, name))
             entry.size, entry.mode, entry.mtime = len(data), mode, 0
             tar.addfile(entry, io.BytesIO(data))
@@ -144,9 +174,10 @@ def main() -> int:
     words = words_of(__doc__)
     words.add_argument('-o', '--output', metavar='FILE', type=Path, help='else motesim-VERSION.tar.gz, in this folder')
     asked = words.parse_args()
-    folder = 'motesim-%s' % VERSION
+    folder, packed = 'motesim-%s' % VERSION, program()
     path = asked.output or Path(folder + '.tar.gz')
-    data = archive(folder)
+    data = archive(folder, packed)
     path.write_bytes(data)
-    print('%s: %d files, %.1f MB' % (path, len(files()), len(data) / 1e6))
+    which = 'the proved program' if is_proved(packed) else 'a program that is compiled, not proved (./prove proves it)'
+    print('%s: %.1f MB, with %s' % (path, len(data) / 1e6, which))
     return 0

@@ -1,7 +1,7 @@
 """The archive for a classroom: what it holds, and that its program and tools run from any folder."""
 import hashlib
 import io
-import os
+import shutil
 import subprocess
 import sys
 import tarfile
@@ -35,9 +35,9 @@ class Pack(unittest.TestCase):
     def test_an_archive_runs_by_itself(self) -> None:
         with tempfile.TemporaryDirectory() as room:
             program = write_stub(Path(room))
-            with mock.patch.object(pack, 'PROVED', program):
-                data = pack.archive('motesim')
-                self.assertEqual(data, pack.archive('motesim'))
+            with mock.patch.object(pack, 'is_proved', lambda it: True), mock.patch.object(pack, 'licenses', dict):
+                data = pack.archive('motesim', program)
+                self.assertEqual(data, pack.archive('motesim', program))
             with tarfile.open(fileobj=io.BytesIO(data)) as tar:
                 tar.extractall(room)
             top = Path(room) / 'motesim'
@@ -57,16 +57,47 @@ class Pack(unittest.TestCase):
                 done = subprocess.run(words, cwd='/', capture_output=True, text=True)
                 self.assertEqual((name, done.returncode), (name, 0), done.stderr)
 
-    def test_an_older_program_is_refused(self) -> None:
+    def test_an_archive_says_that_its_program_is_not_proved(self) -> None:
         with tempfile.TemporaryDirectory() as room:
             program = write_stub(Path(room))
-            os.utime(program, (0, 0))
-            with mock.patch.object(pack, 'PROVED', program), self.assertRaisesRegex(Fault, 'newer than the built'):
+            with mock.patch.object(pack, 'licenses', dict), tarfile.open(
+                    fileobj=io.BytesIO(pack.archive('motesim', program))) as tar:
+                tar.extractall(room)
+            top = Path(room) / 'motesim'
+            (Path(room) / 's.toml').write_text(SCENARIO)
+            self.assertFalse((top / 'PROVED.md').exists())
+            for words in [str(top / 'run')], [sys.executable, str(top / 'tools/summary'), str(Path(room) / 's.toml')]:
+                done = subprocess.run(words, input=SCENARIO, cwd=room, capture_output=True, text=True,
+                                      env={'PATH': '/usr/bin:/bin'})
+                self.assertEqual((done.returncode, done.stderr), (0, 'motesim: this program is compiled, not proved\n'))
+            done = subprocess.run([str(top / 'run'), '--version'], capture_output=True, text=True)
+            self.assertEqual((done.stdout, done.stderr), ('motesim %s, compiled without a proof\n' % VERSION, ''))
+
+    def test_the_proved_program_is_packed_if_it_is_there(self) -> None:
+        with mock.patch.object(pack, 'program_of_sources', lambda: TOP / 'proved-x/motesim'), mock.patch.object(
+                pack.compiling, 'make_fast') as made:
+            self.assertEqual(pack.program(), TOP / 'proved-x/motesim')
+            made.assert_not_called()
+
+    def test_without_one_the_fast_program_is_made_and_packed(self) -> None:
+        found = [TOP / 'compiled-x/first', TOP / 'compiled-x/fast']
+        with mock.patch.object(pack, 'program_of_sources', lambda: found.pop(0)), mock.patch.object(
+                pack.compiling, 'make_fast') as made:
+            self.assertEqual(pack.program().name, 'fast')
+            made.assert_called_once()
+        with mock.patch.object(pack, 'program_of_sources', lambda: None), mock.patch.object(pack.compiling, 'make_fast'):
+            with self.assertRaisesRegex(Fault, 'in the background'):
                 pack.program()
 
-    def test_no_program(self) -> None:
-        with mock.patch.object(pack, 'PROVED', TOP / 'none'), self.assertRaisesRegex(Fault, 'is not built'):
-            pack.program()
+    @unittest.skipUnless(shutil.which('rt'), 'the command rt of the Rattle kit is not here')
+    def test_it_has_the_terms_of_the_libraries_in_the_program(self) -> None:
+        found = pack.licenses()
+        page = found['LICENSES.md'].decode()
+        self.assertIn('| toml | licenses/toml/LICENSE-APACHE, licenses/toml/LICENSE-MIT |', page)
+        self.assertIn('| core | the kit has no text |', page)
+        self.assertNotIn('sqlite', page)
+        self.assertIn(b'Permission is hereby granted', found['licenses/clap/LICENSE-MIT'])
+        self.assertIn('LICENSE', pack.PARTS)
 
 
 if __name__ == '__main__':

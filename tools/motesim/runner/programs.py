@@ -29,11 +29,12 @@ TOP = Path(__file__).resolve().parents[3]
 # What a proof builds, until the next one.
 PROVED = TOP / 'crates/motesim/out/motesim'
 PROGRAMS = TOP / 'out/programs'
-# (of an archive of the tools, which has no crates)
-PACKED = TOP / 'motesim'
+# The program of an archive that tools/pack made, which has no crates; and the page in it if the program was proved.
+PACKED, PACKED_PROVED = TOP / 'motesim', TOP / 'PROVED.md'
 CODE, ALL_PARTS = ('src',), ('src', 'specs', 'proofs')
 # (./run has this line too, for machines without Python)
-NOT_PROVED = 'this program is compiled, not proved; ./prove proves it here'
+COMPILED = 'this program is compiled, not proved'
+NOT_PROVED = COMPILED + '; ./prove proves it here'
 
 
 class ProgramFault(Fault):
@@ -149,17 +150,22 @@ def program_of_sources(may_be_proved: bool = True) -> Path | None:
     return (proved_program() if may_be_proved else None) or compiled_program()
 
 
+def _is_kept_as(kind: str, program: Path) -> bool:
+    return program.parent.parent == PROGRAMS.resolve() and program.parent.name.startswith(kind)
+
+
 def is_proved(program: Path) -> bool:
     """Whether a program is one that a proof built: that of this tree, or of an archive."""
     program = program.resolve()
-    is_kept = program.parent.parent == PROGRAMS.resolve() and program.parent.name.startswith('proved-')
-    return is_kept or program in (PROVED.resolve(), PACKED.resolve())
+    is_packed = program == PACKED.resolve() and PACKED_PROVED.is_file()
+    return is_packed or program == PROVED.resolve() or _is_kept_as('proved-', program)
 
 
 def is_compiled(program: Path) -> bool:
-    """Whether a program is one that was compiled here without a proof."""
+    """Whether a program is one that was compiled without a proof: here, or for an archive."""
     program = program.resolve()
-    return program.parent.parent == PROGRAMS.resolve() and program.parent.name.startswith('compiled-')
+    is_packed = program == PACKED.resolve() and not PACKED_PROVED.is_file()
+    return is_packed or _is_kept_as('compiled-', program)
 
 
 @functools.cache
@@ -185,7 +191,7 @@ def unless_held(program: Path) -> Iterator[bool]:
 @functools.cache
 def say_not_proved() -> None:
     """Says, once, that the program that is run was not proved."""
-    print('motesim: %s' % NOT_PROVED, file=sys.stderr, flush=True)
+    print('motesim: %s' % (COMPILED if is_program(PACKED) else NOT_PROVED), file=sys.stderr, flush=True)
 
 
 def program_path() -> Path:
