@@ -416,6 +416,41 @@ class Searches(unittest.TestCase):
         with folder_with(mended, ['mote 0 sends at most 10 times']) as folder:
             self.assertEqual(minimal_sets(folder, *words)[0], {})
 
+    def test_parameters_of_a_plan(self):
+        plan = """end = 100
+[medium]
+range = 10
+base = 2
+per = 1000
+[parameters]
+motes = 4
+value = 7
+[places]
+rule = "line"
+count = "${motes}"
+step = 10
+program = "flood.mote"
+"""
+        with tempfile.TemporaryDirectory() as room:
+            folder = Path(room)
+            (folder / 'net.plan.toml').write_text(plan)
+            (folder / 'flood.mote').write_text(PROGRAM.replace('send 7', 'send ${value}'))
+            words = ['--expect', 'some mote prints flood 7', '--expect', 'exactly 4 packets are sent', '--json', 'f.json',
+                     '--faults', 'parameters,motes', '--set', 'motes=2,4', '--set', 'value=7,8', '--at-most', '2']
+            status, said, told = search(folder, *words, scenario='net.plan.toml')
+            self.assertEqual(status, 1, told)
+            found = json.loads((folder / 'f.json').read_text())
+            sets = {tuple(it['faults']): it['expectations'] for it in found['found']}
+            # (with two motes the message comes to mote 1; motes 2 and 3 aren't there, so that they can't be silent)
+            both = ['some mote prints flood 7', 'exactly 4 packets are sent']
+            self.assertEqual(sets, {('mote 0 is silent',): both, ('mote 1 is silent',): both[1:],
+                                    ('mote 2 is silent',): both[1:], ('motes is 2',): both[1:],
+                                    ('value is 8',): both[:1]})
+            self.assertIn('2 NOT MADE', said)
+            self.assertIn('there is no mote 2 with these parameters (1 set)', said)
+            text = (folder / 'net.search/net_parameter_motes_2.toml').read_text()
+            self.assertEqual(Scenario.parse(text).motes, 2)
+
     def test_limit_on_runs(self):
         with folder_with() as folder:
             status, said, _ = search(folder, '--faults', 'links', '--at-most', '2', '--most-runs', '20', '--jobs', '1')
@@ -491,7 +526,9 @@ code flood {
         with folder_with() as folder:
             for words, wanted in ((('--faults', 'lynx'), 'there is no kind of fault lynx'),
                                   (('--faults', 'values'), 'takes --set'),
-                                  (('--faults', 'values', '--set', 'end=5'), '--set takes range=VALUES'),
+                                  (('--faults', 'values', '--set', 'end=5'), 'the kind `values` takes --set'),
+                                  (('--faults', 'parameters', '--set', 'a=5'), 'is for plans'),
+                                  (('--set', 'range=5'), '--set range is for the kind `values`'),
                                   (('--every', '1', '--faults', 'every'), 'whole numbers from 2 on'),
                                   (('--expect', 'mote 9 sends'), 'sentence 1 is not known')):
                 status, said, told = search(folder, *words)

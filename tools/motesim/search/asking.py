@@ -47,11 +47,12 @@ class Asking:
 
     def digest(self) -> str:
         """What tells one search from another."""
-        parts = (self.base.source, self.texts, self.prepared.faults, self.limits, program_digest(self.path))
+        plan = self.base.plan and (self.base.plan.text, self.base.plan.digest({}))
+        parts = (self.base.source, plan, self.texts, self.prepared.faults, self.limits, program_digest(self.path))
         return hashlib.sha256(repr(parts).encode()).hexdigest()[:16]
 
     def work(self) -> Work:
-        return Work(self.base.source, self.base.name, self.prepared.faults, self.sentences, str(self.path), self.limits)
+        return Work(self.base, self.prepared.faults, self.sentences, str(self.path), self.limits)
 
     def search(self, processes: int, kept: Kept, shown: Callable[[Search, int, bool], None] | None = None,
                asks_end: Callable[[], bool] = lambda: False) -> Search:

@@ -8,11 +8,13 @@ from __future__ import annotations
 
 import copy
 import tomllib
-from dataclasses import dataclass, field
+from dataclasses import dataclass, field, replace
 from functools import cached_property
 from typing import Any
 
 from motesim.faults import Fault
+from motesim.plan.plan import Plan
+from motesim.plan.tables import Value
 from motesim.scenario.scenario import Place, Scenario
 from motesim.scenario.faults import find_fault, place_of, value_of
 from motesim.search.added import DIES, LATE, changed_program, is_name_free
@@ -32,12 +34,14 @@ class CannotChange(Fault):
 class Change:
     """What is otherwise than in a scenario.
 
-    losses   the `every` of links, by sender and receiver
-    numbers  `range`, `base`, `per`
-    queue    lengths of event queues, by program
-    places   other places of motes
-    added    motes that fail at a moment, or start late: which of these, and the moment
+    parameters  other values of a plan's parameters
+    losses      the `every` of links, by sender and receiver
+    numbers     `range`, `base`, `per`
+    queue       lengths of event queues, by program
+    places      other places of motes
+    added       motes that fail at a moment, or start late: which of these, and the moment
     """
+    parameters: dict[str, Value] = field(default_factory=dict)
     losses: dict[tuple[int, int], int] = field(default_factory=dict)
     numbers: dict[str, int] = field(default_factory=dict)
     queue: dict[str, int] = field(default_factory=dict)
@@ -61,7 +65,8 @@ def shown(tables: Any, path: tuple[str | int, ...]) -> str:
 class Base:
     """A scenario into which faults are put."""
 
-    def __init__(self, source: str, name: str, is_checked: bool = False):
+    def __init__(self, source: str, name: str, is_checked: bool = False, plan: Plan | None = None):
+        self.plan, self.others = plan, dict[tuple[tuple[str, Value], ...], Base]()
         fault = None if is_checked else find_fault(source.encode())
         if fault:
             raise Fault('%s has no report: motesim: %s (tools/explain %s says more)' % (name, fault.told, name))
@@ -71,13 +76,30 @@ class Base:
         self.lines = Text(source)
         self.stretches: dict[tuple[str | int, ...], tuple[int, int]] = {}
 
-    def __reduce__(self) -> tuple[type[Base], tuple[str, str]]:
-        return Base, (self.source, self.name)
+    @classmethod
+    def of_plan(cls, plan: Plan) -> Base:
+        """The scenario that a plan makes with its own values."""
+        return cls(plan.scenario({}), plan.shown_as, plan=plan)
+
+    def with_parameters(self, parameters: dict[str, Value]) -> Base:
+        """The scenario that the plan makes with other values."""
+        if not parameters:
+            return self
+        assert self.plan
+        key = tuple(parameters.items())
+        if key not in self.others:
+            try:
+                self.others[key] = Base(self.plan.scenario(parameters), self.name)
+            except Fault as fault:
+                raise CannotChange(str(fault)) from None
+        return self.others[key]
 
     # The scenario that a change makes.
 
     def scenario(self, change: Change) -> Scenario:
         """The scenario with a change, as far as sentences on its report look at it."""
+        if change.parameters:
+            return self.with_parameters(change.parameters).scenario(replace(change, parameters={}))
         base = self.scenario_itself
         if not change.places and 'range' not in change.numbers:
             # (so that each mote's neighbours are looked for once, and not in each run)
@@ -99,6 +121,8 @@ class Base:
 
     def text(self, change: Change) -> str:
         """The text with a change."""
+        if change.parameters:
+            return self.with_parameters(change.parameters).text(replace(change, parameters={}))
         try:
             return applied(self.source, self.edits(change))
         except CannotChange:

@@ -18,6 +18,7 @@ Kinds of faults, for --faults:
   queues       the event queues are shorter (--queues 8,4,2,1)
   values       range, base or per have other values (--set range=8..12)
   places       a mote is at another place (--step 5)
+  parameters   of a plan, parameters have other values (--set period=10,20)
 
 docs/use/SEARCH.md begins with a protocol that looks right, and says what the result of a search means. Ends with status
 0 where all expectations hold in every run, 1 where one is broken, 2 where nothing could be said, and 130 after Ctrl-C.
@@ -34,6 +35,8 @@ from motesim.experiments.runs import Break
 from motesim.faults import INTERRUPTED, Fault, command
 from motesim.judge.expectations import beside, parts_of, read_all, text_of
 from motesim.judge.sentences import Names, Refused, Sentence, names_of
+from motesim.plan.plan import Plan
+from motesim.plan.tables import Value
 from motesim.search.asking import Asking
 from motesim.search.change import NUMBERS, Base
 from motesim.search.faults import KINDS, Asked
@@ -47,6 +50,7 @@ from motesim.search.search import Bounds, Search
 from motesim.search.shrink import Shrinking, case_of
 from motesim.search.shrink_command import sizes, write_result
 from motesim.search.study import check_studies
+from motesim.toml import NoToml, read_toml
 from motesim.words import words_of
 
 STATE = 'tried.txt'
@@ -54,7 +58,7 @@ STATE = 'tried.txt'
 
 def arguments() -> argparse.ArgumentParser:
     words = words_of(__doc__)
-    words.add_argument('scenario', nargs='?', metavar='SCENARIO', help='a scenario, NAME.toml')
+    words.add_argument('scenario', nargs='?', metavar='SCENARIO', help='a scenario, NAME.toml, or a plan')
     words.add_argument('expectations', nargs='?', metavar='EXPECTATIONS', help='else NAME.expect.toml beside it')
     words.add_argument('--expect', action='append', default=[], metavar='SENTENCE',
                        help='an expectation, in place of those of a file')
@@ -94,14 +98,18 @@ def numbers_of_words(words: str, name: str, least: int) -> tuple[int, ...]:
     return tuple(int(it) for it in found)
 
 
-def values_asked(words: list[str]) -> dict[str, tuple[int, ...]]:
-    found = {}
+def values_asked(words: list[str]) -> tuple[dict[str, tuple[int, ...]], dict[str, list[Value]]]:
+    """The values that --set names: those of the medium, and those of a plan's parameters."""
+    numbers, given = dict[str, tuple[int, ...]](), dict[str, list[Value]]()
     for it in words:
         name, sign, text = it.partition('=')
-        if not sign or name not in NUMBERS:
-            raise Fault('--set takes range=VALUES, base=VALUES or per=VALUES, and not %s' % it)
-        found[name] = numbers_of_words(text, '--set', 0 if name == 'range' else 1)
-    return found
+        if not sign or not name:
+            raise Fault('--set takes NAME=VALUES, as range=8..12, and not %s' % it)
+        if name in NUMBERS:
+            numbers[name] = numbers_of_words(text, '--set', 0 if name == 'range' else 1)
+        else:
+            given[name] = values_of(text)
+    return numbers, given
 
 
 def asked_of(words: argparse.Namespace) -> Asked:
@@ -110,13 +118,16 @@ def asked_of(words: argparse.Namespace) -> Asked:
     unknown = next((it for it in kinds if it not in KINDS), None)
     if unknown is not None:
         raise Fault('there is no kind of fault %s; there may stand: %s' % (unknown, ', '.join(KINDS)))
-    if 'values' in kinds and not words.set:
-        raise Fault('the kind `values` takes --set, as --set range=8..12')
-    if words.set and 'values' not in kinds:
-        raise Fault('--set is for the kind `values`: --faults %s,values' % words.faults)
+    numbers, given = values_asked(words.set)
+    for kind, names, what in (('values', list(numbers), 'range=8..12'),
+                              ('parameters', list(given), 'period=10,20, of a plan')):
+        if kind in kinds and not names:
+            raise Fault('the kind `%s` takes --set, as --set %s' % (kind, what))
+        if names and kind not in kinds:
+            raise Fault('--set %s is for the kind `%s`: --faults %s,%s' % (names[0], kind, words.faults, kind))
     moments = numbers_of_words(words.moments, '--moments', 1) if words.moments else ()
     return Asked(kinds, numbers_of_words(words.every, '--every', 2), (), moments,
-                 numbers_of_words(words.queues, '--queues', 1), values_asked(words.set), words.step)
+                 numbers_of_words(words.queues, '--queues', 1), numbers, words.step, given)
 
 
 def sentences_of(words: argparse.Namespace, names: Names) -> tuple[list[str], list[Sentence]]:
@@ -138,9 +149,20 @@ def sentences_of(words: argparse.Namespace, names: Names) -> tuple[list[str], li
     return [text for text, _ in kept], [it for _, it in kept]
 
 
+def base_of(path: Path) -> Base:
+    """The scenario of a file, or the one that its plan makes."""
+    text = text_of(path)
+    try:
+        tables = read_toml(text)
+    except NoToml:
+        tables = {}
+    is_plan = 'places' in tables and 'version' not in tables
+    return Base.of_plan(Plan.read(path)) if is_plan else Base(text, str(path))
+
+
 def asking_of(words: argparse.Namespace) -> Asking:
     """What the command line asks for."""
-    base = Base(text_of(Path(words.scenario)), words.scenario)
+    base = base_of(Path(words.scenario))
     texts, sentences = sentences_of(words, names_of(base.scenario_itself))
     bounds = Bounds(words.at_most, words.random, words.seed, words.most_runs, words.most_seconds)
     return Asking(base, texts, sentences, asked_of(words), bounds, Limits(words.seconds, words.bytes))
@@ -176,9 +198,10 @@ def shrink_each(asking: Asking, found: list[Found], folder: Path, is_quiet: bool
         first = next((it for it in found if sentence in it.sentences), None)
         if first is None:
             continue
-        effects = tuple(fault.effect for fault in first.faults)
+        given = {str(it.effect[1]): it.effect[2] for it in first.faults if it.kind == 'parameters'}
+        effects = tuple(it.effect for it in first.faults if it.kind != 'parameters')
         with Break() as stop:
-            case = case_of(asking.base.source, sentence, effects)
+            case = case_of(asking.base.with_parameters(given).source, sentence, effects)
             shrinking = Shrinking(program, case, partial(getattr, stop, 'is_asked'))
             shrinking.run()
         path = folder / ('small_%d.toml' % number)
@@ -236,7 +259,7 @@ def status_of(words: argparse.Namespace) -> int:
         raise Fault('%s breaks each of the expectations without a fault, so there is nothing to search for'
                     % words.scenario)
     folder = Path(words.output) if words.output else Path(
-        Path(words.scenario).name.removesuffix('.toml') + '.search')
+        Path(words.scenario).name.removesuffix('.toml').removesuffix('.plan') + '.search')
     folder.mkdir(parents=True, exist_ok=True)
     kept = Kept()
     kept.open(folder / STATE, asking.digest(), words.resume)

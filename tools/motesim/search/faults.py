@@ -10,8 +10,9 @@ from dataclasses import dataclass, field
 from typing import NamedTuple
 
 from motesim.faults import Fault
+from motesim.plan.tables import Value, text_of_value
 from motesim.search.added import DIES, LATE
-from motesim.search.change import Base, Change
+from motesim.search.change import Base, CannotChange, Change
 
 # Of each kind what it is, for the help and the line on what was covered: one of them, and many.
 KINDS: dict[str, tuple[str, str]] = {
@@ -26,6 +27,7 @@ KINDS: dict[str, tuple[str, str]] = {
     'queues': ('shorter event queue', 'shorter event queues'),
     'values': ('other value of range, base or per', 'other values of range, base or per'),
     'places': ('mote at another place', 'motes at other places'),
+    'parameters': ('other value of a parameter', 'other values of parameters'),
 }
 
 
@@ -89,9 +91,13 @@ def _move(change: Change, base: Base, mote: int, x: int, y: int) -> None:
     change.places[mote] = x, y
 
 
+def _set(change: Change, base: Base, name: str, value: Value) -> None:
+    change.parameters[name] = value
+
+
 EFFECTS: dict[str, Callable[..., None]] = {
     'lose': _lose, 'apart': _apart, 'silent': _silence, 'fails': _die, 'late': _start_late, 'collide': _collide,
-    'queue': _shorten, 'number': _number, 'move': _move,
+    'queue': _shorten, 'number': _number, 'move': _move, 'parameter': _set,
 }
 
 
@@ -129,6 +135,7 @@ class Asked:
     queues   the lengths of event queues
     values   other values of `range`, `base` and `per`
     step     how far motes are moved, in x or y
+    given    other values of a plan's parameters
     """
     kinds: tuple[str, ...] = ('links', 'motes')
     every: tuple[int, ...] = (2,)
@@ -137,6 +144,7 @@ class Asked:
     queues: tuple[int, ...] = (8, 4, 2, 1)
     values: dict[str, tuple[int, ...]] = field(default_factory=dict)
     step: int = 0
+    given: dict[str, list[Value]] = field(default_factory=dict)
 
 
 def _directed(base: Base) -> Iterator[tuple[int, int]]:
@@ -241,10 +249,21 @@ def _places(base: Base, asked: Asked) -> Iterator[FaultyPart]:
                                  ('move', mote, x, y))
 
 
+def _parameters(base: Base, asked: Asked) -> Iterator[FaultyPart]:
+    if base.plan is None:
+        raise Fault('the kind `parameters` is for plans, and %s is a scenario' % base.name)
+    own = base.plan.with_given({name: values[0] for name, values in asked.given.items()}) and base.plan.parameters
+    for name, values in asked.given.items():
+        for value in values:
+            if value != own[name]:
+                yield FaultyPart('parameters', '%s is %s' % (name, text_of_value(value)), ('parameter', name),
+                                 ('parameter', name, value))
+
+
 MAKERS: dict[str, Callable[[Base, Asked], Iterator[FaultyPart]]] = {
     'links': _links, 'both-ways': _both_ways, 'every': _every, 'packets': _packets, 'motes': _motes,
     'deaths': _deaths, 'late': _late, 'collisions': _collisions, 'queues': _queues, 'values': _values,
-    'places': _places,
+    'places': _places, 'parameters': _parameters,
 }
 
 
@@ -258,9 +277,21 @@ def faults_of(base: Base, asked: Asked) -> list[FaultyPart]:
     return [fault for fault in found if by_effect[fault.effect] is fault]
 
 
+# Of each effect, which of its parts are numbers of motes.
+MOTES_OF = {'lose': (1, 2), 'apart': (1, 2), 'silent': (1,), 'fails': (1,), 'late': (1,), 'move': (1,)}
+
+
 def change_of(faults: Sequence[FaultyPart], base: Base) -> Change:
-    """What faults change together."""
+    """What faults change together: parameters first, as the others are put into the scenario that these make."""
     change = Change()
     for fault in faults:
-        fault.put_into(change, base)
+        if fault.kind == 'parameters':
+            fault.put_into(change, base)
+    made = base.with_parameters(change.parameters)
+    for fault in faults:
+        if fault.kind != 'parameters':
+            motes = [int(fault.effect[at]) for at in MOTES_OF.get(str(fault.effect[0]), ())]
+            if max(motes, default=0) >= made.scenario_itself.motes:
+                raise CannotChange('there is no mote %d with these parameters' % max(motes))
+            fault.put_into(change, made)
     return change

@@ -16,7 +16,7 @@ from motesim.search.search import Search
 from motesim.search.sets import Set, Tally
 from motesim.search.work import numbers_of
 
-SHOWN = 10
+SHOWN, SHOWN_REASONS = 10, 3
 SIZES = {1: 'single faults', 2: 'pairs', 3: 'triples'}
 LONGEST_FILE_NAME = 120
 
@@ -35,7 +35,7 @@ class Found:
 
 def file_name_of(name: str, faults: list[FaultyPart]) -> str:
     """A name for the file of a counter-example."""
-    whole = '%s_%s' % (Path(name).name.removesuffix('.toml'), '_and_'.join(fault.file_name for fault in faults))
+    whole = '%s_%s' % (Path(name).name.removesuffix('.toml').removesuffix('.plan'), '_and_'.join(fault.file_name for fault in faults))
     return whole[:LONGEST_FILE_NAME]
 
 
@@ -91,6 +91,10 @@ def covered_lines(search: Search) -> list[str]:
     for size, tally in search.tallies.items():
         if tally.sets:
             rows.append(covered_line(SIZES.get(size, 'sets of %d' % size), tally))
+    for why, count in search.why.most_common(SHOWN_REASONS):
+        rows.append('  %s (%s)' % (why, counted(count, 'set', 'sets')))
+    if len(search.why) > SHOWN_REASONS:
+        rows.append('  and %s' % counted(len(search.why) - SHOWN_REASONS, 'other reason', 'other reasons'))
     if search.sample.sets:
         rows.append('a sample of {:,} larger sets, drawn with the seed {} (a sample covers nothing wholly): {:,} run'
                     .format(search.sample.sets, search.bounds.seed, search.sample.run))

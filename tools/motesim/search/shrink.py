@@ -16,15 +16,13 @@ from motesim.judge.sentences import Sentence, SentenceFault, names_of, read_sent
 from motesim.report import Report
 from motesim.scenario.scenario import Scenario
 from motesim.search.change import Base, Change
-from motesim.search.faults import EFFECTS
+from motesim.search.faults import EFFECTS, MOTES_OF
 from motesim.search.following import follow, names_motes_in_quotes
 from motesim.search.net import Net, NetStep, loss_steps, mote_steps, net_of, number_steps, program_steps
 from motesim.search.one_program import OneProgram
 from motesim.search.quick_judge import QuickJudge
 
 NAME = 'the scenario'
-# The effects of faults, and which of their parts are numbers of motes.
-MOTES_OF = {'lose': (1, 2), 'apart': (1, 2), 'silent': (1,), 'fails': (1,), 'late': (1,), 'move': (1,)}
 Effect = tuple[str | int, ...]
 STEPS: dict[str, Callable[[Net], Iterator[NetStep]]] = {
     'motes': mote_steps, 'losses': loss_steps, 'programs': program_steps, 'numbers': number_steps}

@@ -32,8 +32,7 @@ class Outcome(NamedTuple):
 
 class Work(NamedTuple):
     """What all runs of a search have in common."""
-    source: str
-    name: str
+    base: Base
     faults: list[FaultyPart]
     sentences: list[Sentence]
     program: str
@@ -53,7 +52,7 @@ class Bench:
     """What is needed for a run, kept from one run to the next."""
 
     def __init__(self, work: Work):
-        self.base, self.faults = Base(work.source, work.name), work.faults
+        self.base, self.faults = work.base, work.faults
         self.judge = QuickJudge(work.sentences)
         self.program = OneProgram(work.program, work.limits)
 
@@ -77,10 +76,10 @@ class Bench:
 
     def run(self, task: Task) -> Outcome:
         found = task.faults
-        change = self.change(found)
-        if self.is_same(found, change):
-            return Outcome(found, SAME)
         try:
+            change = self.change(found)
+            if self.is_same(found, change):
+                return Outcome(found, SAME)
             answer = self.answer(found)
         except (CannotChange, NoRoom) as fault:
             return Outcome(found, UNMADE, 0, str(fault))
