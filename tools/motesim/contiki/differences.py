@@ -5,7 +5,6 @@ from motesim.contiki.layout import comment_lines
 from motesim.contiki.tree import Program
 from motesim.contiki.use import Use
 
-TIMERS = frozenset({'set', 'reset', 'restart_timer', 'stop', 'fired', 'expired'})
 # What differs, and for which words of the notation.
 DIFFERENCES: tuple[tuple[frozenset[str], str], ...] = (
     (frozenset({'kill', 'start', 'exit'}),
@@ -26,7 +25,9 @@ DIFFERENCES: tuple[tuple[frozenset[str], str], ...] = (
     (frozenset({'send', 'from', 'self'}),
      'Motes are numbered from 0; motesim_radio.c makes numbers of Rime addresses. Nothing is lost or delayed by '
      'rule on a real radio.'),
-    (frozenset({'start'}), 'Static variables keep their values when a process is started again, as in Contiki.'),
+    (frozenset({'while'}),
+     'A mote that spends 10,000 units of work in one run of the kernel without waiting halts in motesim; in Contiki '
+     'the watchdog resets the node.'),
 )
 
 

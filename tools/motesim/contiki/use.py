@@ -3,7 +3,8 @@ from __future__ import annotations
 
 from dataclasses import dataclass, field
 
-from motesim.contiki.tree import Block, Code, Is, Part, Program, Test, Variable, Word, parts_of, statements_of
+from motesim.contiki.tree import (Block, Code, Is, Operation, Part, Program, Test, Variable, Word, parts_of,
+                                  statements_of)
 
 SETS = frozenset({'set', 'reset', 'restart_timer'})
 
@@ -16,7 +17,7 @@ class Use:
     # (the callback timers that are set, and those that are reset or restarted)
     set_timers: set[tuple[str, str]] = field(default_factory=set)
     again: set[tuple[str, str]] = field(default_factory=set)
-    # (the keywords of statements, and the words and tests of expressions)
+    # (the keywords of statements; the words, tests and operators of expressions)
     words: set[str] = field(default_factory=set)
 
 
@@ -74,6 +75,8 @@ class _CodeUse:
             for part in parts_of(statement.value):
                 if isinstance(part, Variable):
                     self.local(part.name)
+                elif isinstance(part, Operation):
+                    self.use.words.add(part.operator)
                 elif isinstance(part, Word):
                     self.use.words.add(part.name)
                 elif isinstance(part, Is):
