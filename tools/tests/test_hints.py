@@ -143,6 +143,21 @@ class Warnings(unittest.TestCase):
             with self.subTest(path.name):
                 self.assertEqual([it.text for it in warnings(Scenario.parse(path.read_bytes()))], [])
 
+    def test_one_warning_for_each_cause(self) -> None:
+        loop = 'process a; autostart a; code a { body { while 1 { poll a; } } }'
+        text = scenario(program=loop) + ''.join('[[mote]]\nx = %d\ny = 0\nprogram = "source"\n' % it for it in (1, 2))
+        report = ''.join('mote %d source\n0 start a\n0 halt\n' % it for it in range(Scenario.parse(text).motes))
+        found = warnings(Scenario.parse(text), Report.parse(report + 'medium\nleft 0\n'))
+        self.assertEqual([it.text for it in found if 'halt' in it.text], [
+            'a loop without an end, in which nothing waits: the mote halts when its work is used up (motes 0, 1, 2, 3)'])
+
+    def test_many_places_of_one_cause_are_counted(self) -> None:
+        text = scenario(program=CODE % 'send 1;', x=50) + ''.join(
+            '[[mote]]\nx = %d\ny = 0\nprogram = "source"\n' % (100 + 50 * it) for it in range(10))
+        found = [it.text for it in warnings(Scenario.parse(text)) if 'nobody hears it' in it.text]
+        self.assertEqual(found, ['mote 0 sends, and nobody hears it: no mote is within `range`; the same goes for 11 more '
+                                 'motes: 1, 2, 3, 4, 5, 6, 7, 8, ..'])
+
     def test_a_loss_that_loses_nothing_is_shown_at_the_loss(self) -> None:
         text = scenario(x=50) + '[[loss]]\nfrom = 0\nto = 1\nevery = 2\n'
         found = next(it for it in warnings(Scenario.parse(text)) if 'loses nothing' in it.text)

@@ -35,6 +35,7 @@ from typing import Any
 from motesim.experiments import packages
 from motesim.faults import INTERRUPTED, Fault, command
 from motesim.experiments.one_run import DIGITS, Job, Result, Work, program_digest
+from motesim.output import beside
 from motesim.plan.plan import Plan
 from motesim.plan.tables import Value, text_of_value, value_of_text
 from motesim.experiments.results import CsvFile, Row, SqliteFile, open_results, text_of
@@ -145,7 +146,7 @@ class Sweeper:
 
 
 def default_output(plan: str) -> Path:
-    return Path(Path(plan).name.removesuffix('.toml').removesuffix('.plan') + '.csv')
+    return beside(plan, Path(plan).name.removesuffix('.toml').removesuffix('.plan') + '.csv')
 
 
 def said(sweeper: Sweeper, ran: int) -> int:
@@ -164,7 +165,7 @@ def main() -> int:
     words.add_argument('plan', metavar='PLAN', help='a plan, a TOML file')
     words.add_argument('--vary', action='append', default=[], metavar='NAME=VALUES', help='values of a parameter')
     words.add_argument('--measure', action='append', default=[], metavar='MEASURE', help='what is measured of a run')
-    words.add_argument('-o', dest='output', metavar='FILE', help='the results; else NAME.csv of NAME.plan.toml')
+    words.add_argument('-o', dest='output', metavar='FILE', help='the results; else NAME.csv, next to NAME.plan.toml')
     words.add_argument('--jobs', type=int, default=os.cpu_count() or 1, metavar='N', help='how many runs at a time')
     words.add_argument('--seconds', type=float, metavar='N', help='the limit of a run; else 60, or what the plan says')
     words.add_argument('--bytes', type=int, default=MOST_BYTES, metavar='N',

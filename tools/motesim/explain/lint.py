@@ -13,6 +13,10 @@ from motesim.notation.faults import WAITS, Token, tokens_of
 from motesim.report import Report
 from motesim.scenario import Scenario
 
+ENDLESS = 'a loop without an end, in which nothing waits: the mote halts when its work is used up'
+# How many other places are named.
+MOST_PLACES = 8
+
 
 class Warned(NamedTuple):
     """A warning in words. Its place is a token of a program, a mote, a loss, or nothing in particular."""
@@ -21,6 +25,7 @@ class Warned(NamedTuple):
     token: Token | None = None
     mote: int | None = None
     loss: int | None = None
+    cause: str = ''
 
     @property
     def path(self) -> tuple[str, int] | None:
@@ -88,8 +93,7 @@ def of_program(program: Program) -> Iterator[Warned]:
     if packet and not program.receivers:
         yield Warned('packets are waited for, and no process is the `receiver`: they are dropped', name, packet)
     for loop in program.endless_loops():
-        what = 'a loop without an end, in which nothing waits: the mote halts when its work is used up'
-        yield Warned(what, name, loop)
+        yield Warned(ENDLESS, name, loop)
     for kind in 'etimer', 'ctimer':
         for at, word in enumerate(program.words[:-1]):
             if word == kind and program.tokens[at + 1].kind == 'name':
@@ -109,23 +113,52 @@ def of_net(scenario: Scenario, programs: dict[str, Program], report: Report | No
         for number in alone:
             what = 'sends, and nobody hears it' if number in speaks else 'hears nobody'
             if number in speaks or 'packet' in programs[scenario.places[number].program].words:
-                yield Warned('mote %d %s: no mote stands within `range`' % (number, what), mote=number)
+                yield Warned('mote %d %s: no mote is within `range`' % (number, what), mote=number, cause='range: ' + what)
     for number, (s, r) in enumerate(scenario.losses):
         if not scenario.hears(r, s):
             what = 'a loss from mote %d to mote %d, which doesn\'t hear it, loses nothing' % (s, r)
-            yield Warned(what, loss=number)
+            yield Warned(what, loss=number, cause='loss')
     if report is not None:
         for it in resonances(scenario, report):
-            yield Warned(str(it), loss=it.place)
+            yield Warned(str(it), loss=it.place, cause='step %d %d' % (it.sender, it.every))
         for mote in report.motes:
             halted = mote.halted()
             if halted is not None:
                 yield Warned('mote %d halts at %d: a kernel run used up its 10,000 units of work' % (
-                    mote.number, halted), mote=mote.number)
+                    mote.number, halted), mote=mote.number, cause='halt %s' % mote.program)
 
 
 def warnings(scenario: Scenario, report: Report | None = None) -> list[Warned]:
     """What is legal in a scenario, and surely not meant; with its report, what that shows too."""
     programs = {name: Program(name, text) for name, text in scenario.programs.items()}
     found = [it for program in programs.values() for it in of_program(program)]
-    return found + list(of_net(scenario, programs, report))
+    return by_cause(found + list(of_net(scenario, programs, report)))
+
+
+def by_cause(found: list[Warned]) -> list[Warned]:
+    """One warning for each cause, at its first place, with how many places have it."""
+    loops = {it.program for it in found if it.text == ENDLESS}
+    groups: dict[object, list[Warned]] = {}
+    for number, it in enumerate(found):
+        kind, _, program = it.cause.partition(' ')
+        if kind == 'halt' and program in loops:
+            groups[ENDLESS, program].append(it)
+        else:
+            key: object = (ENDLESS, it.program) if it.text == ENDLESS else it.cause or number
+            groups.setdefault(key, []).append(it)
+    return [together(its) for its in groups.values()]
+
+
+def together(its: list[Warned]) -> Warned:
+    """The first of some warnings of one cause, with the places of the others."""
+    first, others = its[0], its[1:]
+    if not others:
+        return first
+    places = [it.mote if it.mote is not None else it.loss for it in others]
+    shown = ', '.join(str(it) for it in places[:MOST_PLACES]) + (', ..' if len(places) > MOST_PLACES else '')
+    if first.text == ENDLESS:
+        return first._replace(text='%s (mote%s %s)' % (first.text, 's' if len(places) > 1 else '', shown))
+    what = 'loss' if others[0].mote is None else 'mote'
+    many = what + ('es' if what == 'loss' else 's')
+    return first._replace(text='%s; the same goes for %d more %s: %s' % (
+        first.text, len(others), many if len(others) > 1 else what, shown))

@@ -20,6 +20,7 @@ import hashlib
 import os
 import shutil
 import sys
+import time
 from collections.abc import Iterator, Sequence
 from pathlib import Path
 
@@ -28,6 +29,7 @@ from motesim.faults import Fault
 TOP = Path(__file__).resolve().parents[3]
 # What a proof builds, until the next one.
 PROVED = TOP / 'crates/motesim/out/motesim'
+DAY = 86_400
 PROGRAMS = TOP / 'out/programs'
 # The program of an archive that tools/pack made, which has no crates; and the page in it if the program was proved.
 PACKED, PACKED_PROVED = TOP / 'motesim', TOP / 'PROVED.md'
@@ -188,9 +190,26 @@ def unless_held(program: Path) -> Iterator[bool]:
         yield False
 
 
+def is_said_today() -> bool:
+    """Whether this was said on this machine, to this user, in the last day; it is noted that it is said now."""
+    cache = os.environ.get('XDG_CACHE_HOME') or os.path.expanduser('~/.cache')
+    note = Path(os.environ.get('MOTESIM_SEEN') or Path(cache) / 'motesim/said')
+    try:
+        if 0 <= time.time() - note.stat().st_mtime < DAY:
+            return True
+    except OSError:
+        pass
+    with contextlib.suppress(OSError):
+        note.parent.mkdir(parents=True, exist_ok=True)
+        note.touch()
+    return False
+
+
 @functools.cache
 def say_not_proved() -> None:
-    """Says, once, that the program that is run was not proved."""
+    """Says, once a day, that the program that is run was not proved."""
+    if is_said_today():
+        return
     print('motesim: %s' % (COMPILED if is_program(PACKED) else NOT_PROVED), file=sys.stderr, flush=True)
 
 

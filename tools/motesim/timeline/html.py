@@ -24,6 +24,7 @@ from pathlib import Path
 from typing import Any
 
 from motesim.faults import Fault, command
+from motesim.output import beside
 from motesim.notation.keywords import EVENTS
 from motesim.report import KINDS, LOST, Log, Report, Trace
 from motesim.runner.run import Run, read_run
@@ -241,11 +242,11 @@ def main() -> int:
                        help='a scenario or a report; - is standard input')
     words.add_argument('--scenario', metavar='FILE', help='the scenario of a report: it has the places of the motes')
     words.add_argument('-o', dest='page', metavar='PAGE',
-                       help='the page to write; else NAME.html in the current folder')
+                       help='the page to write; else NAME.html, next to FILE')
     words.add_argument('--title', help='the title of the page; else the name of the file')
     asked = words.parse_args()
     name = 'run' if asked.file == '-' else Path(asked.file).stem
-    page = asked.page or name + '.html'
+    page = asked.page or str(beside(asked.file, name + '.html'))
     write_page(page, asked.title or name, [read_run(asked.file, asked.scenario)])
     print(page)
     return 0
