@@ -209,8 +209,18 @@ class Flows(unittest.TestCase):
         row, _ = flow_rows(Report.parse(FLOW), None, 'print sink -> recv')
         self.assertEqual((row['origin'], row['sent'], row['delivered']), (1, 1, 0))
 
+    def test_values_keep_acknowledgements_apart(self) -> None:
+        # Mote 1 answers 7 by 107: with all values it is a message of its own, which nobody gets.
+        text = FLOW.replace('3 send 0 7\nmote 2', '3 send 0 7\n4 send 1 107\nmote 2').replace(
+            '5 0 1 8 1@lost', '4 1 1 107 0@lost\n5 0 1 8 1@lost')
+        report = Report.parse(text)
+        found = {words: flow_rows(report, None, words)[-1] for words in ('print sink', 'print sink 0 to 99', 'print sink 7')}
+        self.assertEqual([found[words]['sent'] for words in found], [3, 2, 1])
+        self.assertEqual([found[words]['delivered'] for words in found], [1, 1, 1])
+        self.assertEqual(str(read_flow('send 1 to 99 -> print sink 7')[0]), 'send 7')
+
     def test_words_that_say_no_flow(self) -> None:
-        for words in 'print', 'sink', 'print a -> print b -> print c', '':
+        for words in 'print', 'sink', 'print a -> print b -> print c', '', 'send 1 to 5 -> recv 6', 'print a 9 to 5':
             with self.assertRaises(FlowFault):
                 read_flow(words)
 

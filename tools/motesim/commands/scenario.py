@@ -2,6 +2,7 @@
 
   tools/scenario net.plan.toml -o net.toml
   tools/scenario net.plan.toml --set period=20 --set seed=3 | ./run
+  tools/scenario --from net.toml -o net.plan.toml            the other way: a plan, with files beside it
 
 Without -o the scenario goes to standard output. The same plan, files and parameters give the same bytes anywhere.
 docs/use/EXPERIMENTS.md has all that a plan may say. Ends with status 0, or with 2 where the plan, or a file beside it,
@@ -15,8 +16,12 @@ from pathlib import Path
 
 from motesim.scenario import faults as scenario_faults
 from motesim.faults import Fault, command
+from motesim.output import beside
+from motesim.plan.from_scenario import write_plan
 from motesim.plan.plan import Plan
 from motesim.plan.tables import Value, value_of_text
+from motesim.runner.run import read_file
+from motesim.scenario import Scenario
 from motesim.words import words_of
 
 
@@ -41,13 +46,33 @@ def checked(text: str) -> str:
     return text
 
 
+def write_from(source: str, output: str | None) -> int:
+    """Writes the plan of a scenario."""
+    data = read_file(source)
+    fault = scenario_faults.find_fault(data)
+    if fault:
+        raise Fault('%s has a fault: motesim: %s (tools/explain says more)' % (source, fault.told))
+    name = 'net' if source == '-' else Path(source).stem
+    plan = Path(output) if output else beside(source, name + '.plan.toml')
+    if plan.suffix != '.toml':
+        raise Fault('%s: the name of a plan ends in .toml' % plan)
+    for path in write_plan(Scenario.parse(data), source, plan):
+        print(path)
+    return 0
+
+
 @command('scenario')
 def main() -> int:
     words = words_of(__doc__)
-    words.add_argument('plan', metavar='PLAN', help='a plan, a TOML file')
+    words.add_argument('plan', metavar='PLAN', nargs='?', help='a plan, a TOML file')
+    words.add_argument('--from', dest='source', metavar='SCENARIO', help='write a plan that makes this scenario')
     words.add_argument('--set', action='append', default=[], metavar='NAME=VALUE', help='another value of a parameter')
-    words.add_argument('-o', dest='output', metavar='FILE', help='the scenario to write; else standard output')
+    words.add_argument('-o', dest='output', metavar='FILE', help='the scenario to write, else standard output; with --from the plan')
     asked = words.parse_args()
+    if (asked.plan is None) == (asked.source is None) or asked.source and asked.set:
+        words.error('name a PLAN, or a scenario with --from')
+    if asked.source:
+        return write_from(asked.source, asked.output)
     text = checked(Plan.read(asked.plan).scenario(given_of(asked.set)))
     if not asked.output:
         sys.stdout.write(text)

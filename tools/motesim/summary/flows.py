@@ -17,13 +17,13 @@ from typing import NamedTuple, Union
 from motesim.faults import Fault
 from motesim.explain.hints import nearest
 from motesim.notation.keywords import SYSTEM
-from motesim.report import Line, Report
+from motesim.report import MOST_WORD, Line, Report
 from motesim.scenario import Scenario
 from motesim.judge.sentences import names_of, processes_of
 
 Row = dict[str, Union[int, float, str, None]]
 NAMES = ['origin', 'sent', 'delivered', 'ratio', 'reached', 'copies', 'duplicates', 'hops', 'least', 'middle', 'most']
-FORM = re.compile(r'\s*(?:(send|recv)|print\s+([A-Za-z][A-Za-z0-9_]*))\s*')
+FORM = re.compile(r'\s*(?:(send|recv)|print\s+([A-Za-z][A-Za-z0-9_]*))(?:\s+([0-9]{1,5})(?:\s+to\s+([0-9]{1,5}))?)?\s*')
 
 
 class FlowFault(Fault):
@@ -31,15 +31,25 @@ class FlowFault(Fault):
 
 
 class Mark(NamedTuple):
-    """Lines that have a message: their kind, and of prints the process."""
+    """Lines that have a message: their kind, of prints the process, and the least and the greatest value."""
     kind: str
     process: str | None = None
+    least: int = 0
+    most: int = MOST_WORD
 
     def has(self, line: Line) -> bool:
-        return line.kind == self.kind and (self.process is None or line.process == self.process)
+        is_one = line.kind == self.kind and (self.process is None or line.process == self.process)
+        return is_one and line.value is not None and self.least <= line.value <= self.most
+
+    @property
+    def values(self) -> str:
+        """The values, if not all are meant."""
+        if (self.least, self.most) == (0, MOST_WORD):
+            return 'V'
+        return str(self.least) if self.least == self.most else '%d to %d' % (self.least, self.most)
 
     def __str__(self) -> str:
-        return ' '.join(it for it in (self.kind, self.process) if it)
+        return ' '.join(it for it in (self.kind, self.process, self.values) if it)
 
 
 @dataclass
@@ -55,9 +65,15 @@ def read_flow(words: str) -> tuple[Mark, Mark]:
     parts = words.split('->')
     marks = [FORM.fullmatch(part) for part in parts]
     if len(parts) > 2 or not all(marks):
-        raise FlowFault('no flow: %r. It is END or BEGIN -> END; each is `print PROCESS`, `send` or `recv`' % words)
-    found = [Mark(it[1] or 'print', it[2]) for it in marks if it]
-    return (found[0], found[1]) if len(found) == 2 else (Mark('send'), found[0])
+        raise FlowFault('no flow: %r. It is END or BEGIN -> END; each is `print PROCESS`, `send` or `recv`, with values '
+                        'behind it if not all are meant, `1 to 99`' % words)
+    found = [Mark(it[1] or 'print', it[2], int(it[3] or 0), int(it[4] or it[3] or MOST_WORD)) for it in marks if it]
+    # (a message has one value, so what its end doesn't take doesn't begin one)
+    begin, end = (found[0], found[1]) if len(found) == 2 else (Mark('send'), found[0])
+    least, most = max(begin.least, end.least), min(begin.most, end.most)
+    if least > most:
+        raise FlowFault('no flow: %r has no value' % words)
+    return begin._replace(least=least, most=most), end._replace(least=least, most=most)
 
 
 def like(process: str, scenario: Scenario | None, known: set[str]) -> str:
@@ -86,7 +102,7 @@ def silent(report: Report, scenario: Scenario | None, words: str) -> Iterator[st
         if not any(map(mark.has, report.lines(mark.kind))):
             known = report.trace.processes() - {'all'}
             more = like(mark.process, scenario, known) if mark.process and mark.process not in known else ''
-            yield 'the report has no line `%s V`, so %s%s' % (mark, what, more)
+            yield 'the report has no line `%s`, so %s%s' % (mark, what, more)
             return
 
 
