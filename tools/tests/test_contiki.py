@@ -373,6 +373,11 @@ class ProgramFileTest(unittest.TestCase):
         self.assertIn('a_n = 1;', text)
         self.assertIn('b_n = 2;', text)
 
+    def test_who_sends_opens_the_radio(self) -> None:
+        for statement, opens in ('send 1;', True), ('post a packet 1;', True), ('print 1;', False):
+            text = without_header(file_of('process a; autostart a; code a { body { %s } }' % statement))
+            self.assertEqual('    motesim_radio_open(NULL);\n' in text, opens, statement)
+
     def test_a_callback_timer_that_is_never_set(self) -> None:
         text = without_header(file_of('process a; autostart a; code a { ctimer c { } body { reset c; } }'))
         self.assertIn('    c.p = &a_process;\n    c.f = c_callback;\n', text)
@@ -428,6 +433,17 @@ class FolderTest(unittest.TestCase):
         self.assertEqual(done.stdout.split(), ['out/process_program.c', 'out/motesim_radio.h', 'out/motesim_radio.c',
                                                'out/Makefile', 'out/README.md'])
         self.assertIn('CONTIKI_PROJECT = process_program\n', (self.folder / 'out/Makefile').read_text())
+
+    def test_the_makefile_builds_all_programs(self) -> None:
+        """With a stand-in for the Makefile of a Contiki tree, which has the rule that makes a program."""
+        (self.folder / 'Makefile.include').write_text('%: %.c; @echo $@ $(TARGET) $(PROJECT_SOURCEFILES)\n')
+        for more in [], ['--host']:
+            self.export(str(TOP / 'examples/small_network.toml'), '--form', 'contiki', '-o', 'out', *more)
+            done = subprocess.run(['make', '-s', '-C', 'out', 'CONTIKI=%s' % self.folder, 'TARGET=sky'],
+                                  capture_output=True, text=True, cwd=self.folder)
+            self.assertEqual(done.stdout, 'listener sky motesim_radio.c\nsender sky motesim_radio.c\n', done.stderr)
+        done = subprocess.run(['make', '-s', '-C', 'out'], capture_output=True, text=True, cwd=self.folder)
+        self.assertIn('CONTIKI has to be the folder of a Contiki 2.x tree', done.stderr)
 
     def test_another_queue_is_named(self) -> None:
         scenario = Scenario.parse((TOP / 'examples/small_network.toml').read_bytes())

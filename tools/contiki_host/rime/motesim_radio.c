@@ -55,7 +55,7 @@ received(struct broadcast_conn *c, const rimeaddr_t *from)
   struct packet *packet = &packets[next_packet];
 
   (void)c;
-  if(packetbuf_datalen() != 2) {
+  if(packet_receiver == NULL || packetbuf_datalen() != 2) {
     return;
   }
   packet->value = (uint16_t)(bytes[0] + 256u * bytes[1]);

@@ -79,16 +79,16 @@ def _queues(scenario: Scenario) -> dict[str, int]:
 
 def _makefile(scenario: Scenario, programs: list[str], with_host: bool) -> str:
     files = [file_name(it) for it in programs]
-    queues = ''.join('#\n# The event queue of %s has %d places: make DEFINES=PROCESS_CONF_NUMEVENTS=%d %s, after '
+    queues = ''.join('#\n# The event queue of %s has room for %d: make DEFINES=PROCESS_CONF_NUMEVENTS=%d %s, after '
                      'make clean.\n' % (name, length, length, name) for name, length in _queues(scenario).items())
     text = (HERE / 'makefile.txt').read_text('utf-8').replace('{first}', files[0] if files else 'PROGRAM')
     text = text.replace('{programs}', ' '.join(files)).replace('@queues@\n', queues + '\n')
-    return text.replace('@host@\n', HOST_RULE + '\n' if with_host else '\n')
+    return text.replace('@host@\n', HOST_RULE if with_host else '')
 
 
 def _page(title: str, scenario: Scenario, programs: list[str], with_host: bool) -> str:
     rows = ''.join('| `%s.c` | the program `%s` |\n' % (file_name(it), it) for it in programs)
-    queues = ''.join('- The event queue of `%s` has %d places. Build it by itself, after `make clean`, with '
+    queues = ''.join('- The event queue of `%s` has room for %d. Build it by itself, after `make clean`, with '
                      '`DEFINES=PROCESS_CONF_NUMEVENTS=%d`.\n' % (name, length, length)
                      for name, length in _queues(scenario).items())
     parts = {'{title}': title, '{files}': rows, '{first}': file_name(programs[0]) if programs else 'PROGRAM',

@@ -111,8 +111,9 @@ class ProgramFile:
         for process, name in sorted(self.use.again):
             cname = self.names.inside(process, name)
             lines += ['%s.p = &%s;' % (cname, self.names.of(process)), '%s.f = %s;' % (cname, self._callback(cname))]
-        if self.program.receiver:
-            lines.append('motesim_radio_open(&%s);' % self.names.of(self.program.receiver))
+        if self.program.receiver or 'send' in self.use.words or 'packet' in self.use.names:
+            receiver = '&' + self.names.of(self.program.receiver) if self.program.receiver else 'NULL'
+            lines.append('motesim_radio_open(%s);' % receiver)
         return lines
 
     def lines(self) -> list[str]:
