@@ -102,30 +102,49 @@ def is_everything(it: Filter) -> bool:
 
 def filtered(traces: Traces, it: Filter) -> Log:
     """The lines that a filter leaves."""
-    log, is_all = Log(traces), is_everything(it)
-    rest = r'([a-z]+).*$' if is_all else r'(?=([a-z]+))%s$' % pattern_of(it)
-    regex = re.compile(r'^(\d+) ' + rest, re.M)
-    first, last = it.span[0], MOST_MOMENT if it.span[1] is None else it.span[1]
-    text = log.text
+    log, add = Log(traces), add_all if is_everything(it) else add_fitting
+    regex = re.compile(r'^(\d+) (?=([a-z]+))%s$' % pattern_of(it), re.M)
+    span = it.span[0], MOST_MOMENT if it.span[1] is None else it.span[1]
     for mote in range(traces.motes):
-        begin, end = traces.begins[mote], traces.ends[mote]
-        log.all += text.count('\n', begin, end)
-        if it.motes is not None and mote not in it.motes:
-            continue
-        row, counted = traces.head_rows[mote], begin - 1
-        kinds: list[str] = []
-        for found in regex.finditer(text, begin, end):
-            here, stop = found.span()
-            # (of all lines each is one further)
-            row += 1 if is_all else text.count('\n', counted, here)
-            counted = here
-            at = found[1]
-            moment = int(at)
-            if first <= moment <= last:
-                kinds.append(found[2])
-                log.add(moment, row, mote, here + len(at) + 1, stop)
-        log.kinds[mote] = Counter(kinds)
+        log.all += log.text.count('\n', traces.begins[mote], traces.ends[mote])
+        if it.motes is None or mote in it.motes:
+            log.kinds[mote] = Counter(add(log, mote, regex, span))
     return log
+
+
+def add_fitting(log: Log, mote: int, regex: re.Pattern[str], span: tuple[int, int]) -> Iterator[str]:
+    """Adds the lines of a mote that fit a pattern, and yields their kinds."""
+    text, begin, end = log.text, log.traces.begins[mote], log.traces.ends[mote]
+    row, counted = log.traces.head_rows[mote], begin - 1
+    for found in regex.finditer(text, begin, end):
+        here, stop = found.span()
+        row += text.count('\n', counted, here)
+        counted = here
+        at = found[1]
+        if span[0] <= int(at) <= span[1]:
+            log.add(int(at), row, mote, here + len(at) + 1, stop)
+            yield found[2]
+
+
+def add_all(log: Log, mote: int, _: re.Pattern[str], span: tuple[int, int]) -> Iterator[str]:
+    """Adds all lines of a mote, and yields their kinds. (There may be millions, so each step counts.)"""
+    begin, row = log.traces.begins[mote], log.traces.head_rows[mote]
+    moments, rows, owners = log.moments.append, log.rows.append, log.owners.append
+    begins, ends = log.begins.append, log.ends.append
+    first, last = span
+    for line in log.text[begin:log.traces.ends[mote]].split('\n')[:-1]:
+        row += 1
+        at, kind = line.split(' ', 2)[:2]
+        end = begin + len(line)
+        moment = int(at)
+        if first <= moment <= last:
+            moments(moment)
+            rows(row)
+            owners(mote)
+            begins(begin + len(at) + 1)
+            ends(end)
+            yield kind
+        begin = end + 1
 
 
 def of_sentence(source: Source, sentence: str, it: Filter) -> Log:

@@ -52,17 +52,18 @@ class Series:
         depth, until, last_taken = 0, 0, -1
         posted: list[int] = []
         for line in self.traces.lines(mote):
-            at_text, kind, *rest = line.split(' ', 3)
-            at = int(at_text)
+            words = line.split(' ', 3)
+            kind = words[1]
+            at = int(words[0])
             part = at // by
             name = COUNTED.get(kind)
             if name:
                 counts[part][name] += 1
             if kind == 'post':
                 posted.append(at)
-            elif kind in ('take', 'drop') and int(rest[0]) > last_taken:
+            elif kind in ('take', 'drop') and int(words[2]) > last_taken:
                 # (an event for all is taken by each process, and leaves the queue once)
-                last_taken = int(rest[0])
+                last_taken = int(words[2])
                 self.waits[part] += at - posted[last_taken]
                 self.taken[part] += 1
             else:

@@ -97,7 +97,7 @@ def with_marks(source: Source, watched: list[Watched]) -> list[Watched]:
             name = source.translated[it.program].processes[it.process].name
             motes = [mote for mote, program in enumerate(source.traces.programs) if program == it.program]
             prints = (source.traces.matching(mote, b'print %s .*' % name.encode()) for mote in motes)
-            taken[key] = {int(source.traces.text(line.where).rsplit(' ', 1)[1]) for its in prints for line in its}
+            taken[key] = {int(source.traces.text_at(line.where).rsplit(' ', 1)[1]) for its in prints for line in its}
         mark = next((value for value in range(MOST_VALUE, -1, -1) if value not in taken[key]), None)
         if mark is None:
             raise Unwatched('the process prints each value there is, so that no added print can be told from its own')
@@ -185,6 +185,9 @@ class _Stripped:
             at, place = at + 1, place + 1
         if place < len(wanted):
             self.differ(mote, 'nothing', wanted[place])
+        # (of a large run not all lines are kept)
+        self.source.traces.kept.pop(mote, None)
+        self.changed.kept.pop(mote, None)
         return found
 
     @staticmethod
@@ -221,7 +224,7 @@ def watch(source: Source, scenario: str, motes: list[int], watched: list[Watched
     found = {mote: stripped.values(mote) for mote in range(source.traces.motes)}
     for mote in motes:
         # (a trace that ends by `halt` would end so with the prints too, and what came last before it would be missing)
-        if source.traces.lines(mote)[-1].endswith(' halt'):
+        if source.traces.halts(mote):
             raise Unwatched('mote %d uses up its work, and with added prints it would do so earlier: this run can\'t '
                             'be watched by prints' % mote)
     return first_values(source, motes, marked) + [it for mote in motes for it in found[mote]]
