@@ -1,9 +1,9 @@
 """Causes: what tools/why says of lines. The chains are worked out by hand from the scenarios."""
-import io
 import json
 import os
 import subprocess
 import sys
+import tempfile
 import unittest
 from pathlib import Path
 
@@ -412,6 +412,15 @@ class Runs(unittest.TestCase):
         got = json.loads(self.why('examples/flooding.toml', 'mote 6 prints flood 1', '--json').stdout)
         self.assertEqual([it['at'] for it in got['chain']], [46] * 4 + [43] * 4 + [40] * 3 + [0, 0])
         self.assertEqual(got['path']['medium'], {'moments': 6, 'times': 2})
+
+    def test_a_second_run_that_has_the_line(self) -> None:
+        with tempfile.TemporaryDirectory() as room:
+            path = Path(room, 'lossy.toml')
+            path.write_text((TOP / 'examples/flooding.toml').read_text().replace('every = 2', 'every = 1'))
+            shown = self.why(str(path), 'mote 1 prints flood 1 by 45', '--other', 'examples/flooding.toml')
+        self.assertEqual(shown.returncode, 1)
+        self.assertIn('examples/flooding.toml has the line: mote 1, line 41: 43 print flood 1', shown.stdout)
+        self.assertIn('lossy.toml: the medium lost it, as it loses all packets from 0 to 1', shown.stdout)
 
     def test_what_the_command_refuses(self) -> None:
         for arguments, said in (

@@ -75,6 +75,20 @@ def show_state(source: Source, asked: argparse.Namespace) -> int:
     return 0
 
 
+def show_other(source: Source, asked: argparse.Namespace) -> None:
+    """Shows where a run leaves the chain of another run, in which the line is there."""
+    other = read_source(asked.other, asked.other_scenario)
+    found = Asker(other).about(asked.question)
+    print()
+    if isinstance(found, Asked):
+        first = other.traces.text(found.where)
+        print('%s has the line: mote %d, line %d: %s' % (other.name, found.where.mote, other.traces.row(found.where),
+                                                         first))
+        print('\n'.join(parted_rows(other, source, diverged(other, source, found.where))))
+    else:
+        print('%s does not have the line either: %s' % (other.name, found.remark))
+
+
 def show_why(source: Source, asked: argparse.Namespace) -> int:
     """Shows a chain, or what came near."""
     asker = Asker(source)
@@ -83,6 +97,8 @@ def show_why(source: Source, asked: argparse.Namespace) -> int:
         near = misses(asker, found)
         print(json.dumps({'question': asked.question, **missed(found, near)}, indent=1) if asked.json else
               '\n'.join(near_rows(found, near)))
+        if asked.other is not None:
+            show_other(source, asked)
         return 1
     if asked.other is not None:
         other = read_source(asked.other, asked.other_scenario)
@@ -112,6 +128,8 @@ def main() -> int:
     words.add_argument('--json', action='store_true', help='for programs')
     words.add_argument('--short', action='store_true', help='only the hops that took time')
     asked = words.parse_args()
+    if asked.json and asked.other is not None:
+        raise Fault('--json and --other do not go together')
     given = [it for it in (asked.question, asked.watch, asked.state) if it is not None]
     if len(given) != 1:
         raise Fault('one question is needed: a sentence, a line, --watch or --state')
