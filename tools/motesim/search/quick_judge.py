@@ -9,18 +9,18 @@ from __future__ import annotations
 import re
 from collections.abc import Callable, Iterable
 from dataclasses import fields, is_dataclass
-from functools import cached_property, partial
+from functools import cache, cached_property, partial
 
 from motesim.judge.judge import Judge
 from motesim.report import FIELDS, Report
 from motesim.scenario.scenario import Scenario
 from motesim.judge.sentences import (
-    Copies, Count, Deed, Does, Hears, Lines, Motes, Packets, Pattern, Sentence, Value, Window,
+    COMPARES, Copies, Count, Deed, Does, Hears, Lines, Motes, Packets, Pattern, Sentence, Value, Window,
 )
 
 OUTCOMES = {'collided': 'collide', 'received': 'recv', 'full': 'lost'}
-# A line of a trace: its moment, and the words behind its kind.
-Row = tuple[int, list[str]]
+# A line of a trace, as it stands: its moment, and the words behind its kind.
+Row = tuple[str, str]
 # The moments of a window: the first and the last one, or None for no last one.
 Span = tuple[int, int | None]
 
@@ -83,26 +83,59 @@ class Hops:
         return [(begin + later, None if end is None else end + later)]
 
 
-class Seen:
-    """A report, as far as it is read: of each mote the lines of some kinds."""
+# (for so many motes their lines are looked for mote by mote)
+FEW = 3
+# Kinds that are reserved words: they stand in no other line, and a line has more behind them.
+COUNTED = frozenset(('send', 'print', 'start', 'post'))
 
-    def __init__(self, data: bytes, kinds: re.Pattern[str] | None, scenario: Scenario):
+
+@cache
+def form_of(kind: str) -> re.Pattern[str]:
+    """What finds the lines of a kind, with their moments and further words, and the heads of motes."""
+    return re.compile(r'\n(?:(\d+) %s\b ?(.*)|(mote) )' % kind)
+
+
+class Seen:
+    """A report, as far as it is read: of all motes, or of one, the lines of a kind."""
+
+    def __init__(self, data: bytes, scenario: Scenario):
         self.data, self.scenario, self.links = data, scenario, Hops(scenario)
         self.motes = scenario.motes
         text = data.decode('ascii')
         at = text.rfind('\nmedium\n')
         self.trace, self.medium = text[:at + 1], text[at + 8:]
-        self.rows: list[dict[str, list[Row]]] = []
-        if kinds is not None:
-            here: dict[str, list[Row]] = {}
-            for moment, kind, rest, head in kinds.findall('\n' + self.trace):
-                if head:
-                    here = {}
-                    self.rows.append(here)
-                elif kind in here:
-                    here[kind].append((int(moment), rest.split()))
-                else:
-                    here[kind] = [(int(moment), rest.split())]
+        self.of_all: dict[str, list[list[Row]]] = {}
+        self.of_one: dict[tuple[str, int], list[Row]] = {}
+
+    @cached_property
+    def sections(self) -> list[str]:
+        """The trace of each mote, with its head."""
+        return ('\n' + self.trace).split('\nmote ')[1:]
+
+    def take_all(self, kind: str) -> None:
+        """Takes the lines of a kind of all motes at once."""
+        if kind in self.of_all:
+            return
+        found: list[list[Row]] = []
+        for moment, words, head in form_of(kind).findall('\n' + self.trace):
+            if head:
+                found.append([])
+            else:
+                found[-1].append((moment, words))
+        self.of_all[kind] = found
+
+    def rows(self, mote: int, kind: str) -> list[Row]:
+        """The lines of a kind of one mote."""
+        if kind in self.of_all:
+            return self.of_all[kind][mote]
+        if (kind, mote) not in self.of_one:
+            lines = form_of(kind).findall(self.sections[mote])
+            self.of_one[kind, mote] = [(moment, words) for moment, words, _ in lines]
+        return self.of_one[kind, mote]
+
+    def count(self, mote: int, kind: str) -> int:
+        """How many lines of one of the kinds of `COUNTED` a mote has."""
+        return self.sections[mote].count(' %s ' % kind)
 
     @cached_property
     def judge(self) -> Judge:
@@ -119,11 +152,12 @@ class Seen:
 Check = Callable[[Seen], bool]
 
 
-def _inside(rows: list[Row], span: Span) -> list[Row]:
-    begin, end = span
-    if not begin and end is None:
-        return rows
-    return [row for row in rows if begin <= row[0] and (end is None or row[0] <= end)]
+def _inside(rows: list[Row], begin: int, end: int | None) -> list[Row]:
+    """The lines from one moment to another."""
+    if begin == end:
+        moment = str(begin)
+        return [row for row in rows if row[0] == moment]
+    return [row for row in rows if begin <= int(row[0]) and (end is None or int(row[0]) <= end)]
 
 
 class _Unknown(Exception):
@@ -153,48 +187,102 @@ def _check_parts(it: object) -> None:
             raise _Unknown
 
 
-def _lines_of(pattern: Pattern) -> Callable[[Seen, int], list[Row]]:
+LinesOf = Callable[[Seen, int], list[Row]]
+
+
+def _lines_of(pattern: Pattern) -> LinesOf:
     """A function that gives the lines of a mote which have this pattern."""
-    kind = str(pattern[0])
-    if len(pattern) > 1 + len(FIELDS[kind].split()):
+    kind, fields = str(pattern[0]), pattern[1:]
+    count = len(FIELDS[kind].split())
+    if len(fields) > count:
         return lambda seen, mote: []
-    fixed = [(index, it) for index, it in enumerate(pattern[1:]) if isinstance(it, str)]
-    valued = [(index, it) for index, it in enumerate(pattern[1:]) if isinstance(it, Value)]
-
-    def lines(seen: Seen, mote: int) -> list[Row]:
-        rows = seen.rows[mote].get(kind, [])
-        for index, word in fixed:
-            rows = [row for row in rows if row[1][index] == word]
-        for index, value in valued:
-            allowed = set(map(str, seen.links.values(value, mote)))
-            rows = [row for row in rows if row[1][index] in allowed]
-        return rows
-    return lines
+    if not fields:
+        return lambda seen, mote: seen.rows(mote, kind)
+    if all(isinstance(it, str) for it in fields):
+        words = ' '.join(map(str, fields))
+        if len(fields) == count:
+            return lambda seen, mote: [row for row in seen.rows(mote, kind) if row[1] == words]
+        return lambda seen, mote: [row for row in seen.rows(mote, kind) if row[1].startswith(words + ' ')]
+    return partial(_lines_with, kind, fields)
 
 
-def _unit(it: Does) -> Callable[[Seen, int], bool]:
-    """A function that says whether a mote does what a sentence says."""
-    deed, count, window, lines = it.deed, it.count, it.window, _lines_of(it.deed.patterns[0])
+def _lines_with(kind: str, fields: Pattern, seen: Seen, mote: int) -> list[Row]:
+    """The lines of a mote whose words are these, of which None is any, and a value is looked up."""
+    allowed = [(index, set(map(str, seen.links.values(it, mote))) if isinstance(it, Value) else {it})
+               for index, it in enumerate(fields) if it is not None]
+    found = []
+    for row in seen.rows(mote, kind):
+        words = row[1].split(' ')
+        if all(words[index] in some for index, some in allowed):
+            found.append(row)
+    return found
+
+
+def _last_word(row: Row) -> str:
+    return row[1].rpartition(' ')[2]
+
+
+Holds = Callable[[Seen, list[Row], int], bool]
+
+
+def _holds(deed: Deed, count: Count) -> Holds:
+    """A function that says whether the lines of a deed are those that are wanted."""
+    if deed.way == 'any':
+        compare, number = COMPARES[count.compare], count.number
+        return lambda seen, rows, mote: bool(compare(len(rows), number))
     wanted = [str(value) for value in deed.values]
-    in_order = sorted(wanted)
+    if deed.way == 'just':
+        return lambda seen, rows, mote: [_last_word(row) for row in rows] == wanted
+    if deed.way == 'set':
+        wanted.sort()
+        return lambda seen, rows, mote: sorted(map(_last_word, rows)) == wanted
+    assert deed.way == 'finally' and deed.value
+    return partial(_ends_with, deed.value)
 
-    def holds(seen: Seen, inside: list[Row], mote: int) -> bool:
-        if deed.way == 'any':
-            return count.admits(len(inside))
-        if deed.way == 'just':
-            return [row[1][1] for row in inside] == wanted
-        if deed.way == 'set':
-            return sorted(row[1][1] for row in inside) == in_order
-        allowed = seen.links.values(deed.value, mote) if deed.value else set()
-        return bool(inside) and int(inside[-1][1][1]) in allowed
 
-    def does(seen: Seen, mote: int) -> bool:
-        try:
-            rows = lines(seen, mote)
-            return all(holds(seen, _inside(rows, span), mote) for span in seen.links.spans(window, mote))
-        except NotReached:
-            return False
-    return does
+def _ends_with(value: Value, seen: Seen, rows: list[Row], mote: int) -> bool:
+    return bool(rows) and int(_last_word(rows[-1])) in seen.links.values(value, mote)
+
+
+Unit = Callable[[Seen, int], bool]
+
+
+def _is_count(it: Does) -> bool:
+    """Whether all that is asked is how many lines of a kind of `COUNTED` there are."""
+    return it.deed.way == 'any' and it.window == Window() and it.deed.patterns[0] in [(kind,) for kind in COUNTED]
+
+
+def _unit(it: Does) -> Unit:
+    """A function that says whether a mote does what a sentence says."""
+    pattern, count, window = it.deed.patterns[0], it.count, it.window
+    lines, holds = _lines_of(pattern), _holds(it.deed, count)
+    if window == Window():
+        if _is_count(it):
+            kind = str(pattern[0])
+            return lambda seen, mote: count.admits(seen.count(mote, kind))
+        return lambda seen, mote: holds(seen, lines(seen, mote), mote)
+    if window.every:
+        return lambda seen, mote: all([holds(seen, _inside(lines(seen, mote), *span), mote)
+                                       for span in seen.links.spans(window, mote)])
+    begin, end = window.begin, window.end
+    if window.root is None:
+        return lambda seen, mote: holds(seen, _inside(lines(seen, mote), begin, end), mote)
+    return partial(_with_hops, window, window.root, lines, holds)
+
+
+def _with_hops(window: Window, root: int, lines: LinesOf, holds: Holds, seen: Seen, mote: int) -> bool:
+    """Whether the lines of a mote in a window, later for each hop from the root, are those that are wanted."""
+    later = window.hop * seen.links.hops(root, mote)
+    end = None if window.end is None else window.end + later
+    return holds(seen, _inside(lines(seen, mote), window.begin + later, end), mote)
+
+
+def _or_not_reached(unit: Unit, seen: Seen, mote: int) -> bool:
+    """What a unit says, which is false if there are no hops to its mote."""
+    try:
+        return unit(seen, mote)
+    except NotReached:
+        return False
 
 
 def _chosen(motes: Motes, seen: Seen) -> list[int]:
@@ -202,22 +290,26 @@ def _chosen(motes: Motes, seen: Seen) -> list[int]:
     return [mote for mote in numbers if mote not in motes.but]
 
 
-def _so_many(motes: Motes, count: Count, unit: Callable[[Seen, int], bool], seen: Seen) -> bool:
-    return count.admits(sum(unit(seen, mote) for mote in _chosen(motes, seen)))
-
-
 def _does(it: Does) -> Check:
     if len(it.deed.patterns) > 1 or it.motes.kind == 'together':
         raise _Unknown
-    unit, motes = _unit(it), it.motes
+    kind = '' if _is_count(it) else str(it.deed.patterns[0][0])
+    return partial(_judged, it.motes, partial(_or_not_reached, _unit(it)), kind)
+
+
+def _judged(motes: Motes, unit: Unit, kind: str, seen: Seen) -> bool:
+    """Whether as many motes as are meant do something, which lines of one kind show, or their mere count."""
+    chosen = _chosen(motes, seen)
+    if kind and len(chosen) > FEW:
+        seen.take_all(kind)
     if motes.kind == 'each':
-        return lambda seen: all(unit(seen, mote) for mote in _chosen(motes, seen))
+        return all(unit(seen, mote) for mote in chosen)
     if motes.kind == 'no':
-        return lambda seen: not any(unit(seen, mote) for mote in _chosen(motes, seen))
+        return not any(unit(seen, mote) for mote in chosen)
     if motes.kind == 'some':
-        return lambda seen: any(unit(seen, mote) for mote in _chosen(motes, seen))
+        return any(unit(seen, mote) for mote in chosen)
     assert motes.count
-    return partial(_so_many, motes, motes.count, unit)
+    return motes.count.admits(sum(unit(seen, mote) for mote in chosen))
 
 
 def _counted(seen: Seen, rows: Iterable[tuple[int, int]], count: Count, window: Window) -> bool:
@@ -241,7 +333,9 @@ def _copies(it: Copies) -> Check:
 
     def check(seen: Seen) -> bool:
         motes = range(seen.motes) if it.motes is None else sorted(it.motes)
-        rows = [(row[0], mote) for mote in motes for row in seen.rows[mote].get(kind, [])]
+        if len(motes) > FEW:
+            seen.take_all(kind)
+        rows = [(int(row[0]), mote) for mote in motes for row in seen.rows(mote, kind)]
         return _counted(seen, rows, it.count, it.window)
     return check
 
@@ -276,15 +370,8 @@ def _check_of(it: Sentence) -> Check:
     raise _Unknown
 
 
-def _by_judge(it: Sentence) -> Check:
-    return lambda seen: seen.judge.broken(it) is None
-
-
-def _kinds_of(it: Sentence) -> set[str]:
-    """The kinds of lines that a sentence's check reads."""
-    if isinstance(it, Does):
-        return {str(pattern[0]) for pattern in it.deed.patterns}
-    return {OUTCOMES[it.outcome]} if isinstance(it, Copies) and it.outcome in OUTCOMES else set()
+def _by_judge(it: Sentence, seen: Seen) -> bool:
+    return seen.judge.broken(it) is None
 
 
 class QuickJudge:
@@ -292,26 +379,14 @@ class QuickJudge:
 
     def __init__(self, sentences: list[Sentence]):
         self.checks: list[Check] = []
-        self.kinds: list[set[str]] = []
         for it in sentences:
             try:
                 self.checks.append(_check_of(it))
-                self.kinds.append(_kinds_of(it))
             except _Unknown:
-                self.checks.append(_by_judge(it))
-                self.kinds.append(set())
-        self.forms: dict[frozenset[str], re.Pattern[str] | None] = {}
-
-    def form(self, wanted: list[int]) -> re.Pattern[str] | None:
-        """What finds the lines of the kinds that these sentences need, and the heads of the motes."""
-        kinds = frozenset[str]().union(*(self.kinds[number] for number in wanted))
-        if kinds not in self.forms:
-            of_kinds = r'\n(?:(\d+) (%s)\b(.*)|(mote) )' % '|'.join(sorted(kinds))
-            self.forms[kinds] = re.compile(of_kinds) if kinds else None
-        return self.forms[kinds]
+                self.checks.append(partial(_by_judge, it))
 
     def broken(self, report: bytes, scenario: Scenario, wanted: list[int] | None = None) -> list[int]:
         """The numbers of the sentences that a report breaks, of those that are wanted."""
-        numbers = list(range(len(self.checks))) if wanted is None else wanted
-        seen = Seen(report, self.form(numbers), scenario)
+        seen = Seen(report, scenario)
+        numbers = range(len(self.checks)) if wanted is None else wanted
         return [number for number in numbers if not self.checks[number](seen)]
