@@ -1,20 +1,12 @@
--- What the command does with its words, and the status that it answers.
+-- What the command does with its arguments, and the exit status that it returns.
 use Rattle.std.specs.Prelude.{◌≡◌, ◌≢◌, ◌⊎◌, ℕ, List, Option, None, IsSome, IfSome, IfErr, Result, Ok, Err}
 use Rattle.std.specs.Io.KnownBytes.{Keeps}
-use Rattle.std.specs.Str.Parse.{ParsesUnsigned, ExplainsUnsignedError, HasUnsignedDigitsIfOk}
-use Rattle.clap.specs.Words.{ReadsOne}
 use Rattle.clap.specs.declared.error.kind.ErrorKind.{ErrorKind}
 use Rattle.clap.specs.declared.error.kind.ErrorKind.TheVariants as kind
+use Rattle.simulation.specs.Words.{AsksFor, FaultOf}
 use Rattle.simulation.specs.Simulation.{SimulatedWith, SimulatedSome, Unwritten, way_of}
 use Rattle.simulation.specs.declared.command_line.Asked.{Asked}
 use Rattle.simulation.specs.declared.error.SimError.{SimError}
-
--- the text of a number of workers reads as this one, or as none
-abbrev pub ReadsCount : (text : List ℕ) → Option ℕ → Type 0
-ReadsCount text count =
-    ReadsOne
-    (λ bytes r. ParsesUnsigned 16 10 bytes r × ExplainsUnsignedError 10 bytes r × HasUnsignedDigitsIfOk bytes r)
-    text count
 
 -- the exit status of a simulation
 abbrev pub status_of : Result (Unit {0}) SimError → ℕ
@@ -58,7 +50,18 @@ pub record RefusesWords (k : ErrorKind) (old new : Streams) (status : ℕ) : Typ
   pub fault : status ≢ 0 → Keeps old.output new.output
   pub help : status ≡ 0 → Keeps old.errors new.errors
 
--- what the command leaves on its streams, and the status that it answers
-abbrev pub Commands : (old new : Streams) → (status : ℕ) → Type 0
-Commands old new status =
-    ((asked : Asked) × Simulates asked old new status) ⊎ ((k : ErrorKind) × RefusesWords k old new status)
+-- what the command leaves on its streams with these arguments, of which the first is the program's name, and the exit
+-- status that it returns
+abbrev pub Commands : (words : List (List ℕ)) → (old new : Streams) → (status : ℕ) → Type 0
+Commands words old new status = ((asked : Asked) × AsksFor words asked × Simulates asked old new status)
+    ⊎ ((k : ErrorKind) × FaultOf words k × RefusesWords k old new status)
+
+-- the command was run with some arguments
+abbrev pub RunsSome : (old new : Streams) → (status : ℕ) → Type 0
+RunsSome old new status = (words : List (List ℕ)) × Commands words old new status
+
+-- the process returns what the command returned with some arguments; or it couldn't get them, and then nothing is read
+-- or reported
+abbrev pub ReturnsSome : (old new : Streams) → (status : ℕ) → Type 0
+ReturnsSome old new status =
+    RunsSome old new status ⊎ ((status ≢ 0) × (new.input ≡ old.input) × (new.output ≡ old.output))

@@ -1,5 +1,5 @@
 -- The line that reports a fault, after the name of the program.
-use Rattle.std.specs.Prelude.{ℕ, List, ◌++◌, codes, decimal}
+use Rattle.std.specs.Prelude.{ℕ, List, [], ◌∷◌, ◌++◌, codes, decimal}
 use Rattle.program_tree.specs.Kinds.{kind_number}
 use Rattle.radio_medium.specs.Errors.{medium_fault_number}
 use Rattle.radio_medium.specs.declared.error.MediumError.TheVariants as medium
@@ -31,3 +31,7 @@ fault_line (fault.Run e) = text_of_error e
 fault_line (fault.Print print.Write) = codes "write fault"
 fault_line (fault.Print print.Memory) = memory_line
 fault_line fault.Memory = memory_line
+
+-- the line as the program writes it
+abbrev pub written_line : SimError → List ℕ
+written_line e = codes "motesim: " ++ fault_line e ++ 10 ∷ []

@@ -4,3 +4,4 @@ pub mod FaultLines
 pub mod Input
 pub mod Laws
 pub mod Simulation
+pub mod Words

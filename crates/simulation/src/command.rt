@@ -1,25 +1,34 @@
 //! The command: a scenario in a file or on standard input, its report on standard output, a fault's line on standard
 //! error.
 
-ghost use Rattle.std.specs.Prelude.{◌≡◌, ◌≢◌, None, IsSome, IfSome, Ok, IfErr};
-ghost use Rattle.std.specs.Io.KnownBytes.{Keeps};
+ghost use Rattle.std.specs.Prelude.{◌≡◌, ◌≢◌, None, IsSome, IfSome, Ok, IfErr, OnOk};
+ghost use Rattle.std.specs.Io.KnownBytes.{Appends, Keeps};
 ghost use Rattle.clap.specs.Words.{kind_of};
+ghost use Rattle.simulation.specs.FaultLines.{written_line};
 ghost use Rattle.simulation.specs.Command.{Commands, Simulates, status_of, status_of_words, streams};
+ghost use Rattle.simulation.specs.Words.{texts_of};
 ghost use Rattle.simulation.specs.Simulation.{SimulatedWith, SimulatedSome, Unwritten, way_of};
 ghost use Rattle.simulation.specs.declared.error.SimError.TheVariants as fault;
 
 use crate::command_line::{Asked, asked_by};
-use crate::end_to_end::simulate;
+use crate::end_to_end::{simulate, simulate_serial};
 use crate::error::SimError;
 use crate::options::Options;
 use clap::error::ErrorKind;
 use std::fs;
-use std::io::{Read, Write};
+use std::io::{self, Read, Write};
 use std::random::RandomSource;
 use std::rt::Files;
 use std::sync::Wait;
 use std::thread::Threads;
 use window_workers::{Gate, NoGate};
+
+/// Writes the line that reports a fault, after the name of the program.
+fn report_fault<E: Write>(fault: &SimError, errors: &mut E) -> io::Result<()>
+    ensures { OnOk result (Appends (E.contents errors.old) (E.contents errors.new) (written_line fault.now)) }
+{
+    writeln!(errors, "motesim: {fault}")
+}
 
 /// The exit status of a simulation: 0, or 1 where it has a fault, whose line then goes to `errors`. A line that can't
 /// be written doesn't change the status.
@@ -30,7 +39,7 @@ pub fn status_of<E: Write>(answer: Result<(), SimError>, errors: &mut E) -> u8
     match answer {
         Ok(()) => 0,
         Err(fault) => {
-            let _ = writeln!(errors, "motesim: {fault}");
+            let _ = report_fault(&fault, errors);
             1
         }
     }
@@ -91,7 +100,41 @@ where
     simulate(rt, rt.alloc(), &mut input, output, options, gate)
 }
 
-/// Simulates what is asked for: the scenario in the file, or else the one that `input` gives, by the options.
+/// Simulates, on one thread, the scenario in the file, or else the one that `input` gives. It never waits for another
+/// thread, so it is proved to return.
+///
+/// # Errors
+/// As `simulate_serial`; `Read` also if the file can't be opened.
+pub fn simulate_alone<T, R, W>(
+    rt: &T,
+    file: Option<&str>,
+    input: &mut R,
+    output: &mut W,
+) -> Result<(), SimError>
+where
+    T: AllocGlobal + Files,
+    R: Read,
+    W: Write,
+    // Without a file it is the simulation of what `input` gives.
+    ensures answer { file.entry ≡ None → IfSome (R.remaining input.old) (λ bytes.
+        SimulatedWith None bytes (W.contents output.old) (W.contents output.new) result) }
+    // With one, `input` isn't read.
+    ensures unread { IsSome file.entry → R.remaining input.new ≡ R.remaining input.old }
+    // A report is that of some bytes.
+    ensures some { SimulatedSome None (W.contents output.old) (W.contents output.new) result }
+    ensures unwritten { IfErr result (Unwritten (W.contents output.old) (W.contents output.new)) }
+{
+    match file {
+        Some(file) => {
+            let mut opened = open_file(rt, file)?;
+            simulate_serial(rt.alloc(), &mut opened, output)
+        }
+        None => simulate_serial(rt.alloc(), input, output),
+    }
+}
+
+/// Simulates what is asked for: the scenario in the file, or else the one that `input` gives, by the options. Without
+/// workers it is `simulate_alone`.
 ///
 /// # Errors
 /// As `simulate`; `Read` also where the file can't be opened.
@@ -117,6 +160,7 @@ where
     ensures unwritten { IfErr result (Unwritten (W.contents output.old) (W.contents output.new)) }
 {
     match asked.file {
+        _ if asked.options.workers.is_none() => simulate_alone(rt, asked.file, input, output),
         Some(file) => simulate_file(rt, file, output, &asked.options, gate),
         None => simulate(rt, rt.alloc(), input, output, &asked.options, gate),
     }
@@ -164,7 +208,7 @@ where
     E: Write,
     ensures { let old = streams (R.remaining input.old) (W.contents output.old) (E.contents errors.old)
         in let new = streams (R.remaining input.new) (W.contents output.new) (E.contents errors.new)
-        in Commands old new result }
+        in Commands (texts_of words.now) old new result }
 {
     match asked_by(rt.alloc(), words) {
         Ok(asked) => run_asked(rt, &asked, input, output, errors),

@@ -1,7 +1,8 @@
 //! The words of the command line, as `clap` reads them.
-ghost use Rattle.std.specs.Prelude.{◌≡◌, ℕ, List, codes, Some, None, IfSome, option_map};
-ghost use Rattle.clap.specs.Words.{first_value, found_of, one_text};
-ghost use Rattle.simulation.specs.Command.{ReadsCount};
+ghost use Rattle.std.specs.Prelude.{◌≡◌, codes, Some, None, option_map, false, map, ◌∷◌, [], IfOk, IfErr};
+ghost use Rattle.clap.specs.Words.{app_of, found_of, kind_of, new_rule, rows_of, rule_of};
+ghost use Rattle.simulation.specs.Words.{AskedIn, AsksFor, Choices, FaultOf, IsMotesim, choice_rule, cut_of, sync_of};
+ghost use Rattle.simulation.specs.Words.{texts_of, workers_rule};
 ghost use Rattle.simulation.specs.declared.options.CutKind.TheVariants as kind;
 ghost use Rattle.window_workers.specs.declared.sync.SyncKind.TheVariants as wait;
 
@@ -23,8 +24,7 @@ static CUTS: [&str; 2] = ["block", "stripe"];
 
 /// The cut of this name.
 fn cut_named(name: &str) -> CutKind
-    ensures block { name.now ≡ codes "block" → result ≡ kind.Block }
-    ensures stripe { name.now ≡ codes "stripe" → result ≡ kind.Stripe }
+    ensures { result ≡ cut_of (Some name.now) }
 {
     match name {
         "stripe" => CutKind::Stripe,
@@ -48,8 +48,7 @@ static SYNCS: [&str; 2] = ["joins", "marks"];
 
 /// The kind of synchronization of this name.
 fn sync_named(name: &str) -> SyncKind
-    ensures joins { name.now ≡ codes "joins" → result ≡ wait.Joins }
-    ensures marks { name.now ≡ codes "marks" → result ≡ wait.Marks }
+    ensures { result ≡ sync_of (Some name.now) }
 {
     match name {
         "marks" => SyncKind::Marks,
@@ -72,12 +71,8 @@ fn name_of_sync(sync: SyncKind) -> &'static str
 /// it is that of the default options.
 fn options_for(workers: Option<u16>, cut: Option<&str>, sync: Option<&str>) -> Options
     ensures workers { result.workers ≡ workers }
-    ensures unnamed { cut.entry ≡ None → result.cut ≡ kind.Block }
-    ensures block { IfSome cut.entry (λ name. name.now ≡ codes "block" → result.cut ≡ kind.Block) }
-    ensures stripe { IfSome cut.entry (λ name. name.now ≡ codes "stripe" → result.cut ≡ kind.Stripe) }
-    ensures unasked { sync.entry ≡ None → result.sync ≡ wait.Joins }
-    ensures joins { IfSome sync.entry (λ name. name.now ≡ codes "joins" → result.sync ≡ wait.Joins) }
-    ensures marks { IfSome sync.entry (λ name. name.now ≡ codes "marks" → result.sync ≡ wait.Marks) }
+    ensures cut { result.cut ≡ cut_of (option_map (λ s. s.now) cut.entry) }
+    ensures sync { result.sync ≡ sync_of (option_map (λ s. s.now) sync.entry) }
 {
     let usual = Options::default();
     let cut = match cut {
@@ -93,18 +88,7 @@ fn options_for(workers: Option<u16>, cut: Option<&str>, sync: Option<&str>) -> O
 
 /// What the values of the arguments ask for.
 fn asked_of<'a>(matches: &ArgMatches<'a>) -> Asked<'a>
-    ensures file { option_map (λ s. s.now) result.file ≡ first_value (found_of matches.now) (codes "FILE") }
-    ensures one_thread { one_text (found_of matches.now) (codes "workers") ≡ None → result.options.workers ≡ None }
-    ensures workers { (text : List ℕ) → one_text (found_of matches.now) (codes "workers") ≡ Some text
-        → ReadsCount text result.options.workers }
-    ensures block { first_value (found_of matches.now) (codes "cut") ≡ Some (codes "block")
-        → result.options.cut ≡ kind.Block }
-    ensures stripe { first_value (found_of matches.now) (codes "cut") ≡ Some (codes "stripe")
-        → result.options.cut ≡ kind.Stripe }
-    ensures joins { first_value (found_of matches.now) (codes "sync") ≡ Some (codes "joins")
-        → result.options.sync ≡ wait.Joins }
-    ensures marks { first_value (found_of matches.now) (codes "sync") ≡ Some (codes "marks")
-        → result.options.sync ≡ wait.Marks }
+    ensures { AskedIn (rows_of (found_of matches.now)) result }
 {
     let workers = matches.get_one::<u16>("workers");
     let options = options_for(workers, matches.get_str("cut"), matches.get_str("sync"));
@@ -112,7 +96,10 @@ fn asked_of<'a>(matches: &ArgMatches<'a>) -> Asked<'a>
     Asked { file, options }
 }
 
-fn workers_arg<'a>(alloc: Global) -> Arg<'a> {
+fn workers_arg<'a>(alloc: Global) -> Arg<'a>
+    ensures rule { rule_of result ≡ workers_rule }
+    ensures local { result.global ≡ false }
+{
     Arg::new(alloc, "workers")
         .long("workers")
         .value_name("N")
@@ -122,7 +109,11 @@ fn workers_arg<'a>(alloc: Global) -> Arg<'a> {
         )
 }
 
-fn cut_arg<'a>(alloc: Global) -> Arg<'a> {
+fn cut_arg<'a>(alloc: Global) -> Arg<'a>
+    ensures rule { (names : Choices) × (rule_of result ≡ choice_rule (codes "cut") (codes "block") names)
+        × (texts_of names.now ≡ codes "block" ∷ codes "stripe" ∷ []) }
+    ensures local { result.global ≡ false }
+{
     Arg::new(alloc, "cut")
         .long("cut")
         .value_name("CUT")
@@ -133,7 +124,11 @@ fn cut_arg<'a>(alloc: Global) -> Arg<'a> {
         )
 }
 
-fn sync_arg<'a>(alloc: Global) -> Arg<'a> {
+fn sync_arg<'a>(alloc: Global) -> Arg<'a>
+    ensures rule { (names : Choices) × (rule_of result ≡ choice_rule (codes "sync") (codes "joins") names)
+        × (texts_of names.now ≡ codes "joins" ∷ codes "marks" ∷ []) }
+    ensures local { result.global ≡ false }
+{
     Arg::new(alloc, "sync")
         .long("sync")
         .value_name("SYNC")
@@ -145,13 +140,18 @@ fn sync_arg<'a>(alloc: Global) -> Arg<'a> {
         )
 }
 
-fn file_arg<'a>(alloc: Global) -> Arg<'a> {
+fn file_arg<'a>(alloc: Global) -> Arg<'a>
+    ensures rule { rule_of result ≡ new_rule (codes "FILE") }
+    ensures local { result.global ≡ false }
+{
     Arg::new(alloc, "FILE").help("The scenario; without it, standard input is read")
 }
 
 /// The program's one command. Each argument is made once those before it have been added, so none is owned where
 /// adding one can fail.
-fn command<'a>(alloc: Global) -> Result<Command<'a>, AllocError> {
+fn command<'a>(alloc: Global) -> Result<Command<'a>, AllocError>
+    ensures { IfOk result (λ c. IsMotesim (app_of c)) }
+{
     Command::new(alloc, "motesim")
         .about(
             "Simulates a network of Contiki motes, and writes the traces of the motes and the log of the radio medium",
@@ -168,7 +168,10 @@ fn command<'a>(alloc: Global) -> Result<Command<'a>, AllocError> {
 /// # Errors
 /// Of the kind `DisplayHelp` where help is asked for, `OutOfMemory` where an allocation failed, and else of the fault
 /// of the words.
-pub fn asked_by<'a>(alloc: Global, words: &'a [&'a str]) -> Result<Asked<'a>, Error> {
+pub fn asked_by<'a>(alloc: Global, words: &'a [&'a str]) -> Result<Asked<'a>, Error>
+    ensures asks { IfOk result (AsksFor (texts_of words.entry.now)) }
+    ensures refuses { IfErr result (λ e. FaultOf (texts_of words.entry.now) (kind_of e)) }
+{
     let matches = command(alloc)?.try_get_matches_from(words)?;
     Ok(asked_of(&matches))
 }

@@ -11,7 +11,7 @@ pub mod laws;
 mod options;
 mod process;
 
-pub use command::{run_command, simulate_asked, status_of};
+pub use command::{run_command, simulate_alone, simulate_asked, status_of};
 pub use command_line::{Asked, asked_by};
 pub use end_to_end::{simulate, simulate_serial};
 pub use error::SimError;

@@ -1,4 +1,6 @@
 //! The command as a process runs it: with the words that the process was given.
+ghost use Rattle.std.specs.Prelude.{◌≡◌, MatchResult};
+ghost use Rattle.simulation.specs.Command.{ReturnsSome, RunsSome, streams};
 
 use crate::command::{run_command, status_of};
 use crate::error::SimError;
@@ -33,6 +35,9 @@ where
     R: Read,
     W: Write,
     E: Write,
+    ensures { let old = streams (R.remaining input.old) (W.contents output.old) (E.contents errors.old)
+        in let new = streams (R.remaining input.new) (W.contents output.new) (E.contents errors.new)
+        in MatchResult result (RunsSome old new) (λ _. new ≡ old) }
 {
     let words = borrow_words(rt.alloc(), words)?;
     Ok(run_command(rt, &words, input, output, errors))
@@ -45,6 +50,9 @@ where
     R: Read,
     W: Write,
     E: Write,
+    ensures { let old = streams (R.remaining input.old) (W.contents output.old) (E.contents errors.old)
+        in let new = streams (R.remaining input.new) (W.contents output.new) (E.contents errors.new)
+        in MatchResult result (RunsSome old new) (λ _. new ≡ old) }
 {
     let words = words_of(rt)?;
     Ok(run_words(rt, &words, input, output, errors)?)
@@ -61,6 +69,9 @@ where
     R: Read,
     W: Write,
     E: Write,
+    ensures { let old = streams (R.remaining input.old) (W.contents output.old) (E.contents errors.old)
+        in let new = streams (R.remaining input.new) (W.contents output.new) (E.contents errors.new)
+        in ReturnsSome old new result }
 {
     match run(rt, input, output, errors) {
         Ok(status) => status,
