@@ -20,6 +20,7 @@ from motesim.why.miss import misses
 from motesim.why.question import Asked, Asker, Missing, Unasked
 from motesim.why.replay import Parted
 from motesim.why.source import At, Source
+from motesim.why.translate import translated
 
 # Mote 0 boots a, which posts to b, calls c at once, and polls b; b sends when it is polled. Mote 1 hears it.
 SCENARIO = '''version = 1
@@ -185,6 +186,18 @@ class Causes(unittest.TestCase):
         self.assertEqual(because(found, At(0, 17)), 'c, line 30: `print 2`; the callback of timer late')
         self.assertEqual(because(found, At(0, 15)),
                          'timer late was due 2 moments after c set it in line 36: `set late 2`')
+
+    def test_a_process_that_leaves(self) -> None:
+        """h ends by itself; c is killed; in processes.toml b is called with a posted exit."""
+        self.assertEqual(because(source(), At(1, 8)), 'h ended')
+        self.assertEqual(because(source(), At(0, 11)), 'a, line 13: `kill c`')
+
+    def test_loops_that_are_too_deep(self) -> None:
+        """18 loops in one another are taken, 19 are not."""
+        text = 'process a; code a { body { %s yield; %s } }'
+        self.assertEqual(len(translated(text % ('while 1 { ' * 18, '}' * 18)).statements), 19)
+        with self.assertRaisesRegex(Fault, 'more than 18 loops'):
+            translated(text % ('while 1 { ' * 19, '}' * 19))
 
     def test_a_trace_of_another_program_is_refused(self) -> None:
         other = source(SCENARIO.replace('send 8', 'send 9'))

@@ -5,7 +5,7 @@ from collections.abc import Iterator
 from typing import Any, NamedTuple
 
 from motesim.faults import Fault
-from motesim.why.replay import BOOT, SYSTEM, Frame, Link, Replay
+from motesim.why.replay import SYSTEM, Frame, Link, Replay
 from motesim.why.source import At, Source
 from motesim.why.translate import Program
 
@@ -119,7 +119,8 @@ class Explainer:
         """Why a line is there that was written in a call."""
         frame = link.frame
         if kind == 'leave' and not link.row and frame:
-            own = '%s ended' % self.name(frame.process)
+            own = '%s %s' % (self.name(frame.process),
+                             'was called with exit' if frame.event == 'exit' else 'ended')
         elif kind == 'halt':
             own = 'the work of this run of the kernel was used up'
         elif link.row and frame:
@@ -262,4 +263,5 @@ def rows(hops: list[Hop]) -> list[str]:
     return found
 
 
-__all__ = ['BOOT', 'Explainer', 'Hop', 'Path', 'as_json', 'cause_of', 'chain', 'count', 'path_of', 'places', 'rows', 'wait_of']
+__all__ = ['Explainer', 'Hop', 'Path', 'as_json', 'cause_of', 'chain', 'count', 'in_words', 'path_of', 'places', 'rows',
+           'wait_of']

@@ -261,7 +261,7 @@ class Replay:
         self.state[process], self.current, self.is_busy[process] = 2, process, True
         self.calls.append(Called(self.lines, self.now, frame, False))
         if self.run(process, frame) or event == 'exit':
-            self.exit(process, process, row)
+            self.exit(process, process, 0)
         else:
             self.state[process] = 1
         self.is_busy[process] = False

@@ -14,16 +14,14 @@ from motesim.faults import Fault
 from motesim.notation.faults import OPERATORS, Token, tokens_of
 
 COMPARED = ('==', '!=', '<', '<=', '>', '>=')
-# Python allows 20 loops and `try` blocks in one another; a body or thread has one of its own.
-MOST_LOOPS = 18
 
 
 class Restart(Exception):
     """A protothread begins again at its first statement."""
 
 
-class Divided(Fault):
-    """A program that can't be translated."""
+class TooDeep(Fault):
+    """A program that can't be translated: Python allows 20 loops in one another, two of them its own."""
 
 
 @dataclass
@@ -105,7 +103,6 @@ class _Translator:
         self.text_rows = text.split('\n')
         self.rows: list[str] = []
         self.depth = 0
-        self.loops = 0
         self.process = Process('', -1)
         self.timers: dict[str, int] = {}
         self.numbers: dict[str, int] = {}
@@ -224,7 +221,7 @@ class _Translator:
         try:
             exec(compile('\n'.join(self.rows), 'the program of a mote', 'exec'), names)
         except (SyntaxError, RecursionError, MemoryError):
-            raise Divided('the program nests too many loops in one another for a replay') from None
+            raise TooDeep('a program nests more than 18 loops in one another, which is too deep for a replay') from None
         for name, keeper, attribute in self.functions:
             setattr(keeper, attribute, names[name])
 
