@@ -11,6 +11,7 @@ import sys
 import tempfile
 import time
 import unittest
+from concurrent.futures import ThreadPoolExecutor
 from pathlib import Path
 
 from here import TOOLS, TOP
@@ -27,7 +28,8 @@ from motesim.search.faults import Asked, change_of, faults_of
 from motesim.search.one_program import Limits, OneProgram
 from motesim.search.quick_judge import QuickJudge
 from motesim.search.sets import Known, count_of
-from skips import need_program
+from skips import interpreter_with, need_program
+from test_sweep import CLUSTER
 
 # Mote 0 sends 7 at moment 10, and who hears it for the first time passes it on. Motes 1 and 2 are between 0 and 3.
 PROGRAM = """process flood;
@@ -539,6 +541,30 @@ code flood {
             self.assertIn('absent.toml', told)
 
 
+class Clusters(unittest.TestCase):
+    def test_a_cluster_finds_the_same(self):
+        need_program(self)
+        interpreter = interpreter_with(self, 'distributed')
+        words = '--faults', 'links,motes', '--at-most', '2'
+        with folder_with() as folder:
+            here = minimal_sets(folder, *words)
+            (folder / 'cluster.py').write_text(CLUSTER)
+            cluster = subprocess.Popen([interpreter, 'cluster.py'], cwd=folder, text=True, stdin=subprocess.PIPE,
+                                       stdout=subprocess.PIPE, stderr=subprocess.DEVNULL)
+            try:
+                address = cluster.stdout.readline().strip()
+                there = minimal_sets(folder, *words, '--dask', address)
+            finally:
+                cluster.stdin.close()
+                cluster.wait(60)
+                cluster.stdout.close()
+            self.assertEqual(there[0], here[0])
+            self.assertEqual(there[1]['covered'], here[1]['covered'])
+            status, _, told = search(folder, *words, '--dask', address)
+            self.assertEqual(status, 2)
+            self.assertIn('no Dask scheduler answers at', told)
+
+
 class Programs(unittest.TestCase):
     """Runs one after the other, each within limits."""
 
@@ -554,6 +580,13 @@ class Programs(unittest.TestCase):
             for text in b'a long text', b'short':
                 found = one.run(text)
                 self.assertEqual((found.status, found.report, found.fault), (3, text, 'told'))
+
+    def test_limits_in_another_thread(self):
+        with tempfile.TemporaryDirectory() as folder, ThreadPoolExecutor(1) as thread:
+            one = OneProgram(self.program(folder, 'cat\n'), Limits())
+            self.assertEqual(thread.submit(one.run, b'text').result().report, b'text')
+            late = OneProgram(self.program(folder, 'exec sleep 60\n'), Limits(seconds=0.2))
+            self.assertEqual(thread.submit(late.run, b'').result().stopped, 'no answer in 0.2 seconds')
 
     def test_limits(self):
         with tempfile.TemporaryDirectory() as folder:

@@ -1,13 +1,23 @@
 """Searches for the faults that break a protocol, and makes scenarios small: docs/use/SEARCH.md.
 
-    change.py       what faults change of a scenario, and the scenario's text with that
-    added.py        the process that makes a mote fail, or start late
-    faults.py       the faults of each kind that a scenario can have
-    sets.py         sets of faults, the smaller ones first, without those that are decided already
-    quick_judge.py  which sentences hold of a report, as motesim.judge says it, in a fraction of its time
-    work.py         one run of a set of faults
-    runner.py       many of them, by several processes
-    search.py       the search itself, with what it covered and what it found
-    found.py        the files and tables of what was found
-    command.py      tools/search
+    command.py         tools/search
+    asking.py          all that a search is asked to do, made ready
+    search.py          the search itself: what it covered, and what it found
+    sets.py            sets of faults, the smaller ones first, without those that are decided already
+    faults.py          the faults of each kind that a scenario can have
+    change.py          what faults change of a scenario, and the scenario's text with that
+    added.py           the process that makes a mote fail, or start late
+    prepare.py         what is looked at before a search
+    work.py            one run of a set of faults
+    one_program.py     runs of the program one after the other, at little cost
+    quick_judge.py     which sentences hold of a report, as motesim.judge says it, in a fraction of its time
+    runner.py          many runs by several processes; by_dask.py by a cluster
+    kept.py            what was tried, for --resume
+    found.py           the files and tables of what was found
+    study.py           searches with the outcome that is expected of them
+
+    shrink_command.py  tools/shrink
+    shrink.py          delta debugging
+    net.py, smaller.py, tree.py   scenarios and programs as values, and the steps to smaller ones
+    following.py       sentences that follow motes with other numbers
 """

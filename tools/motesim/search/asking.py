@@ -7,15 +7,23 @@ from collections.abc import Callable
 from motesim.experiments.one_run import program_digest
 from motesim.judge.sentences import Sentence
 from motesim.runner.programs import program_path
+from motesim.search.by_dask import ByDask
 from motesim.search.change import Base
 from motesim.search.faults import Asked, faults_of
 from motesim.search.kept import Kept
 from motesim.search.one_program import Limits, OneProgram
 from motesim.search.prepare import plain_run, prepare
-from motesim.search.runner import Here
+from motesim.search.runner import Here, Runner
 from motesim.search.search import Bounds, Search
 from motesim.search.sets import Known
 from motesim.search.work import Work, mask_of, numbers_of
+
+
+def runner_of(work: Work, processes: int, address: str | None) -> Runner:
+    """What runs a search: processes of this machine, or a Dask cluster."""
+    if address:
+        return ByDask(work, address)
+    return Here(work, processes)
 
 
 class Asking:
@@ -55,13 +63,14 @@ class Asking:
         return Work(self.base, self.prepared.faults, self.sentences, str(self.path), self.limits)
 
     def search(self, processes: int, kept: Kept, shown: Callable[[Search, int, bool], None] | None = None,
-               asks_end: Callable[[], bool] = lambda: False) -> Search:
-        """Searches, until all is tried, a limit is reached, or the end is asked for."""
+               asks_end: Callable[[], bool] = lambda: False, address: str | None = None) -> Search:
+        """Searches, until all is tried, a limit is reached, or the end is asked for; by a Dask cluster if there is an
+        address."""
         held = [number for number in range(len(self.texts)) if number not in self.plain.broken]
         known = Known(self.prepared.faults, mask_of(held))
         search = Search(known, self.bounds, kept, self.prepared.blind_of(), shown)
         search.asks_end = asks_end
-        runner = Here(self.work(), processes)
+        runner = runner_of(self.work(), processes, address)
         try:
             search.run(runner)
         except KeyboardInterrupt:

@@ -27,9 +27,11 @@ from __future__ import annotations
 
 import argparse
 import os
+import sys
 from functools import partial
 from pathlib import Path
 
+from motesim.experiments import packages
 from motesim.experiments.asked import values_of
 from motesim.experiments.runs import Break
 from motesim.faults import INTERRUPTED, Fault, command
@@ -78,6 +80,7 @@ def arguments() -> argparse.ArgumentParser:
     words.add_argument('--bytes', type=int, default=Limits().report, metavar='N',
                        help='how long a report may be; else 16,000,000')
     words.add_argument('--jobs', type=int, default=os.cpu_count() or 1, metavar='N', help='how many runs at a time')
+    words.add_argument('--dask', metavar='ADDRESS', help='give the runs to the Dask scheduler there')
     words.add_argument('-o', dest='output', metavar='FOLDER', help='where files go; else NAME.search')
     words.add_argument('--csv', metavar='FILE', help='write a table of what was found')
     words.add_argument('--json', metavar='FILE', help='write all that was found, for another program; - for the output')
@@ -254,6 +257,9 @@ def status_of(words: argparse.Namespace) -> int:
         return checked(words.studies, words.jobs)
     if words.scenario is None:
         raise Fault('SCENARIO is missing: tools/search --help says more')
+    if words.dask:
+        packages.hand_on('search', 'distributed', sys.argv)
+        packages.load('distributed')
     asking = asking_of(words)
     if len(asking.plain.broken) == len(asking.texts):
         raise Fault('%s breaks each of the expectations without a fault, so there is nothing to search for'
@@ -265,6 +271,6 @@ def status_of(words: argparse.Namespace) -> int:
     kept.open(folder / STATE, asking.digest(), words.resume)
     progress = Progress(words.progress)
     with Break() as stop:
-        search = asking.search(words.jobs, kept, progress.show, lambda: stop.is_asked)
+        search = asking.search(words.jobs, kept, progress.show, lambda: stop.is_asked, words.dask)
     progress.end(search)
     return told(words, asking, search, folder)

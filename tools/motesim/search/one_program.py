@@ -5,9 +5,12 @@ the program.
 """
 from __future__ import annotations
 
+import contextlib
 import os
 import resource
 import signal
+import threading
+import time
 from types import FrameType
 from typing import NamedTuple
 
@@ -37,8 +40,12 @@ def _ring(number: int, frame: FrameType | None) -> None:
     raise _Late
 
 
+# The shortest and the longest pause between two looks at a run, in seconds, where no alarm can be set.
+PAUSE, LONGEST_PAUSE = 0.0005, 0.02
+
+
 class OneProgram:
-    """A program to run again and again, in the main thread of a process."""
+    """A program to run again and again, by one thread."""
 
     def __init__(self, path: str, limits: Limits):
         self.path, self.limits = path, limits
@@ -52,32 +59,50 @@ class OneProgram:
             os.ftruncate(file, 0)
             os.lseek(file, 0, os.SEEK_SET)
         os.pwrite(self.given, scenario, 0)
-        before = signal.signal(signal.SIGALRM, _ring)
         child = os.posix_spawn(self.path, ['motesim'], os.environ, file_actions=self.actions, setsigdef=SPAWNED)
-        status, is_late = -signal.SIGKILL, False
+        is_over = False
         try:
-            try:
-                signal.setitimer(signal.ITIMER_REAL, self.limits.seconds)
+            with contextlib.suppress(ProcessLookupError):
                 resource.prlimit(child, resource.RLIMIT_FSIZE, (self.limits.report, self.limits.report))
                 resource.prlimit(child, resource.RLIMIT_AS, (self.limits.memory, self.limits.memory))
-                status = os.waitstatus_to_exitcode(os.waitpid(child, 0)[1])
-                signal.setitimer(signal.ITIMER_REAL, 0)
-            except _Late:
-                is_late = True
-            except ProcessLookupError:
-                signal.setitimer(signal.ITIMER_REAL, 0)
-                status = os.waitstatus_to_exitcode(os.waitpid(child, 0)[1])
+            is_main = threading.current_thread() is threading.main_thread()
+            status = self.wait_by_alarm(child) if is_main else self.wait_by_looking(child)
+            is_over = status is not None
         finally:
-            signal.setitimer(signal.ITIMER_REAL, 0)
-            if is_late:
+            if not is_over:
                 os.kill(child, signal.SIGKILL)
                 os.waitpid(child, 0)
-            signal.signal(signal.SIGALRM, before)
-        return self.answer(status, is_late)
+        return self.answer(status)
 
-    def answer(self, status: int, is_late: bool) -> Answer:
+    def wait_by_alarm(self, child: int) -> int | None:
+        """The status of a run, or None once its time is over. Alarms come to the main thread alone."""
+        before = signal.signal(signal.SIGALRM, _ring)
+        status = None
+        try:
+            signal.setitimer(signal.ITIMER_REAL, self.limits.seconds)
+            status = os.waitstatus_to_exitcode(os.waitpid(child, 0)[1])
+            signal.setitimer(signal.ITIMER_REAL, 0)
+        except _Late:
+            pass
+        finally:
+            signal.setitimer(signal.ITIMER_REAL, 0)
+            signal.signal(signal.SIGALRM, before)
+        return status
+
+    def wait_by_looking(self, child: int) -> int | None:
+        """The same in another thread."""
+        end, pause = time.monotonic() + self.limits.seconds, PAUSE
+        while time.monotonic() < end:
+            found, status = os.waitpid(child, os.WNOHANG)
+            if found:
+                return os.waitstatus_to_exitcode(status)
+            time.sleep(pause)
+            pause = min(2 * pause, LONGEST_PAUSE)
+        return None
+
+    def answer(self, status: int | None) -> Answer:
         size = os.fstat(self.report).st_size
-        if is_late:
+        if status is None:
             return Answer(1, b'', '', 'no answer in %g seconds' % self.limits.seconds)
         if status == -signal.SIGXFSZ or size >= self.limits.report:
             return Answer(1, b'', '', 'the report is longer than {:,} bytes'.format(self.limits.report))

@@ -47,6 +47,9 @@ class Runner(Protocol):
     def close(self) -> None:
         """Ends what was begun for it."""
 
+    def kill(self) -> None:
+        """Stops what has begun."""
+
 
 class IsOver(Protocol):
     """Says whether no more runs are to be begun."""
