@@ -27,7 +27,7 @@ from project import compile as compiling
 from project import kit
 
 # What goes into the archive besides the program: files, and folders with all that git knows in them.
-PARTS = ('CHANGES.md', 'CITATION.cff', 'LICENSE', 'docs/use', 'examples', 'tools/motesim')
+PARTS = ('CHANGES.md', 'CITATION.cff', 'LICENSE', 'docs/use', 'examples', 'tools/contiki_host', 'tools/motesim')
 RUN = """#!/bin/sh
 # Simulates a scenario: ./run FILE, or ./run with the scenario on standard input. ./run --help has the options.
 here=$(dirname "$(readlink -f "$0")")

@@ -89,6 +89,9 @@ class Pack(unittest.TestCase):
             with self.assertRaisesRegex(Fault, 'in the background'):
                 pack.program()
 
+    def test_it_has_the_simulator_in_c_that_export_copies(self) -> None:
+        self.assertIn('tools/contiki_host', pack.PARTS)
+
     @unittest.skipUnless(shutil.which('rt'), 'the command rt of the Rattle kit is not here')
     def test_it_has_the_terms_of_the_libraries_in_the_program(self) -> None:
         found = pack.licenses()
