@@ -226,6 +226,11 @@ class Questions(unittest.TestCase):
             self.assertEqual(self.where(question), At(1, 7), question)
         self.assertEqual(self.where('0:1'), At(0, -1))
 
+    def test_a_line_of_the_medium(self) -> None:
+        """Line 31 is the packet's; line 14 sent it."""
+        self.assertEqual(self.where('31'), At(0, 12))
+        self.assertEqual(self.about('31').remark, 'this line sent the packet of `4 0 0 8 1@7`, in the log of the medium')
+
     def test_lines_that_are_not_there(self) -> None:
         for question, said in (('0:28', 'line 28 is in the trace of mote 1, and not of mote 0'),
                                ('30', 'line 30 is in no trace'), ('999', 'line 999 is in no trace'),

@@ -56,7 +56,7 @@ from motesim.runner.run import Run, read_run
 from motesim.scenario import Scenario
 from motesim.why.series import NAMES as SERIES_NAMES
 from motesim.why.series import Series
-from motesim.why.source import Traces, read_traces
+from motesim.why.source import read_traces, traces_of
 from motesim.words import words_of
 
 # A row of a table by its columns: numbers, names, or None where there is no value.
@@ -175,7 +175,7 @@ def show_flow(run: Run, words: argparse.Namespace) -> int:
 def show_series(asked: argparse.Namespace) -> int:
     """Shows what happens in each interval, in the form that is asked for."""
     data, scenario = read_traces(asked.report, asked.scenario)
-    rows = list(Series(Traces(data), asked.by, scenario.end if scenario else None).rows())
+    rows = list(Series(traces_of(asked.report, data), asked.by, scenario.end if scenario else None).rows())
     if asked.json:
         print(json.dumps({'by': asked.by, 'intervals': rows}, indent=1))
     elif asked.csv:

@@ -14,7 +14,7 @@ from motesim.judge.judge import Span
 from motesim.judge.sentences import Copies, Does, Packets
 from motesim.report import FIELDS, MOST_MOMENT
 from motesim.why.question import Asker, within
-from motesim.why.source import At, Source, Traces, read_traces
+from motesim.why.source import At, Source, Traces, read_traces, traces_of
 from motesim.words import words_of
 
 ABOUT = '''Shows the lines of all motes in one chronological log.
@@ -284,7 +284,7 @@ def main() -> int:
     asked = words.parse_args()
     kinds = kinds_of(asked.kind)
     data, scenario = read_traces(asked.file, asked.scenario)
-    traces = Traces(data)
+    traces = traces_of(asked.file, data)
     motes = numbers_of(asked.mote, traces.motes - 1, '--mote') if asked.mote is not None else None
     wanted = Filter(motes, kinds, asked.process, asked.value, (asked.first, asked.last))
     if asked.sentence is not None:

@@ -110,8 +110,21 @@ class Asker:
                 found.update(self.traces.matching(mote, regex) if regex else ())
         return sorted(found)
 
+    def of_medium(self, question: str) -> Asked | None:
+        """The line that sent a packet, if a question is about the packet's line of the medium."""
+        number = LINE.fullmatch(question)
+        text = self.traces.medium_line(int(number[2])) if number and number[1] is None else None
+        if text is None:
+            return None
+        words = text.split(' ')
+        sent = self.traces.send_of(int(words[1]), int(words[2]))
+        return Asked(sent, True, 'this line sent the packet of `%s`, in the log of the medium' % text) if sent else None
+
     def about(self, question: str) -> Asked | Missing:
         """The line that a question is about."""
+        packet = self.of_medium(question)
+        if packet:
+            return packet
         where = line_asked(self.traces, question)
         if where:
             return Asked(where, True)

@@ -7,7 +7,7 @@ from functools import cached_property
 from pathlib import Path
 from typing import NamedTuple
 
-from motesim.report.belongs import check_motes
+from motesim.report.belongs import check_motes, check_scenario
 from motesim.faults import Fault
 from motesim.report import Log, Report, Trace
 from motesim.runner.run import is_scenario, read_file, run_program
@@ -15,6 +15,8 @@ from motesim.scenario.scenario import Scenario
 from motesim.why.replay import QUEUE, Replay
 from motesim.why.translate import Program, translated
 
+# Up to so many bytes a report is compared with its scenario copy by copy; of a longer one, only the motes are.
+MOST_CHECKED = 10_000_000
 HEAD = re.compile(rb'mote (\d+) ([A-Za-z0-9_-]{1,32})')
 
 
@@ -91,6 +93,16 @@ class Traces:
 
     def moment(self, where: At) -> int:
         return 0 if where.place < 0 else int(self.text(where).partition(' ')[0])
+
+    def medium_line(self, row: int) -> str | None:
+        """A line of the log of the medium, by its line of the report."""
+        packets = self.data.count(b'\n', self.medium_begin, self.medium_end)
+        if not self.medium_row < row <= self.medium_row + packets:
+            return None
+        begin = self.medium_begin
+        for _ in range(row - self.medium_row - 1):
+            begin = self.data.find(b'\n', begin) + 1
+        return self.data[begin:self.data.find(b'\n', begin)].decode('ascii', 'replace')
 
     def text_at(self, where: At) -> str:
         """The text of a line, of which the trace isn't kept."""
@@ -225,6 +237,14 @@ def read_traces(path: str | Path, scenario: str | Path | None = None) -> tuple[b
         raise Fault('%s: %s' % (scenario, fault)) from None
 
 
+def traces_of(path: str | Path, data: bytes) -> Traces:
+    """The traces in a report's bytes; a fault names the file."""
+    try:
+        return Traces(data)
+    except Fault as fault:
+        raise Fault('%s: %s' % (path, fault)) from None
+
+
 def read_source(path: str | Path, scenario: str | Path | None = None) -> Source:
     """A scenario, which is run; or a report, with its scenario."""
     data, found = read_traces(path, scenario)
@@ -233,7 +253,9 @@ def read_source(path: str | Path, scenario: str | Path | None = None) -> Source:
                     "--scenario FILE" % path)
     try:
         source = Source(str(path), data, found)
-        if scenario is not None:
+        if scenario is not None and len(data) <= MOST_CHECKED:
+            check_scenario(Report.parse(data), found)
+        elif scenario is not None:
             check_motes(source.traces.bare, found)
         return source
     except Fault as fault:
