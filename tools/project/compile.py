@@ -18,9 +18,10 @@ import threading
 import time
 from collections.abc import Iterator
 from pathlib import Path
+from typing import NoReturn
 
 from motesim.faults import Fault, command
-from motesim.runner.programs import PROGRAMS, TOP, compiled_folder, is_program, proved_program, unless_held
+from motesim.runner.programs import PROGRAMS, TOP, compiled_folder, is_program, proved_kept, proved_program, unless_held
 from motesim.words import words_of
 from project import kit
 from project.progress import Line
@@ -126,7 +127,8 @@ def check(said: str | None) -> None:
 
 def clear_others() -> None:
     """Deletes the programs of other sources that nobody holds, except for those that were used last."""
-    found = [it for it in PROGRAMS.iterdir() if it.name.startswith(('compiled-', 'proved-')) and it != compiled_folder()]
+    of_here = compiled_folder(), proved_kept().parent
+    found = [it for it in PROGRAMS.iterdir() if it.name.startswith(('compiled-', 'proved-')) and it not in of_here]
     for folder in sorted(found, key=lambda it: -it.stat().st_mtime)[MOST_KEPT:]:
         with contextlib.ExitStack() as held:
             programs = [it for it in folder.iterdir() if it.is_file() and is_program(it)]
@@ -174,14 +176,19 @@ def start_fast() -> None:
                          preexec_fn=lambda: os.nice(10))
 
 
+def stop(number: int) -> NoReturn:
+    """Ends the compiler, and deletes what it has begun."""
+    kit.end_children()
+    sys.exit(128 + number)
+
+
 @command('motesim')
 def main() -> int:
     words = words_of(__doc__)
     words.add_argument('--fast', action='store_true', help='make the optimized program')
     asked = words.parse_args()
-    # (so that what is begun is cleared away)
-    for number in signal.SIGTERM, signal.SIGHUP:
-        signal.signal(number, lambda number, _: sys.exit(128 + number))
+    for number in signal.SIGTERM, signal.SIGHUP, signal.SIGINT:
+        signal.signal(number, lambda number, _: stop(number))
     if asked.fast:
         make_fast()
     else:

@@ -15,11 +15,13 @@ import threading
 import time
 from collections.abc import Sequence
 from concurrent.futures import FIRST_COMPLETED, Future, ThreadPoolExecutor, wait
+from typing import NoReturn
 
 from motesim.faults import Fault, command
 from motesim.runner.programs import proved_program
 from motesim.words import words_of
 from project import kit
+from project.compile import clear_others
 from project.estimate import Estimate, Log, chains, minutes, whole
 from project.progress import Line
 from project.shares import minutes_from_nothing, shares
@@ -39,8 +41,9 @@ class Progress:
         estimate = self.estimate
         proved = ' (%d are proved already)' % built if built else ''
         here = '%d processors' % estimate.processors if estimate.processors > 1 else 'one processor'
-        self.line.say('proving %d crates%s: about %s on the %s here; interrupt it at any time, ./prove resumes' % (
-            len(estimate.crates), proved, minutes(estimate.left()), here))
+        number = len(estimate.crates)
+        self.line.say('proving %d crate%s%s: about %s on the %s here; interrupt it at any time, ./prove resumes' % (
+            number, 's' * (number > 1), proved, minutes(estimate.left()), here))
         self.renewing.start()
 
     def renew(self) -> None:
@@ -141,12 +144,20 @@ def pace_of(crates: Sequence[kit.Crate], processors: int) -> float:
     return measured * 60 / of_crates if measured and of_crates else 1
 
 
+def stop(line: Line, number: int) -> NoReturn:
+    """Ends at once, and the provers with it; Python by itself would wait for them."""
+    kit.end_children()
+    line.end()
+    line.say('interrupted; ./prove goes on with the crates that are left')
+    os._exit(128 + number)
+
+
 @command('prove')
 def main() -> int:
     words_of(__doc__, './prove').parse_args()
     line, began = Line(sys.stderr, 'prove'), time.monotonic()
-    # With Python's own handler an interrupt would wait for the provers.
-    signal.signal(signal.SIGINT, signal.SIG_DFL)
+    for number in signal.SIGINT, signal.SIGTERM, signal.SIGHUP:
+        signal.signal(number, lambda number, _: stop(line, number))
     if kit.another():
         line.say(str(kit.another()))
     os.chdir(TOP)
@@ -169,6 +180,9 @@ def main() -> int:
         os.close(it)
     if not is_well:
         raise Fault('not everything is proved; the lines above say why')
-    line.say('proved and built in %s%s' % (
-        minutes(time.monotonic() - began), '' if proved_program() else ', but sources have changed meanwhile'))
+    if not proved_program():
+        raise Fault('everything was proved, but a source has changed meanwhile: ./prove proves what depends on it')
+    clear_others()
+    line.say('everything is proved, in %s; ./run and the tools now run the proved program' % (
+        minutes(time.monotonic() - began)))
     return 0

@@ -1,6 +1,10 @@
 """What ./prove estimates, and what it reads of a check."""
+import contextlib
 import io
 import re
+import shutil
+import signal
+import subprocess
 import tempfile
 import types
 import unittest
@@ -10,6 +14,7 @@ from pathlib import Path
 from here import TOP as TREE
 
 from project import estimate, kit, progress, prove, shares
+from unbuilt_tree import Tree, until
 
 
 def crate(name, *below):
@@ -118,6 +123,46 @@ class Logs(unittest.TestCase):
                 self.assertEqual(log.share, share)
             log.file.close()
             self.assertEqual(log.path.read_text().count('\n'), 3)
+
+
+@unittest.skipUnless(shutil.which('rt'), 'the command rt of the Rattle kit is not here')
+class Proof(Tree):
+    """A proof of a small program by the kit."""
+
+    def setUp(self):
+        super().setUp()
+        (self.top / 'crates.txt').write_text('motesim:\n')
+
+    def provers(self):
+        found = []
+        for path in Path('/proc').glob('[0-9]*/cwd'):
+            with contextlib.suppress(OSError):
+                if str(path.resolve()).startswith(str(self.top / 'crates')):
+                    found.append(path.parent.name)
+        return found
+
+    def test_it_is_interrupted_and_resumed_and_builds_the_program(self):
+        for number in signal.SIGINT, signal.SIGTERM:
+            running = self.begin(self.top / 'prove')
+            self.assertIn('proving 1 crate:', running.stdout.readline())
+            self.assertTrue(until(self.provers, 60))
+            running.send_signal(number)
+            self.assertEqual(running.wait(10), 128 + number)
+            self.assertIn('./prove goes on', running.stdout.read())
+            self.assertTrue(until(lambda: not self.provers()), [Path("/proc", it, "cmdline").read_bytes()[:300] for it in self.provers()])
+        done = subprocess.run([self.top / 'prove'], cwd=self.room, stdin=subprocess.DEVNULL, capture_output=True, text=True)
+        self.assertEqual(done.returncode, 0, done.stderr)
+        self.assertIn('everything is proved', done.stderr)
+        self.assertEqual(self.kept(), ['proved', 'proved-motesim'])
+        self.assertEqual((self.run_it(self.link).returncode, self.run_it(self.link).stderr), (0, ''))
+        self.assertIn('built already', self.run_it(self.top / 'prove').stderr)
+
+    def test_what_is_not_proved_is_shown(self):
+        self.source.write_text('fn main() {\n    let a: [u8; 1] = [0];\n    let i = 3;\n    let b = a[i];\n}\n')
+        done = subprocess.run([self.top / 'prove'], cwd=self.room, stdin=subprocess.DEVNULL, capture_output=True, text=True)
+        self.assertEqual(done.returncode, 2)
+        self.assertIn('motesim is not proved', done.stderr)
+        self.assertEqual(self.kept(), [])
 
 
 class Lines(unittest.TestCase):
