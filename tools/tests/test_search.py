@@ -369,6 +369,16 @@ class Searches(unittest.TestCase):
             self.assertEqual(done.returncode, 1, done.stderr)
             self.assertIn('broken  mote 3 prints flood 7', done.stdout)
 
+    def test_other_forms_of_text(self):
+        for text in DIAMOND.replace('\n', '\r\n'), '\ufeff' + DIAMOND, DIAMOND[:-1]:
+            with folder_with() as folder:
+                (folder / 'diamond.toml').write_text(text, newline='')
+                status, said, told = search(folder, '--faults', 'motes,deaths,collisions', '--moments', '5')
+                self.assertIn('all 9 single faults: 9 run', said, told)
+                for name in 'diamond_silent_0', 'diamond_fails_0_5':
+                    found = answer((folder / 'diamond.search' / (name + '.toml')).read_bytes())
+                    self.assertEqual((found.status, found.fault), (0, b''))
+
     def test_all_hold(self):
         with folder_with() as folder:
             status, said, _ = search(folder, '--faults', 'links')
@@ -399,6 +409,12 @@ class Searches(unittest.TestCase):
                                              REACHED, '--faults', 'deaths', '--moments', '90')
             self.assertEqual(sets, {})
             self.assertIn('nothing is said of it', ' '.join(found['notes']))
+            self.assertEqual(found['holds'], [REACHED])
+            self.assertIn('1 of 2 expectations hold in every run', said)
+            status, said, _ = search(folder, '--expect', 'the report has exactly %d lines' % lines, '--faults',
+                                     'links,deaths', '--moments', '90', '--all')
+            self.assertIn('4 NOT JUDGED', said)
+            self.assertNotIn('holds in', said)
 
     def test_broken_without_a_fault(self):
         with folder_with(sentences=['mote 0 prints', REACHED]) as folder:

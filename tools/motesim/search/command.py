@@ -175,6 +175,7 @@ def told(words: argparse.Namespace, asking: Asking, search: Search, folder: Path
     """Writes and shows what was found; gives the status."""
     found = found_by(search, asking.texts)
     write_files(found, asking.base, asking.texts, folder)
+    write_whole(folder / 'found.csv', as_csv(found))
     if words.csv:
         write_whole(Path(words.csv), as_csv(found))
     as_text = as_json(search, found, asking.texts, asking.base.name, asking.notes) if words.json else ''
@@ -186,7 +187,7 @@ def told(words: argparse.Namespace, asking: Asking, search: Search, folder: Path
         for row in [*asking.notes, *covered_lines(search), *verdict_lines(search, found, asking.texts, words.all)]:
             print(row)
         print()
-        print(last_line(search, found, folder))
+        print(last_line(search, found, folder, asking.base.name))
     if search.is_stopped:
         return INTERRUPTED
     if words.shrink:
@@ -216,19 +217,17 @@ def shrink_each(asking: Asking, found: list[Found], folder: Path, is_quiet: bool
     program.close()
 
 
-def last_line(search: Search, found: list[Found], folder: Path) -> str:
+def last_line(search: Search, found: list[Found], folder: Path, name: str) -> str:
     """The end of what is said: how many expectations hold."""
-    wanted = bin(search.known.wanted).count('1')
-    broken = 0
-    for mask in search.known.minimal.values():
-        broken |= mask
-    fails = bin(broken).count('1')
+    wanted, holding = (bin(mask).count('1') for mask in (search.known.wanted, search.holding))
+    broken = len({sentence for it in found for sentence in it.sentences})
     which = 'every run' if is_whole(search) else 'every run that was made'
-    said = '%d of %d expectations hold in %s' % (wanted - fails, wanted, which)
-    said += ', %d %s broken' % (fails, 'is' if fails == 1 else 'are') if fails else ''
+    said = '%d of %d expectations hold in %s' % (holding, wanted, which)
+    said += ', %d %s broken' % (broken, 'is' if broken == 1 else 'are') if broken else ''
     said += '; {:,} runs'.format(search.runs)
     if found:
-        said += '\n%s in %s' % (counted(len(found), 'counter-example is', 'counter-examples are'), folder)
+        said += '\n%s in %s, with the table found.csv; `tools/studio FILE --against %s` shows one' % (
+            counted(len(found), 'counter-example is', 'counter-examples are'), folder, name)
     if search.ended_by:
         said += '\nNOT ALL WAS TRIED: %s; --resume goes on' % search.ended_by
     return said

@@ -15,6 +15,7 @@ from motesim.search.faults import KINDS, FaultyPart, change_of
 from motesim.search.search import Search
 from motesim.search.sets import Set, Tally
 from motesim.search.work import numbers_of
+from motesim.toml import MARK
 
 SHOWN, SHOWN_REASONS = 10, 3
 SIZES = {1: 'single faults', 2: 'pairs', 3: 'triples'}
@@ -73,7 +74,8 @@ def write_files(found: list[Found], base: Base, sentences: list[str], folder: Pa
         head = ['# %s with a fault: %s.' % (Path(base.name).name, it.words), '# This breaks:']
         head += ['#   %s' % ' '.join(sentence.split()) for sentence in it.sentences]
         it.file = str(folder / (name + '.toml'))
-        write_whole(Path(it.file), ''.join(row + '\n' for row in head) + text)
+        # (a byte order mark may stand at the front alone)
+        write_whole(Path(it.file), ''.join(row + '\n' for row in head) + text.removeprefix(MARK))
         rows = ''.join('  %s,\n' % toml_text(sentence) for sentence in sentences)
         write_whole(folder / (name + '.expect.toml'),
                     '# What is expected of %s without the fault.\nexpect = [\n%s]\n' % (Path(base.name).name, rows))
@@ -112,6 +114,8 @@ def covered_line(name: str, tally: Tally) -> str:
         parts.append('{:,} STOPPED at a limit, of which nothing is known'.format(tally.stopped))
     if tally.unmade:
         parts.append('{:,} NOT MADE, of which nothing is known'.format(tally.unmade))
+    if tally.unjudged:
+        parts.append('{:,} NOT JUDGED by what is left to be decided'.format(tally.unjudged))
     if tally.done < tally.sets:
         parts.append('{:,} NOT TRIED'.format(tally.sets - tally.done))
     amount = 'all {:,}' if tally.is_whole else '{:,}'
@@ -128,7 +132,7 @@ def verdict_lines(search: Search, found: list[Found], sentences: list[str], show
     rows = []
     wanted = [sentences[number] for number in numbers_of(search.known.wanted)]
     broken = {sentence: [it for it in found if sentence in it.sentences] for sentence in wanted}
-    holding = [sentence for sentence in wanted if not broken[sentence]]
+    holding = [sentences[number] for number in numbers_of(search.holding)]
     if holding:
         runs = 'every run' if is_whole(search) else 'every run that was made'
         rows += ['', 'holds in %s:' % runs, *('  ' + it for it in holding)]
@@ -164,13 +168,14 @@ def as_json(search: Search, found: list[Found], sentences: list[str], name: str,
         return {**it.__dict__, 'all': it.is_whole}
     broken = {sentence for it in found for sentence in it.sentences}
     wanted = [sentences[number] for number in numbers_of(search.known.wanted)]
+    holding = [sentences[number] for number in numbers_of(search.holding)]
     return json.dumps({
         'scenario': name, 'faults': len(search.known.faults),
         'covered_lines': covered_lines(search),
         'covered': {size: tally(it) for size, it in search.tallies.items()},
         'sample': {**tally(search.sample), 'seed': search.bounds.seed} if search.sample.sets else None,
         'ended_by': search.ended_by or None, 'runs': search.runs, 'seconds': round(search.seconds, 3),
-        'notes': notes, 'holds': [it for it in wanted if it not in broken],
+        'notes': notes, 'holds': holding,
         'broken': [it for it in wanted if it in broken],
         'found': [{'faults': [fault.words for fault in it.faults], 'effects': [fault.effect for fault in it.faults],
                    'expectations': it.sentences, 'file': it.file} for it in found],

@@ -46,6 +46,22 @@ class Search:
         self.ended_by = ''
 
     @property
+    def unjudged(self) -> int:
+        """The expectations of which nothing is said with some of the faults."""
+        mask = 0
+        for number in range(len(self.known.faults)):
+            mask |= self.blind((number,))
+        return mask & self.known.wanted
+
+    @property
+    def holding(self) -> int:
+        """The expectations that no set breaks, and that were looked at with each of the faults."""
+        broken = 0
+        for mask in self.known.minimal.values():
+            broken |= mask
+        return self.known.wanted & ~broken & ~self.unjudged
+
+    @property
     def seconds(self) -> float:
         return time.monotonic() - self.begin
 
@@ -113,10 +129,13 @@ class Search:
     def tasks(self, sets: Iterator[Set], tally: Tally, found: list[Outcome]) -> Iterator[Task]:
         """The sets that are to be run. What is decided or known already is noted at once."""
         for it in sets:
-            wanted = self.known.left(it) & ~self.blind(it)
+            left = self.known.left(it)
+            wanted = left & ~self.blind(it)
             before = self.kept.outcome(it)
-            if not wanted:
+            if not left:
                 tally.decided += 1
+            elif not wanted:
+                tally.unjudged += 1
             elif before is not None:
                 self.resumed += 1
                 self.note(before, tally, found)

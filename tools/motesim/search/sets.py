@@ -21,11 +21,12 @@ Set = tuple[int, ...]
 class Tally:
     """What became of the sets of one size: how many there are, and how many of them
 
-    run      were run
-    decided  weren't, since smaller sets in them break all that is expected
-    same     weren't, since they make the same scenario as a smaller set in them
-    stopped  ran into a limit, so that nothing is known of them
-    unmade   can't be made in the text, or are refused by the program
+    run       were run
+    decided   weren't, since smaller sets in them break all that is expected
+    same      weren't, since they make the same scenario as a smaller set in them
+    stopped   ran into a limit, so that nothing is known of them
+    unmade    can't be made in the text, or are refused by the program
+    unjudged  have a fault with which nothing is said of what is left to be decided
     """
     sets: int = 0
     run: int = 0
@@ -33,15 +34,16 @@ class Tally:
     same: int = 0
     stopped: int = 0
     unmade: int = 0
+    unjudged: int = 0
 
     @property
     def done(self) -> int:
-        return self.run + self.decided + self.same + self.stopped + self.unmade
+        return self.run + self.decided + self.same + self.stopped + self.unmade + self.unjudged
 
     @property
     def is_whole(self) -> bool:
         """Whether each of the sets is decided."""
-        return self.done == self.sets and not self.stopped and not self.unmade
+        return self.done == self.sets and not (self.stopped or self.unmade or self.unjudged)
 
 
 def count_of(faults: Sequence[FaultyPart], size: int) -> int:
