@@ -45,6 +45,18 @@ class StudiesTest(unittest.TestCase):
                 self.assertIn('(%s)' % wish.file, page)
                 self.assertTrue((STUDIES / wish.file).is_file(), wish.file)
 
+    def test_density(self) -> None:
+        rows = self.study('density', '--vary', 'seed=1,2', '--vary', 'motes=20,50', '--vary', 'period=20,40')
+        found = {(int(row['motes']), int(row['period']), int(row['seed'])): row for row in rows}
+        self.assertEqual((len(found), {row['fault'] for row in rows}), (8, {''}))
+        for (motes, period, seed), row in found.items():
+            # In a denser net less arrives, and with a longer period more.
+            if motes == 20:
+                self.assertGreater(float(row['delivered']), float(found[50, period, seed]['delivered']))
+            if period == 20:
+                self.assertLess(float(row['delivered']), float(found[motes, 40, seed]['delivered']))
+            self.assertAlmostEqual(float(row['delivered']), float(row['aloha']), delta=0.04)
+
     def test_trickle(self) -> None:
         rows = self.study('trickle', '--vary', 'seed=1,2', '--vary', 'enough=1,4', '--vary', 'step=20,8')
         found = {(int(row['step']), int(row['enough']), int(row['seed'])): row for row in rows}

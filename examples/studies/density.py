@@ -1,0 +1,16 @@
+"""What the study of density measures beside the columns of tools/summary."""
+
+
+def neighbours(run):
+    """How many others a mote hears, on average."""
+    motes = run.scenario.motes
+    return sum(len(run.scenario.hearers(mote)) for mote in range(motes)) / motes
+
+
+def aloha(run):
+    """The part of the copies that slotted ALOHA would deliver: no other neighbour of the receiver sends at the moment."""
+    ends = [packet.sender for packet in run.report.medium]
+    period = (run.scenario.end + 1) * run.scenario.motes / max(1, len(ends))
+    heard = [len(run.scenario.hearers(mote)) for mote in range(run.scenario.motes)]
+    chances = [(1 - 1 / period) ** (heard[to] - 1) for sender in ends for to in run.scenario.hearers(sender)]
+    return sum(chances) / len(chances) if chances else None
