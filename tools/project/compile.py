@@ -34,8 +34,8 @@ LEVELS = {FIRST: 0, FAST: 2}
 PARTS, FAILED = 'parts', 'fast.failed'
 # The seconds until the fast program is tried again after that.
 SECONDS_TO_RETRY = 600
-COMPILING = 'no program is built yet: compiling one, without proving it, takes about a minute'
-# The megabytes that compiling takes on the disk.
+COMPILING = 'no program is built yet: compiling one, without proving it; this needs about a minute'
+# The megabytes that compiling needs on the disk.
 MEGABYTES = 100
 # How many programs of other sources are kept, besides those that a process holds.
 MOST_KEPT = 6
@@ -91,7 +91,7 @@ def megabytes_free() -> int:
 
 def check_disk() -> None:
     if megabytes_free() < MEGABYTES:
-        raise Fault('the disk is full: compiling the program takes %d megabytes in %s, and %d are free' % (
+        raise Fault('the disk is full: compiling the program needs %d megabytes in %s, and %d are free' % (
             MEGABYTES, PROGRAMS, megabytes_free()))
 
 
@@ -121,7 +121,7 @@ def check(said: str | None) -> None:
     if said is None:
         return
     if 'No space left on device' in said:
-        raise Fault('the disk is full: compiling the program takes %d megabytes in %s' % (MEGABYTES, PROGRAMS))
+        raise Fault('the disk is full: compiling the program needs %d megabytes in %s' % (MEGABYTES, PROGRAMS))
     raise Fault('the program was not compiled, as these lines say:\n%s' % said.rstrip())
 
 

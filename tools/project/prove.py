@@ -1,10 +1,10 @@
 """Proves everything on this machine, and builds the proved program: ./prove
 
-From then on ./run and all tools run the proved program; until then they go on with the one that they have. It takes
-some 20 to 40 minutes on four cores, at a low priority, and says how far it is: on a terminal in one line that is
-renewed, else in a line for each crate, and one each minute. It can be interrupted at any time: started again, it goes
-on with the crates that are left. What the prover says of a crate goes into its out/build.log, and is shown if the crate
-isn't proved. ./test is the gate, which proves everything from nothing, and tests it.
+After that ./run and all tools run the proved program; until then they run the one that they have. A proof needs some
+20 to 40 minutes on four cores. It runs at a low priority, and reports its progress: on a terminal in one line that is
+renewed, else in a line for each crate, and one each minute. Interrupt it at any time: the next ./prove continues with
+the crates that are left. The prover's output about a crate is in its out/build.log, and is shown if the crate isn't
+proved. ./test is the gate, which proves everything from nothing, and tests it.
 """
 from __future__ import annotations
 
@@ -148,7 +148,7 @@ def stop(line: Line, number: int) -> NoReturn:
     """Ends at once, and the provers with it; Python by itself would wait for them."""
     kit.end_children()
     line.end()
-    line.say('interrupted; ./prove goes on with the crates that are left')
+    line.say('interrupted; ./prove continues with the crates that are left')
     os._exit(128 + number)
 
 

@@ -104,7 +104,7 @@ def named_program(name: str) -> Path:
 def new_program() -> Path:
     """The program once it is compiled."""
     if not shutil.which('rt'):
-        fail("the program isn't built, and to compile it takes the Rattle kit: the command rt is not here")
+        fail("the program isn't built, and compiling it needs the Rattle kit: there is no command rt here")
     # (standard input is the program's)
     if attend(TOP / 'tools/compile', [NAME], subprocess.DEVNULL):
         sys.exit(FAILED)

@@ -148,7 +148,7 @@ class Proof(Tree):
             self.assertTrue(until(self.provers, 60))
             running.send_signal(number)
             self.assertEqual(running.wait(10), 128 + number)
-            self.assertIn('./prove goes on', running.stdout.read())
+            self.assertIn('./prove continues', running.stdout.read())
             self.assertTrue(until(lambda: not self.provers()), [Path("/proc", it, "cmdline").read_bytes()[:300] for it in self.provers()])
         done = subprocess.run([self.top / 'prove'], cwd=self.room, stdin=subprocess.DEVNULL, capture_output=True, text=True)
         self.assertEqual(done.returncode, 0, done.stderr)
