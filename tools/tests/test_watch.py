@@ -9,6 +9,7 @@ from pathlib import Path
 from here import TOOLS, TOP
 import skips
 import test_why
+from motesim.contiki.random_scenario import random_scenario
 from motesim.faults import Fault
 from motesim.runner.run import answer
 from motesim.scenario import Scenario
@@ -112,9 +113,11 @@ class Runs(unittest.TestCase):
     def test_all_variables_of_the_examples(self) -> None:
         """The added prints and the replay are two ways to the same values."""
         watched_runs = 0
-        for path in sorted(TOP.glob('examples/*.toml')):
-            text = path.read_text()
-            if path.name.endswith('.expect.toml') or answer(text.encode()).status:
+        texts = [path.read_text() for path in sorted(TOP.glob('examples/*.toml'))
+                 if not path.name.endswith('.expect.toml')]
+        texts += [random_scenario(seed).decode() for seed in range(1, 12)]
+        for text in texts:
+            if answer(text.encode()).status:
                 continue
             source = self.source(text)
             names = {'%s.%s' % (it.name, name) for mote in range(source.traces.motes)
@@ -123,10 +126,10 @@ class Runs(unittest.TestCase):
                 continue
             motes, watched = read_watch(source, 'every mote ' + ', '.join(sorted(names)))
             try:
-                self.assertEqual(watch(source, text, motes, watched), replayed(source, motes, watched), path.name)
+                self.assertEqual(watch(source, text, motes, watched), replayed(source, motes, watched), text[:300])
                 watched_runs += 1
             except Unwatched as fault:
-                self.assertRegex(str(fault), 'uses? up (the|its) work', path.name)
+                self.assertRegex(str(fault), 'uses? up (the|its) work', text[:300])
         self.assertGreater(watched_runs, 10)
 
     def test_the_work_limit_rules_prints_out(self) -> None:

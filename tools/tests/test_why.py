@@ -10,6 +10,7 @@ from pathlib import Path
 from here import TOOLS, TOP
 import skips
 import test_summary
+from motesim.contiki.random_scenario import random_scenario
 from motesim.faults import Fault
 from motesim.runner.run import answer
 from motesim.scenario import Scenario
@@ -343,14 +344,15 @@ class Runs(unittest.TestCase):
         return Source(name, answer(data).report, Scenario.parse(data))
 
     def test_each_line_has_one_cause_that_is_earlier(self) -> None:
-        """On all examples and cases, back to the start of a mote."""
+        """On all examples and cases, and on random scenarios, back to the start of a mote."""
         lines = 0
-        for path in runs():
-            data = path.read_bytes()
+        scenarios = [(str(path), path.read_bytes()) for path in runs()]
+        scenarios += [('random %d' % seed, random_scenario(seed)) for seed in range(20)]
+        for path, data in scenarios:
             got = answer(data)
             if got.status:
                 continue
-            found = Source(str(path), got.report, Scenario.parse(data))
+            found = Source(path, got.report, Scenario.parse(data))
             steps: dict[At, int] = {}
             traces = found.traces
             everything = [At(mote, place) for mote in range(traces.motes) for place in range(len(traces.lines(mote)))]

@@ -193,7 +193,7 @@ class _Stripped:
     @staticmethod
     def differ(mote: int, found: str, wanted: str) -> None:
         """The run with added prints is another one."""
-        if found.endswith(' halt'):
+        if found.endswith(' halt') or wanted.endswith(' halt'):
             raise Unwatched("the added prints use up the work of mote %d at %s, so that it halts: this run can't be "
                             'watched by prints' % (mote, found.split(' ')[0]))
         raise Unwatched("the added prints change the run: mote %d writes '%s', and without them '%s'" % (
@@ -220,8 +220,8 @@ def watch(source: Source, scenario: str, motes: list[int], watched: list[Watched
     stripped = _Stripped(source, changed, marked)
     if changed.programs != source.traces.programs:
         raise Unwatched('the added prints change the run')
-    stripped.check_medium()
     found = {mote: stripped.values(mote) for mote in range(source.traces.motes)}
+    stripped.check_medium()
     for mote in motes:
         # (a trace that ends by `halt` would end so with the prints too, and what came last before it would be missing)
         if source.traces.halts(mote):
