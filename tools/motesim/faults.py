@@ -7,6 +7,7 @@ from __future__ import annotations
 
 import functools
 import gc
+import io
 import os
 import sys
 from collections.abc import Callable
@@ -15,6 +16,8 @@ from typing import NoReturn
 from motesim.version import KIT, VERSION
 
 FAILED, INTERRUPTED = 2, 130
+# The environment variable that has errors of the tools themselves shown with all their places.
+SHOW = 'MOTESIM_TRACEBACK'
 OF_ALL = 'motesim %s, proved with %s' % (VERSION, KIT)
 
 
@@ -40,6 +43,9 @@ def check_streams() -> None:
         sys.stderr = open(os.devnull, 'w', encoding='utf-8')
     if sys.stdout is None:
         raise Fault('standard output is closed')
+    if isinstance(sys.stdout, io.TextIOWrapper):
+        # (the name of a file may be no UTF-8, and the terminal may have no sign for a letter)
+        sys.stdout.reconfigure(errors='backslashreplace')
 
 
 def status_of(tool: str, work: Callable[[], int]) -> int:
@@ -62,6 +68,10 @@ def status_of(tool: str, work: Callable[[], int]) -> int:
             drop_output()
     except KeyboardInterrupt:
         return INTERRUPTED
+    except Exception as fault:
+        if os.environ.get(SHOW):
+            raise
+        told = 'an error in the tool itself: %s: %s (%s=1 shows where)' % (type(fault).__name__, fault, SHOW)
     print('%s: %s' % (tool, told), file=sys.stderr)
     return FAILED
 

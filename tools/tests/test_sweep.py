@@ -18,7 +18,7 @@ from motesim.experiments.measures import Bench, Cell, MeasureFault, read_measure
 from motesim.experiments.one_run import run_job
 from motesim.plan.plan import Plan
 from motesim.report import Report
-from motesim.experiments.results import CsvFile, cell, read_results
+from motesim.experiments.results import CsvFile, SqliteFile, cell, read_results
 from motesim.runner.run import Run
 from motesim.scenario import Scenario
 from motesim.judge.sentences import names_of
@@ -259,7 +259,7 @@ class SweepTest(Bed):
             plan = Plan.read(self.folder / 'net.plan.toml')
             sweeper = Sweeper(sweep_of(plan, ['period=3'], ['python: mine.py:lines'], None), self.folder / 'a.csv')
             self.addCleanup(sweeper.file.close)
-            job = sweeper.jobs([plan.with_given({'period': 3})])[0]
+            job = next(sweeper.jobs([plan.with_given({'period': 3})]))
             result = run_job(job._replace(work=job.work._replace(folder='/nowhere')))
         self.assertEqual((result.measures, result.fault), ({'lines': 15}, ''))
 
@@ -321,10 +321,59 @@ class SweepTest(Bed):
             CsvFile(Path('/dev/full'), ['a'])
 
     def test_two_sweeps_do_not_write_one_file(self) -> None:
-        file = CsvFile(self.folder / 'both.csv', ['a'])
-        with self.assertRaisesRegex(Fault, 'another sweep'):
-            CsvFile(self.folder / 'both.csv', ['a'])
+        for kind, name in (CsvFile, 'both.csv'), (SqliteFile, 'both.sqlite'):
+            file = kind(self.folder / name, ['a'])
+            with self.assertRaisesRegex(Fault, 'another sweep'):
+                kind(self.folder / name, ['a'])
+            file.replace([{'a': 1}])
+            with self.assertRaisesRegex(Fault, 'another sweep'):
+                kind(self.folder / name, ['a'])
+            file.close()
+            kind(self.folder / name, ['a']).close()
+
+    def test_sqlite_keeps_many_rows_together_and_all_at_the_end(self) -> None:
+        path = self.folder / 'many.sqlite'
+        file = SqliteFile(path, ['a'])
+        began = time.process_time()
+        for number in range(20_000):
+            file.add({'a': number})
+        # (row by row it takes some ten times as long, and most of that is the disk)
+        self.assertLess(time.process_time() - began, 10)
         file.close()
+        self.assertEqual(len(read_results(path)[1]), 20_000)
+
+    def test_sqlite_shows_its_rows_while_a_sweep_runs(self) -> None:
+        file = SqliteFile(self.folder / 'slow.sqlite', ['a'])
+        self.addCleanup(file.close)
+        with mock.patch('motesim.experiments.results.time.monotonic', side_effect=[0, 0.1, 0.7]):
+            file.add({'a': 1})
+            file.add({'a': 2})
+            self.assertEqual(read_results(self.folder / 'slow.sqlite')[1], [])
+            file.add({'a': 3})
+        self.assertEqual(len(read_results(self.folder / 'slow.sqlite')[1]), 3)
+
+    def test_results_with_signs_of_an_address_in_their_name(self) -> None:
+        for name in 'what?.sqlite', 'a#b.sqlite', 'x%20y.sqlite':
+            file = SqliteFile(self.folder / name, ['a'])
+            file.add({'a': 1})
+            file.close()
+            self.assertEqual(read_results(self.folder / name), (['a'], [{'a': 1}]), name)
+
+    def test_a_measure_that_asks_python_to_exit_is_a_fault_of_its_run(self) -> None:
+        (self.folder / 'mine.py').write_text('import sys\ndef lines(run):\n    if len(run.report.motes) == 2:\n        sys.exit(3)\n    return 1\n')
+        done = self.sweep('--vary', 'motes=1..3', '--measure', 'python: mine.py:lines')
+        self.assertEqual((done.returncode, done.stderr), (1, ''))
+        self.assertEqual([bool(row['fault']) for row in self.rows()], [False, True, False])
+        self.assertIn('SystemExit: 3', self.rows()[1]['fault'])
+
+    def test_a_measure_that_catches_everything_is_ended(self) -> None:
+        (self.folder / 'mine.py').write_text(
+            'def lines(run):\n    while len(run.report.motes) == 2:\n        try:\n            while True:\n'
+            '                pass\n        except BaseException:\n            pass\n    return 1\n')
+        with mock.patch('motesim.experiments.runs.SECONDS_MORE', 0):
+            done = self.sweep('--vary', 'motes=1..3', '--measure', 'python: mine.py:lines', '--seconds', '1')
+        self.assertEqual((done.returncode, [bool(row['fault']) for row in self.rows()]), (1, [False, True, False]), done.stderr)
+        self.assertRegex(self.rows()[1]['fault'], 'no end in [0-9.]+ seconds')
 
     def test_progress_is_on_standard_error(self) -> None:
         source = '''import sys, time

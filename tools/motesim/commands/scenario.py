@@ -12,10 +12,10 @@ from __future__ import annotations
 
 import sys
 from collections.abc import Sequence
-from pathlib import Path
 
 from motesim.scenario import faults as scenario_faults
 from motesim.faults import Fault, command
+from motesim.files import write_whole
 from motesim.output import beside
 from motesim.plan.from_scenario import write_plan
 from motesim.plan.plan import Plan
@@ -78,7 +78,7 @@ def main() -> int:
         sys.stdout.write(text)
         return 0
     try:
-        Path(asked.output).write_text(text, encoding='utf-8', newline='\n')
+        write_whole(asked.output, [text.encode('utf-8')])
     except OSError as fault:
         raise Fault('%s: %s' % (asked.output, fault.strerror)) from None
     print(asked.output)

@@ -5,7 +5,6 @@ machine.
 """
 from __future__ import annotations
 
-import gc
 import hashlib
 import os
 import signal
@@ -18,6 +17,7 @@ from types import FrameType
 from typing import NamedTuple
 
 from motesim.faults import Fault
+from motesim.runner.batch import fault_of
 from motesim.runner.process import Limits, Runner
 from motesim.experiments.measures import Bench, Cell, read_measure
 from motesim.plan.plan import Plan
@@ -121,7 +121,6 @@ def one_line(text: str) -> str:
 
 def run_job(job: Job) -> Result:
     """Runs a job. What goes wrong is in the result."""
-    gc.disable()
     scenario = report = fault = ''
     measures: dict[str, Cell] = {}
     work = job.work
@@ -146,4 +145,7 @@ def run_job(job: Job) -> Result:
         fault = str(told)
     except MemoryError:
         fault = 'out of memory'
+    except BaseException as told:
+        # (a measure of the user's may raise anything, and ask Python to exit)
+        fault = one_line(fault_of(told))
     return Result(job.place, {} if fault else measures, scenario, report, fault)

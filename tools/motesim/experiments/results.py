@@ -10,16 +10,20 @@ import io
 import os
 import re
 import sqlite3
+import time
 from collections.abc import Iterable, Mapping, Sequence
 from pathlib import Path
 from typing import IO
 
 from motesim.faults import Fault
+from motesim.files import write_whole
 from motesim.experiments.measures import Cell
 
 Row = dict[str, Cell]
 SQLITE = ('.sqlite', '.sqlite3', '.db')
 NUMBER = re.compile(r'0|-?[1-9][0-9]*')
+# How long rows of SQLite wait at most until they are kept.
+SECONDS_OPEN = 0.5
 REAL = re.compile(r'-?[0-9]+(\.[0-9]+)?(e[-+][0-9]+)?')
 
 
@@ -47,14 +51,8 @@ class CsvFile:
 
     def __init__(self, path: Path, columns: Sequence[str]) -> None:
         self.path, self.columns = path, list(columns)
-        is_new = not path.exists() or path.stat().st_size == 0
-        self.file: IO[bytes] = open(path, 'ab')
-        try:
-            fcntl.flock(self.file, fcntl.LOCK_EX | fcntl.LOCK_NB)
-        except OSError:
-            self.file.close()
-            raise Fault('%s is being written by another sweep' % path) from None
-        if is_new:
+        self.file = _locked(path)
+        if path.stat().st_size == 0:
             self._append(line_of(self.columns))
         else:
             self._drop_broken_end()
@@ -81,14 +79,9 @@ class CsvFile:
     def replace(self, rows: Sequence[Mapping[str, Cell]]) -> None:
         """Puts these rows in the place of all that are there."""
         text = line_of(self.columns) + ''.join(line_of(row.get(name) for name in self.columns) for row in rows)
-        beside = self.path.with_name(self.path.name + '.new')
-        new = open(beside, 'wb')
-        new.write(text.encode())
-        new.flush()
-        fcntl.flock(new, fcntl.LOCK_EX)
-        os.replace(beside, self.path)
-        self.file.close()
-        self.file = new
+        write_whole(self.path, [text.encode()])
+        old, self.file = self.file, _locked(self.path)
+        old.close()
 
     def close(self) -> None:
         self.file.close()
@@ -103,6 +96,7 @@ class SqliteFile:
 
     def __init__(self, path: Path, columns: Sequence[str]) -> None:
         self.path, self.columns = path, list(columns)
+        self.lock, self.begun = _locked(path), 0.0
         try:
             self.base = sqlite3.connect(path, isolation_level=None)
             names = ', '.join(map(quoted, self.columns))
@@ -116,13 +110,21 @@ class SqliteFile:
         self.base.execute('insert into runs values (%s)' % marks, [row.get(name) for name in self.columns])
 
     def add(self, row: Mapping[str, Cell]) -> None:
+        """Adds a row. Rows are kept together, some times a second: to keep each would take longer than a short run."""
+        now = time.monotonic()
         try:
+            if not self.base.in_transaction:
+                self.base.execute('begin')
+                self.begun = now
             self._insert(row)
+            if now > self.begun + SECONDS_OPEN:
+                self.base.execute('commit')
         except sqlite3.Error as fault:
             raise Fault('%s: %s' % (self.path, fault)) from None
 
     def replace(self, rows: Sequence[Mapping[str, Cell]]) -> None:
         try:
+            self._commit()
             self.base.execute('begin')
             self.base.execute('delete from runs')
             for row in rows:
@@ -131,8 +133,32 @@ class SqliteFile:
         except sqlite3.Error as fault:
             raise Fault('%s: %s' % (self.path, fault)) from None
 
+    def _commit(self) -> None:
+        if self.base.in_transaction:
+            self.base.execute('commit')
+
     def close(self) -> None:
-        self.base.close()
+        try:
+            self._commit()
+        except sqlite3.Error as fault:
+            raise Fault('%s: %s' % (self.path, fault)) from None
+        finally:
+            self.base.close()
+            self.lock.close()
+
+
+def _locked(path: Path) -> IO[bytes]:
+    """The file of results, open, so that no other sweep writes it until it is closed."""
+    try:
+        file = open(path, 'ab')
+    except OSError as fault:
+        raise Fault('%s: %s' % (path, fault.strerror)) from None
+    try:
+        fcntl.flock(file, fcntl.LOCK_EX | fcntl.LOCK_NB)
+    except OSError:
+        file.close()
+        raise Fault('%s is being written by another sweep' % path) from None
+    return file
 
 
 def _read_table(base: sqlite3.Connection) -> tuple[list[str], list[Row]]:
@@ -178,7 +204,7 @@ def read_results(path: Path) -> tuple[list[str], list[Row]]:
     if not is_sqlite(path):
         return read_csv(path)
     try:
-        base = sqlite3.connect('file:%s?mode=ro' % path, uri=True)
+        base = sqlite3.connect('%s?mode=ro' % path.resolve().as_uri(), uri=True)
         try:
             return _read_table(base)
         finally:

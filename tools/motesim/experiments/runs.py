@@ -1,13 +1,11 @@
 """Gives the runs of a sweep to processes here, or to a Dask cluster, and takes their results as they come."""
 from __future__ import annotations
 
-import multiprocessing
 import signal
 import tempfile
+import threading
 import zipfile
-from collections.abc import Iterator, Sequence
-from concurrent.futures import FIRST_COMPLETED, Future, ProcessPoolExecutor, wait
-from concurrent.futures.process import BrokenProcessPool
+from collections.abc import Iterable, Iterator, Sequence
 from pathlib import Path
 from types import FrameType
 from typing import Any
@@ -15,9 +13,15 @@ from typing import Any
 from motesim.experiments import packages
 from motesim.faults import Fault
 from motesim.experiments.one_run import Job, Result, run_job
+from motesim.runner.batch import run_each
 
 PACKAGE = Path(__file__).resolve().parents[1]
 DASK_SECONDS = 10
+# The most runs of a task of Dask.
+MOST_IN_TASK = 50
+# A job has a time for the run, and one for the measures. After so many times its time, and some seconds more, its process
+# is ended.
+LATER, SECONDS_MORE = 2, 5
 
 
 class Stopped(Exception):
@@ -27,8 +31,13 @@ class Stopped(Exception):
 class Break:
     """Ctrl-C while runs go on: noted once, and the second time at once."""
 
-    def __init__(self) -> None:
-        self.is_asked = False
+    def __init__(self, stop: threading.Event | None = None) -> None:
+        self.stop = stop or threading.Event()
+
+    @property
+    def is_asked(self) -> bool:
+        """Whether Ctrl-C was pressed."""
+        return self.stop.is_set()
 
     def __enter__(self) -> Break:
         self.before = [(it, signal.signal(it, self.ask)) for it in (signal.SIGINT, signal.SIGTERM)]
@@ -37,45 +46,23 @@ class Break:
     def ask(self, number: int, frame: FrameType | None) -> None:
         if self.is_asked:
             raise KeyboardInterrupt
-        self.is_asked = True
+        self.stop.set()
 
     def __exit__(self, *fault: object) -> None:
         for number, handler in self.before:
             signal.signal(number, handler)
 
 
-def _begin_worker() -> None:
-    """Ctrl-C is for the sweep, which lets begun runs end."""
-    signal.signal(signal.SIGINT, signal.SIG_IGN)
-    signal.signal(signal.SIGTERM, signal.SIG_DFL)
+def run_here(jobs: Iterable[Job], processes: int, seconds: float) -> Iterator[Result]:
+    """The results of the jobs, as they come, by so many processes.
 
-
-def run_here(jobs: Sequence[Job], processes: int) -> Iterator[Result]:
-    """The results of the jobs, as they come, by so many processes."""
-    left = list(reversed(jobs))
-    pending: set[Future[Result]] = set()
-    with Break() as asked:
-        pool = ProcessPoolExecutor(processes, multiprocessing.get_context('fork'), _begin_worker)
-        try:
-            # (no more are given than are run, so that Ctrl-C waits for no others)
-            while left or pending:
-                while left and len(pending) < processes and not asked.is_asked:
-                    pending.add(pool.submit(run_job, left.pop()))
-                if not pending:
-                    break
-                done, pending = wait(pending, 0.2, FIRST_COMPLETED)
-                for future in done:
-                    yield future.result()
-        except BrokenProcessPool:
-            raise Fault('a process of the sweep was ended by the system, as where memory runs out. What is finished '
-                        'is kept; the same command goes on, and --jobs says with how many processes') from None
-        except BaseException:
-            for process in multiprocessing.active_children():
-                process.terminate()
-            raise
-        finally:
-            pool.shutdown(cancel_futures=True)
-    if left:
+    A job that doesn't end by itself, long after its own time, is ended with its process; that is its fault.
+    """
+    stop, left = threading.Event(), iter(jobs)
+    with Break(stop):
+        for done in run_each(run_job, left, workers=processes, seconds=seconds * LATER + SECONDS_MORE, stop=stop):
+            yield done.result or Result(done.item.place, {}, '', '', done.fault)
+    if next(left, None) is not None:
         raise Stopped
 
 
@@ -88,20 +75,35 @@ def packed(folder: Path) -> Path:
     return path
 
 
+def run_jobs(jobs: list[Job]) -> list[Result]:
+    """Runs several jobs one after another: a task of its own for each short run would take longer than the run."""
+    return [run_job(job) for job in jobs]
+
+
+def in_lists(jobs: Sequence[Job], length: int) -> list[list[Job]]:
+    return [list(jobs[begin:begin + length]) for begin in range(0, len(jobs), length)]
+
+
 def run_by_dask(jobs: Sequence[Job], address: str) -> Iterator[Result]:
     """The results of the jobs, as they come, by the workers of a Dask cluster."""
     distributed: Any = packages.load('distributed')
+    stop = threading.Event()
     try:
         client: Any = distributed.Client(address, timeout=DASK_SECONDS)
     except (OSError, TimeoutError, ValueError) as fault:
         raise Fault('no Dask scheduler answers at %s: %s' % (address, fault)) from None
     try:
-        with Break() as asked, tempfile.TemporaryDirectory() as folder:
+        try:
+            client.wait_for_workers(1, timeout=DASK_SECONDS)
+        except TimeoutError:
+            raise Fault('the Dask scheduler at %s has no workers' % address) from None
+        with Break(stop), tempfile.TemporaryDirectory() as folder:
             client.upload_file(str(packed(Path(folder))))
-            futures = client.map(run_job, jobs, pure=False)
+            workers = max(1, len(client.scheduler_info()['workers']))
+            futures = client.map(run_jobs, in_lists(jobs, max(1, min(MOST_IN_TASK, len(jobs) // (8 * workers)))), pure=False)
             for future in distributed.as_completed(futures):
-                yield future.result()
-                if asked.is_asked:
+                yield from future.result()
+                if stop.is_set():
                     client.cancel(futures)
                     raise Stopped
     except (Fault, Stopped):

@@ -28,7 +28,7 @@ import hashlib
 import os
 import subprocess
 import sys
-from collections.abc import Mapping, Sequence
+from collections.abc import Iterator, Mapping, Sequence
 from pathlib import Path
 from typing import Any
 
@@ -100,11 +100,12 @@ class Sweeper:
     def missing(self) -> list[dict[str, Value]]:
         return [given for given in self.sweep.given() if self.key(given) not in self.rows]
 
-    def jobs(self, missing: Sequence[Mapping[str, Value]]) -> list[Job]:
+    def jobs(self, missing: Sequence[Mapping[str, Value]]) -> Iterator[Job]:
+        """The runs that are missing, which are made as they are begun."""
         work = Work(self.plan.name, self.plan.text, str(self.plan.files.folder.resolve()), tuple(self.sweep.measures),
                     tuple(self.sources.items()), str(self.program), str(self.made['program_sha256']),
                     self.sweep.seconds, self.sweep.most_bytes)
-        return [Job(place, tuple(given.items()), self.files(given), work) for place, given in enumerate(missing)]
+        return (Job(place, tuple(given.items()), self.files(given), work) for place, given in enumerate(missing))
 
     def files(self, given: Mapping[str, Value]) -> tuple[tuple[str, bytes], ...]:
         """The files that a run takes. One that can't be read is the run's fault, and is told by it."""
@@ -123,8 +124,11 @@ class Sweeper:
         """Runs what is missing; gives how many."""
         missing = self.missing()
         jobs = self.jobs(missing)
-        progress = Progress(len(jobs))
-        results = run_by_dask(jobs, address) if address and jobs else run_here(jobs, processes)
+        progress = Progress(len(missing))
+        if address and missing:
+            results = run_by_dask(list(jobs), address)
+        else:
+            results = run_here(jobs, min(processes, len(missing)) or 1, self.sweep.seconds)
         try:
             for result in results:
                 given = missing[result.place]
@@ -134,9 +138,9 @@ class Sweeper:
                 progress.add(bool(result.fault))
         finally:
             progress.end()
-        if jobs:
+        if missing:
             self.file.replace(self.in_order())
-        return len(jobs)
+        return len(missing)
 
     def in_order(self) -> list[Row]:
         """The rows in the order of the sweep, and then others."""

@@ -12,13 +12,13 @@ the formats, and how the files are opened; docs/use/CONTIKI.md is about the C fi
 """
 from __future__ import annotations
 
-import contextlib
 from collections.abc import Callable, Iterable
 from pathlib import Path
 
 from motesim.contiki.folder import write_folder
 from motesim.export import pcapng, perfetto, tables, vcd
-from motesim.faults import Fault, command
+from motesim.faults import command
+from motesim.files import write_whole
 from motesim.report import Report
 from motesim.runner.run import read_file, read_run
 from motesim.words import words_of
@@ -38,20 +38,6 @@ def parts_of(report: Report, form: str) -> dict[str, Iterable[bytes]]:
         'vcd': lambda: encoded(vcd.vcd(report)), 'pcapng': lambda: pcapng.pcapng(report),
         'perfetto': lambda: encoded(perfetto.perfetto(report))}
     return {'': work[form]()}
-
-
-def write(path: Path, parts: Iterable[bytes]) -> None:
-    """Writes a file as a whole: where that fails, nothing of it is left."""
-    beside = path.with_name(path.name + '.new')
-    try:
-        with open(beside, 'wb') as file:
-            file.writelines(parts)
-        beside.replace(path)
-    except OSError as fault:
-        raise Fault('%s: %s' % (path, fault.strerror)) from None
-    finally:
-        with contextlib.suppress(OSError):
-            beside.unlink()
 
 
 def export_program_files(path: str, folder: str | None, with_host: bool) -> int:
@@ -81,6 +67,6 @@ def main() -> int:
     name = 'run' if asked.report == '-' else Path(asked.report).stem
     begin = asked.output or name + ENDS[asked.to]
     for end, parts in parts_of(read_run(asked.report).report, asked.to).items():
-        write(Path(begin + end), parts)
+        write_whole(Path(begin + end), parts)
         print(begin + end)
     return 0

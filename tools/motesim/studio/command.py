@@ -33,14 +33,23 @@ def has_screen() -> bool:
     return sys.platform in ('darwin', 'win32') or bool(os.environ.get('DISPLAY') or os.environ.get('WAYLAND_DISPLAY'))
 
 
+def room() -> tempfile.TemporaryDirectory[str]:
+    """A folder for the file by which the page is opened: in the home of the user, since browsers that are installed as
+    snaps read no other."""
+    try:
+        return tempfile.TemporaryDirectory(prefix='motesim-studio-', dir=Path.home())
+    except (OSError, RuntimeError):
+        return tempfile.TemporaryDirectory(prefix='motesim-studio-')
+
+
 @contextlib.contextmanager
 def opened(address: str, wanted: bool) -> Iterator[None]:
     """Opens the page by a file that only this user can read: others see the words with which a browser is started."""
     if not (wanted and has_screen()):
         yield
         return
-    with tempfile.TemporaryDirectory(prefix='motesim-studio-') as room:
-        page = Path(room, 'open.html')
+    with room() as folder:
+        page = Path(folder, 'open.html')
         page.write_text('<!DOCTYPE html><meta http-equiv="refresh" content="0; url=%s">' % address)
         with contextlib.suppress(webbrowser.Error):
             webbrowser.open(page.as_uri())

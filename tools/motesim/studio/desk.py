@@ -13,9 +13,12 @@ from pathlib import Path
 from typing import Any, NamedTuple
 
 from motesim.faults import Fault, in_words
+from motesim.files import write_whole
 from motesim.runner.programs import TOP
 
 LONGEST = 1_048_576
+# Files of TOML that are no scenarios.
+OTHERS = ('.expect.toml', '.plan.toml')
 NAME = re.compile(r'[A-Za-z0-9_][A-Za-z0-9_. -]{0,80}\.toml')
 MARK = '\ufeff'
 FIRST = '''# A scenario: which motes there are, where they stand, what they run, and how packets travel.
@@ -108,6 +111,8 @@ class Desk:
             raise Fault('%s is a folder; give the studio a scenario, NAME.toml' % named)
         if path and not self.folder.is_dir():
             raise Fault('%s: there is no folder %s' % (named, self.folder))
+        if path and path.name.endswith('.plan.toml'):
+            raise Fault('%s is a plan, which the studio doesn\'t run: tools/scenario makes a scenario of it' % named)
         if path and not NAME.fullmatch(path.name):
             raise Fault('%s: the studio opens scenarios, NAME.toml' % named)
 
@@ -122,7 +127,7 @@ class Desk:
             names = os.listdir(self.folder_of(where))
         except OSError:
             return []
-        return sorted(name for name in names if NAME.fullmatch(name) and not name.endswith('.expect.toml'))
+        return sorted(name for name in names if NAME.fullmatch(name) and not name.endswith(OTHERS))
 
     def path(self, where: str, name: str) -> Path:
         """The path of a file that may be read: it stands in its folder itself, and isn't a link to elsewhere."""
@@ -186,8 +191,9 @@ class Desk:
         """Writes a document into a new file of the folder, from which on it may be saved there."""
         name = name if name.endswith('.toml') else name + '.toml'
         path = self.path('folder', name)
-        if name.endswith('.expect.toml'):
-            raise Fault('%s is a name of expectations, and not of a scenario' % name)
+        if name.endswith(OTHERS):
+            raise Fault('%s is a name of %s, and not of a scenario' % (
+                name, 'a plan' if name.endswith('.plan.toml') else 'expectations'))
         if path.exists() and name not in self.written:
             raise Fault('%s is there already; choose another name' % name)
         self.written.add(name)
@@ -203,16 +209,7 @@ class Desk:
             raise Fault('the text is longer than %d bytes, as a scenario may be' % LONGEST)
         if path.exists() and not os.access(path, os.W_OK):
             raise Fault('%s may not be written' % path.name)
-        scratch = path.with_name('.%s.%d.studio' % (path.name, os.getpid()))
         try:
-            mode = path.stat().st_mode & 0o777 if path.exists() else None
-            with open(scratch, 'xb') as file:
-                file.write(data)
-                file.flush()
-                os.fsync(file.fileno())
-            if mode is not None:
-                scratch.chmod(mode)
-            os.replace(scratch, path)
-        except OSError as fault:
-            scratch.unlink(missing_ok=True)
-            raise Fault('%s was not written: %s' % (path.name, fault.strerror)) from None
+            write_whole(path, [data])
+        except Fault as fault:
+            raise Fault('%s was not written: %s' % (path.name, str(fault).removeprefix('%s: ' % path))) from None

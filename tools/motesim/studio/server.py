@@ -133,6 +133,11 @@ class Handler(BaseHTTPRequestHandler):
             answered = told({'refused': str(fault)})
         except MemoryError:
             answered = told({'refused': 'the studio is out of memory'})
+        except Exception as fault:
+            # (without an answer the page would take the studio for lost, and ask the same again, for ever)
+            error = '%s: %s' % (type(fault).__name__, fault)
+            print('studio: an error in the studio itself: %s' % error, file=sys.stderr)
+            answered = told({'refused': 'This is an error in the studio itself: %s' % error})
         self.reply(200, answered.kind, answered.data)
 
 

@@ -24,7 +24,11 @@ from pathlib import Path
 from typing import Any
 
 from motesim.faults import Fault, command
+<<<<<<< HEAD
 from motesim.output import beside
+=======
+from motesim.files import write_whole
+>>>>>>> 44a05904 (Files are written whole, a sweep ends by no measure, SQLite keeps rows together, the studio answers always)
 from motesim.notation.keywords import EVENTS
 from motesim.report import KINDS, LOST, Log, Report, Trace
 from motesim.runner.run import Run, read_run
@@ -226,12 +230,8 @@ def write_page(path: str | Path, title: str, runs: Sequence[Run], start: int | N
 
     With `start` the page opens around that moment, which is marked, and with `mote` that mote's lane is in view.
     """
-    parts = list(page_of(title, runs, start, mote))
-    try:
-        with open(path, 'w', encoding='utf-8', newline='\n') as page:
-            page.writelines(parts)
-    except OSError as fault:
-        raise Fault('%s: %s' % (path, fault.strerror)) from None
+    # (a name that isn't UTF-8 is shown as far as it is)
+    write_whole(path, (part.encode('utf-8', 'backslashreplace') for part in page_of(title, runs, start, mote)))
 
 
 @command('timeline')

@@ -284,7 +284,7 @@ function drawLane(pane, mote) {
         said.low++;
         continue;
       }
-      const x = xOf(line), y = form === 'silent' ? pane.lineY(isFull ? SEND : SEND, mote) : pane.lineY(k, mote);
+      const x = xOf(line), y = form === 'silent' ? pane.lineY(SEND, mote) : pane.lineY(k, mote);
       if (k === RECV && !isFull) {
         if (putMark(pane, 'tick', x, y, Math.min(4, pane.lane * 0.2), line)) continue;
       } else if (putMark(pane, form, x, y, k === PRINT && !isFull ? Math.min(4, r) : r, line) && k === PRINT &&

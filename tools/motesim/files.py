@@ -1,0 +1,54 @@
+"""Files that are written whole, or not at all."""
+from __future__ import annotations
+
+import contextlib
+import os
+import tempfile
+from collections.abc import Iterable
+from pathlib import Path
+
+from motesim.faults import Fault
+
+
+def write_whole(path: str | Path, parts: Iterable[bytes]) -> None:
+    """Writes a file under another name, and gives it its own name at the end; what was there before stays until then.
+
+    A file that is there keeps its mode. What is no plain file, as /dev/stdout, is written as it is. Raises a `Fault` if
+    the file can't be written.
+    """
+    path = Path(path)
+    try:
+        # (a link stays a link, to a file that is new)
+        target = path.resolve()
+        if target.exists() and not target.is_file():
+            with open(target, 'wb') as file:
+                file.writelines(parts)
+            return
+        if target.exists() and not os.access(target, os.W_OK):
+            raise PermissionError(0, 'it may not be written')
+        _replace(target, parts)
+    except OSError as fault:
+        raise Fault('%s: %s' % (path, fault.strerror or fault)) from None
+
+
+def _replace(target: Path, parts: Iterable[bytes]) -> None:
+    mode = target.stat().st_mode & 0o777 if target.exists() else 0o666 & ~_mask()
+    number, scratch = tempfile.mkstemp(prefix='.%s.' % target.name[:100], dir=target.parent)
+    try:
+        with open(number, 'wb') as file:
+            file.writelines(parts)
+            file.flush()
+            os.fchmod(number, mode)
+            os.fsync(number)
+        os.replace(scratch, target)
+    except BaseException:
+        with contextlib.suppress(OSError):
+            os.unlink(scratch)
+        raise
+
+
+def _mask() -> int:
+    """The mode that new files don't get."""
+    mask = os.umask(0o077)
+    os.umask(mask)
+    return mask
