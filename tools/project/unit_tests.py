@@ -28,6 +28,10 @@ SKIPPED = re.compile(r"^ *(\w+) \(([\w.]+)\)(?: \(.*\)|\n.*)? \.\.\. skipped (.*
 COUNT = re.compile(r'^Ran (\d+) tests? in .*\n\n(OK|FAILED)(?: \((.*)\))?$', re.M)
 
 
+# What tests may need besides: a reason to skip one begins with its name.
+NEEDED = ('browser',)
+
+
 class Told(NamedTuple):
     """What a file of tests comes to, and what to print of it."""
     passed: int
@@ -36,19 +40,24 @@ class Told(NamedTuple):
     lines: str
 
 
-def told_of(name: str, said: str) -> Told:
-    """What a run of one file says."""
+def told_of(name: str, said: str, may_skip: Sequence[str] = ()) -> Told:
+    """The result of a run of one file. A test that is skipped for want of something that it needs has failed, unless that
+    may be missing."""
     counted = list(COUNT.finditer(said))
     if not counted:
         return Told(0, 1, 0, '%s ran no test:\n%s' % (name, said))
     ran, _, rest = counted[-1].groups()
     counts = {key: int(number) for key, number in re.findall(r'(\w+)=(\d+)', rest or '')}
     skipped, failed = counts.get('skipped', 0), counts.get('failures', 0) + counts.get('errors', 0)
-    lines = ['skipped: %s.%s: %s\n' % (name, test[0], test[2].strip('\'"')) for test in SKIPPED.findall(said)]
+    reasons = [(test[0], test[2].strip('\'"')) for test in SKIPPED.findall(said)]
+    missing = [it for it in reasons for need in NEEDED if it[1].startswith(need + ': ') and need not in may_skip]
+    lines = ['%s: %s.%s: %s\n' % ('failed' if it in missing else 'skipped', name, *it) for it in reasons]
+    skipped -= len(missing)
     if failed:
         begin = said.find('=' * 70)
         lines.append(said[begin if begin >= 0 else 0:counted[-1].start()])
-    return Told(max(0, int(ran) - failed - skipped), failed, skipped, ''.join(lines))
+    passed = int(ran) - failed - skipped - len(missing)
+    return Told(max(0, passed), failed + len(missing), skipped, ''.join(lines))
 
 
 def heed_signals() -> None:
@@ -58,16 +67,17 @@ def heed_signals() -> None:
             signal.signal(one, signal.default_int_handler if one == signal.SIGINT else signal.SIG_DFL)
 
 
-def run_file(path: Path) -> Told:
-    words = [sys.executable, '-B', '-m', 'unittest', '-v', path.stem]
-    with subprocess.Popen(words, cwd=TESTS, stdin=subprocess.DEVNULL, stdout=subprocess.PIPE, stderr=subprocess.STDOUT,
+def run_file(path: Path, may_skip: Sequence[str] = ()) -> Told:
+    words = [sys.executable, '-B', '-m', 'project.one_test_file', path.stem]
+    here = {**os.environ, 'PYTHONPATH': str(TOP / 'tools')}
+    with subprocess.Popen(words, cwd=TESTS, env=here, stdin=subprocess.DEVNULL, stdout=subprocess.PIPE, stderr=subprocess.STDOUT,
                           encoding='utf-8', errors='replace', start_new_session=True) as ran:
         try:
             said = ran.communicate(timeout=SECONDS)[0]
         except subprocess.TimeoutExpired:
             os.killpg(ran.pid, signal.SIGKILL)
             return Told(0, 1, 0, '%s did not end in %d seconds:\n%s' % (path.stem, SECONDS, ran.communicate()[0]))
-    told = told_of(path.stem, said)
+    told = told_of(path.stem, said, may_skip)
     if ran.returncode and not told.failed:
         return told._replace(failed=1, lines=told.lines + '%s ended with status %d\n' % (path.stem, ran.returncode))
     return told
@@ -86,9 +96,12 @@ def files_of(names: Sequence[str]) -> list[Path]:
 def main() -> int:
     words = words_of(__doc__)
     heed_signals()
+    words.add_argument('--may-skip', action='append', default=[], choices=NEEDED,
+                       help='let tests be skipped that need it; else they fail without it')
     words.add_argument('names', nargs='*', metavar='NAME', help='a file of tools/tests, or a part of its name')
+    asked = words.parse_args()
     with ThreadPoolExecutor(os.cpu_count()) as pool:
-        told = list(pool.map(run_file, files_of(words.parse_args().names)))
+        told = list(pool.map(lambda path: run_file(path, asked.may_skip), files_of(asked.names)))
     for it in told:
         print(it.lines, end='')
     passed, failed, skipped = (sum(counts) for counts in zip(*(it[:3] for it in told)))

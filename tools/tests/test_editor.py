@@ -4,7 +4,7 @@ import re
 import unittest
 
 from here import TOOLS, TOP
-from motesim.notation.keywords import RESERVED
+from motesim.notation.grammar import COLOURS, RESERVED, SCOPES, STATEMENTS
 
 FOLDER = TOOLS / 'editor'
 
@@ -48,6 +48,27 @@ class Grammars(unittest.TestCase):
             self.assertRegex(self.first(word), '^(storage|keyword|support)')
         self.assertFalse([word for word in ('counter', 'data2', 'my_print') for name, it in self.rules()
                           if not name.startswith('invalid') and it.fullmatch(word)])
+
+    def test_its_words_are_those_of_the_grammar(self):
+        """Each class of the editor's words, and each colour of the page's, is made of the one table of words."""
+        for name, pattern in self.rules():
+            words = re.search(r'\(([a-z_|]+)\)\(\?!', pattern.pattern)
+            if name in SCOPES:
+                self.assertEqual(set(words[1].split('|')), SCOPES[name], name)
+        coloured = [word for words in COLOURS.values() for word in words]
+        self.assertEqual((sorted(coloured), len(set(coloured))), (sorted(RESERVED), len(coloured)))
+        self.assertTrue({'radio', 'all'} <= set(coloured))
+
+    def test_the_page_has_the_words_of_the_grammar(self):
+        page = (TOP / 'docs/use/NOTATION.md').read_text('utf-8')
+        named = re.search(r'no name may be one of them: `([^`]*)`', page)[1].split()
+        self.assertEqual(sorted(named), sorted(RESERVED))
+        rule = re.search(r'^statement  = (.*?)\n[a-z]+ +=', page, re.M | re.S)[1]
+        for old, new in ('expression', 'E'), ('block', 'B'), ('sent', 'SENT'), ('cast', 'CAST'), ('into', 'INTO'):
+            rule = re.sub(r'(?<!")\b%s\b' % old, new, rule)
+        rule = rule.replace('[ "else" B ]', '"else" B')
+        shown = {' '.join(it.replace('"', ' ').split()).replace(' ;', ';') for it in rule.split('|')}
+        self.assertEqual(shown - {'VARIABLE = E;'}, {it.form for it in STATEMENTS.values()})
 
     def test_nothing_in_the_examples_is_marked_as_wrong(self):
         import tomllib

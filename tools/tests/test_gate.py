@@ -6,6 +6,7 @@ import subprocess
 import tempfile
 import unittest
 from pathlib import Path
+from unittest import mock
 
 from here import TOP
 from project import unit_tests
@@ -95,6 +96,25 @@ FAILED (failures=1, skipped=1)
         self.assertIn('skipped: test_a.test_two: no browser\n', told.lines)
         self.assertIn('AssertionError', told.lines)
         self.assertNotIn('test_one', told.lines)
+
+    def test_what_is_needed_and_is_not_there_fails_unless_it_may_be_skipped(self):
+        said = self.SAID.replace('no browser', 'browser: none is installed')
+        told = unit_tests.told_of('test_a', said)
+        self.assertEqual(told[:3], (1, 2, 0))
+        self.assertIn('failed: test_a.test_two: browser: none is installed\n', told.lines)
+        self.assertEqual(unit_tests.told_of('test_a', said, ['browser'])[:3], (1, 1, 1))
+
+    def test_a_class_that_is_skipped_counts_as_all_its_tests(self):
+        source = ('import unittest\nclass Page(unittest.TestCase):\n    @classmethod\n    def setUpClass(cls):\n'
+                  '        raise unittest.SkipTest(%r)\n    def test_a(self): pass\n    def test_b(self): pass\n'
+                  'class Other(unittest.TestCase):\n    def test_c(self): pass\n')
+        with tempfile.TemporaryDirectory() as room, mock.patch.object(unit_tests, 'TESTS', Path(room)):
+            path = Path(room) / 'test_page.py'
+            path.write_text(source % 'no reason')
+            self.assertEqual(unit_tests.run_file(path)[:3], (1, 0, 2))
+            path.write_text(source % 'browser: none')
+            self.assertEqual(unit_tests.run_file(path)[:3], (1, 2, 0))
+            self.assertEqual(unit_tests.run_file(path, ['browser'])[:3], (1, 0, 2))
 
     def test_a_file_that_runs_no_test_fails(self):
         self.assertEqual(unit_tests.told_of('test_a', 'SyntaxError')[:3], (0, 1, 0))

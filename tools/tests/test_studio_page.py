@@ -71,7 +71,7 @@ class Page(unittest.TestCase):
             said = 'the page of tools/studio is not tried: ' + why
             with contextlib.suppress(OSError):
                 print(said, file=sys.stderr)
-            raise unittest.SkipTest(said)
+            raise unittest.SkipTest('browser: %s' % said)
 
     @classmethod
     def tearDownClass(cls):

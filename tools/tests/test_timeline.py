@@ -153,7 +153,7 @@ class Pages(unittest.TestCase):
             said = 'the pages of tools/timeline are not tried: ' + why
             with contextlib.suppress(OSError):
                 print(said, file=sys.stderr)
-            raise unittest.SkipTest(said)
+            raise unittest.SkipTest('browser: %s' % said)
         cls.room = tempfile.TemporaryDirectory()
 
     @classmethod

@@ -42,7 +42,7 @@ class Pages(unittest.TestCase):
     def setUpClass(cls) -> None:
         browser, why = Browser.start()
         if browser is None:
-            raise unittest.SkipTest(why)
+            raise unittest.SkipTest('browser: %s' % why)
         cls.browser = browser
         cls.room = tempfile.TemporaryDirectory()
 

@@ -8,24 +8,22 @@ from __future__ import annotations
 import re
 from dataclasses import dataclass, field
 
-from motesim.notation.keywords import RESERVED as KEYWORDS
+from motesim.notation.grammar import OPERATORS as OPERATORS
+from motesim.notation.grammar import RESERVED as KEYWORDS
+from motesim.notation.grammar import STATEMENTS as FORMS
+from motesim.notation.grammar import TESTS as TESTS
 
 TOKEN = re.compile(r'[a-z0-9_]+|==|!=|<=|>=|&&|\|\||[{}();,=!+\-*/%<>]|.', re.S)
 BLANK = re.compile(r'(?:[ \t\r\n]|//[^\n]*)*')
-OPERATORS = ('+', '-', '*', '/', '%', '==', '!=', '<', '<=', '>', '>=', '&&', '||')
 CAST = ('continue', 'msg', 'com', 'packet')
 SENT = CAST + ('exit',)
 ANY = SENT + ('init', 'poll', 'exited', 'timer')
-WAITS = ('wait_until', 'wait_while', 'yield', 'yield_until', 'spawn', 'restart', 'exit', 'acquire', 'pause')
+WAITS = tuple(word for word, it in FORMS.items() if it.waits)
 LONGEST_NAME, MOST_NUMBER, MOST_LEVELS, MOST_STATEMENTS = 16, 65_535, 32, 4_096
 MOST = {'event': 117, 'semaphore': 64, 'process': 64, 'timer': 64, 'variable': 64, 'thread': 7}
 
 SIGNS = frozenset(OPERATORS) | frozenset('{};,=!()')
-STATEMENTS = (
-    'print', 'send', 'if', 'while', 'yield', 'yield_until', 'wait_until', 'wait_while', 'spawn', 'restart', 'exit',
-    'pause', 'acquire', 'signal', 'post', 'broadcast', 'synch', 'poll', 'start', 'kill', 'set', 'reset',
-    'restart_timer', 'stop')
-TESTS = {'fired': 'timer', 'expired': 'timer', 'gone': 'process', 'running': 'process', 'count': 'semaphore'}
+STATEMENTS = tuple(FORMS)
 ARTICLES = {'event': 'an', 'semaphore': 'a', 'process': 'a', 'timer': 'a', 'variable': 'a', 'thread': 'a'}
 COUNTED = {
     'event': 'declared events of a program', 'semaphore': 'semaphores of a program', 'thread': 'threads of a process',

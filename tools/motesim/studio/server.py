@@ -17,6 +17,7 @@ from pathlib import Path
 from typing import Any
 
 from motesim.faults import Fault
+from motesim.notation.grammar import COLOURS, NAMING
 from motesim.studio.session import HTML, JSON, Session, told
 from motesim.timeline.html import PAGE as TIMELINE
 from motesim.timeline.html import SHARED
@@ -50,7 +51,8 @@ def has_editor(codemirror: Path | None) -> bool:
 @functools.cache
 def script() -> bytes:
     """All scripts of the page as one, in which they share their names."""
-    parts = [(TIMELINE / name).read_text() for name in SHARED] + [(PAGE / name).read_text() for name in SCRIPTS]
+    words = 'const NOTATION = %s, DECLARES = %s;' % (json.dumps(COLOURS), json.dumps(NAMING))
+    parts = [words, *((TIMELINE / name).read_text() for name in SHARED), *((PAGE / name).read_text() for name in SCRIPTS)]
     return ("(() => {\n'use strict';\n%s\n})();\n" % '\n'.join(parts)).encode('utf-8')
 
 

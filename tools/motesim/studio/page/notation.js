@@ -1,14 +1,6 @@
 // The colours of a scenario's text: TOML by the editor's own mode, and within its texts the notation of programs. What
 // a statement does has the colour that it has on the lanes.
-const NOTATION = {
-  send: ['send'], print: ['print'], recv: ['packet', 'receiver', 'from', 'data'],
-  timer: ['etimer', 'ctimer', 'set', 'reset', 'restart_timer', 'stop', 'fired', 'expired', 'timer'],
-  keyword: ['event', 'semaphore', 'process', 'autostart', 'code', 'var', 'thread', 'onpoll', 'onexit', 'body', 'if',
-    'else', 'while', 'wait_until', 'wait_while', 'yield', 'yield_until', 'spawn', 'restart', 'exit', 'pause', 'acquire',
-    'signal', 'post', 'broadcast', 'synch', 'poll', 'start', 'kill', 'into', 'continue', 'msg', 'com', 'init', 'exited',
-    'now', 'self', 'is', 'gone', 'running', 'count'],
-};
-const DECLARES = ['event', 'semaphore', 'process', 'code', 'var', 'etimer', 'ctimer', 'thread'];
+// (NOTATION has the words of each colour, DECLARES those in front of a name; the server puts both in front of this.)
 const STYLE_OF = new Map(Object.entries(NOTATION).flatMap(([style, words]) => words.map(word => [word, style])));
 
 // What the editor has to know of a program, and of the tables around it.
