@@ -118,6 +118,33 @@ class Files(unittest.TestCase):
     def document(self, **words):
         return {**self.desk.read('folder', 'net.toml')._asdict(), **words}
 
+    def test_plans_are_no_scenarios(self):
+        (self.room / 'net.plan.toml').write_text('end = 1\n')
+        self.assertEqual(self.desk.names('folder'), ['net.toml'])
+        with self.assertRaisesRegex(Fault, 'net.plan.toml is a plan, .*: tools/scenario makes a scenario of it$'):
+            Desk(self.room / 'net.plan.toml')
+        with self.assertRaisesRegex(Fault, 'is a name of a plan, and not of a scenario'):
+            self.desk.save_new(self.document(), 'other.plan.toml')
+
+    def test_two_saves_at_once_both_end(self):
+        """Each has a scratch file of its own: the name of the process doesn't tell two threads apart."""
+        faults = []
+
+        def save(text):
+            for _ in range(30):
+                try:
+                    self.desk.write(self.file, text)
+                except Fault as fault:
+                    faults.append(str(fault))
+        texts = [b'# a\n' * 5_000, b'# b\n' * 5_000]
+        threads = [threading.Thread(target=save, args=(text,)) for text in texts]
+        for it in threads:
+            it.start()
+        for it in threads:
+            it.join()
+        self.assertEqual((faults, [it.name for it in self.room.iterdir()]), ([], ['net.toml']))
+        self.assertIn(self.file.read_bytes(), texts)
+
     def test_only_scenarios_of_the_folder_and_examples_are_read(self):
         (self.room / 'secret.txt').write_text('no')
         (self.room / 'link.toml').symlink_to('/etc/hostname')
@@ -231,12 +258,12 @@ class Running(unittest.TestCase):
             thread.start()
             threads.append(thread)
             time.sleep(0.15)
-            alive.append(runs.process.pid if runs.process else None)
+            alive.append(runs.running.pid if runs.running else None)
         one(NET)
         for thread in threads:
             thread.join(20)
         self.assertEqual(sorted(map(str, ended)), ['0'] + ['superseded'] * 4)
-        self.assertIsNone(runs.process)
+        self.assertIsNone(runs.running)
         for pid in filter(None, alive):
             self.assertFalse(os.path.exists('/proc/%d' % pid))
 
@@ -282,6 +309,15 @@ class Answering(unittest.TestCase):
     def judge(self, number, against, saved=NET, **words):
         return json.loads(self.ask('judge', number=number, against=against, where='folder', name='net.toml',
                                    saved=saved, **words))
+
+    def test_an_error_of_the_studio_itself_is_an_answer_too(self):
+        """Without an answer the page would take the studio for lost, connect again, and ask the same, for ever."""
+        with mock.patch.object(self.server.session, 'answer', side_effect=KeyError('x')), \
+                mock.patch('sys.stderr') as said:
+            found = json.loads(self.ask('begin'))
+        self.assertEqual(found, {'refused': "This is an error in the studio itself: KeyError: 'x'"})
+        self.assertIn("KeyError: 'x'", ''.join(str(it.args[0]) for it in said.write.call_args_list))
+        self.assertIn('document', json.loads(self.ask('begin')))
 
     def test_it_listens_on_the_loopback_address_alone(self):
         self.assertEqual(self.server.server_address[0], '127.0.0.1')

@@ -435,7 +435,7 @@ class Page(unittest.TestCase):
         self.browser.wait('true')
         self.value('m.editor().replace("never_ends", "ends")')
         self.wait('m.studio.judged === m.studio.number && document.getElementById("state").dataset.is === "good"')
-        self.assertIsNone(self.server.session.runs.process)
+        self.assertIsNone(self.server.session.runs.running)
 
     def test_a_lost_connection_says_so_and_comes_back(self):
         self.open()

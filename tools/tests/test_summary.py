@@ -8,10 +8,12 @@ import sys
 import tempfile
 import unittest
 from pathlib import Path
+from unittest import mock
 
 from here import TOOLS
 from motesim.summary import counts as summary
 from motesim.faults import Fault
+from motesim.summary import flows
 from motesim.summary.flows import flow_rows
 from motesim.report import Report
 from motesim.runner.run import Run
@@ -172,6 +174,17 @@ from to copies received lost ring collided halted late ratio delay
             self.assertEqual((done.returncode, done.stderr), (0, 'summary: the report has no line %s\n' % told))
             self.assertTrue(done.stdout.startswith('origin sent'))
         self.say('--flow', 'recv')
+
+    def test_the_net_is_searched_once_for_each_origin(self):
+        """Mote 0 sends thirty messages, all heard by mote 1: one origin, and so one search for its row and one for the net."""
+        sends = ''.join('%d send %d %d\n' % (at, at, at) for at in range(30))
+        prints = ''.join('%d print hearer %d\n' % (at + 3, at) for at in range(30))
+        medium = ''.join('%d 0 %d %d 1@%d\n' % (at, at, at, at + 3) for at in range(30))
+        report = Report.parse('mote 0 talker\n%smote 1 hearer\n%smedium\n%sleft 0\n' % (sends, prints, medium))
+        with mock.patch('motesim.summary.flows.hops_from', wraps=flows.hops_from) as searched:
+            rows = flow_rows(report, Scenario.parse(SCENARIO.replace(
+                'hearer = ""', 'hearer = "process hearer; code hearer { body { } }"')), 'print hearer')
+        self.assertEqual((rows[0]['sent'], rows[0]['copies'], searched.call_count), (30, 30, 2))
 
     def test_a_flow_of_a_process_that_the_scenario_lacks_is_refused(self):
         programs = 'talker = "process a, b; code a"', 'hearer = "process hearer; // process no;"'

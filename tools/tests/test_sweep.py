@@ -1,5 +1,6 @@
 """Sweeps: what is measured, what the rows say, what is run again, faults, Ctrl-C, and a Dask cluster."""
 import csv
+import gc
 import os
 import signal
 import sqlite3
@@ -320,6 +321,15 @@ class SweepTest(Bed):
         with self.assertRaisesRegex(Fault, '^/dev/full: No space left on device$'):
             CsvFile(Path('/dev/full'), ['a'])
 
+    def test_a_run_leaves_the_search_for_cycles_as_it_was(self) -> None:
+        with mock.patch.dict(os.environ, MOTESIM=str(self.stub)):
+            plan = Plan.read(self.folder / 'net.plan.toml')
+            sweeper = Sweeper(sweep_of(plan, ['period=3'], ['prints'], None), self.folder / 'b.csv')
+            self.addCleanup(sweeper.file.close)
+            gc.enable()
+            run_job(next(sweeper.jobs([plan.with_given({'period': 3})])))
+        self.assertTrue(gc.isenabled())
+
     def test_two_sweeps_do_not_write_one_file(self) -> None:
         for kind, name in (CsvFile, 'both.csv'), (SqliteFile, 'both.sqlite'):
             file = kind(self.folder / name, ['a'])
@@ -370,8 +380,7 @@ class SweepTest(Bed):
         (self.folder / 'mine.py').write_text(
             'def lines(run):\n    while len(run.report.motes) == 2:\n        try:\n            while True:\n'
             '                pass\n        except BaseException:\n            pass\n    return 1\n')
-        with mock.patch('motesim.experiments.runs.SECONDS_MORE', 0):
-            done = self.sweep('--vary', 'motes=1..3', '--measure', 'python: mine.py:lines', '--seconds', '1')
+        done = self.sweep('--vary', 'motes=1..3', '--measure', 'python: mine.py:lines', '--seconds', '4')
         self.assertEqual((done.returncode, [bool(row['fault']) for row in self.rows()]), (1, [False, True, False]), done.stderr)
         self.assertRegex(self.rows()[1]['fault'], 'no end in [0-9.]+ seconds')
 

@@ -12,6 +12,7 @@ from __future__ import annotations
 
 import sys
 from collections.abc import Sequence
+from pathlib import Path
 
 from motesim.scenario import faults as scenario_faults
 from motesim.faults import Fault, command

@@ -103,6 +103,11 @@ class Running:
         self._why: LimitMet | Stopped | None = None
         self._lock = threading.Lock()
 
+    @property
+    def pid(self) -> int:
+        """The number of the program's process."""
+        return self._process.pid
+
     def stop(self) -> None:
         """Ends the run: `wait` raises `Stopped`, unless the run had ended before."""
         self._end_by(Stopped())

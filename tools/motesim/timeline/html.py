@@ -24,11 +24,8 @@ from pathlib import Path
 from typing import Any
 
 from motesim.faults import Fault, command
-<<<<<<< HEAD
-from motesim.output import beside
-=======
 from motesim.files import write_whole
->>>>>>> 44a05904 (Files are written whole, a sweep ends by no measure, SQLite keeps rows together, the studio answers always)
+from motesim.output import beside
 from motesim.notation.keywords import EVENTS
 from motesim.report import KINDS, LOST, Log, Report, Trace
 from motesim.runner.run import Run, read_run

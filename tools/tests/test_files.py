@@ -1,0 +1,162 @@
+"""Files that are written whole, names that are no UTF-8, and errors of the tools themselves."""
+import os
+import stat
+import subprocess
+import sys
+import tempfile
+import threading
+import unittest
+from pathlib import Path
+from unittest import mock
+
+from here import TOOLS, TOP
+from motesim.faults import SHOW, Fault
+from motesim.files import write_whole
+from motesim.report import Report
+from motesim.runner.run import Run
+from motesim.timeline.html import write_page
+from stub import write_stub
+
+REPORT = 'mote 0 p\n0 start etimer\n0 start ctimer\n0 start radio\n0 start a\nmedium\nleft 0\n'
+SCENARIO = '''version = 1
+end = 9
+[medium]
+range = 10
+base = 2
+per = 100
+[programs]
+p = "process a; autostart a; code a { body { print 7; } }"
+[[mote]]
+x = 0
+y = 0
+program = "p"
+'''
+
+
+class Room(unittest.TestCase):
+    def setUp(self):
+        room = tempfile.TemporaryDirectory()
+        self.addCleanup(room.cleanup)
+        self.room = Path(room.name)
+
+
+class Whole(Room):
+    def names(self):
+        return sorted(os.listdir(self.room))
+
+    def test_a_new_file_has_the_mode_of_new_files(self):
+        write_whole(self.room / 'a', [b'one', b'two'])
+        (self.room / 'b').write_bytes(b'')
+        self.assertEqual((self.room / 'a').read_bytes(), b'onetwo')
+        self.assertEqual(*(stat.S_IMODE((self.room / name).stat().st_mode) for name in 'ab'))
+
+    def test_a_file_that_is_there_keeps_its_mode_and_its_links(self):
+        (self.room / 'a').write_bytes(b'old')
+        (self.room / 'a').chmod(0o640)
+        (self.room / 'link').symlink_to('a')
+        write_whole(self.room / 'link', [b'new'])
+        self.assertEqual(((self.room / 'a').read_bytes(), stat.S_IMODE((self.room / 'a').stat().st_mode)), (b'new', 0o640))
+        self.assertTrue((self.room / 'link').is_symlink())
+
+    def test_what_fails_half_way_leaves_the_file_and_nothing_else(self):
+        def parts():
+            yield b'half'
+            raise OSError(28, 'No space left on device')
+        for name in 'old', 'new':
+            if name == 'old':
+                (self.room / 'old').write_bytes(b'kept')
+            with self.assertRaisesRegex(Fault, '%s: No space left on device$' % name):
+                write_whole(self.room / name, parts())
+        self.assertEqual((self.names(), (self.room / 'old').read_bytes()), (['old'], b'kept'))
+
+    def test_two_at_once_both_end(self):
+        texts = [b'a' * 1_000_000, b'b' * 1_000_000]
+        threads = [threading.Thread(target=lambda text=text: [write_whole(self.room / 'a', [text]) for _ in range(10)])
+                   for text in texts]
+        for it in threads:
+            it.start()
+        for it in threads:
+            it.join()
+        self.assertIn((self.room / 'a').read_bytes(), texts)
+        self.assertEqual(self.names(), ['a'])
+
+    def test_what_is_no_plain_file_is_written_as_it_is(self):
+        os.mkfifo(self.room / 'pipe')
+        got = []
+        reader = threading.Thread(target=lambda: got.append((self.room / 'pipe').read_bytes()))
+        reader.start()
+        write_whole(self.room / 'pipe', [b'text'])
+        reader.join()
+        self.assertEqual((got, self.names()), ([b'text'], ['pipe']))
+
+    def test_a_folder_that_is_not_there(self):
+        with self.assertRaisesRegex(Fault, 'none/a: No such file or directory$'):
+            write_whole(self.room / 'none/a', [b''])
+
+    def test_a_page_that_can_not_be_made_leaves_the_one_before(self):
+        page = self.room / 'page.html'
+        page.write_text('before')
+        run = Run('run', Report.parse(REPORT), None)
+        with mock.patch('motesim.timeline.html._escaped', side_effect=Fault('no page')):
+            with self.assertRaisesRegex(Fault, 'no page'):
+                write_page(page, 'title', [run])
+        self.assertEqual((page.read_text(), self.names()), ('before', ['page.html']))
+
+
+class OddNames(Room):
+    """File names that are no UTF-8, or that the terminal can't show."""
+
+    def run_it(self, *words, **here):
+        env = {**os.environ, 'MOTESIM': str(write_stub(self.room)), **here}
+        done = subprocess.run([sys.executable, '-B', *words], cwd=self.room, env=env, capture_output=True)
+        self.assertNotIn(b'Traceback', done.stderr)
+        return done.returncode, done.stdout
+
+    def test_each_tool_takes_them(self):
+        name = b'net\xff.toml'
+        Path(os.fsdecode(os.fsencode(self.room) + b'/' + name)).write_text(SCENARIO)
+        Path(os.fsdecode(os.fsencode(self.room) + b'/net\xff.expect.toml')).write_text('expect = ["no mote halts"]\n')
+        for tool in 'summary', 'explain', 'expect', 'timeline':
+            status, _ = self.run_it(str(TOOLS / tool), name)
+            self.assertEqual(status, 0, tool)
+        status, said = self.run_it(str(TOOLS / 'compare'), name, name)
+        self.assertEqual(status, 0)
+        self.assertIn(b'net\\udcff.toml', said)
+        self.assertEqual(self.run_it(str(TOOLS / 'export'), name, '--to', 'csv')[0], 0)
+
+    def test_a_terminal_without_the_letters(self):
+        (self.room / 'n\u00e9t.toml').write_text(SCENARIO)
+        status, said = self.run_it(str(TOOLS / 'timeline'), 'n\u00e9t.toml', PYTHONIOENCODING='ascii')
+        self.assertEqual((status, said), (0, b'n\\xe9t.html\n'))
+
+
+class OwnErrors(unittest.TestCase):
+    SOURCE = ('import sys\nsys.path.insert(0, %r)\nfrom motesim.faults import command\n@command("tool")\n'
+              'def main():\n    return {}["key"]\nmain()\n' % str(TOOLS))
+
+    def test_an_error_of_the_tool_is_one_line(self):
+        here = {name: value for name, value in os.environ.items() if name != SHOW}
+        done = subprocess.run([sys.executable, '-B', '-c', self.SOURCE], env=here, capture_output=True, text=True)
+        said = "tool: an error in the tool itself: KeyError: 'key' (MOTESIM_TRACEBACK=1 shows where)\n"
+        self.assertEqual((done.returncode, done.stdout, done.stderr), (2, '', said))
+        done = subprocess.run([sys.executable, '-B', '-c', self.SOURCE], env={**here, SHOW: '1'}, capture_output=True, text=True)
+        self.assertIn('Traceback', done.stderr)
+
+
+class Pages(unittest.TestCase):
+    def test_what_a_browser_opens_is_where_it_can_read(self):
+        """Browsers that are installed as snaps read no folder for scratch files, and none whose name begins with a dot."""
+        from motesim.studio.command import room
+        with tempfile.TemporaryDirectory() as home, mock.patch.dict(os.environ, HOME=home):
+            with room() as folder:
+                self.assertEqual(str(Path(folder).parent), home)
+                self.assertFalse(Path(folder).name.startswith('.'))
+                self.assertEqual(stat.S_IMODE(Path(folder).stat().st_mode), 0o700)
+            self.assertEqual(os.listdir(home), [])
+        with mock.patch.dict(os.environ, HOME='/nowhere'):
+            with room() as folder:
+                self.assertTrue(Path(folder).is_dir())
+
+
+if __name__ == '__main__':
+    unittest.main()
