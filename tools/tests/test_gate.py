@@ -41,7 +41,7 @@ class Gate(unittest.TestCase):
 
     def test_all_steps_are_added_up(self):
         lines, status = self.run_it()
-        self.assertEqual((lines[-1], status), ('22 passed, 0 failed, 0 skipped', 0))
+        self.assertEqual((lines[-1], status), ('24 passed, 0 failed, 0 skipped', 0))
         lines, status = self.run_it('--quick')
         self.assertEqual((lines[-1], status), ('12 passed, 0 failed, 0 skipped', 0))
 
@@ -50,14 +50,14 @@ class Gate(unittest.TestCase):
         self.put('tools/dev/headline_files', 'exit 1')
         self.put('tools/dev/spoil_bytes', 'echo "2 passed, 0 failed"; exit 3')
         lines, status = self.run_it()
-        self.assertEqual((lines[-1], status), ('23 passed, 3 failed, 3 skipped', 1))
+        self.assertEqual((lines[-1], status), ('25 passed, 3 failed, 3 skipped', 1))
 
     def test_what_can_not_be_run_fails_unless_it_may_be_skipped(self):
         (self.room / 'tools/dev/refuse_memory').unlink()
         number = re.search(r'refuse_memory program (\d+)', (TOP / 'test').read_text('utf-8'))[1]
-        self.assertEqual(self.run_it()[0][-1], '20 passed, %s failed, 0 skipped' % number)
+        self.assertEqual(self.run_it()[0][-1], '22 passed, %s failed, 0 skipped' % number)
         lines, status = self.run_it('--may-skip', 'refuse_memory')
-        self.assertEqual((lines[-1], status), ('20 passed, 0 failed, %s skipped' % number, 0))
+        self.assertEqual((lines[-1], status), ('22 passed, 0 failed, %s skipped' % number, 0))
         self.assertIn('== skipped: tools/dev/refuse_memory: it is not here', lines)
 
     def test_without_python_and_compiler_the_steps_fail(self):
