@@ -79,6 +79,15 @@ class Runs(unittest.TestCase):
             for name in 'sent', 'received', 'lost', 'ring', 'collided', 'halted', 'late', 'posted', 'refused', 'prints':
                 self.assertEqual(sum(row[name] or 0 for row in found), net[name], (path.name, name))
 
+    def test_flows_by_interval(self) -> None:
+        """Messages of flooding begin at 40, 80 and 120. The nearest of 24 motes are 3 moments away, and the farthest 24."""
+        shown = subprocess.run([sys.executable, str(TOOLS / 'summary'), 'examples/flooding.toml', '--by', '60', '--flow',
+                                'print flood', '--csv'], capture_output=True, text=True, cwd=TOP, check=True).stdout
+        found = list(csv.DictReader(io.StringIO(shown)))
+        self.assertEqual([(it['from'], it['to'], it['sent'], it['delivered'], it['least'], it['most']) for it in found],
+                         [('0', '59', '1', '1', '3', '24'), ('60', '119', '1', '1', '3', '24'),
+                          ('120', '179', '1', '1', '3', '24')])
+
     def test_the_command(self) -> None:
         shown = subprocess.run([sys.executable, str(TOOLS / 'summary'), 'examples/small_network.toml', '--by', '5',
                                 '--csv'], capture_output=True, text=True, cwd=TOP, check=True).stdout

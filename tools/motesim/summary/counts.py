@@ -48,10 +48,10 @@ import sys
 from collections import Counter
 from typing import Any, Iterator
 
-from motesim.faults import command
+from motesim.faults import Fault, command
 from motesim.summary.flows import NAMES as FLOW_NAMES
-from motesim.summary.flows import flow_rows, silent
-from motesim.report import KINDS, LOST, OUTCOMES, Report
+from motesim.summary.flows import NAMES_BY, flow_rows, flow_rows_by, silent
+from motesim.report import KINDS, LOST, MOST_MOMENT, OUTCOMES, Report
 from motesim.runner.run import Run, read_run
 from motesim.scenario import Scenario
 from motesim.why.series import NAMES as SERIES_NAMES
@@ -185,6 +185,23 @@ def show_series(asked: argparse.Namespace) -> int:
     return 0
 
 
+def show_flow_series(asked: argparse.Namespace) -> int:
+    """Shows the messages that began in each interval, in the form that is asked for."""
+    if not 1 <= asked.by <= MOST_MOMENT:
+        raise Fault('--by: an interval has 1 to %d moments' % MOST_MOMENT)
+    run = read_run(asked.report, asked.scenario)
+    rows = flow_rows_by(run.report, run.scenario, asked.flow, asked.by)
+    for line in silent(run.report, run.scenario, asked.flow):
+        print('summary: %s' % line, file=sys.stderr)
+    if asked.json:
+        print(json.dumps({'flow': asked.flow, 'by': asked.by, 'intervals': rows}, indent=1))
+    elif asked.csv:
+        write_csv(rows, NAMES_BY)
+    else:
+        print('\n'.join(table(rows, NAMES_BY)))
+    return 0
+
+
 @command('summary')
 def main() -> int:
     words = words_of(__doc__)
@@ -196,11 +213,14 @@ def main() -> int:
     part = words.add_mutually_exclusive_group()
     part.add_argument('--motes', action='store_true', help='the motes and the net alone')
     part.add_argument('--links', action='store_true', help='the links alone')
-    part.add_argument('--by', metavar='N', type=int, help='what happens in each N moments')
     part.add_argument('--flow', metavar='WORDS', help='flows from end to end, as "print sink"')
+    words.add_argument('--by', metavar='N', type=int,
+                       help='what happens in each N moments; with --flow, the messages that began in them')
     asked = words.parse_args()
+    if asked.by is not None and (asked.motes or asked.links):
+        words.error('--by is for the whole net: it does not go with --motes or --links')
     if asked.by is not None:
-        return show_series(asked)
+        return show_flow_series(asked) if asked.flow is not None else show_series(asked)
     run = read_run(asked.report, asked.scenario)
     if asked.flow is not None:
         return show_flow(run, asked)
