@@ -4,7 +4,6 @@ import contextlib
 import csv
 import itertools
 import json
-import os
 import signal
 import subprocess
 import sys
@@ -23,7 +22,7 @@ from motesim.report.report import Report
 from motesim.runner.run import answer, program_path
 from motesim.scenario.scenario import Scenario
 from motesim.search.added import DIES, LATE, NoRoom, changed_program
-from motesim.search.change import Base, CannotChange, Change
+from motesim.search.change import Base, CannotChange
 from motesim.search.faults import Asked, change_of, faults_of
 from motesim.search.one_program import Limits, OneProgram
 from motesim.search.quick_judge import QuickJudge
@@ -603,6 +602,17 @@ class Programs(unittest.TestCase):
             self.assertEqual(thread.submit(one.run, b'text').result().report, b'text')
             late = OneProgram(self.program(folder, 'exec sleep 60\n'), Limits(seconds=0.2))
             self.assertEqual(thread.submit(late.run, b'').result().stopped, 'no answer in 0.2 seconds')
+
+    def test_limit_on_memory(self):
+        need_program(self)
+        # (2,000 lines at each of a million moments, which the program keeps until the end)
+        text = DIAMOND.replace('end = 100', 'end = 1000000').replace(
+            'set t 10;', 'set t 1; while 1 { yield_until fired(t); known = 0; set t 1; '
+            'while (known < 2000) { print 1; known = (known + 1); } }')
+        one = OneProgram(str(program_path().resolve()), Limits(60, memory=50_000_000))
+        self.addCleanup(one.close)
+        self.assertEqual(one.run(text.encode()).stopped, 'more than 50,000,000 bytes of memory')
+        self.assertEqual(one.run(DIAMOND.encode()).stopped, '')
 
     def test_limits(self):
         with tempfile.TemporaryDirectory() as folder:

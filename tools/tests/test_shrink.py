@@ -2,10 +2,8 @@
 follow motes with other numbers, and that programs are read and written without a change."""
 import subprocess
 import sys
-import tempfile
 import tomllib
 import unittest
-from pathlib import Path
 
 from here import TOOLS, TOP
 from motesim.faults import Fault

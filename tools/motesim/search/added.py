@@ -24,10 +24,6 @@ class NoRoom(Fault):
     """A program that can't have one process more."""
 
 
-def is_name_free(name: str, names: set[str]) -> bool:
-    return name not in names
-
-
 def halts(program: str) -> bool:
     """Whether a mote with this program fails by halting, since killing its processes might not silence it."""
     return any(token.text in GOES_ON for token in tokens_of(program))

@@ -7,7 +7,6 @@ to it. `Base.text(change)` is the text with just that changed, its comments and 
 from __future__ import annotations
 
 import copy
-import tomllib
 from dataclasses import dataclass, field, replace
 from functools import cached_property
 from typing import Any
@@ -17,9 +16,10 @@ from motesim.plan.plan import Plan
 from motesim.plan.tables import Value
 from motesim.scenario.scenario import Place, Scenario
 from motesim.scenario.faults import find_fault, place_of, value_of
-from motesim.search.added import DIES, LATE, changed_program, is_name_free
+from motesim.search.added import DIES, changed_program
 from motesim.studio.edits import Change as Edit
 from motesim.studio.edits import Text, applied
+from motesim.toml import read_toml
 
 NUMBERS = ('range', 'base', 'per')
 LONGEST_NAME = 32
@@ -72,7 +72,7 @@ class Base:
             raise Fault('%s has no report: motesim: %s (tools/explain %s says more)' % (name, fault.told, name))
         self.source, self.name = source, name
         self.scenario_itself = Scenario.parse(source)
-        self.tables: dict[str, Any] = tomllib.loads(source.removeprefix('\ufeff'))
+        self.tables = read_toml(source)
         self.lines = Text(source)
         self.stretches: dict[tuple[str | int, ...], tuple[int, int]] = {}
 
@@ -254,4 +254,4 @@ class Base:
         """A name for a program that is made from another."""
         room = LONGEST_NAME - len(ending) - 1
         name = '%s_%s' % (program[:room], ending)
-        return name if is_name_free(name, names) else self.free_name(program, 'x' + ending, names)
+        return name if name not in names else self.free_name(program, 'x' + ending, names)

@@ -13,7 +13,7 @@ from motesim.faults import Fault
 from motesim.search.change import Base
 from motesim.search.faults import KINDS, FaultyPart, change_of
 from motesim.search.search import Search
-from motesim.search.sets import Set, Tally
+from motesim.search.sets import Tally
 from motesim.search.work import numbers_of
 from motesim.toml import MARK
 

@@ -64,7 +64,7 @@ class OneProgram:
         try:
             with contextlib.suppress(ProcessLookupError):
                 resource.prlimit(child, resource.RLIMIT_FSIZE, (self.limits.report, self.limits.report))
-                resource.prlimit(child, resource.RLIMIT_AS, (self.limits.memory, self.limits.memory))
+                resource.prlimit(child, resource.RLIMIT_DATA, (self.limits.memory, self.limits.memory))
             is_main = threading.current_thread() is threading.main_thread()
             status = self.wait_by_alarm(child) if is_main else self.wait_by_looking(child)
             is_over = status is not None

@@ -9,8 +9,7 @@ from collections.abc import Callable, Iterator
 from typing import NamedTuple, TypeVar
 
 from motesim.search.tree import (
-    Block, Code, Expression, If, Not, Operation, Part, Plain, Program, Statement, Test, While, expression_text,
-    statement_head,
+    Block, Code, Expression, If, Not, Operation, Part, Plain, Program, Statement, Test, While, statement_head,
 )
 
 T = TypeVar('T')
