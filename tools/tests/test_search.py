@@ -415,6 +415,12 @@ class Searches(unittest.TestCase):
             self.assertIn('4 NOT JUDGED', said)
             self.assertNotIn('holds in', said)
 
+    def test_kind_without_a_fault(self):
+        # (each mote sends one packet, which can't be lost alone)
+        with folder_with() as folder:
+            status, said, _ = search(folder, '--faults', 'packets,links')
+            self.assertIn('there is no fault of the kind packets in this scenario\n', said)
+
     def test_broken_without_a_fault(self):
         with folder_with(sentences=['mote 0 prints', REACHED]) as folder:
             status, said, _ = search(folder, '--faults', 'links')

@@ -37,7 +37,9 @@ class Asking:
         program = OneProgram(str(self.path), limits)
         self.plain = plain_run(base, program, sentences)
         asked.sent = tuple(self.plain.sent)
-        self.prepared = prepare(base, self.plain, program, sentences, faults_of(base, asked))
+        faults = faults_of(base, asked)
+        self.absent = [kind for kind in asked.kinds if not any(fault.kind == kind for fault in faults)]
+        self.prepared = prepare(base, self.plain, program, sentences, faults)
         program.close()
 
     @property
@@ -45,6 +47,7 @@ class Asking:
         """What is said before anything is tried."""
         broken = [self.texts[number] for number in self.plain.broken]
         rows = ['broken without a fault, so left out: ' + it for it in broken]
+        rows += ['there is no fault of the kind %s in this scenario' % kind for kind in self.absent]
         rows += ['left out: ' + it for it in self.prepared.left_out]
         blind = 0
         for mask in self.prepared.blind.values():
