@@ -16,7 +16,7 @@ from pathlib import Path
 from typing import NoReturn
 
 from motesim.faults import OF_ALL
-from motesim.runner.programs import hold, is_compiled, is_program, program_of_sources, say_not_proved
+from motesim.runner.programs import NOT_PROVED, hold, is_compiled, is_program, program_of_sources
 from motesim.version import VERSION
 from project.asked import Asked, asked_by
 from project.attended import as_another_program, attend
@@ -126,7 +126,7 @@ def program_for(asked: Asked) -> Path:
         check_words(asked)
         found = new_program()
     if is_compiled(found) and not asked.wants_help:
-        say_not_proved()
+        say(NOT_PROVED)
     hold(found)
     if found.name == FIRST and shutil.which('rt'):
         start_fast()
