@@ -437,7 +437,7 @@ class FolderTest(unittest.TestCase):
     def test_the_makefile_builds_all_programs(self) -> None:
         """With a stand-in for the Makefile of a Contiki tree, which has the rule that makes a program."""
         (self.folder / 'Makefile.include').write_text('%: %.c; @echo $@ $(TARGET) $(PROJECT_SOURCEFILES)\n')
-        for more in [], ['--host']:
+        for more in ((), ('--host',)):
             self.export(str(TOP / 'examples/small_network.toml'), '--form', 'contiki', '-o', 'out', *more)
             done = subprocess.run(['make', '-s', '-C', 'out', 'CONTIKI=%s' % self.folder, 'TARGET=sky'],
                                   capture_output=True, text=True, cwd=self.folder)
