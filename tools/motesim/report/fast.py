@@ -9,9 +9,9 @@ line keeps its line end, so that no word can pass from one line to the next unno
 """
 from __future__ import annotations
 
-import multiprocessing
 import os
 import re
+import sys
 from array import array
 from collections.abc import Iterator
 from itertools import chain, compress, repeat
@@ -250,13 +250,19 @@ def _read_all(data: bytes, spans: list[Span], motes: int) -> Iterator[Lines]:
         if not tables:
             tables.append(Tables(motes))
         return read_lines(data, piece, tables[0])
-    if workers < 2 or spans[-1].end < MANY or multiprocessing.current_process().daemon:
+    if workers < 2 or spans[-1].end < MANY or _is_worker():
         yield from map(read_one, pieces)
         return
     for done in run_each(read_one, pieces, workers=workers, ordered=True):
         if done.result is None:
             raise Bad(done.fault)
         yield done.result
+
+
+def _is_worker() -> bool:
+    """Whether this process is a worker itself, which may have none."""
+    processes = sys.modules.get('multiprocessing')
+    return processes is not None and bool(processes.current_process().daemon)
 
 
 def _trace(data: bytes, end: int) -> tuple[list[str], Trace]:

@@ -8,7 +8,6 @@ Whatever goes wrong with an item is its own fault; the others go on. Leaving the
 from __future__ import annotations
 
 import gc
-import multiprocessing
 import os
 import signal
 import threading
@@ -16,11 +15,13 @@ import time
 from collections import deque
 from collections.abc import Callable, Iterable, Iterator
 from dataclasses import dataclass
-from multiprocessing.connection import Connection, wait
-from typing import Any, Generic, TypeVar
+from typing import TYPE_CHECKING, Any, Generic, TypeVar
 
 from motesim.faults import Fault
 from motesim.runner.process import share_group
+
+if TYPE_CHECKING:
+    from multiprocessing.connection import Connection
 
 Item = TypeVar('Item')
 Result = TypeVar('Result')
@@ -88,6 +89,8 @@ class _Worker:
     """A worker, as the process that gives it work sees it."""
 
     def __init__(self, work: Callable[[Any], Any], others: list[Connection]):
+        # (it is imported by those alone who need it: most commands are to start at once)
+        import multiprocessing
         # (a process with threads can't be forked safely: then `work` is a function of a module)
         is_forked = threading.active_count() == 1
         context: Any = multiprocessing.get_context('fork' if is_forked else 'forkserver')
@@ -186,6 +189,7 @@ class _Batch(Generic[Item, Result]):
 
     def results(self) -> Iterator[tuple[int, Done[Item, Result]]]:
         """What is done, as it comes, with the item's number."""
+        from multiprocessing.connection import wait
         while self.feed():
             by_channel: dict[Any, _Worker] = {it.channel: it for it in self.workers if it.given}
             for channel in wait(list(by_channel), TICK):
