@@ -60,16 +60,24 @@ def folder_files(title: str, scenario: Scenario, with_host: bool) -> Iterator[tu
     files = program_files(scenario, with_host)
     for name, file in files.items():
         yield file_name(name) + '.c', text_of(file.lines())
-    yield 'motesim_radio.h', (HOST / 'motesim_radio.h').read_text('utf-8')
-    yield 'motesim_radio.c', (HOST / 'rime/motesim_radio.c').read_text('utf-8')
+    yield 'motesim_radio.h', _host_text('motesim_radio.h')
+    yield 'motesim_radio.c', _host_text('rime/motesim_radio.c')
     yield 'Makefile', _makefile(scenario, list(files), with_host)
     yield 'README.md', _page(title, scenario, list(files), with_host)
     if with_host:
         for path in sorted(HOST.glob('*.[ch]')):
             if path.name != 'motesim_radio.h':
-                yield '%s/%s' % (HOST_FOLDER, path.name), path.read_text('utf-8')
+                yield '%s/%s' % (HOST_FOLDER, path.name), _host_text(path.name)
         for name, text in host_tables(scenario, files):
             yield '%s/%s' % (HOST_FOLDER, name), text
+
+
+def _host_text(name: str) -> str:
+    """A file of the host."""
+    try:
+        return (HOST / name).read_text('utf-8')
+    except OSError as fault:
+        raise Fault('%s: %s; a clone or an archive of motesim has it' % (HOST / name, fault.strerror)) from None
 
 
 def _queues(scenario: Scenario) -> dict[str, int]:
