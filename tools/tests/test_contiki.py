@@ -13,7 +13,7 @@ from pathlib import Path
 from here import TOOLS, TOP
 from motesim.contiki.expressions import Expressions, calculated
 from motesim.contiki.folder import folder_files
-from motesim.contiki.names import Names
+from motesim.contiki.names import Names, file_names
 from motesim.contiki.program_file import ProgramFile
 from motesim.contiki.reader import read_program
 from motesim.contiki.tree import Expression, Not, Number, Operation, Variable
@@ -433,6 +433,14 @@ class FolderTest(unittest.TestCase):
         self.assertEqual(done.stdout.split(), ['out/process_program.c', 'out/motesim_radio.h', 'out/motesim_radio.c',
                                                'out/Makefile', 'out/README.md'])
         self.assertIn('CONTIKI_PROJECT = process_program\n', (self.folder / 'out/Makefile').read_text())
+
+    def test_files_have_names_of_their_own(self) -> None:
+        """Not those of Contiki or of the host, nor one name twice, nor one that looks like an option."""
+        self.assertEqual(file_names(['net', 'a', 'A', 'list', 'list_program', '-o', 'flood']), {
+            'net': 'net_program', 'A': 'A', 'a': 'a_program', 'list': 'list_program_2', 'list_program': 'list_program',
+            '-o': 'o_program', 'flood': 'flood'})
+        for path in (TOOLS / 'contiki_host').glob('*.c'):
+            self.assertNotEqual(file_names([path.stem])[path.stem], path.stem)
 
     def test_the_makefile_builds_all_programs(self) -> None:
         """With a stand-in for the Makefile of a Contiki tree, which has the rule that makes a program."""

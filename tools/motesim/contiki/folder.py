@@ -5,7 +5,7 @@ from collections.abc import Iterator
 from pathlib import Path
 
 from motesim.contiki.host import QUEUE, net_tables, program_tables
-from motesim.contiki.names import file_name
+from motesim.contiki.names import file_names
 from motesim.contiki.program_file import ProgramFile
 from motesim.contiki.reader import read_program
 from motesim.faults import Fault
@@ -49,17 +49,19 @@ def text_of(lines: list[str]) -> str:
 def host_tables(scenario: Scenario, files: dict[str, ProgramFile]) -> Iterator[tuple[str, str]]:
     """The names and texts of the tables for the host: those of the programs that motes run, and of the net."""
     used = {it.program for it in scenario.places}
+    file_of = file_names(files)
     numbers = {name: number for number, name in enumerate(files) if name in used}
     for name, number in numbers.items():
-        yield file_name(name) + '_host.c', text_of(program_tables(number, name, file_name(name), files[name].image))
+        yield file_of[name] + '_host.c', text_of(program_tables(number, name, file_of[name], files[name].image))
     yield 'net.c', text_of(net_tables(scenario, numbers))
 
 
 def folder_files(title: str, scenario: Scenario, with_host: bool) -> Iterator[tuple[str, str]]:
     """The names and texts of all files of the folder."""
     files = program_files(scenario, with_host)
+    file_of = file_names(files)
     for name, file in files.items():
-        yield file_name(name) + '.c', text_of(file.lines())
+        yield file_of[name] + '.c', text_of(file.lines())
     yield 'motesim_radio.h', _host_text('motesim_radio.h')
     yield 'motesim_radio.c', _host_text('rime/motesim_radio.c')
     yield 'Makefile', _makefile(scenario, list(files), with_host)
@@ -82,11 +84,12 @@ def _host_text(name: str) -> str:
 
 def _queues(scenario: Scenario) -> dict[str, int]:
     """The lengths of event queues that aren't Contiki's own, by the files of the programs."""
-    return {file_name(name): length for name, length in sorted(scenario.queue.items()) if length != QUEUE}
+    file_of = file_names(scenario.programs)
+    return {file_of[name]: length for name, length in sorted(scenario.queue.items()) if length != QUEUE}
 
 
 def _makefile(scenario: Scenario, programs: list[str], with_host: bool) -> str:
-    files = [file_name(it) for it in programs]
+    files = list(file_names(programs).values())
     queues = ''.join('#\n# The event queue of %s has room for %d: make DEFINES=PROCESS_CONF_NUMEVENTS=%d %s, after '
                      'make clean.\n' % (name, length, length, name) for name, length in _queues(scenario).items())
     text = (HERE / 'makefile.txt').read_text('utf-8').replace('{first}', files[0] if files else 'PROGRAM')
@@ -95,11 +98,12 @@ def _makefile(scenario: Scenario, programs: list[str], with_host: bool) -> str:
 
 
 def _page(title: str, scenario: Scenario, programs: list[str], with_host: bool) -> str:
-    rows = ''.join('| `%s.c` | the program `%s` |\n' % (file_name(it), it) for it in programs)
+    file_of = file_names(programs)
+    rows = ''.join('| `%s.c` | the program `%s` |\n' % (file_of[it], it) for it in programs)
     queues = ''.join('- The event queue of `%s` has room for %d. Build it by itself, after `make clean`, with '
                      '`DEFINES=PROCESS_CONF_NUMEVENTS=%d`.\n' % (name, length, length)
                      for name, length in _queues(scenario).items())
-    parts = {'{title}': title, '{files}': rows, '{first}': file_name(programs[0]) if programs else 'PROGRAM',
+    parts = {'{title}': title, '{files}': rows, '{first}': file_of[programs[0]] if programs else 'PROGRAM',
              '{queues}': queues, '{host}': HOST_PAGE if with_host else '',
              '{hostfiles}': '| `contiki_host/` | a simulator for this machine, with the tables of this scenario |\n'
              if with_host else ''}

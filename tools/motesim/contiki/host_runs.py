@@ -8,7 +8,7 @@ import tempfile
 from pathlib import Path
 
 from motesim.contiki.folder import HOST, host_tables, program_files, text_of
-from motesim.contiki.names import file_name
+from motesim.contiki.names import file_names
 from motesim.faults import Fault
 from motesim.scenario import Scenario
 
@@ -55,8 +55,9 @@ class HostRuns:
         """Compiles the programs of a scenario in a folder, and returns the executable."""
         read = Scenario.parse(scenario)
         files = program_files(read, counts_work=True)
+        file_of = file_names(files)
         for name, file in files.items():
-            (place / (file_name(name) + '.c')).write_text(text_of(file.lines()), 'utf-8')
+            (place / (file_of[name] + '.c')).write_text(text_of(file.lines()), 'utf-8')
         sources = []
         for name, text in host_tables(read, files):
             (place / name).write_text(text, 'utf-8')

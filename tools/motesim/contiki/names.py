@@ -2,6 +2,7 @@
 from __future__ import annotations
 
 from collections import Counter
+from collections.abc import Iterable
 from functools import cache
 from pathlib import Path
 
@@ -10,12 +11,13 @@ from motesim.contiki.tree import Program
 PREFIXES = ('autostart_', 'broadcast_', 'clock_', 'ctimer_', 'energest_', 'etimer_', 'host_', 'leds_', 'linkaddr_',
             'list_', 'memb_', 'motesim_', 'packetbuf_', 'process_', 'pt_', 'rime_', 'rimeaddr_', 'rtimer_', 'serial_',
             'stimer_', 'timer_', 'watchdog_')
-# Files that a Contiki tree has, whose names a program's file can't have: make finds sources by their names alone.
+# Files that a Contiki tree or the host has, whose names a program's file can't have: make finds sources by their names
+# alone, and a compiler finds them in the folder of the file that includes them.
 FILES = frozenset('''aes all announcement arg assert autostart broadcast chameleon clean clock compower contiki
-contiki-main crc16 ctimer distclean energest etimer help host list login lpm main me memb mmem motesim motesim_radio
-mt multihop netflood netstack node-id nullmac nullrdc packetbuf packetqueue procinit process profile queuebuf radio
-random rime rimeaddr rimestats rtimer serial-line settings stimer subprocess timer timetable trickle uart upload usage
-watchdog xmem'''.split())
+contiki-main contiki_host crc16 ctimer distclean energest etimer help host list login lpm main me medium memb mmem mote
+motesim motesim_radio mt multihop net netflood netstack node-id nullmac nullrdc packetbuf packetqueue procinit process
+profile queuebuf radio random rime rimeaddr rimestats rtimer run serial-line settings stimer subprocess text timer
+timetable trace trickle uart upload usage watchdog work xmem'''.split())
 
 
 @cache
@@ -29,9 +31,20 @@ def is_reserved(name: str) -> bool:
     return name in reserved() or name.startswith(PREFIXES)
 
 
-def file_name(program: str) -> str:
-    """The name of a program's file, without its end."""
-    return program + '_program' if program.lower() in FILES or program.startswith('-') else program
+def file_names(programs: Iterable[str]) -> dict[str, str]:
+    """The names of the programs' files, without their ends: all different, also where capitals don't count."""
+    names = sorted(programs)
+    taken = FILES | {it.lower() for it in names}
+    found: dict[str, str] = {}
+    for name in names:
+        is_free = name.lower() not in FILES | {it.lower() for it in found.values()} and not name.startswith('-')
+        wished = name if is_free else name.lstrip('-') + '_program'
+        number = 2
+        while not is_free and wished.lower() in taken | {it.lower() for it in found.values()}:
+            wished = '%s_program_%d' % (name.lstrip('-'), number)
+            number += 1
+        found[name] = wished
+    return found
 
 
 class Names:
