@@ -47,7 +47,7 @@ class Pack(unittest.TestCase):
             (Path(room) / 's.toml').write_text(SCENARIO)
             for words in [str(top / 'run')], [sys.executable, str(top / 'tools/summary'), str(Path(room) / 's.toml')]:
                 done = subprocess.run(words, input=SCENARIO, cwd=room, capture_output=True, text=True,
-                                      env={'PATH': '/usr/bin:/bin'})
+                                      env={'PATH': '/usr/bin:/bin', 'MOTESIM_SEEN': '/dev/null/none'})
                 self.assertEqual((done.returncode, done.stderr), (0, ''))
             done = subprocess.run([str(top / 'run'), '--version'], capture_output=True, text=True)
             self.assertIn('motesim %s, proved with' % VERSION, done.stdout)
