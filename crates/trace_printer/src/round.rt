@@ -80,8 +80,8 @@ fn write_alone<W: Write>(
     Ok(page.write(writer)?)
 }
 
-/// Writes `count` lines of the traces and the medium, after the first `skip`. If an allocation of a worker fails, or its
-/// thread can't be started, this thread writes them all itself.
+/// Writes `count` lines of the traces and the medium, after the first `skip`. If an allocation of a worker fails, or
+/// its thread can't be started, this thread writes them all itself.
 pub fn write_round<R: Threads + Wait + Sync, W: Write>(
     rt: &R,
     alloc: Global,
