@@ -96,6 +96,11 @@ class Runs(Room):
             Runner(self.program(text, sys.executable), Limits(60, 100 << 20)).answer(b'')
         self.assertEqual(met.exception.limit, 'memory')
 
+    def test_each_run_has_limits_that_leave_the_machine_alive(self):
+        physical = os.sysconf('SC_PHYS_PAGES') * os.sysconf('SC_PAGE_SIZE')
+        self.assertLessEqual(Limits().memory, physical // 2)
+        self.assertEqual((Limits().seconds, Limits().report), (600, 1 << 30))
+
     def test_another_thread_stops_a_run(self):
         running = Runner(self.program('sleep 60')).start(b'')
         threading.Timer(0.2, running.stop).start()

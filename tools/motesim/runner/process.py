@@ -32,10 +32,18 @@ TICK = 0.02
 LimitName = Literal['seconds', 'memory', 'report']
 
 
+def _most_memory() -> int:
+    """Half of this machine's memory, and no more than 8 gigabytes: a run is to end before the machine swaps."""
+    try:
+        return min(8 << 30, os.sysconf('SC_PHYS_PAGES') * os.sysconf('SC_PAGE_SIZE') // 2)
+    except (OSError, ValueError):
+        return 8 << 30
+
+
 class Limits(NamedTuple):
     """What a run may use: seconds, and bytes of memory and of its report."""
     seconds: float = 600.0
-    memory: int = 8 << 30
+    memory: int = _most_memory()
     report: int = 1 << 30
 
 
