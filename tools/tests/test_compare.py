@@ -208,8 +208,9 @@ every = 2
 
     def test_only_so_many_are_shown(self):
         a, b = Scenario.parse(self.A), Scenario.parse(self.A.replace('end = 20', 'end = 21').replace('per = 100', 'per = 9'))
-        self.assertEqual(scenario_differences.told(a, a, 5), ['The scenarios are the same.'])
-        self.assertEqual(scenario_differences.told(a, b, 1), ['The scenarios differ:', '  end is 20 in A and 21 in B',
+        self.assertEqual(scenario_differences.in_words(a, a, 5), ['The scenarios are the same.'])
+        self.assertEqual(scenario_differences.in_words(a, b, 1), [
+            'The scenarios differ:', '  end is 20 in A and 21 in B',
                                                               '  and 1 lines more'])
 
 

@@ -272,7 +272,7 @@ def compared(a: Run, b: Run, most: int) -> tuple[list[str], Difference | None, b
     reports = a.report, b.report
     lines = ['%s: %s' % (letter, run.name) for letter, run in zip(LETTERS, (a, b))]
     if a.scenario and b.scenario:
-        lines += scenario_differences.told(a.scenario, b.scenario, most)
+        lines += scenario_differences.in_words(a.scenario, b.scenario, most)
     found, others = differences(*reports), heads(*reports)
     if not found and not others and a.report.left == b.report.left:
         return lines + ['The reports are the same: %s, %s.' % (

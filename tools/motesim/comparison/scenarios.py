@@ -71,7 +71,7 @@ def differences(a: Scenario, b: Scenario) -> list[str]:
     return [*of_keys(a, b), *of_motes(a, b), *of_losses(a, b), *of_programs(a, b)]
 
 
-def told(a: Scenario, b: Scenario, most: int) -> list[str]:
+def in_words(a: Scenario, b: Scenario, most: int) -> list[str]:
     """At most so many of these lines, with a line above them."""
     lines = differences(a, b)
     if not lines:

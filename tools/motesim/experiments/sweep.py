@@ -46,7 +46,7 @@ from motesim.experiments.runs import Stopped, run_by_dask, run_here
 from motesim.runner.versions import kit_version, program_version
 from motesim.words import words_of
 
-Key = tuple[str, ...]
+RowKey = tuple[str, ...]
 
 
 class Sweeper:
@@ -66,7 +66,7 @@ class Sweeper:
         self.path = path
         self.file: CsvFile | SqliteFile = open_results(path, self.columns)
 
-    def key(self, given: Mapping[str, Any]) -> Key:
+    def key(self, given: Mapping[str, Any]) -> RowKey:
         """The parameters as they stand in a row."""
         return tuple(text_of(given[name]) if type(given[name]) is not bool else text_of_value(given[name])
                      for name in self.plan.parameters)

@@ -5,7 +5,7 @@ from typing import NamedTuple
 
 from motesim.explain import hints
 from motesim.from_c.correction import correction
-from motesim.notation.faults import ProgramFault
+from motesim.notation.faults import ProgramError
 
 OF_PARENTHESES = ('Only an operation of two values has parentheses, as `(a + b)`, and each has its own; `if`, `while` and '
                   'other statements need none.')
@@ -24,7 +24,7 @@ class Advice(NamedTuple):
         return 'Leave %s of the program out.' % which if not self.line else 'Write, as %s of the program:' % which
 
 
-def advice(source: str, fault: ProgramFault) -> Advice | None:
+def advice(source: str, fault: ProgramError) -> Advice | None:
     """Advice on the first fault of a program's text; None if nothing better is known than the rule."""
     found = correction(source, fault)
     hint = hints.of_program(source, fault)

@@ -22,7 +22,7 @@ from motesim.explain.lint import Warned, warnings
 from motesim.report import Report
 from motesim.runner.run import Answer, answer, is_report, read_file
 from motesim.scenario import Scenario
-from motesim.scenario.faults import Place, ScenarioFault
+from motesim.scenario.faults import Place, ScenarioError
 from motesim.toml import NoToml, read_toml
 from motesim.words import words_of
 
@@ -74,7 +74,7 @@ def place_of_token(text: str, program: str, token: program_faults.Token) -> Plac
     return None
 
 
-def place_of_scenario(text: str, fault: ScenarioFault) -> Place | None:
+def place_of_scenario(text: str, fault: ScenarioError) -> Place | None:
     """Where a fault of the scenario's own is; of what it lacks at its top a table that is named nearly so, or None."""
     if fault.lacks is None:
         return fault.place(text)
@@ -105,7 +105,7 @@ def wrapped(text: str) -> list[str]:
     return textwrap.wrap(text, WIDTH, subsequent_indent='  ', break_long_words=False, break_on_hyphens=False)
 
 
-def of_program(name: str, text: str, program: str, its: program_faults.ProgramFault) -> list[str]:
+def of_program(name: str, text: str, program: str, its: program_faults.ProgramError) -> list[str]:
     """The words on a fault in a program's text."""
     title, rule = program_faults.RULES[its.kind]
     end = 'The text ends here. ' if its.token.kind == 'end' else ''
@@ -166,7 +166,7 @@ def explanation(name: str, data: bytes, line: str) -> list[str]:
     return where_told(name, text, fault) + wrapped(rule_of(what)) + wrapped('Here may stand: %s' % may) + hinted(hint)
 
 
-def where_told(name: str, text: str, fault: ScenarioFault) -> list[str]:
+def where_told(name: str, text: str, fault: ScenarioError) -> list[str]:
     """The place of a fault of the scenario's own, or what it lacks."""
     place = place_of_scenario(text, fault)
     if place or not fault.lacks:

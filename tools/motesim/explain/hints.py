@@ -12,8 +12,8 @@ from collections.abc import Iterable
 
 from motesim.notation.keywords import RESERVED
 from motesim.notation.parentheses import written
-from motesim.notation.faults import OPERATORS, STATEMENTS, ProgramFault, Token, tokens_of
-from motesim.scenario.faults import LONG_QUOTES, LOSS, MEDIUM, MOTE, TOP, ScenarioFault, last_outside
+from motesim.notation.faults import OPERATORS, STATEMENTS, ProgramError, Token, tokens_of
+from motesim.scenario.faults import LONG_QUOTES, LOSS, MEDIUM, MOTE, TOP, ScenarioError, last_outside
 
 # What people write who know other languages, and what stands for it here.
 WISHES = {
@@ -78,7 +78,7 @@ def nearest(word: str, known: Iterable[str]) -> str | None:
     return found[0] if found and found[0] != word else None
 
 
-def of_program(text: str, fault: ProgramFault) -> str | None:
+def of_program(text: str, fault: ProgramError) -> str | None:
     """A hint on a fault of a program's text."""
     tokens = tokens_of(text)
     at = next((index for index, it in enumerate(tokens) if it == fault.token), len(tokens) - 1)
@@ -212,7 +212,7 @@ def _of_unknown(before: list[Token], here: Token, may: list[str]) -> str | None:
     return None
 
 
-def _of_no_toml(text: str, fault: ScenarioFault, place: tuple[int, int]) -> str | None:
+def _of_no_toml(text: str, fault: ScenarioError, place: tuple[int, int]) -> str | None:
     """A hint on a text that is no TOML, with the place up to which it is."""
     row = text.split('\n')[place[0] - 1]
     if row[place[1]:place[1] + 1] in QUOTES and place[1] < len(row):
@@ -225,7 +225,7 @@ def _of_no_toml(text: str, fault: ScenarioFault, place: tuple[int, int]) -> str 
     return next((hint for said, hint in NO_TOML.items() if said in fault.may), None)
 
 
-def of_scenario(tables: dict[str, object] | None, fault: ScenarioFault, text: str) -> str | None:
+def of_scenario(tables: dict[str, object] | None, fault: ScenarioError, text: str) -> str | None:
     """A hint on a fault of a scenario. Its tables are None where the text is no TOML."""
     line, name = fault.told, str(fault.path[-1]) if fault.path else ''
     if line == 'scenario fault 1' and fault.line:
@@ -255,7 +255,7 @@ def _at(tables: object, path: tuple[str | int, ...]) -> object:
     return tables
 
 
-def like_of_missing(tables: object, fault: ScenarioFault) -> str | None:
+def like_of_missing(tables: object, fault: ScenarioError) -> str | None:
     """A key that isn't known and is like the one that is missing beside it."""
     wanted = fault.may.split('`')[1] if '`' in fault.may else ''
     table = _at(tables, fault.path)
@@ -264,7 +264,7 @@ def like_of_missing(tables: object, fault: ScenarioFault) -> str | None:
     return nearest(wanted, [it for it in table if it not in {**TOP, **MEDIUM, **LOSS, **MOTE}])
 
 
-def _of_missing(tables: dict[str, object], fault: ScenarioFault) -> str | None:
+def _of_missing(tables: dict[str, object], fault: ScenarioError) -> str | None:
     """What most likely stands for a key that is missing."""
     wanted = fault.may.split('`')[1] if '`' in fault.may else ''
     like = like_of_missing(tables, fault)

@@ -3,7 +3,7 @@ from __future__ import annotations
 
 from typing import Any
 
-from motesim.scenario.faults import MEDIUM, MOTE, TOP, Key, may_of
+from motesim.scenario.faults import MEDIUM, MOTE, TOP, Rule, may_of
 
 # Of each key and table of the top a line or more that may stand for it.
 WRITTEN = {
@@ -42,7 +42,7 @@ def may_stand(name: str) -> str:
     """What may stand, with its keys."""
     if name == 'programs':
         return 'the table `[programs]` with %s' % OF_PROGRAMS
-    keys: dict[str, Key] | None = {'medium': MEDIUM, 'mote': MOTE}.get(name)
+    keys: dict[str, Rule] | None = {'medium': MEDIUM, 'mote': MOTE}.get(name)
     if not keys:
         return 'the key %s' % may_of(name, TOP[name])
     count = 'the table' if name == 'medium' else '1 to 1,000 tables'

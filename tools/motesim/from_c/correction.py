@@ -10,7 +10,7 @@ from typing import NamedTuple
 from motesim.from_c.expressions import NoCounterpart
 from motesim.from_c.scope import Scope
 from motesim.from_c.statements import Place, Statements
-from motesim.notation.faults import ProgramFault, find_fault, tokens_of
+from motesim.notation.faults import ProgramError, find_fault, tokens_of
 
 MOST_LINES = 4
 MOST_REASONS = 2
@@ -24,7 +24,7 @@ class Correction(NamedTuple):
     reasons: tuple[str, ...]
 
 
-def _spans(text: str, fault: ProgramFault) -> Iterator[tuple[int, int]]:
+def _spans(text: str, fault: ProgramError) -> Iterator[tuple[int, int]]:
     """The stretches of lines that may be one statement, the likeliest first."""
     here, count = fault.token.line, text.count('\n') + 1
     before = [it.line for it in tokens_of(text)[:-1] if (it.line, it.column) < (fault.token.line, fault.token.column)]
@@ -61,7 +61,7 @@ def _same(one: str, other: str) -> bool:
     return [it.text for it in tokens_of(one)] == [it.text for it in tokens_of(other)]
 
 
-def correction(text: str, fault: ProgramFault) -> Correction | None:
+def correction(text: str, fault: ProgramError) -> Correction | None:
     """The lines that repair a fault, or, without a line, what to do; None if nothing is known."""
     lines = text.split('\n')
     scope = Scope.of(text)

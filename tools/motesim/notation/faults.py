@@ -1,6 +1,6 @@
 """Faults of program texts: where the fault is, the rule in plain words, and what may stand there.
 
-`find_fault(text)` reads a program text by the grammar of docs/use/NOTATION.md and gives its first `ProgramFault`, or
+`find_fault(text)` reads a program text by the grammar of docs/use/NOTATION.md and gives its first `ProgramError`, or
 None; motesim tells the same kind and line.
 """
 from __future__ import annotations
@@ -75,7 +75,7 @@ class Token:
 
 
 @dataclass
-class ProgramFault(Exception):
+class ProgramError(Exception):
     """The first fault of a program text: its kind, the token that can't stand, and what may stand there."""
     kind: int
     token: Token
@@ -116,13 +116,13 @@ class _Reader:
     def token(self) -> Token:
         return self.tokens[self.at]
 
-    def fault(self, kind: int, may: list[str]) -> ProgramFault:
+    def fault(self, kind: int, may: list[str]) -> ProgramError:
         """The fault of the next token, of this kind unless it is no token at all."""
         if self.token.kind == 'bad':
-            return ProgramFault(1, self.token, list(dict.fromkeys(self.wanted + may)))
-        return ProgramFault(kind, self.token, may)
+            return ProgramError(1, self.token, list(dict.fromkeys(self.wanted + may)))
+        return ProgramError(kind, self.token, may)
 
-    def unexpected(self) -> ProgramFault:
+    def unexpected(self) -> ProgramError:
         return self.fault(2, list(dict.fromkeys(self.wanted)))
 
     def step(self) -> str:
@@ -372,10 +372,10 @@ class _Reader:
         self.target('variable')
 
 
-def find_fault(text: str) -> ProgramFault | None:
+def find_fault(text: str) -> ProgramError | None:
     """The first fault of a program text, or None where it is a program."""
     try:
         _Reader(text).program()
-    except ProgramFault as fault:
+    except ProgramError as fault:
         return fault
     return None

@@ -17,21 +17,21 @@ class Answer(NamedTuple):
     fault: bytes
 
 
-class Key(NamedTuple):
+class RunKey(NamedTuple):
     """Which run an answer is of: a program (its file and when that was written), its arguments, and a scenario."""
     program: tuple[int, int, int, int]
     arguments: tuple[str, ...]
     scenario: bytes
 
 
-def key_of(program: Path, arguments: tuple[str, ...], scenario: bytes) -> Key:
+def key_of(program: Path, arguments: tuple[str, ...], scenario: bytes) -> RunKey:
     """The key of a run."""
     try:
         file = program.stat()
     except OSError as fault:
         raise ProgramFault('%s can\'t be run: %s' % (program, fault.strerror)) from None
     written = file.st_dev, file.st_ino, file.st_size, file.st_mtime_ns
-    return Key(written, arguments, hashlib.sha256(scenario).digest())
+    return RunKey(written, arguments, hashlib.sha256(scenario).digest())
 
 
 class Cache:
@@ -39,10 +39,10 @@ class Cache:
 
     def __init__(self, most_bytes: int):
         self._most, self._bytes = most_bytes, 0
-        self._answers: OrderedDict[Key, Answer] = OrderedDict()
+        self._answers: OrderedDict[RunKey, Answer] = OrderedDict()
         self._lock = threading.Lock()
 
-    def find(self, key: Key) -> Answer | None:
+    def find(self, key: RunKey) -> Answer | None:
         """The answer of a run, if it is kept."""
         with self._lock:
             found = self._answers.get(key)
@@ -50,7 +50,7 @@ class Cache:
                 self._answers.move_to_end(key)
             return found
 
-    def keep(self, key: Key, answer: Answer) -> None:
+    def keep(self, key: RunKey, answer: Answer) -> None:
         """Keeps an answer, unless it is larger than all that may be kept."""
         size = len(answer.report) + len(answer.fault)
         with self._lock:

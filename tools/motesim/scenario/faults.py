@@ -1,7 +1,7 @@
 """Faults of scenarios: where the fault is, the rule in plain words, and what may stand there.
 
 `find_fault(bytes)` looks through a scenario by the rules of docs/use/SCENARIO.md, in their order, and gives the first
-`ScenarioFault`, or None; motesim tells the same line. `place_of(text, path)` finds a table or a key in the text.
+`ScenarioError`, or None; motesim tells the same line. `place_of(text, path)` finds a table or a key in the text.
 """
 from __future__ import annotations
 
@@ -10,7 +10,7 @@ from collections.abc import Iterator
 from dataclasses import dataclass
 from typing import Any
 
-from motesim.notation.faults import ProgramFault
+from motesim.notation.faults import ProgramError
 from motesim.notation.faults import find_fault as find_program_fault
 from motesim.toml import NoToml, read_toml
 
@@ -42,7 +42,7 @@ RULES: dict[str, str] = {
 
 
 @dataclass
-class ScenarioFault(Exception):
+class ScenarioError(Exception):
     """The first fault of a scenario: its line as motesim tells it, where it is, and what may stand there.
 
     path  the table or the key; of a missing key its table
@@ -52,7 +52,7 @@ class ScenarioFault(Exception):
     path: Path = ()
     may: str = ''
     line: tuple[int, int] | None = None
-    program: ProgramFault | None = None
+    program: ProgramError | None = None
 
     def is_of_value(self) -> bool:
         """Whether it is the value behind the key that can't stand, and not the key."""
@@ -75,7 +75,7 @@ class ScenarioFault(Exception):
 
 
 @dataclass(frozen=True)
-class Key:
+class Rule:
     """What a key holds: its kind, and the least and the greatest number, or count."""
     kind: type
     least: int = 0
@@ -83,17 +83,17 @@ class Key:
     is_needed: bool = True
 
 
-TOP = {'version': Key(int, 1, 2), 'end': Key(int, 0, 1_000_000), 'medium': Key(dict), 'programs': Key(dict),
-       'mote': Key(list, 1, 1_000), 'loss': Key(list, 0, 10_000, False)}
-MEDIUM = {'range': Key(int, 0, 100_000), 'base': Key(int, 0, 1_000_000), 'per': Key(int, 0, 1_000_000)}
-LOSS = {'from': Key(int, 0, 1_000_000), 'to': Key(int, 0, 1_000_000), 'every': Key(int, 0, 1_000_000)}
-MOTE = {'x': Key(int, -30_000, 30_000), 'y': Key(int, -30_000, 30_000), 'program': Key(str)}
-QUEUE = Key(int, 1, 128)
+TOP = {'version': Rule(int, 1, 2), 'end': Rule(int, 0, 1_000_000), 'medium': Rule(dict), 'programs': Rule(dict),
+       'mote': Rule(list, 1, 1_000), 'loss': Rule(list, 0, 10_000, False)}
+MEDIUM = {'range': Rule(int, 0, 100_000), 'base': Rule(int, 0, 1_000_000), 'per': Rule(int, 0, 1_000_000)}
+LOSS = {'from': Rule(int, 0, 1_000_000), 'to': Rule(int, 0, 1_000_000), 'every': Rule(int, 0, 1_000_000)}
+MOTE = {'x': Rule(int, -30_000, 30_000), 'y': Rule(int, -30_000, 30_000), 'program': Rule(str)}
+QUEUE = Rule(int, 1, 128)
 KINDS = {int: 'a whole number', str: 'a text', dict: 'a table', list: 'an array of tables', bool: '`true` or `false`'}
 MOST_PROGRAMS = 100
 
 
-def may_of(name: str, key: Key) -> str:
+def may_of(name: str, key: Rule) -> str:
     """What may stand at a key."""
     if key.kind is int:
         least = 1 if name in ('base', 'per', 'every') else key.least
@@ -103,11 +103,11 @@ def may_of(name: str, key: Key) -> str:
     return '`%s`: %s' % (name, KINDS[key.kind])
 
 
-def _fault(number: int, path: Path, may: str) -> ScenarioFault:
-    return ScenarioFault('scenario fault %d' % number, path, may)
+def _fault(number: int, path: Path, may: str) -> ScenarioError:
+    return ScenarioError('scenario fault %d' % number, path, may)
 
 
-def _check_table(table: dict[str, Any], path: Path, keys: dict[str, Key]) -> None:
+def _check_table(table: dict[str, Any], path: Path, keys: dict[str, Rule]) -> None:
     """A table's first fault: missing keys, unknown ones, values of another kind, and those out of range."""
     for name, key in keys.items():
         if key.is_needed and name not in table:
@@ -124,7 +124,7 @@ def _check_table(table: dict[str, Any], path: Path, keys: dict[str, Key]) -> Non
                 raise _fault(5, path + (name,), may_of(name, key))
 
 
-def _check_kind(table: dict[str, Any], path: Path, name: str, key: Key) -> None:
+def _check_kind(table: dict[str, Any], path: Path, name: str, key: Rule) -> None:
     if name in table and type(table[name]) is not key.kind:
         raise _fault(4, path + (name,), may_of(name, key))
     if name in table and key.kind is list:
@@ -169,27 +169,27 @@ def _check_texts(programs: dict[str, Any]) -> None:
         fault = find_program_fault(programs[name])
         if fault:
             told = 'program %s fault %d line %d' % (name, fault.kind, fault.token.line)
-            raise ScenarioFault(told, ('programs', name), program=fault)
+            raise ScenarioError(told, ('programs', name), program=fault)
 
 
 def _check_medium(tables: dict[str, Any]) -> None:
     for number, name in (2, 'base'), (3, 'per'):
         if tables['medium'][name] == 0:
-            raise ScenarioFault('medium fault %d' % number, ('medium', name), may_of(name, MEDIUM[name]))
+            raise ScenarioError('medium fault %d' % number, ('medium', name), may_of(name, MEDIUM[name]))
     seen: dict[tuple[int, int], int] = {}
     for index, loss in enumerate(tables.get('loss', [])):
         pair = loss['from'], loss['to']
         for name in 'from', 'to':
             if loss[name] >= len(tables['mote']):
                 may = '`%s`: a mote, 0 to %d' % (name, len(tables['mote']) - 1)
-                raise ScenarioFault('medium fault 4', ('loss', index, name), may)
+                raise ScenarioError('medium fault 4', ('loss', index, name), may)
         if pair[0] == pair[1]:
-            raise ScenarioFault('medium fault 4', ('loss', index, 'to'), '`to`: another mote than %d' % pair[0])
+            raise ScenarioError('medium fault 4', ('loss', index, 'to'), '`to`: another mote than %d' % pair[0])
         if loss['every'] == 0:
-            raise ScenarioFault('medium fault 4', ('loss', index, 'every'), may_of('every', LOSS['every']))
+            raise ScenarioError('medium fault 4', ('loss', index, 'every'), may_of('every', LOSS['every']))
         if pair in seen:
             may = 'another pair of motes: loss %d, counted from 0, has %d and %d already' % (seen[pair], *pair)
-            raise ScenarioFault('medium fault 4', ('loss', index), may)
+            raise ScenarioError('medium fault 4', ('loss', index), may)
         seen[pair] = index
 
 
@@ -198,20 +198,20 @@ def _read(data: bytes) -> dict[str, Any]:
     if len(data) > LONGEST_TEXT:
         front = data[:LONGEST_TEXT]
         line = front.count(b'\n') + 1, len(front[front.rfind(b'\n') + 1:].decode('utf-8', 'replace'))
-        raise ScenarioFault('scenario too long', line=line, may='the end of the text')
+        raise ScenarioError('scenario too long', line=line, may='the end of the text')
     try:
         text = data.decode('utf-8')
     except UnicodeDecodeError as fault:
         begin = data.rfind(b'\n', 0, fault.start) + 1
         line = data.count(b'\n', 0, begin) + 1, len(data[begin:fault.start].decode('utf-8'))
-        raise ScenarioFault('scenario is not UTF-8', line=line, may='text in UTF-8') from None
+        raise ScenarioError('scenario is not UTF-8', line=line, may='text in UTF-8') from None
     try:
         tables = read_toml(text)
     except NoToml as fault:
-        raise ScenarioFault('scenario fault 1', line=(fault.line, fault.column),
+        raise ScenarioError('scenario fault 1', line=(fault.line, fault.column),
                             may='TOML (Python says: %s)' % fault.said) from None
     for path in _too_large(tables, ()):
-        raise ScenarioFault('scenario fault 1', path, may='a whole number of 64 bits')
+        raise ScenarioError('scenario fault 1', path, may='a whole number of 64 bits')
     return tables
 
 
@@ -226,8 +226,8 @@ def _too_large(value: object, path: Path) -> Iterator[Path]:
 
 def _check(tables: dict[str, Any]) -> None:
     is_second = type(tables.get('version')) is int and tables['version'] == 2
-    _check_table(tables, (), {**TOP, 'queue': Key(dict, is_needed=False)} if is_second else TOP)
-    _check_table(tables['medium'], ('medium',), {**MEDIUM, 'collide': Key(bool)} if is_second else MEDIUM)
+    _check_table(tables, (), {**TOP, 'queue': Rule(dict, is_needed=False)} if is_second else TOP)
+    _check_table(tables['medium'], ('medium',), {**MEDIUM, 'collide': Rule(bool)} if is_second else MEDIUM)
     for index, loss in enumerate(tables.get('loss', [])):
         _check_table(loss, ('loss', index), LOSS)
     _check_programs(tables['programs'])
@@ -239,11 +239,11 @@ def _check(tables: dict[str, Any]) -> None:
     _check_medium(tables)
 
 
-def find_fault(data: bytes) -> ScenarioFault | None:
+def find_fault(data: bytes) -> ScenarioError | None:
     """The first fault of a scenario, or None where it has none."""
     try:
         _check(_read(data))
-    except ScenarioFault as fault:
+    except ScenarioError as fault:
         return fault
     return None
 

@@ -12,7 +12,7 @@ class ScenarioFault(Fault):
     """A text that is no scenario."""
 
 
-class Place(NamedTuple):
+class MotePlace(NamedTuple):
     """Where a mote stands, and what it runs."""
     x: int
     y: int
@@ -37,7 +37,7 @@ class Scenario:
 
     programs  the texts of the programs, by name
     queue     the lengths of event queues that differ from 32, by program
-    places    a `Place` for each mote, by its number
+    places    a `MotePlace` for each mote, by its number
     losses    of each pair (sender, receiver) with a loss, its `every`
 
     It is read for the tools' needs: what motesim refuses has no sense here, and isn't all looked for.
@@ -59,7 +59,7 @@ class Scenario:
             raise ScenarioFault('a mote or a loss is not a table')
         if self.per < 1 or self.base < 1:
             raise ScenarioFault('base and per are at least 1')
-        self.places = [Place(_get(it, 'x', int, 'mote %d' % number), _get(it, 'y', int, 'mote %d' % number),
+        self.places = [MotePlace(_get(it, 'x', int, 'mote %d' % number), _get(it, 'y', int, 'mote %d' % number),
                              _get(it, 'program', str, 'mote %d' % number)) for number, it in enumerate(motes)]
         self.losses: dict[tuple[int, int], int] = {
             (_get(it, 'from', int, 'a loss'), _get(it, 'to', int, 'a loss')): _get(it, 'every', int, 'a loss')

@@ -14,7 +14,7 @@ from typing import Any
 from motesim.faults import Fault
 from motesim.plan.plan import Plan
 from motesim.plan.tables import Value
-from motesim.scenario.scenario import Place, Scenario
+from motesim.scenario.scenario import MotePlace, Scenario
 from motesim.scenario.faults import find_fault, place_of, value_of
 from motesim.search.added import DIES, changed_program
 from motesim.studio.edits import Change as Edit
@@ -113,7 +113,7 @@ class Base:
         for name, number in change.numbers.items():
             setattr(found, name, number)
         if change.places:
-            found.places = [Place(*change.places.get(mote, (it.x, it.y)), it.program)
+            found.places = [MotePlace(*change.places.get(mote, (it.x, it.y)), it.program)
                             for mote, it in enumerate(base.places)]
         return found
 
