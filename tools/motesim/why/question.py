@@ -6,6 +6,7 @@ about. A sentence that wants a line which isn't there has none: it is a `Missing
 from __future__ import annotations
 
 import re
+from collections.abc import Sequence
 from dataclasses import dataclass
 
 from motesim.faults import Fault
@@ -43,8 +44,35 @@ class Missing:
     remark: str
 
 
+@dataclass(frozen=True)
+class Lineless:
+    """A sentence that no line shows: whether it holds, and why."""
+    holds: bool
+    why: str
+
+
+Answer = Asked | Missing | Lineless
+
+
 class Unasked(Fault):
-    """A question that is about no line."""
+    """A question that is about no line. `holds` says whether the sentence holds, if that is known."""
+
+    def __init__(self, why: str, holds: bool | None = None):
+        super().__init__(why)
+        self.holds = holds
+
+
+NO_LINE = 'so there is no line to ask about'
+
+
+def does(answer: Answer) -> bool:
+    """Whether what is asked holds."""
+    return not isinstance(answer, Missing) and answer.holds
+
+
+def first_with_line(answers: Sequence[Answer]) -> Answer | None:
+    """The first of these that a line shows, or else the first."""
+    return next((it for it in answers if not isinstance(it, Lineless)), answers[0] if answers else None)
 
 
 def line_asked(traces: Traces, question: str) -> At | None:
@@ -131,14 +159,19 @@ class Asker:
         return self.of_sentence(self.read(question))
 
     def of_sentence(self, it: Sentence) -> Asked | Missing:
+        found = self.answer(it)
+        if isinstance(found, Lineless):
+            raise Unasked(('it holds: %s, ' + NO_LINE) % found.why if found.holds else found.why, found.holds)
+        return found
+
+    def answer(self, it: Sentence) -> Answer:
+        """The line by which a sentence holds or is broken, if there is one."""
         if isinstance(it, Does):
             return self.of_motes(it)
-        if isinstance(it, Copies) and it.outcome in KINDS:
-            return self.counted(self.of_copies(it), it.count, self.judge.spans(it.window, (0,))[0], 'such copies')
+        if isinstance(it, Copies) and it.outcome != 'left':
+            return self.counted(self.of_losses(it) if it.outcome == 'lost' else self.of_copies(it), it)
         if isinstance(it, Packets):
-            return self.counted(self.packets(), it.count, self.judge.spans(it.window, (0,))[0], 'packets')
-        if isinstance(it, Copies) and it.outcome == 'lost':
-            return self.counted(self.of_losses(it), it.count, self.judge.spans(it.window, (0,))[0], 'such copies')
+            return self.counted(self.packets(), it)
         if isinstance(it, Hears):
             raise Unasked('who hears whom follows from the scenario: the range, the places and the losses')
         raise Unasked('this sentence is about no line of a trace')
@@ -163,23 +196,46 @@ class Asker:
                     found.append(Found(int(words[0]), sent))
         return sorted(found)
 
-    def counted(self, found: list[Found], count: Count, span: Span, what: str) -> Asked:
-        """The line by which so many lines are there, or one too many."""
-        inside = within(found, span)
-        holds = count.admits(len(inside))
-        if count.most is not None and len(inside) > max(count.most, 0):
-            return Asked(inside[max(count.most, 0)].where, False, self.too_many(len(inside), count, what))
-        if not holds:
-            raise Unasked('there are %d %s; wanted: %s' % (len(inside), what, count))
-        if not inside:
-            raise Unasked('it holds: there are no such lines, so there is no line to ask about')
-        return Asked(inside[min(max(count.least, 1), len(inside)) - 1].where, True)
+    def due(self, it: Copies) -> int:
+        """How many copies were due up to the end, at the motes of a sentence."""
+        copies = [word.partition('@') for _, text in self.traces.packets() for word in text.split(' ')[4:]]
+        return sum((it.motes is None or int(to) in it.motes) and (at == 'lost' or int(at) <= self.source.scenario.end)
+                   for to, _, at in copies)
+
+    def counted(self, found: list[Found], it: Copies | Packets) -> Answer:
+        """The line by which so many lines are there, or one too many, in each part of the sentence's time."""
+        what = 'packets' if isinstance(it, Packets) else 'such copies'
+        if isinstance(it, Copies) and it.count.is_part:
+            return self.of_number(found, it.count, self.due(it), what)
+        try:
+            spans = [self.judge.spans(it.window, (line.where.mote,)) for line in found]
+            parts = len(self.judge.spans(it.window, (it.window.root or 0,)))
+        except _Apart as apart:
+            return Lineless(False, str(apart))
+        answer: Answer = Lineless(True, 'there are no %s' % what)
+        for part in range(parts):
+            inside = [line for line, own in zip(found, spans) if within([line], own[part])]
+            one = self.of_number(inside, it.count, 1, what)
+            if not does(one):
+                return one
+            answer = answer if isinstance(one, Lineless) else one
+        return answer
 
     @staticmethod
-    def too_many(has: int, count: Count, what: str) -> str:
-        return 'there are %d %s; wanted: %s; this is the first that is one too many' % (has, what, count)
+    def of_number(inside: list[Found], count: Count, whole: int, what: str) -> Answer:
+        """The line by which so many lines are there, or one too many. A part is one of the `whole`."""
+        has = len(inside)
+        why = 'there are %d %s%s; wanted: %s' % (has, what, ' of %d' % whole if count.is_part else '', count)
+        admitted = [number for number in range(has + 1) if count.admits(number, whole)]
+        if has in admitted:
+            first = next((number for number in admitted if number), 0)
+            return Asked(inside[first - 1].where, True) if first else Lineless(True, 'there are no %s' % what)
+        if inside and (admitted or count.compare in ('at most', 'fewer than')):
+            spare = admitted[-1] if admitted else 0
+            return Asked(inside[spare].where, False, why + '; this is the first that is one too many')
+        return Lineless(False, why)
 
-    def of_motes(self, it: Does) -> Asked | Missing:
+    def of_motes(self, it: Does) -> Answer:
         """The line of a sentence on motes."""
         if it.than:
             raise Unasked('a comparison of two counts is about no single line; ask about one of the lines')
@@ -189,63 +245,84 @@ class Asker:
         if it.motes.kind == 'together':
             return self.of_unit(it, chosen)
         asked = [self.of_unit(it, (mote,)) for mote in chosen]
-        doing = [one for one in asked if isinstance(one, Asked) and one.holds]
-        last = sorted(doing, key=lambda one: self.traces.moment(one.where))
+        if it.motes.kind == 'each':
+            return self.of_each(asked)
         if it.motes.kind == 'no':
-            if not doing:
-                raise Unasked('it holds: no mote does, so there is no line to ask about')
-            return Asked(last[0].where, False, 'mote %d does, first of all' % last[0].where.mote)
+            return self.of_many(asked, Count('at most', 0))
         if it.motes.kind == 'some':
-            return last[0] if last else asked[0]
-        if it.motes.kind == 'count' and it.motes.count:
-            most, least = it.motes.count.most, it.motes.count.least
-            if most is not None and len(last) > most:
-                return Asked(last[max(most, 0)].where, False, '%d motes do; wanted: %s' % (len(last), it.motes.count))
-            if len(last) < least:
-                return next(one for one in asked if not (isinstance(one, Asked) and one.holds))
-            return last[max(least, 1) - 1] if last else asked[0]
-        broken = [one for one in asked if not (isinstance(one, Asked) and one.holds)]
-        if broken:
-            return broken[0]
-        remark = 'mote %d is the last of them' % last[-1].where.mote if len(last) > 1 else ''
-        return Asked(last[-1].where, True, remark)
+            return self.of_many(asked, Count('at least', 1))
+        assert it.motes.count
+        return self.of_many(asked, it.motes.count)
 
-    def of_unit(self, it: Does, motes: tuple[int, ...]) -> Asked | Missing:
+    def by_time(self, answers: list[Answer]) -> list[Asked]:
+        """Those that a line shows, in the order of the lines' moments."""
+        shown = [it for it in answers if isinstance(it, Asked)]
+        return sorted(shown, key=lambda one: self.traces.moment(one.where))
+
+    def of_each(self, asked: list[Answer]) -> Answer:
+        """The line of a sentence on each of several motes: the first that breaks it, or else the last of all."""
+        broken = next((one for one in asked if not does(one)), None)
+        if broken:
+            return broken
+        last = self.by_time(asked)
+        if not last:
+            only = asked[0] if len(asked) == 1 else None
+            return only if isinstance(only, Lineless) else Lineless(True, 'none of the motes has such a line')
+        return Asked(last[-1].where, True, 'mote %d is the last of them' % last[-1].where.mote if len(last) > 1 else '')
+
+    def of_many(self, asked: list[Answer], count: Count) -> Answer:
+        """The line of a sentence on so many motes."""
+        doing = [one for one in asked if does(one)]
+        shown = self.by_time(doing)
+        # (a mote that no line shows does it from the start)
+        unshown = len(doing) - len(shown)
+        admitted = [number for number in range(len(doing) + 1) if count.admits(number, len(asked) if count.is_part else 1)]
+        many = '1 mote does' if len(doing) == 1 else '%d motes do' % len(doing)
+        why = '%s; wanted: %s' % (many, count)
+        if len(doing) in admitted:
+            first = next((number for number in admitted if number), 0)
+            here = shown[max(first - 1 - unshown, 0):] if first else []
+            return here[0] if here else Lineless(True, many if doing else 'no mote does')
+        if doing and (admitted or count.compare in ('at most', 'fewer than')):
+            spare = admitted[-1] if admitted else 0
+            here = shown[max(spare - unshown, 0):]
+            if not here:
+                return Lineless(False, why)
+            does_so = 'mote %d does%s' % (here[0].where.mote, '' if unshown else ', first of all')
+            return Asked(here[0].where, False, why if count.most else does_so)
+        return first_with_line([one for one in asked if not does(one)]) or Lineless(False, why)
+
+    def of_unit(self, it: Does, motes: tuple[int, ...]) -> Answer:
         """The line of a sentence on one mote, or on several together."""
         try:
             spans = self.judge.spans(it.window, motes)
             lines = self.lines(it, motes)
+            name = 'mote %d' % motes[0] if len(motes) == 1 else 'the motes together'
+            answers = [self.of_span(it, motes, lines, span, name) for span in spans]
         except _Apart as apart:
-            raise Unasked(str(apart)) from None
-        name = 'mote %d' % motes[0] if len(motes) == 1 else 'the motes together'
-        asked: list[Asked] = []
-        for span in spans:
-            one = self.of_span(it, motes, lines, span, name)
-            if isinstance(one, Missing) or not one.holds:
-                return one
-            asked.append(one)
-        return asked[-1]
+            return Lineless(False, str(apart))
+        broken = next((one for one in answers if not does(one)), None)
+        return broken or first_with_line(answers[::-1]) or Lineless(True, 'no moment is asked about')
 
-    def of_span(self, it: Does, motes: tuple[int, ...], lines: list[Found], span: Span, name: str
-                ) -> Asked | Missing:
+    def of_span(self, it: Does, motes: tuple[int, ...], lines: list[Found], span: Span, name: str) -> Answer:
         inside = within(lines, span)
         if it.deed.way in ('just', 'set'):
             return self.of_list(it, motes, inside, span, name)
+        count = it.count
         if it.deed.way == 'finally' and inside:
             allowed = self.judge.values(it.deed.value, motes[0]) if it.deed.value else set()
             value = self.value(inside[-1])
             remark = '' if value in allowed else 'the last such line of %s; wanted: %s' % (
                 name, ' or '.join(map(str, sorted(allowed))) or 'any value')
             return Asked(inside[-1].where, not remark, remark)
-        count = it.count
         if count.most is not None and len(inside) > max(count.most, 0):
             return Asked(inside[max(count.most, 0)].where, False, '%s has %d such lines; wanted: %s; this is the first '
                          'that is one too many' % (name, len(inside), count))
-        if not count.admits(len(inside)) or not inside:
-            if count.admits(len(inside)):
-                raise Unasked('it holds: %s has no such line, so there is no line to ask about' % name)
+        if not count.admits(len(inside)) or it.deed.way == 'finally':
             return Missing(it, motes, span, tuple(lines), '%s has %d such lines; wanted: %s' % (
                 name, len(inside), count))
+        if not inside:
+            return Lineless(True, '%s has no such line' % name)
         return Asked(inside[min(max(count.least, 1), len(inside)) - 1].where, True)
 
     def value(self, found: Found) -> int:
@@ -253,9 +330,12 @@ class Asker:
 
     def of_list(self, it: Does, motes: tuple[int, ...], inside: list[Found], span: Span, name: str
                 ) -> Asked | Missing:
-        """The line of a sentence with a list of values: the first that is another one, else the last."""
+        """The line of a sentence with a list of values: the first that is another one, else the last.
+
+        The values of several motes together are in the order of the report.
+        """
         left = list(it.deed.values)
-        for found in inside:
+        for found in sorted(inside, key=lambda found: found.where):
             value = self.value(found)
             if not left or value not in (left if it.deed.way == 'set' else left[:1]):
                 remark = '%s prints %d here' % (name, value)
