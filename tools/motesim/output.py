@@ -4,23 +4,24 @@ from __future__ import annotations
 from pathlib import Path
 
 TOP = Path(__file__).resolve().parents[2]
+SHIPPED = [TOP / name for name in ('bench', 'crates', 'docs', 'examples', 'tests', 'tools')]
 
 
-def _is_in_repository(folder: Path) -> bool:
-    return TOP == folder or TOP in folder.parents
+def _is_shipped(path: Path) -> bool:
+    """Whether a file would be among the files of the repository."""
+    return any(folder in path.parents for folder in SHIPPED)
 
 
 def beside(source: str, name: str) -> Path:
     """The path for a file NAME made from a source: next to the source, and never among the files of the repository.
 
-    What is made from an example, or from standard input, goes into the current folder; if that is in the repository too,
-    into its folder `out`, which git ignores.
+    What is made from an example, or from standard input, goes into the current folder; if that is the repository, or one
+    of its folders, into the repository's folder `out`, which git ignores.
     """
     here = Path().resolve()
-    folder = Path(source).parent
-    if source != '-' and not _is_in_repository(Path(source).resolve().parent):
-        return folder / name
-    if not _is_in_repository(here):
+    if source != '-' and not _is_shipped(Path(source).resolve()):
+        return Path(source).parent / name
+    if here != TOP and not _is_shipped(here / name):
         return Path(name)
     out = TOP / 'out'
     out.mkdir(exist_ok=True)
