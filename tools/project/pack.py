@@ -151,9 +151,14 @@ def files(program: Path) -> dict[str, tuple[bytes, int]]:
     for part in PARTS:
         path = TOP / part
         for file in [path] if path.is_file() else sorted(path.rglob('*')):
-            if file.is_file() and '__pycache__' not in file.parts:
+            if file.is_file() and '__pycache__' not in file.parts and not is_for_teachers(file):
                 found[str(file.relative_to(TOP))] = file.read_bytes(), 0o755 if file.stat().st_mode & 0o100 else 0o644
     return found
+
+
+def is_for_teachers(file: Path) -> bool:
+    """Whether students shouldn't get a file: the solutions of the lesson, and the page on how it is graded."""
+    return TOP / 'examples/lesson/solutions' in file.parents or file == TOP / 'docs/use/TEACH.md'
 
 
 def archive(folder: str, program: Path) -> bytes:

@@ -89,6 +89,13 @@ class Pack(unittest.TestCase):
             with self.assertRaisesRegex(Fault, 'in the background'):
                 pack.program()
 
+    def test_it_has_what_students_need_and_no_solution(self) -> None:
+        with tempfile.TemporaryDirectory() as room:
+            names = set(pack.files(write_stub(Path(room))))
+        self.assertTrue({'examples/lesson/start.toml', 'examples/lesson/task3.expect.toml',
+                         'docs/use/WORKSHEET.md'} <= names)
+        self.assertEqual([name for name in names if 'solutions' in name or 'TEACH' in name], [])
+
     def test_it_has_the_simulator_in_c_that_export_copies(self) -> None:
         self.assertIn('tools/contiki_host', pack.PARTS)
 
