@@ -14,9 +14,10 @@ from motesim.contiki.random_scenario import random_scenario
 from motesim.faults import Fault
 from motesim.runner.run import answer
 from motesim.scenario import Scenario
-from motesim.why.chain import cause_of, chain, path_of, places
+from motesim.why.chain import as_json, cause_of, chain, path_of, places
 from motesim.why.diverge import diverged
 from motesim.why.fate import fate_of
+from motesim.why.lines_of_file import ScenarioFile
 from motesim.why.miss import misses
 from motesim.why.question import Asked, Asker, Missing, Unasked
 from motesim.why.replay import Parted
@@ -209,6 +210,30 @@ class Causes(unittest.TestCase):
         other = source(report=REPORT.replace('7 recv 0 0 8', '7 recv 0 3 8'))
         with self.assertRaisesRegex(Fault, 'a packet that was never sent: packet 3 of mote 0'):
             chain(other, At(1, 7))
+
+
+class LinesOfTheFile(unittest.TestCase):
+    """Beside the line of a program is the line of the scenario's file."""
+
+    def place(self, rows: str, program: str) -> int | None:
+        found = ScenarioFile('a.toml', '[programs]\n' + rows).place('p', program)
+        return found.above if found else None
+
+    def test_where_the_text_of_a_program_begins(self) -> None:
+        self.assertEqual(self.place('p = "process a;"\n', 'process a;'), 1)
+        self.assertEqual(self.place("p = '''process a;\ncode a {}'''\n", 'process a;\ncode a {}'), 1)
+        self.assertEqual(self.place("o = '''\nx'''\np = '''\nprocess a;\n'''\n", 'process a;\n'), 4)
+
+    def test_a_text_that_is_not_in_the_file_line_by_line(self) -> None:
+        self.assertIsNone(self.place('p = "process a;\\ncode a {}"\n', 'process a;\ncode a {}'))
+
+    def test_reasons_and_json_have_both_lines(self) -> None:
+        """The program begins on line 9 of the file, so its line 8 is line 16 of the file."""
+        found = Source('test', REPORT.encode(), Scenario.parse(SCENARIO), ScenarioFile('a.toml', SCENARIO))
+        hops = chain(found, At(0, 7))
+        self.assertEqual(hops[0].because, 'a, line 8 (a.toml:16): `post b msg 5`')
+        first = as_json(found, hops)['chain'][0]
+        self.assertEqual((first['program_line'], first['file'], first['file_line']), (8, 'a.toml', 16))
 
 
 class Questions(unittest.TestCase):

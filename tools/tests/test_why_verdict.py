@@ -25,14 +25,14 @@ per = 1000
 [programs]
 p = 'process a, b;'
 ''' % END + ''.join('[[mote]]\nx = %d\ny = 0\nprogram = "p"\n' % x for x in (0, 10, 20, 30, 900))
-SUBJECTS = ('mote 0', 'mote 4', 'every mote', 'every mote but 0', 'every mote but 0 to 4', 'motes 1 to 3', 'motes 0 and 4',
-            'no mote', 'no mote but 0', 'no mote but 0 to 4', 'some mote', 'some mote but 1', 'some mote but 0 to 4',
+SUBJECTS = ('mote 0', 'mote 4', 'every mote', 'every mote but 0', 'every mote but 0 to 4', 'motes 1 to 3',
+            'motes 0 and 4', 'no mote', 'no mote but 0', 'no mote but 0 to 4', 'some mote', 'some mote but 1', 'some mote but 0 to 4',
             'all motes together', 'motes 1 to 3 together', 'at least 2 motes', 'at most 1 mote', 'exactly 2 motes',
             'exactly 0 motes', 'at most 0 motes', 'fewer than 2 motes', 'fewer than 0 motes', 'fewer than 1 mote',
             'more than 3 motes', 'at least 0 motes', 'at least 60 % of the motes', 'at most 40 % of the motes',
             'exactly 60 % of the motes', 'more than 100 % of the motes', 'at least 50 % of the motes 1 to 4')
-DEEDS = ('print', 'print a', 'print a 1', 'print a its number', 'print a its distance from mote 0', 'send', 'send 1', 'receive',
-         'receive 1', 'receive 1 from mote 1', 'halt', 'leave b', "write 'print b'", 'start b')
+DEEDS = ('print', 'print a', 'print a 1', 'print a its number', 'print a its distance from mote 0', 'send', 'send 1',
+         'receive', 'receive 1', 'receive 1 from mote 1', 'halt', 'leave b', "write 'print b'", 'start b')
 COUNTS = ('', 'once', 'at most once', 'at most 0 times', 'exactly 2 times', 'fewer than 2 times', 'more than 1 time',
           'fewer than 0 times', 'at least 0 times')
 TIMES = ('', 'by 12', 'after 12', 'from 5 to 20', 'in each 10 from 0 to 29', 'at 5 plus 3 for each hop from mote 0')

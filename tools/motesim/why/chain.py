@@ -68,7 +68,8 @@ def places(source: Source, where: At) -> list[At]:
 def in_words(program: Program, number: int) -> str:
     """A statement of a program, with its line."""
     it = program.statement(number)
-    return 'line %d: `%s`' % (it.line, it.text if len(it.text) <= WIDEST else it.text[:WIDEST - 3] + '...')
+    text = it.text if len(it.text) <= WIDEST else it.text[:WIDEST - 3] + '...'
+    return '%s: `%s`' % (program.line(it.line), text)
 
 
 class Explainer:
@@ -239,13 +240,15 @@ def path_of(hops: list[Hop]) -> Path:
 def as_json(source: Source, hops: list[Hop]) -> dict[str, Any]:
     """A chain for programs."""
     path = path_of(hops)
+    places = [source.program(hop.where.mote).place if hop.program_row else None for hop in hops]
     return {
         'line': hops[0].row, 'mote': hops[0].where.mote, 'at': hops[0].at, 'words': hops[0].words,
         'chain': [{
             'mote': hop.where.mote, 'line': hop.row, 'at': hop.at, 'words': hop.words, 'how': hop.how,
             'because': hop.because, 'waited': hop.waited, 'for': hop.wait or None, 'program': hop.program or None,
-            'program_line': hop.program_row or None,
-        } for hop in hops],
+            'program_line': hop.program_row or None, 'file': place.file if place else None,
+            'file_line': place.above + hop.program_row if place else None,
+        } for hop, place in zip(hops, places)],
         'path': {'moments': path.moments, **{kind: {'moments': its[0], 'times': its[1]}
                                              for kind, its in path.waits.items()}},
     }

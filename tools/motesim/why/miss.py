@@ -16,7 +16,7 @@ from motesim.why.fate import Fate, fate_of
 from motesim.why.question import ENDLESS, Asker, Missing, within
 from motesim.why.replay import Reached, Replay
 from motesim.why.source import At, Found, Source
-from motesim.why.translate import Program, translated
+from motesim.why.translate import Program
 
 MOST_COPIES, MOST_OTHERS = 8, 3
 
@@ -155,9 +155,10 @@ class _Misses:
                 words[2], words[1], words[3], words[0], fate.words), fate.row or row)
         if lost[False]:
             row, words, fate = lost[False][-1]
+            others = ' with other values' if values else ''
             yield Miss(fate.how, '%s%s did not reach a process here; the last, packet %s of mote %s, '
-                       'was sent at %s: %s' % (count(len(lost[False]), 'copy', 'copies'), ' with other values' if values else '', words[2],
-                                               words[1], words[0], fate.words), fate.row or row)
+                       'was sent at %s: %s' % (count(len(lost[False]), 'copy', 'copies'), others, words[2], words[1],
+                                               words[0], fate.words), fate.row or row)
 
     def silent(self) -> Iterator[Miss]:
         """Neighbours from which nothing came, since they sent nothing."""
@@ -175,7 +176,7 @@ class _Misses:
     # The program
 
     def program(self) -> Program:
-        return translated(self.source.scenario.programs[self.source.traces.programs[self.mote]], True)
+        return self.source.translate(self.source.traces.programs[self.mote], is_detailed=True)
 
     def processes(self, program: Program) -> list[int]:
         """The processes that could write the line."""

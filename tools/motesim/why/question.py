@@ -12,7 +12,9 @@ from dataclasses import dataclass
 from motesim.faults import Fault
 from motesim.judge.judge import Judge, Span, _Apart
 from motesim.report import FIELDS
-from motesim.judge.sentences import Copies, Count, Does, Hears, Packets, Pattern, Sentence, Value, names_of, read_sentence
+from motesim.judge.sentences import (
+    Copies, Count, Does, Hears, Packets, Pattern, Sentence, Value, names_of, read_sentence,
+)
 from motesim.why.source import At, Found, Source, Traces
 
 LINE = re.compile(r'\s*(?:(?:mote\s+)?(\d+)\s*:\s*)?(?:line\s+)?(\d+)\s*', re.I)
@@ -276,7 +278,8 @@ class Asker:
         shown = self.by_time(doing)
         # (a mote that no line shows does it from the start)
         unshown = len(doing) - len(shown)
-        admitted = [number for number in range(len(doing) + 1) if count.admits(number, len(asked) if count.is_part else 1)]
+        whole = len(asked) if count.is_part else 1
+        admitted = [number for number in range(len(doing) + 1) if count.admits(number, whole)]
         many = '1 mote does' if len(doing) == 1 else '%d motes do' % len(doing)
         why = '%s; wanted: %s' % (many, count)
         if len(doing) in admitted:

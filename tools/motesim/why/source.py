@@ -12,6 +12,7 @@ from motesim.faults import Fault
 from motesim.report import Log, Report, Trace
 from motesim.runner.run import is_scenario, read_file, run_program
 from motesim.scenario.scenario import Scenario
+from motesim.why.lines_of_file import ScenarioFile
 from motesim.why.replay import QUEUE, Replay
 from motesim.why.translate import Program, translated
 
@@ -198,8 +199,8 @@ class Traces:
 class Source:
     """A run: its traces, its scenario, and the replay of each mote that was asked about."""
 
-    def __init__(self, name: str, data: bytes, scenario: Scenario):
-        self.name, self.scenario = name, scenario
+    def __init__(self, name: str, data: bytes, scenario: Scenario, file: ScenarioFile | None = None):
+        self.name, self.scenario, self.file = name, scenario, file
         self.traces = Traces(data)
         self.replays: dict[int, Replay] = {}
         self.translated: dict[str, Program] = {}
@@ -207,8 +208,14 @@ class Source:
     def program(self, mote: int) -> Program:
         name = self.traces.programs[mote]
         if name not in self.translated:
-            self.translated[name] = translated(self.scenario.programs[name])
+            self.translated[name] = self.translate(name)
         return self.translated[name]
+
+    def translate(self, name: str, is_detailed: bool = False) -> Program:
+        """A program of the scenario, with the place of its text in the scenario's file."""
+        program = translated(self.scenario.programs[name], is_detailed)
+        program.place = self.file.place(name, program.text) if self.file else None
+        return program
 
     def replay(self, mote: int) -> Replay:
         """A mote that has run again."""
@@ -245,6 +252,11 @@ def traces_of(path: str | Path, data: bytes) -> Traces:
         raise Fault('%s: %s' % (path, fault)) from None
 
 
+def scenario_file(path: str | Path) -> ScenarioFile | None:
+    """A scenario's file, unless it is standard input, which can't be read twice."""
+    return None if str(path) == '-' else ScenarioFile(Path(path).name, read_file(path).decode('utf-8'))
+
+
 def read_source(path: str | Path, scenario: str | Path | None = None) -> Source:
     """A scenario, which is run; or a report, with its scenario."""
     data, found = read_traces(path, scenario)
@@ -252,7 +264,7 @@ def read_source(path: str | Path, scenario: str | Path | None = None) -> Source:
         raise Fault("%s: a report doesn't have the programs, which its causes follow from: name its scenario, by "
                     "--scenario FILE" % path)
     try:
-        source = Source(str(path), data, found)
+        source = Source(str(path), data, found, scenario_file(path if scenario is None else scenario))
         if scenario is not None and len(data) <= MOST_CHECKED:
             check_scenario(Report.parse(data), found)
         elif scenario is not None:

@@ -66,9 +66,15 @@ class Statement(NamedTuple):
     around: tuple[Around, ...] = ()
 
 
+class Place(NamedTuple):
+    """The place of a program's text in a file: the file's name, and how many of its lines are above the text."""
+    file: str
+    above: int
+
+
 @dataclass
 class Program:
-    """A program: what it declares, and its code."""
+    """A program: what it declares, and its code; and where its text is, if that is known."""
     text: str
     processes: list[Process] = field(default_factory=list)
     timers: list[Timer] = field(default_factory=list)
@@ -77,10 +83,15 @@ class Program:
     autostart: list[int] = field(default_factory=list)
     receiver: int | None = None
     statements: list[Statement] = field(default_factory=list)
+    place: Place | None = None
 
     def statement(self, number: int) -> Statement:
         """A statement by its number, from 1."""
         return self.statements[number - 1]
+
+    def line(self, line: int) -> str:
+        """A line of the program in words, with the line of the file: line 27 (tree.toml:43)."""
+        return 'line %d%s' % (line, ' (%s:%d)' % (self.place.file, self.place.above + line) if self.place else '')
 
 
 def divided(a: int, b: int) -> int:
