@@ -362,9 +362,12 @@ class Answering(unittest.TestCase):
     def test_a_run_is_judged_beside_another(self):
         first, second = self.run_text(NET)['number'], self.run_text(NET.replace('print 1', 'print 4'))['number']
         said = self.judge(second, first)
-        self.assertEqual(said['difference']['first'], {'at': 0, 'mote': 0, 'index': 4})
+        self.assertEqual(said['difference']['first'], {
+            'at': 0, 'mote': 0, 'index': 4, 'inMedium': False,
+            'sides': [{'row': 6, 'text': '0 print talker 1', 'why': '', 'has_mote': True},
+                      {'row': 6, 'text': '0 print talker 4', 'why': '', 'has_mote': True}]})
         self.assertIn('The first difference is at moment 0, in the trace of mote 0:', said['difference']['lines'])
-        self.assertEqual([it['holds'] for it in said['checks']['told']], [False, True, True])
+        self.assertEqual([it['holds'] for it in said['checks']['marks']], [False, True, True])
         self.assertEqual(said['sums']['motes'][-1][0], 'net')
         self.assertTrue(self.judge(99, 0, '')['gone'])
 
@@ -385,8 +388,9 @@ class Answering(unittest.TestCase):
 
     def test_a_changed_text_is_judged_by_the_sentences_of_its_change(self):
         text = NET.replace('print 1', 'print 9')
-        told = self.judge(self.run_text(text)['number'], 0)['checks']['told']
-        self.assertEqual([(it['sentence'], it['holds']) for it in told], [('mote 1 prints talker 9', True)])
+        checks = self.judge(self.run_text(text)['number'], 0)['checks']
+        self.assertEqual((checks['about'], checks['fault']), ('another value', ''))
+        self.assertEqual([(it['sentence'], it['holds']) for it in checks['marks']], [('mote 1 prints talker 9', True)])
 
 
 class Guides(unittest.TestCase):

@@ -265,7 +265,7 @@ class Page(unittest.TestCase):
 
     def test_the_first_difference_is_named_and_marked(self):
         self.open()
-        self.assertIn('Change anything', self.shown('change'))
+        self.assertIn('Change the text', self.shown('change'))
         self.type_behind('send 6;', ' send 8;')
         self.wait('m.differs.first')
         words = 'The first difference from the run before is at moment 30, in the trace of mote 0'
@@ -479,7 +479,7 @@ class Page(unittest.TestCase):
 
     def test_the_page_without_its_token_is_refused(self):
         self.open()
-        for address in ('/', '/wrong/', '/wrong/studio.js'):
+        for address in ('/', '/wrong/', '/wrong/studio/page/studio.js'):
             self.visit('http://127.0.0.1:%d%s' % (self.server.port, address), 'document.body')
             self.browser.wait('document.body.innerText.includes("Not allowed")')
             self.assertNotIn('motesim studio', self.browser.run('document.documentElement.outerHTML'))

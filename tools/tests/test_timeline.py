@@ -14,10 +14,11 @@ from pathlib import Path
 from here import TOP
 from browser import Browser
 from motesim.faults import Fault
-from motesim.report import Report
+from motesim.report import KINDS, Report
 from motesim.runner.run import Run
 from motesim.scenario import Scenario
-from motesim.timeline.html import KINDS, SCRIPTS, data_of, page_of, write_page
+from motesim.timeline.columns import data_of
+from motesim.timeline.html import page_of, write_page
 
 CONTROL = 2
 SHIFT = 8
@@ -113,9 +114,6 @@ class Data(unittest.TestCase):
         self.assertGreater(len(zlib.decompress(base64.b64decode(packed))), 100)
         for word in ('http:', 'https:', ' src=', '@import', 'url('):
             self.assertNotIn(word, page.replace(packed, ''))
-
-    def test_the_page_is_put_together_from_all_its_scripts(self):
-        self.assertEqual(sorted(SCRIPTS), sorted(path.name for path in (TOP / 'tools/motesim/timeline/page').glob('*.js')))
 
 
 class Command(unittest.TestCase):

@@ -1,15 +1,18 @@
-"""What the page is told of a run: its columns, its fault, how it differs from another, what is expected, the sums."""
+"""What the page shows of a run: its error, its differences from another, which sentences hold, and its sums."""
 from __future__ import annotations
 
 import re
+from itertools import zip_longest
 from typing import Any, NamedTuple
 
-from motesim.judge import expectations
 from motesim.comparison.columns import MEDIUM
-from motesim.comparison.reports import compared, differences, packet_of
+from motesim.comparison.reports import Difference, compared, differences, lists_of, origin, packet_of, row_of
 from motesim.explain.explanation import explanation, place_of_fault, place_of_token
-from motesim.faults import Fault
 from motesim.explain.lint import warnings
+from motesim.faults import Fault
+from motesim.judge import expectations
+from motesim.judge.judge import Judge
+from motesim.judge.sentences import names_of
 from motesim.report import Report
 from motesim.runner.run import Run
 from motesim.scenario import Scenario
@@ -18,9 +21,7 @@ from motesim.summary.counts import LINK_NAMES, summary
 
 NOTE = re.compile(r'//[^\n]*')
 CODE_OR_PRINT = re.compile(r'\bcode\s+([a-z][a-z0-9_]*)|\bprint\s+([^;{}]+);')
-TIMER = re.compile(r'\bcode\s+([a-z][a-z0-9_]*)|\b([ec]timer)\s+([a-z][a-z0-9_]*)')
 MOST_ROWS, MOST_LINKS, MOST_PARTS, MOST_WARNINGS = 12, 400, 1_000, 20
-SAID_A, SAID_B = 'the run before', 'this run'
 
 
 class Finished(NamedTuple):
@@ -35,7 +36,7 @@ class Finished(NamedTuple):
 
 
 def finished(number: int, text: str, data: bytes, name: str) -> Finished:
-    """A run by its report."""
+    """A run from its report."""
     scenario = Scenario.parse(text)
     return Finished(number, text, Run(name, Report.parse(data), scenario), scenario)
 
@@ -52,7 +53,7 @@ def place16(text: str, offset: int) -> list[int]:
 
 
 def unwrapped(lines: list[str]) -> list[str]:
-    """An explanation whose rules stand each on one line, however long, below the place with its mark."""
+    """An explanation with each rule on one line, however long, below the place with its mark."""
     head = 0
     if lines and lines[0].endswith(':'):
         head = next((row for row, line in enumerate(lines) if row and not line.startswith('  ')), len(lines))
@@ -65,14 +66,12 @@ def unwrapped(lines: list[str]) -> list[str]:
     return found
 
 
-def fault_told(text: str, line: str) -> dict[str, Any]:
-    """A fault in the words of tools/explain, with its place in the text where that is known."""
+def fault(text: str, line: str) -> dict[str, Any]:
+    """An error in the words of tools/explain, with its place in the text if that is known."""
     data = text.encode('utf-8')
     place = place_of_fault(data, line)
-    told: dict[str, Any] = {'line': line, 'words': unwrapped(explanation('the text', data, line)), 'place': None}
-    if place:
-        told['place'] = stretch16(text, place)
-    return told
+    return {'line': line, 'words': unwrapped(explanation('the text', data, line)),
+            'place': stretch16(text, place) if place else None}
 
 
 def stretch16(text: str, place: Place) -> list[int]:
@@ -82,7 +81,7 @@ def stretch16(text: str, place: Place) -> list[int]:
 
 
 def warned(done: Finished) -> list[dict[str, Any]]:
-    """What tools/explain warns of: what is legal and surely not meant."""
+    """The warnings of tools/explain: what is legal, but probably not meant."""
     found = []
     for it in warnings(done.scenario, done.run.report)[:MOST_WARNINGS]:
         place = None
@@ -94,83 +93,106 @@ def warned(done: Finished) -> list[dict[str, Any]]:
     return found
 
 
-def names_of_programs(scenario: Scenario) -> dict[str, Any]:
-    """Of each program its timers, in the order of their numbers, and what each process prints, as the text has it."""
+def prints_of_programs(scenario: Scenario) -> dict[str, dict[str, list[str]]]:
+    """What each process of each program prints, as expressions of the text."""
     found = {}
     for name, source in scenario.programs.items():
-        text, process = NOTE.sub('', source), ''
-        timers: list[list[str]] = []
+        process = ''
         prints: dict[str, list[str]] = {}
-        for it in TIMER.finditer(text):
+        for it in CODE_OR_PRINT.finditer(NOTE.sub('', source)):
             process = it[1] or process
-            if it[3]:
-                timers.append([process, it[3], it[2]])
-        for it in CODE_OR_PRINT.finditer(text):
-            process = it[1] or process
-            if it[2] and it[2].strip() not in prints.setdefault(process, []):
-                prints[process].append(' '.join(it[2].split()))
-        found[name] = {'timers': timers, 'prints': prints}
+            expression = ' '.join((it[2] or '').split())
+            if expression and expression not in prints.setdefault(process, []):
+                prints[process].append(expression)
+        found[name] = prints
     return found
 
 
 def difference(before: Finished, after: Finished, is_pinned: bool) -> dict[str, Any]:
-    """How a run differs from another, in the words of tools/compare, and where each trace parts."""
-    one = before.named('the pinned run' if is_pinned else SAID_A)
-    lines, first, is_same = compared(one, after.named(SAID_B), MOST_ROWS)
+    """How a run differs from another one: the lines of tools/compare, and as data the first difference (`first`), the
+    moment of the first one in each trace (`parts`), and the motes that run another program (`motes`)."""
+    one = before.named('the pinned run' if is_pinned else 'the run before')
+    lines, first, is_same = compared(one, after.named('this run'), MOST_ROWS)
     reports = before.run.report, after.run.report
-    told = {'same': is_same, 'lines': lines, 'first': None, 'parts': []}
+    programs = [[mote.program for mote in report.motes] for report in reports]
+    found: dict[str, Any] = {'same': is_same, 'lines': lines, 'first': None, 'parts': [], 'motes': [
+        mote for mote, (ours, other) in enumerate(zip_longest(*programs)) if ours != other]}
     if first:
-        mote = first.mote if first.mote != MEDIUM else packet_of(reports, first).sender
-        told['first'] = {'at': first.at, 'mote': mote, 'index': -1 if first.mote == MEDIUM else first.place}
-        told['parts'] = [[it.mote, it.at] for it in differences(*reports) if it.mote != MEDIUM][:MOST_PARTS]
-    return told
+        in_medium = first.mote == MEDIUM
+        found['first'] = {'at': first.at, 'mote': packet_of(reports, first).sender if in_medium else first.mote,
+                          'index': -1 if in_medium else first.place, 'inMedium': in_medium,
+                          'sides': [side(report, first) for report in reports]}
+        found['parts'] = [[it.mote, it.at] for it in differences(*reports) if it.mote != MEDIUM][:MOST_PARTS]
+    return found
 
 
-def parts_for(text: str, saved: str, parts: list[expectations.Part]) -> list[expectations.Part]:
-    """The parts of a file of expectations that are about this text: of a change, where the text is changed so."""
+def side(report: Report, it: Difference) -> dict[str, Any]:
+    """What a report has at a difference: its row, its text, and what that is about. Without a text it has no such mote
+    (`has_mote`), or ends before."""
+    lines = lists_of(report).get(it.mote)
+    if lines is None or it.place >= len(lines):
+        return {'row': None, 'text': None, 'why': '', 'has_mote': lines is not None}
+    line = lines[it.place]
+    return {'row': row_of(report, it.mote, it.place), 'text': str(line), 'why': origin(line, report), 'has_mote': True}
+
+
+def part_for(text: str, saved: str, parts: list[expectations.Part]) -> expectations.Part:
+    """The part of a file of expectations for this text: that of a change, if the text has that change."""
     for part in parts[1:]:
         try:
             if expectations.changed(saved, part.replace) == text:
-                return [part]
+                return part
         except Fault:
             continue
-    return parts[:1]
+    return parts[0]
 
 
 def checks(done: Finished, saved: str, expected: tuple[str, str] | None) -> dict[str, Any] | None:
-    """Which of the sentences that stand beside the scenario hold, each with the line that breaks it."""
+    """Which of the scenario's expectations hold: for each sentence a mark, with the row of the report that breaks it."""
     if expected is None:
         return None
     name, source = expected
+    found: dict[str, Any] = {'name': name, 'about': '', 'marks': [], 'fault': ''}
     try:
-        parts = expectations.parts_of(source, name)
-        told = []
-        for part in parts_for(done.text, saved, parts):
-            about = part.name if part.replace else ''
-            for it in expectations.judged_by(part, done.run.report, done.scenario):
-                row = next((int(found[1]) for more in it.more if (found := re.match(r'line (\d+):', more))), None)
-                told.append({'sentence': it.sentence, 'holds': it.holds, 'more': it.more, 'row': row, 'about': about})
-        return {'name': name, 'told': told, 'fault': ''}
-    except Fault as fault:
-        return {'name': name, 'told': [], 'fault': str(fault)}
+        part = part_for(done.text, saved, expectations.parts_of(source, name))
+        return {**found, 'about': part.name if part.replace else '', 'marks': marks(part, done)}
+    except Fault as error:
+        return {**found, 'fault': str(error)}
+
+
+def marks(part: expectations.Part, done: Finished) -> list[dict[str, Any]]:
+    """A mark for each sentence of a part, and one for its report, if it has one."""
+    judge = Judge(done.run.report, done.scenario)
+    found = []
+    for words, sentence in zip(part.sentences, expectations.read_all(part.sentences, names_of(done.scenario))):
+        broken = judge.broken(sentence)
+        found.append({'sentence': words, 'holds': broken is None, 'row': broken.row if broken else None,
+                      'more': expectations.more_of(broken, judge.rows) if broken else []})
+    if part.report is not None:
+        whole = expectations.same_report(judge.rows, part.report)
+        row = next((row for row, (ours, wanted) in enumerate(zip_longest(judge.rows, part.report.splitlines()), 1)
+                    if ours != wanted), None)
+        found.append({'sentence': whole.sentence, 'holds': whole.holds, 'row': row, 'more': whole.more})
+    return found
 
 
 def sentences_for(text: str, saved: str, expected: tuple[str, str] | None) -> list[str]:
-    """The sentences that are about this text."""
+    """The sentences for this text."""
     if expected is None:
         return []
-    return parts_for(text, saved, expectations.parts_of(expected[1], expected[0]))[0].sentences
+    return part_for(text, saved, expectations.parts_of(expected[1], expected[0])).sentences
 
 
 def changes_of(expected: tuple[str, str] | None) -> list[dict[str, Any]]:
-    """The changes of a file of expectations, to be made by a button."""
+    """The changes of a file of expectations, each of which gets a button."""
     if expected is None:
         return []
     try:
         parts = expectations.parts_of(expected[1], expected[0])
     except Fault:
         return []
-    return [{'about': part.name if not part.name.startswith('change ') else '', 'replace': part.replace}
+    unnamed = {'change %d of %s' % (number, expected[0]) for number in range(1, len(parts))}
+    return [{'about': part.name if part.name not in unnamed else '', 'replace': part.replace}
             for part in parts if part.replace]
 
 

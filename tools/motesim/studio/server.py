@@ -1,4 +1,4 @@
-"""Serves the studio's page on this machine alone, to those who have its address.
+"""Serves the studio's page on this machine only, to those who have its address.
 
 The address has a random token. A request without it, with another `Host`, or from a page of another origin gets the
 status 403 and nothing else.
@@ -17,17 +17,13 @@ from pathlib import Path
 from typing import Any
 
 from motesim.faults import Fault
-from motesim.notation.grammar import COLOURS, NAMING
-from motesim.studio.session import HTML, JSON, Session, told
-from motesim.timeline.html import PAGE as TIMELINE
-from motesim.timeline.html import SHARED
+from motesim.studio.session import HTML, JSON, Session, as_json
+from motesim.timeline.bundle import modules_of
 
-PAGE = Path(__file__).resolve().parent / 'page'
+FOLDER = Path(__file__).resolve().parent.parent
+PAGE, TIMELINE = FOLDER / 'studio/page', FOLDER / 'timeline/page'
 CODEMIRROR = Path('/usr/share/javascript/codemirror')
-# The page's own scripts, after those that it shares with the pages of tools/timeline.
-SCRIPTS = ['link.js', 'notation.js', 'editor.js', 'difference.js', 'checks.js', 'guide.js', 'steps.js', 'states.js',
-           'whys.js', 'log.js', 'motes.js', 'files.js', 'faults.js', 'studio.js']
-# What is taken of Debian's package libjs-codemirror.
+# The files of Debian's package libjs-codemirror that the page needs.
 EDITOR = ['lib/codemirror.js', 'lib/codemirror.css', 'mode/toml/toml.js', 'addon/edit/matchbrackets.js',
           'addon/edit/closebrackets.js', 'addon/dialog/dialog.js', 'addon/dialog/dialog.css',
           'addon/search/searchcursor.js', 'addon/search/search.js', 'addon/search/jump-to-line.js',
@@ -49,16 +45,14 @@ def has_editor(codemirror: Path | None) -> bool:
 
 
 @functools.cache
-def script() -> bytes:
-    """All scripts of the page as one, in which they share their names."""
-    words = 'const NOTATION = %s, DECLARES = %s;' % (json.dumps(COLOURS), json.dumps(NAMING))
-    parts = [words, *((TIMELINE / name).read_text() for name in SHARED), *((PAGE / name).read_text() for name in SCRIPTS)]
-    return ("(() => {\n'use strict';\n%s\n})();\n" % '\n'.join(parts)).encode('utf-8')
+def modules() -> dict[str, bytes]:
+    """The modules of the page by their addresses, which are their paths in the package."""
+    return {str(path.relative_to(FOLDER)): text.encode('utf-8') for path, text in modules_of(PAGE / 'studio.js').items()}
 
 
 @functools.cache
 def style() -> bytes:
-    return ((TIMELINE / 'page.css').read_text() + (PAGE / 'studio.css').read_text()).encode('utf-8')
+    return (TIMELINE / 'page.css').read_bytes() + (PAGE / 'studio.css').read_bytes()
 
 
 class Handler(BaseHTTPRequestHandler):
@@ -67,15 +61,15 @@ class Handler(BaseHTTPRequestHandler):
     server_version = 'motesim'
     sys_version = ''
     timeout = 600
-    # (head and body of an answer are two writes, of which the second shall not wait for the first)
+    # (the head and the body of an answer are two writes: the second must not wait for the first)
     disable_nagle_algorithm = True
     server: Server
 
     def log_message(self, *_: object) -> None:
-        """Says nothing: the address, with its token, belongs on no terminal a second time."""
+        """Prints nothing: the address has the token, so it is printed once only."""
 
     def is_allowed(self) -> bool:
-        """Whether the request has the token, this server's name, and comes from its own page."""
+        """True if the request has the token and this server's name, and comes from its own page."""
         served = self.server
         hosts = {'127.0.0.1:%d' % served.port, 'localhost:%d' % served.port}
         if self.headers.get('Host') not in hosts or not self.is_tokened():
@@ -132,19 +126,19 @@ class Handler(BaseHTTPRequestHandler):
         try:
             answered = self.server.session.answer(what, asked)
         except Fault as fault:
-            answered = told({'refused': str(fault)})
+            answered = as_json({'refused': str(fault)})
         except MemoryError:
-            answered = told({'refused': 'the studio is out of memory'})
+            answered = as_json({'refused': 'the studio is out of memory'})
         except Exception as fault:
-            # (without an answer the page would take the studio for lost, and ask the same again, for ever)
+            # (without an answer the page would report a lost connection, and ask the same again, for ever)
             error = '%s: %s' % (type(fault).__name__, fault)
             print('studio: an error in the studio itself: %s' % error, file=sys.stderr)
-            answered = told({'refused': 'This is an error in the studio itself: %s' % error})
+            answered = as_json({'refused': 'This is an error in the studio itself: %s' % error})
         self.reply(200, answered.kind, answered.data)
 
 
 class Server(ThreadingHTTPServer):
-    """The studio's server. Its `address` is to be opened in a browser."""
+    """The studio's server. A browser opens its `address`."""
     daemon_threads = True
 
     def __init__(self, session: Session, codemirror: Path | None = CODEMIRROR, port: int = 0, token: str | None = None):
@@ -165,7 +159,7 @@ class Server(ThreadingHTTPServer):
         super().close_request(request)
 
     def server_close(self) -> None:
-        """Ends the connections too, which a browser keeps open."""
+        """Ends also the connections that a browser keeps open."""
         super().server_close()
         for connection in list(self.connections):
             with contextlib.suppress(OSError):
@@ -180,19 +174,21 @@ class Server(ThreadingHTTPServer):
         return 'http://127.0.0.1:%d/%s/' % (self.port, self.token)
 
     def handle_error(self, request: object, client_address: object) -> None:
-        """A browser that went away is no fault; what else goes wrong is said in one line."""
+        """Reports other errors than a browser that went away, in one line."""
         fault = sys.exc_info()[1]
         if not isinstance(fault, (ConnectionError, TimeoutError)):
             print('studio: a request failed: %s: %s' % (type(fault).__name__, fault), file=sys.stderr)
 
     def page(self) -> bytes:
-        """The page, with the editor where it is installed."""
-        text = (PAGE / 'studio.html').read_text()
+        """The page, with the editor if it is installed."""
+        text = (PAGE / 'studio.html').read_text('utf-8')
         names = EDITOR if self.codemirror else []
         for mark, kind, form in [('@STYLES@', '.css', '<link rel="stylesheet" href="codemirror/%s">'),
                                  ('@SCRIPTS@', '.js', '<script src="codemirror/%s"></script>')]:
             text = text.replace(mark, '\n'.join(form % name for name in names if name.endswith(kind)))
-        return text.encode('utf-8')
+        # (a browser that knows all modules at once needn't find one after another)
+        loads = ['<link rel="modulepreload" href="%s">' % name for name in modules()]
+        return text.replace('@MODULES@', '\n'.join(loads)).encode('utf-8')
 
     def file(self, name: str | None) -> tuple[str, bytes] | None:
         """A file of the page: its kind and its bytes."""
@@ -201,8 +197,8 @@ class Server(ThreadingHTTPServer):
         name = name.partition('?')[0]
         if name == '':
             return HTML, self.page()
-        if name == 'studio.js':
-            return KINDS['.js'], script()
+        if name in modules():
+            return KINDS['.js'], modules()[name]
         if name == 'studio.css':
             return KINDS['.css'], style()
         inner = name.removeprefix('codemirror/')

@@ -1,4 +1,4 @@
-"""What the page asks for: what is asked for, by name, and what is answered.
+"""What the page asks for, and the answers.
 
 `Session(desk, runs).answer('run', {...})` gives an `Answered`, or raises a `Fault` whose text the page shows.
 """
@@ -12,6 +12,7 @@ from collections import OrderedDict
 from typing import Any, Callable, NamedTuple
 
 from motesim.faults import Fault
+from motesim.notation.grammar import COLOURS, NAMING
 from motesim.report import ReportFault
 from motesim.scenario import ScenarioFault
 from motesim.search.faults import KINDS
@@ -20,7 +21,8 @@ from motesim.studio.desk import Changed, Desk, Document
 from motesim.studio.edits import edit
 from motesim.studio.runs import LimitMet, Runs, Superseded
 from motesim.studio.searches import OF_PAGE, Searches, wanted_of
-from motesim.timeline.html import Columns, page_of, said_of
+from motesim.timeline.columns import Columns, table_of
+from motesim.timeline.html import page_of
 from motesim.why.studio import Causes
 
 MOST_KEPT = 4
@@ -28,17 +30,18 @@ JSON, BYTES, HTML = 'application/json', 'application/octet-stream', 'text/html; 
 
 
 class Answered(NamedTuple):
+    """An answer: its kind, as HTTP names it, and its bytes."""
     kind: str
     data: bytes
 
 
-def told(value: object) -> Answered:
+def as_json(value: object) -> Answered:
     return Answered(JSON, json.dumps(value).encode('utf-8'))
 
 
-def framed(said: dict[str, Any], columns: bytes) -> Answered:
-    """What is said of a run, and after it its columns, at a multiple of 4."""
-    head = json.dumps(said).encode('utf-8')
+def framed(table: dict[str, Any], columns: bytes) -> Answered:
+    """A table, and after it the columns of a run, at a multiple of 4."""
+    head = json.dumps(table).encode('utf-8')
     head += b' ' * (-len(head) % 4)
     return Answered(BYTES, struct.pack('<I', len(head)) + head + columns)
 
@@ -50,7 +53,7 @@ def _text(asked: dict[str, Any], name: str) -> str:
     try:
         value.encode('utf-8')
     except UnicodeEncodeError:
-        raise Fault('the text has half a sign, which no file can hold') from None
+        raise Fault('the text has half a character, which no file can hold') from None
     return value
 
 
@@ -81,9 +84,9 @@ class Session:
     # Files.
 
     def opened(self, it: Document) -> Answered:
-        """A document for the page, with what stands beside it."""
+        """A document for the page, with its guide and the changes that its expectations name."""
         expected = self.desk.expectations(it.where, it.name) if it.stamp else None
-        return told({'document': it._asdict(), 'may_save': self.desk.may_save(it._asdict()),
+        return as_json({'document': it._asdict(), 'may_save': self.desk.may_save(it._asdict()),
                      'guide': guides.guide(it.name, it.text) if it.where == 'example' or self.is_example(it) else [],
                      'changes': answers.changes_of(expected), 'expects': expected[0] if expected else None})
 
@@ -95,20 +98,21 @@ class Session:
         examples = [{'name': name, 'title': guides.title(name)} for name in self.desk.names('example')]
         files = [] if self.desk.folder == self.desk.examples else self.desk.names('folder')
         opened = json.loads(self.opened(self.desk.first()).data)
-        return told({**opened, 'examples': examples, 'files': files, 'folder': str(self.desk.folder),
+        return as_json({**opened, 'examples': examples, 'files': files, 'folder': str(self.desk.folder),
                      'editor': self.has_editor, 'limits': self.runs.limits._asdict(), 'against': self.against,
-                     'kinds': [[kind, KINDS[kind][1]] for kind in OF_PAGE]})
+                     'kinds': [[kind, KINDS[kind][1]] for kind in OF_PAGE],
+                        'words': {'colours': COLOURS, 'naming': NAMING}})
 
     def open(self, asked: dict[str, Any]) -> Answered:
         return self.opened(self.desk.read(_text(asked, 'where'), _text(asked, 'name')))
 
     def alive(self, asked: dict[str, Any]) -> Answered:
-        """That the studio is there, and whether the open file is as it was."""
+        """The stamp of the open file as it is now, and with it that the studio is there."""
         try:
             stamp = self.desk.stamp(_text(asked, 'where'), _text(asked, 'name'))
         except Fault:
             stamp = None
-        return told({'stamp': stamp})
+        return as_json({'stamp': stamp})
 
     def document(self, asked: dict[str, Any]) -> dict[str, Any]:
         it = {name: _text(asked, name) for name in ('where', 'name', 'text', 'stamp')}
@@ -122,15 +126,15 @@ class Session:
                 name = _text(asked, 'new')
                 stamp = self.desk.save_new(it, name)
                 name = name if name.endswith('.toml') else name + '.toml'
-                return told({'stamp': stamp, 'name': name, 'where': 'folder'})
-            return told({'stamp': self.desk.save(it, asked.get('over') is True), 'name': it['name'], 'where': 'folder'})
+                return as_json({'stamp': stamp, 'name': name, 'where': 'folder'})
+            return as_json({'stamp': self.desk.save(it, asked.get('over') is True), 'name': it['name'], 'where': 'folder'})
         except Changed as fault:
-            return told({'changed': str(fault)})
+            return as_json({'changed': str(fault)})
 
     # Runs.
 
     def run(self, asked: dict[str, Any]) -> Answered:
-        """Runs a text: its columns; or its fault; or that a newer text came, or that a limit was met."""
+        """Runs a text: its columns, or its error, or that a newer text came, or the limit that was met."""
         text, ticket = _text(asked, 'text'), self.runs.ask()
         data = text.encode('utf-8')
         try:
@@ -139,7 +143,7 @@ class Session:
                 self.runs.check(ticket)
                 if got.status:
                     line = got.fault.decode('utf-8', 'backslashreplace').rstrip('\n')
-                    return framed({'fault': answers.fault_told(text, line)}, b'')
+                    return framed({'fault': answers.fault(text, line)}, b'')
                 done = answers.finished(ticket, text, got.report, _text(asked, 'name'))
                 self.runs.check(ticket)
                 columns = Columns(done.run.report)
@@ -150,9 +154,8 @@ class Session:
         except (ReportFault, ScenarioFault) as fault:
             return framed({'limit': 'This run cannot be shown: %s' % fault}, b'')
         self.keep(done, asked.get('pinned'))
-        names = answers.names_of_programs(done.scenario)
-        return framed({'number': ticket, 'run': said_of(done.run, columns), 'programs': names,
-                       'bytes': len(got.report)}, columns.joined())
+        return framed({'number': ticket, 'run': table_of(done.run, columns),
+                       'programs': answers.prints_of_programs(done.scenario)}, columns.joined())
 
     def keep(self, done: answers.Finished, pinned: object) -> None:
         """Keeps the last runs, and the one that is pinned."""
@@ -169,17 +172,17 @@ class Session:
             return self.kept.get(number) if type(number) is int else None
 
     def judge(self, asked: dict[str, Any]) -> Answered:
-        """What a run's report adds up to, and how it differs from another."""
+        """The sums and warnings of a run, which expectations hold, and how it differs from another run."""
         done, before = self.kept_run(asked.get('number')), self.kept_run(asked.get('against'))
         if done is None:
-            return told({'gone': True})
+            return as_json({'gone': True})
         with self.work:
-            said: dict[str, Any] = {'sums': answers.sums(done), 'warnings': answers.warned(done)}
+            found: dict[str, Any] = {'sums': answers.sums(done), 'warnings': answers.warned(done)}
             if before:
-                said['difference'] = answers.difference(before, done, asked.get('is_pinned') is True)
+                found['difference'] = answers.difference(before, done, asked.get('is_pinned') is True)
             expected = self.expectations(asked)
-            said['checks'] = answers.checks(done, _text(asked, 'saved'), expected)
-        return told(said)
+            found['checks'] = answers.checks(done, _text(asked, 'saved'), expected)
+        return as_json(found)
 
     def expectations(self, asked: dict[str, Any]) -> tuple[str, str] | None:
         try:
@@ -188,17 +191,17 @@ class Session:
             return None
 
     def cause(self, what: str, asked: dict[str, Any]) -> Answered:
-        """What a question on a kept run comes to."""
+        """The answer to a question about the causes of a kept run."""
         done = self.kept_run(asked.get('number'))
         if done is None:
-            return told({'said': 'This run is not kept any more: change the text, and ask again.'})
-        return told(self.causes.answer(what, done.number, done.run, asked))
+            return as_json({'said': 'The studio no longer has this run. Change the text, and ask again.'})
+        return as_json(self.causes.answer(what, done.number, done.run, asked))
 
     def edit(self, asked: dict[str, Any]) -> Answered:
-        """What an edit on the map changes in the text."""
+        """The changes of the text for an edit on the map."""
         text, wish = _text(asked, 'text'), asked.get('edit')
         changes, said = edit(text, wish if type(wish) is dict else {})
-        return told({'said': said, 'changes': [
+        return as_json({'said': said, 'changes': [
             {'from': answers.place16(text, it.begin), 'to': answers.place16(text, it.end), 'text': it.text}
             for it in sorted(changes, reverse=True)]})
 
@@ -206,31 +209,31 @@ class Session:
         """The page of a run as one file, as tools/timeline writes it."""
         done = self.kept_run(asked.get('number'))
         if done is None:
-            raise Fault('this run is not kept any more; change the text, and export again')
+            raise Fault('The studio no longer has this run. Change the text, and export again.')
         title = _text(asked, 'title').removesuffix('.toml')
         return Answered(HTML, ''.join(page_of(title, [done.named(title)])).encode('utf-8'))
 
     # Searches for faults.
 
     def search(self, asked: dict[str, Any]) -> Answered:
-        """Starts a search for the faults that break what is expected of a text."""
+        """Starts a search for the faults that break the expectations for a text."""
         text, expected = _text(asked, 'text'), self.expectations(asked)
         sentences = answers.sentences_for(text, _text(asked, 'saved'), expected)
         wanted = wanted_of(text, sentences, asked.get('kinds'), asked.get('at_most'))
-        return told({'number': self.searches.begin(wanted)})
+        return as_json({'number': self.searches.begin(wanted)})
 
     def searched(self, asked: dict[str, Any]) -> Answered:
-        """How far a search is, and at its end what it found."""
-        return told(self.searches.of(asked.get('number')).state())
+        """The progress of a search, and at its end what it found."""
+        return as_json(self.searches.of(asked.get('number')).state())
 
     def stop_search(self, asked: dict[str, Any]) -> Answered:
         self.searches.stop()
-        return told({})
+        return as_json({})
 
     def counter_example(self, asked: dict[str, Any]) -> Answered:
         """The text of a scenario with faults that were found."""
-        return told({'text': self.searches.of(asked.get('number')).text(asked.get('index'))})
+        return as_json({'text': self.searches.of(asked.get('number')).text(asked.get('index'))})
 
     def shrink(self, asked: dict[str, Any]) -> Answered:
         """The smallest scenario in which the same faults break the same sentence."""
-        return told(self.searches.of(asked.get('number')).shrunk(asked.get('index'), _text(asked, 'sentence')))
+        return as_json(self.searches.of(asked.get('number')).shrunk(asked.get('index'), _text(asked, 'sentence')))

@@ -1,49 +1,55 @@
-// What is expected of the run, green or red; and the table of what it adds up to.
+// Warnings, the sentences that hold or don't, and the sums of a run.
+import {chooseLine, chooseMote} from '../../timeline/page/details.js';
+import {byId, element, makeButton, table} from '../../timeline/page/dom.js';
+import {SMALL_LANE} from '../../timeline/page/layout.js';
+import {showSeries} from '../../timeline/page/plots.js';
+import {panes} from '../../timeline/page/stage.js';
+import {count} from '../../timeline/page/words.js';
+import {reactions} from './running.js';
+import {studio} from './state.js';
+import {labelTab, showTab} from './tabs.js';
 
-/** Selects a row of the report: a line of a trace, or the send of a packet. */
+/** Selects a row of the report: a line of a trace, a mote by its head, or the send of a packet. */
 function chooseRow(row) {
-  const pane = panes[0], {run} = pane, {traceStart} = run, packet = row - run.count - run.begins.length - 2;
-  if (packet >= 0) {
-    if (packet < run.packets && run.sendLine[packet] >= 0) chooseLine(pane, run.sendLine[packet], true);
+  const pane = panes[0], {run} = pane, found = run.atRow(row);
+  if (!found) return;
+  if (found.packet !== undefined) {
+    if (run.sendLine[found.packet] >= 0) chooseLine(pane, run.sendLine[found.packet], true);
     return;
   }
-  let mote = 0;
-  while (mote + 1 < pane.order.length && traceStart[mote + 1] + mote + 2 < row) mote++;
-  const line = row - mote - 2;
-  if (line < traceStart[mote] || line >= traceStart[mote + 1]) return chooseMote(pane, mote, true);
+  if (found.line < 0) return chooseMote(pane, found.mote, true);
   if (pane.lane < SMALL_LANE) pane.zoomLanes(20 / pane.lane);
-  chooseLine(pane, line, true);
+  chooseLine(pane, found.line, true);
 }
 
-/** What is legal in the text and surely not meant; a click leads to its place. */
-function showWarnings(said) {
+/** Shows warnings about what is legal but probably not meant. A click leads to its place. */
+function showWarnings(warnings) {
   const box = byId('warnings');
-  box.hidden = !said.length;
-  box.replaceChildren(...said.map(({text, place}) => makeButton(`Warning: ${text}.`, () => {
-    if (place) editor.goTo(place[0], place[1], place[2] - place[1]);
+  box.hidden = !warnings.length;
+  box.replaceChildren(...warnings.map(({text, place}) => makeButton(`Warning: ${text}.`, () => {
+    if (place) studio.editor.goTo(place[0], place[1], place[2] - place[1]);
   })));
-  editor.refresh();
+  studio.editor.refresh();
 }
 
-function showChecks(said) {
+function showChecks(checks) {
   const box = byId('checks');
-  if (!said) {
+  if (!checks) {
     labelTab('checks', 'Checks');
-    box.replaceChildren(element('p', 'Nothing is expected of this scenario: there is no file of expectations beside ' +
-      'it. Sentences such as "mote 6 prints flood 1 by 60", in a file NAME.expect.toml beside NAME.toml, are tried ' +
-      'here after each run.'));
+    box.replaceChildren(element('p', 'There are no expectations for this scenario. Write sentences such as "mote 6 ' +
+      'prints flood 1 by 60" into a file NAME.expect.toml next to NAME.toml: they are checked here after each run.'));
     return;
   }
-  if (said.fault) {
+  if (checks.fault) {
     labelTab('checks', 'Checks: ?', 'bad');
-    box.replaceChildren(element('p', `What is expected can't be tried. ${said.name}: ${said.fault}`));
+    box.replaceChildren(element('p', `The expectations can't be checked. ${checks.name}: ${checks.fault}`));
     return;
   }
-  const passed = said.told.filter(it => it.holds).length, all = said.told.length;
+  const passed = checks.marks.filter(it => it.holds).length, all = checks.marks.length;
   labelTab('checks', `Checks ${passed}/${all}`, passed === all ? 'good' : 'bad');
-  const about = said.told.length && said.told[0].about ? `, with the change "${said.told[0].about}"` : '';
-  box.replaceChildren(element('p', `${passed} of ${all} sentences of ${said.name} hold${about}.`),
-    element('ul', '', said.told.map(checkItem)));
+  const about = checks.about ? `, with the change "${checks.about}"` : '';
+  box.replaceChildren(element('p', `${passed} of ${all} sentences of ${checks.name} hold${about}.`),
+    element('ul', '', checks.marks.map(checkItem)));
 }
 
 function checkItem(it) {
@@ -67,7 +73,6 @@ function checkItem(it) {
 function sumTable([names, ...rows]) {
   const shown = value => value === null ? '-' : Number.isInteger(value) || typeof value === 'string' ? String(value) :
     value.toFixed(3);
-  const head = element('tr', '', names.map(name => element('th', name)));
   const body = rows.map(row => {
     const made = element('tr', '', row.map((value, i) => {
       const cell = element('td', shown(value));
@@ -77,13 +82,22 @@ function sumTable([names, ...rows]) {
     if (row[0] === 'net') made.className = 'net';
     return made;
   });
-  return element('table', '', [element('thead', '', [head]), element('tbody', '', body)]);
+  return table(names, body);
 }
 
-function showSums(said) {
+function showSums(sums) {
   const box = byId('sums');
   const plots = element('div');
   if (panes.length) showSeries(panes[0].run, plots);
-  box.replaceChildren(sumTable(said.motes), plots, sumTable(said.links));
-  if (said.more) box.append(element('p', `${count(said.more, 'link')} more: tools/summary shows them.`));
+  box.replaceChildren(sumTable(sums.motes), plots, sumTable(sums.links));
+  if (sums.more) box.append(element('p', `${count(sums.more, 'link')} more: tools/summary shows them.`));
+}
+
+/** Shows the results of runs from now on. */
+export function beginChecks() {
+  reactions.judged.push(({sums, warnings, checks}) => {
+    showSums(sums);
+    showWarnings(warnings);
+    showChecks(checks);
+  });
 }

@@ -1,48 +1,77 @@
 // What the last change did: the first difference between two runs, in words and on the lanes.
-const differs = {first: null, parts: new Map(), against: null};
-const WHO = {A: '', B: 'this run'};
+import {lowerBound} from '../../timeline/page/data.js';
+import {chooseLine, chooseMote} from '../../timeline/page/details.js';
+import {byId, element} from '../../timeline/page/dom.js';
+import {redraw} from '../../timeline/page/draw.js';
+import {colours, path, stroke} from '../../timeline/page/forms.js';
+import {AXIS} from '../../timeline/page/layout.js';
+import {setNow} from '../../timeline/page/play.js';
+import {overlays, panes} from '../../timeline/page/stage.js';
+import {showTime, time} from '../../timeline/page/time.js';
+import {reactions} from './running.js';
+import {studio} from './state.js';
 
-/** Shows what tools/compare says of the run before, or of the pinned one, and of this. */
-function showDifference(said, isPinned) {
-  const box = byId('change'), sides = byId('change-sides');
-  WHO.A = isPinned ? 'the pinned run' : 'the run before';
+/** The first difference, and the moment of the first one in each lane. */
+export const differs = {first: null, parts: new Map()};
+
+/** Shows how this run differs from the one before, or from the pinned one. */
+function showDifference(difference, isPinned) {
+  const other = isPinned ? 'the pinned run' : 'the run before';
   Object.assign(differs, {first: null, parts: new Map()});
-  sides.replaceChildren();
+  byId('change-sides').replaceChildren();
   byId('change-show').hidden = true;
-  byId('compare').querySelector('pre').textContent = said ? said.lines.join('\n') :
-    'There is no run yet to compare with.';
-  if (!said) return;
-  box.dataset.is = said.same ? 'same' : 'differs';
-  const at = said.lines.findIndex(line => line.startsWith('The first difference'));
-  if (said.same) byId('change-said').textContent = `The same report as that of ${WHO.A}.`;
-  else byId('change-said').textContent = at < 0 ? said.lines.slice(2).join(' ') :
-    said.lines[at].replace(/:$/, '.').replace('The first difference', `The first difference from ${WHO.A}`);
-  if (at >= 0) sides.replaceChildren(...sidesOf(said.lines.slice(at + 1)));
-  if (said.first) {
-    differs.first = said.first;
-    differs.parts = new Map(said.parts);
+  if (!difference) return forgetDifference();
+  byId('compare').querySelector('pre').textContent = difference.lines.join('\n');
+  byId('change').dataset.is = difference.same ? 'same' : 'differs';
+  byId('change-said').textContent = differenceInWords(difference, other);
+  if (difference.first) {
+    byId('change-sides').append(...difference.first.sides.map((side, i) => sideItem(side, i ? 'this run' : other)));
+    Object.assign(differs, {first: difference.first, parts: new Map(difference.parts)});
     byId('change-show').hidden = false;
   }
   redraw();
 }
 
-/** The lines of both sides. */
-function sidesOf(lines) {
-  const items = [];
-  for (const line of lines) {
-    const found = /^ {2}([AB])(?:, (line \d+): (.*)| (.*))$/.exec(line), why = /^ {6}\((.*)\)$/.exec(line);
-    if (why && items.length) items[items.length - 1].append(Object.assign(element('span', why[1]), {className: 'why'}));
-    if (why) continue;
-    if (!found) break;
-    const who = Object.assign(element('span', `${WHO[found[1]]}`), {className: 'who'});
-    items.push(element('li', '', [who, element('code', found[3] === undefined ? found[4] : found[3])]));
-    items[items.length - 1].title = found[2] || '';
+/** How two runs differ, in a sentence. */
+export function differenceInWords({same, first, motes}, other) {
+  if (same) return `The same report as that of ${other}.`;
+  if (first) {
+    const where = first.inMedium ? 'in the log of the medium' : `in the trace of mote ${first.mote}`;
+    return `The first difference from ${other} is at moment ${first.at}, ${where}.`;
   }
-  return items;
+  return motes.length ? `Other programs than in ${other}: mote ${motes.join(', ')}.` :
+    `As many lines as in ${other}, and other copies that would arrive after the end.`;
 }
 
-/** Brings the first difference into view, and selects the line at which the runs part. */
-function goToDifference() {
+/** One side of the first difference: its line, and what that is about. */
+function sideItem({row, text, why, has_mote: hasMote}, who) {
+  const words = text === null ? element('span', hasMote ? 'no more lines' : 'no such mote') : element('code', text);
+  const item = element('li', '', [Object.assign(element('span', who), {className: 'who'}), words]);
+  if (why) item.append(Object.assign(element('span', why), {className: 'why'}));
+  if (row) item.title = `line ${row}`;
+  return item;
+}
+
+function forgetDifference() {
+  delete byId('change').dataset.is;
+  byId('change-said').textContent = 'Change the text: the run follows while you type, and the effect of your change ' +
+    'is shown here.';
+  byId('compare').querySelector('pre').textContent = 'There is no run yet to compare with.';
+}
+
+/** Draws and shows differences from now on. */
+export function beginDifferences() {
+  overlays.push(drawDifference);
+  byId('change-show').addEventListener('click', goToDifference);
+  // (a run that isn't compared yet has no marks of the last comparison)
+  reactions.shown.push(() => Object.assign(differs, {first: null, parts: new Map()}));
+  reactions.judged.push(({difference}, against) => {
+    if (difference || against === 0) showDifference(difference, Boolean(studio.pinned));
+  });
+}
+
+/** Brings the first difference into view, and selects its line. */
+export function goToDifference() {
   const pane = panes[0], {first} = differs;
   if (!first || !pane || first.mote >= pane.run.begins.length) return;
   const {run} = pane, {mote} = first, from = run.traceStart[mote], to = run.traceStart[mote + 1];
@@ -55,8 +84,8 @@ function goToDifference() {
   redraw();
 }
 
-/** On the lanes: a line at the first difference, a flag at its mote, and a stroke in each lane from where it parts. */
-overlays.push(pane => {
+/** Draws a line at the first difference, a flag at its mote, and a stroke in each lane from its own one on. */
+function drawDifference(pane) {
   const {first, parts} = differs, c = pane.context;
   if (!first) return;
   c.save();
@@ -78,7 +107,7 @@ overlays.push(pane => {
     drawFlag(pane, x, first);
   }
   c.restore();
-});
+}
 
 function drawFlag(pane, x, first) {
   if (first.mote >= pane.order.length) return;

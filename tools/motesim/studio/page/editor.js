@@ -1,18 +1,23 @@
-// The text: by CodeMirror, where Debian's package is installed, else in a plain text area.
-class Editor {
-  constructor(changed) {
+// The editor of the text: CodeMirror, if Debian's package is installed, else a plain text area.
+import {byId} from '../../timeline/page/dom.js';
+import {defineMode} from './notation.js';
+import {offsetOf, replacements} from './text.js';
+
+export class Editor {
+  /** `changed` is called after each change by the reader; `words` are those of the notation. */
+  constructor(changed, words) {
     this.area = byId('text');
     this.marks = [];
     this.isQuiet = false;
-    if (window.CodeMirror) this.begin(changed);
+    if (window.CodeMirror) this.begin(changed, words);
     else {
       byId('no-editor').hidden = false;
       this.area.addEventListener('input', changed);
     }
   }
 
-  begin(changed) {
-    defineMode();
+  begin(changed, words) {
+    defineMode(CodeMirror, words);
     this.mirror = CodeMirror.fromTextArea(this.area, {
       mode: 'motes', theme: 'motes', lineNumbers: true, matchBrackets: true, autoCloseBrackets: '(){}[]""',
       styleActiveLine: true, indentUnit: 2, tabSize: 2, lineSeparator: '\n', undoDepth: 1000,
@@ -29,7 +34,7 @@ class Editor {
 
   get text() { return this.mirror ? this.mirror.getValue('\n') : this.area.value; }
 
-  /** Another text, with which undoing begins anew. */
+  /** Replaces the text by another one, and forgets what could be undone. */
   set(text) {
     this.clear();
     if (!this.mirror) {
@@ -44,7 +49,7 @@ class Editor {
     this.isQuiet = false;
   }
 
-  /** Changes of stretches of the text, the last one first. What is selected and seen stays. */
+  /** Makes changes of the text, the last one first. What is selected and seen stays. */
   apply(changes) {
     if (this.mirror) {
       this.mirror.operation(() => {
@@ -52,27 +57,22 @@ class Editor {
       });
       return;
     }
-    const rows = this.area.value.split('\n'), begins = [0], {scrollTop} = this.area;
-    for (const row of rows) begins.push(begins[begins.length - 1] + row.length + 1);
-    const place = ([line, column]) => Math.min(begins[line] + column, this.area.value.length);
-    for (const {from, to, text} of changes) this.area.setRangeText(text, place(from), place(to));
+    const whole = this.area.value, {scrollTop} = this.area;
+    for (const {from, to, text} of changes) this.area.setRangeText(text, offsetOf(whole, from), offsetOf(whole, to));
     this.area.scrollTop = scrollTop;
     this.area.dispatchEvent(new Event('input'));
   }
 
-  /** Puts a piece of the text in the place of another wherever it stands. */
+  /** Replaces a piece of the text by another one everywhere, and selects the first. */
   replace(old, text) {
-    const whole = this.text, changes = [];
-    for (let from = whole.indexOf(old); from >= 0; from = whole.indexOf(old, from + old.length)) {
-      changes.unshift({from: lineAndColumn(whole, from), to: lineAndColumn(whole, from + old.length), text});
-    }
+    const changes = replacements(this.text, old, text);
     if (!changes.length) return;
     this.apply(changes);
     const [line, column] = changes[changes.length - 1].from;
     this.goTo(line, column, text.length);
   }
 
-  /** Marks a fault: its line, the column at which it begins and the one at which it ends. */
+  /** Marks an error: its line, and the columns at which it begins and ends. */
   mark([line, from, to]) {
     this.clear();
     this.place = [line, from, to];
@@ -91,7 +91,7 @@ class Editor {
     this.marked = null;
   }
 
-  /** Brings a place into view, and selects so many signs of it. */
+  /** Brings a place into view, and selects `length` characters there. */
   goTo(line, column, length = 0) {
     if (this.mirror) {
       this.mirror.setSelection({line, ch: column}, {line, ch: column + length});
@@ -99,17 +99,12 @@ class Editor {
       this.mirror.focus();
       return;
     }
-    const rows = this.area.value.split('\n'), begin = rows.slice(0, line).reduce((sum, row) => sum + row.length + 1, 0);
+    const begin = offsetOf(this.area.value, [line, column]);
     this.area.focus();
-    this.area.setSelectionRange(begin + column, begin + column + length);
+    this.area.setSelectionRange(begin, begin + length);
   }
 
   refresh() { if (this.mirror) this.mirror.refresh(); }
 }
 
 const at = ([line, ch]) => ({line, ch});
-
-function lineAndColumn(text, offset) {
-  const before = text.slice(0, offset).split('\n');
-  return [before.length - 1, before[before.length - 1].length];
-}

@@ -1,8 +1,23 @@
-// Faults that break what is expected: a search that goes on while the reader goes on, and what it found.
-const POLL = 300, SHOWN_SETS = 12;
-const faults = {number: 0, found: null, isGoing: false, timer: 0, shown: ''};
+// The search for faults that break expectations: it runs while the reader works, and shows what it found.
+import {byId, element, makeButton, table} from '../../timeline/page/dom.js';
+import {count} from '../../timeline/page/words.js';
+import {goToDifference} from './difference.js';
+import {opening} from './files.js';
+import {ask, attempt} from './link.js';
+import {say, unsay} from './notices.js';
+import {pin, runNow, unpin} from './running.js';
+import {studio} from './state.js';
+import {labelTab} from './tabs.js';
 
-function beginFaults(kinds) {
+const POLL = 300, SHOWN_SETS = 12;
+export const faults = {number: 0, found: null, isGoing: false, timer: 0, shown: ''};
+
+/** Offers kinds of faults, and searches from now on. */
+export function beginFaults(kinds) {
+  opening.push(() => {
+    stopSearch('');
+    forgetFaults();
+  });
   const box = byId('faults-kinds');
   for (const [kind, words] of kinds) {
     const input = element('input'), label = element('label', '', [input, ` ${kind}`]);
@@ -16,7 +31,7 @@ function beginFaults(kinds) {
   });
 }
 
-/** Says how the search is, and what its button does. */
+/** Shows the state of the search, and what its button does. */
 function showSearch(isGoing, words) {
   faults.isGoing = isGoing;
   byId('faults-search').textContent = isGoing ? 'Stop' : 'Search';
@@ -27,24 +42,24 @@ function showSearch(isGoing, words) {
 async function searchNow() {
   const kinds = [...byId('faults-kinds').querySelectorAll('input:checked')].map(it => it.value);
   const {where, name} = studio.document;
-  const said = await ask('search', {text: editor.text, where, name, saved: studio.saved, kinds,
+  const begun = await ask('search', {text: studio.editor.text, where, name, saved: studio.saved, kinds,
     at_most: Number(byId('faults-most').value)});
-  faults.number = said.number;
+  faults.number = begun.number;
   forgetFaults();
   byId('faults-bar').removeAttribute('value');
-  showSearch(true, 'The run without a fault is being looked at.');
+  showSearch(true, 'The run without faults is being checked.');
   labelTab('faults', 'Faults …');
-  watchSearch(said.number);
+  watchSearch(begun.number);
 }
 
-/** Asks how far the search is, until it is over or another one begins. */
+/** Asks for the progress of the search until it is over or another one begins. */
 async function watchSearch(number) {
   if (!faults.isGoing || number !== faults.number) return;
-  const said = await attempt(() => ask('searched', {number}));
+  const state = await attempt(() => ask('searched', {number}));
   if (!faults.isGoing || number !== faults.number) return;
-  if (!said) return showSearch(false, '');
-  if (said.over) return endSearch(said);
-  const {done, sets, runs, found} = said.progress;
+  if (!state) return showSearch(false, '');
+  if (state.over) return endSearch(state);
+  const {done, sets, runs, found} = state.progress;
   if (sets) {
     byId('faults-bar').value = done / sets;
     showSearch(true, `${done} of ${sets} sets, ${count(runs, 'run')}, ${found} found`);
@@ -60,8 +75,8 @@ function endSearch({fault, found}) {
   showFound(found);
 }
 
-/** Stops the search that goes on, if there is one. */
-function stopSearch(why) {
+/** Stops the search, if one runs, and says why. */
+export function stopSearch(why) {
   if (!faults.isGoing) return;
   clearTimeout(faults.timer);
   labelTab('faults', 'Faults');
@@ -74,7 +89,7 @@ function forgetFaults() {
   byId('faults-found').replaceChildren();
 }
 
-/** What was covered, what holds, and a table of what breaks what. */
+/** Shows what the search covered, and a table of what breaks and what holds. */
 function showFound({covered_lines: lines, notes, holds, broken, found}) {
   const box = byId('faults-found');
   box.replaceChildren(...[...notes, ...lines].map(line => element('p', line)));
@@ -84,8 +99,7 @@ function showFound({covered_lines: lines, notes, holds, broken, found}) {
     rows.push(element('tr', '', [element('td', '✓ holds'), element('td', sentence)]));
     rows[rows.length - 1].className = 'holds';
   }
-  const head = element('tr', '', ['fault', 'expectation', ''].map(name => element('th', name)));
-  box.append(element('table', '', [element('thead', '', [head]), element('tbody', '', rows)]));
+  box.append(table(['fault', 'expectation', ''], rows));
 }
 
 /** The rows of one expectation that is broken. */
@@ -93,9 +107,9 @@ function rowsOf(sentence, found) {
   const sets = found.map((it, index) => ({it, index})).filter(({it}) => it.expectations.includes(sentence));
   const rows = sets.slice(0, SHOWN_SETS).map(({it, index}, place) => {
     const show = makeButton(`✗ ${it.faults.join('; ')}`, () => attempt(() => showCounterExample(index)));
-    show.title = 'Show the run with this fault beside the run without it';
+    show.title = 'Show the run with this fault, compared with the run without it';
     const small = makeButton('Shrink', () => attempt(() => showSmall(small, index, sentence)));
-    small.title = 'Show the smallest scenario in which this fault breaks it';
+    small.title = 'Show the smallest scenario in which this fault breaks the expectation';
     const cells = [[show], place ? [] : [sentence], [small]];
     return element('tr', '', cells.map(inside => element('td', '', inside)));
   });
@@ -104,13 +118,13 @@ function rowsOf(sentence, found) {
   return rows;
 }
 
-/** Shows the run with a fault in place of the text's, which is pinned, at the first difference. */
+/** Pins the text's run, and shows the run with a fault at the first difference from it. */
 async function showCounterExample(index) {
   const {faults: words} = faults.found.found[index];
   const {text} = await ask('counter-example', {number: faults.number, index});
   await runNow();
   if (!studio.pinned) pin();
-  await showText(text, `This is the run with a fault: ${words.join('; ')}. The text is as it was.`);
+  await showText(text, `This is the run with a fault: ${words.join('; ')}. Your text is unchanged.`);
   goToDifference();
 }
 
@@ -120,7 +134,7 @@ async function showSmall(button, index, sentence) {
   try {
     const {text} = await ask('shrink', {number: faults.number, index, sentence});
     unpin();
-    const words = 'This is the smallest scenario in which the fault breaks the expectation. The text is as it was.';
+    const words = 'This is the smallest scenario in which the fault breaks the expectation. Your text is unchanged.';
     await showText(text, words);
   } finally {
     button.disabled = false;
@@ -128,16 +142,16 @@ async function showSmall(button, index, sentence) {
   }
 }
 
-/** Runs another text than that of the editor, which can be taken over. */
+/** Runs another text than that of the editor, and offers to take it over. */
 async function showText(text, words) {
   faults.shown = text;
   await runNow(text);
   say('shown', words, [['Back to the text', () => {
     unpin();
     runNow();
-  }], ['Put it into the text', () => {
+  }], ['Take it over into the text', () => {
     unsay('shown');
     unpin();
-    editor.replace(editor.text, text);
+    studio.editor.replace(studio.editor.text, text);
   }]]);
 }

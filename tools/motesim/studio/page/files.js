@@ -1,21 +1,26 @@
 // Files: opening, saving, and the page of the run as one file.
+import {byId, element, handOut} from '../../timeline/page/dom.js';
+import {goToDifference} from './difference.js';
+import {ask, attempt} from './link.js';
+import {question, say, showState, unsay} from './notices.js';
+import {pin, runNow, unpin} from './running.js';
+import {isDirty, studio} from './state.js';
 
-const isDirty = () => studio.document && editor.text !== studio.saved;
+/** What other modules do with a document that is opened: functions. */
+export const opening = [];
 
-/** Shows a document that the server has read, and, if there is a text to compare it with, where its run differs. */
-async function take(opened, against) {
+/** Shows a document, and, if there is a text to compare it with, the first difference between their runs. */
+export async function take(opened, against) {
   studio.document = opened.document;
   studio.saved = opened.document.text;
   studio.maySave = opened.may_save;
   studio.fresh = true;
-  editor.set(opened.document.text);
+  studio.editor.set(opened.document.text);
   nameDocument();
-  showGuide(opened);
+  for (const react of opening) react(opened);
   unsay('changed');
   unsay('refused');
   unpin();
-  stopSearch('');
-  forgetFaults();
   if (typeof against !== 'string') return void runNow();
   await runNow(against);
   pin();
@@ -23,14 +28,16 @@ async function take(opened, against) {
   goToDifference();
 }
 
-function nameDocument() {
+/** Shows the name of the document, and whether it is saved. */
+export function nameDocument() {
   const {where, name} = studio.document;
   byId('open').value = `${where} ${name}`;
   document.title = `${isDirty() ? '• ' : ''}${name} – motesim studio`;
   byId('save').disabled = !isDirty() && studio.document.stamp !== '';
 }
 
-function fillOpen({examples, files, document: {where, name}}) {
+/** Lists the files that can be opened. */
+export function fillOpen({examples, files, document: {where, name}}) {
   const box = byId('open');
   const group = (label, items) => {
     const made = element('optgroup', '', items);
@@ -52,30 +59,21 @@ function fillOpen({examples, files, document: {where, name}}) {
   box.append(group('Examples', sorted.map(it => option('example', it.name, it.title))));
 }
 
-async function openChosen() {
+/** Opens the chosen file. */
+export async function openChosen() {
   const [where, ...rest] = byId('open').value.split(' '), name = rest.join(' ');
   if (isDirty()) {
-    const words = `What you changed in ${studio.document.name} is not saved.`;
-    const [answer] = await question(words, ['Open without saving', 'Stay']);
+    const words = `Your changes in ${studio.document.name} are not saved.`;
+    const [answer] = await question(words, ['Open without saving', 'Cancel']);
     if (answer !== 'Open without saving') return nameDocument();
   }
   await attempt(async () => take(await ask('open', {where, name})));
 }
 
-/** Does something of which the server may say that it can't be done. */
-async function attempt(work) {
-  try {
-    unsay('refused');
-    return await work();
-  } catch (fault) {
-    if (fault instanceof Refused) say('refused', fault.message); else if (!(fault instanceof Lost)) throw fault;
-    return null;
-  }
-}
-
-async function save(over = false) {
+/** Writes the document into its file. */
+export async function save(over = false) {
   if (!studio.maySave) return saveAs();
-  const text = editor.text, said = await attempt(() => ask('save', {...studio.document, text, over}));
+  const {text} = studio.editor, said = await attempt(() => ask('save', {...studio.document, text, over}));
   if (!said) return;
   if (said.changed) return askOver(said.changed);
   wrote(said, text);
@@ -102,36 +100,34 @@ function wrote({stamp, name, where}, text) {
 }
 
 async function askOver(words) {
-  const [answer] = await question(`${words}. Which text shall stay?`,
+  const [answer] = await question(`${words}. Which text do you want to keep?`,
     ['Write mine over it', 'Read the other', 'Neither']);
   if (answer === 'Write mine over it') return save(true);
   const {where, name} = studio.document;
   if (answer === 'Read the other') await attempt(async () => take(await ask('open', {where, name})));
 }
 
-async function saveAs() {
+/** Writes the document under a new name. */
+export async function saveAs() {
   const {name} = studio.document, wish = studio.maySave ? name.replace(/\.toml$/, '_2.toml') : `my_${name}`;
-  const [answer, written] = await question(`A new file, in ${studio.folder}:`, ['Save', 'Leave it'], wish);
+  const [answer, written] = await question(`A new file, in ${studio.folder}:`, ['Save', 'Cancel'], wish);
   if (answer !== 'Save' || !written.trim()) return;
-  const text = editor.text, said = await attempt(() => ask('save', {...studio.document, text, new: written.trim()}));
+  const {text} = studio.editor;
+  const said = await attempt(() => ask('save', {...studio.document, text, new: written.trim()}));
   if (said && said.changed) return say('refused', said.changed);
   if (said) wrote(said, text);
 }
 
 /** Hands the reader the page of the run that is shown. */
-async function exportPage() {
+export async function exportPage() {
   const {name} = studio.document;
   const page = await attempt(() => ask('export', {number: studio.number, title: name}));
   if (!page) return;
-  const link = element('a');
-  link.href = URL.createObjectURL(new Blob([page], {type: 'text/html'}));
-  link.download = name.replace(/\.toml$/, '.html');
-  link.click();
-  setTimeout(() => URL.revokeObjectURL(link.href), 10000);
+  handOut(name.replace(/\.toml$/, '.html'), [page], 'text/html');
 }
 
-/** What the beat tells: whether the file was changed elsewhere. */
-function lookedAt({stamp}, asked) {
+/** Asks the reader what to do if the file was changed elsewhere. */
+export function lookedAt({stamp}, asked) {
   const it = studio.document;
   if (!it || asked.name !== it.name || asked.where !== it.where) return;
   if (stamp === null || stamp === it.stamp || studio.knownStamp === stamp) return;

@@ -1,7 +1,11 @@
-// What to look at in an example, and what to try.
+// The guide of an example: what to look at, and what to try.
+import {byId, element, makeButton} from '../../timeline/page/dom.js';
+import {say} from './notices.js';
+import {studio} from './state.js';
+import {oneLine} from './text.js';
 
-/** Text with `code` in it. */
-function words(name, text, className = '') {
+/** An element with a text in which `code` is code. */
+function marked(name, text, className = '') {
   const made = element(name);
   if (className) made.className = className;
   text.split('`').forEach((part, i) => {
@@ -19,35 +23,32 @@ function tryItem({about, replace}) {
     said.append(element('code', oneLine(old)), ' → ', text ? element('code', oneLine(text)) : 'nothing');
   });
   const button = makeButton('Make this change', () => {
-    const missing = pairs.find(([old]) => !editor.text.includes(old));
+    const missing = pairs.find(([old]) => !studio.editor.text.includes(old));
     if (missing) return say('refused',
-      `The text has no ${oneLine(missing[0])} any more; undo (Ctrl Z), or open the example again.`);
-    for (const [old, text] of pairs) editor.replace(old, text);
+      `The text doesn't contain ${oneLine(missing[0])} any more. Undo (Ctrl Z), or open the example again.`);
+    for (const [old, text] of pairs) studio.editor.replace(old, text);
   });
   const item = element('div', '', [said, button]);
   item.className = 'try';
   return item;
 }
 
-const oneLine = text => {
-  const line = text.trim().replace(/\s+/g, ' ');
-  return line.length > 90 ? `${line.slice(0, 88)}…` : line;
-};
-
-function showGuide({document: {name}, guide, changes}) {
+/** Shows the guide of a document. */
+export function showGuide({document: {name}, guide, changes}) {
   const box = byId('guide'), kinds = {look: 'Look at', task: 'Try'};
   const parts = [element('h2', name)];
   const looks = guide.filter(it => it.kind === 'look' || it.kind === 'task');
   if (!guide.length) {
-    parts.push(words('p', 'The run follows the text while you type. Above the lanes stands what your last change ' +
-      'did. On the map, drag a mote, or click a line between two. Under Steps you go through the run event by event.'));
+    parts.push(marked('p', 'The run follows the text while you type. The effect of your last change is shown above ' +
+      'the lanes. On the map, drag a mote, or click a line between two. Under Steps you go through the run event by ' +
+      'event.'));
   }
   if (changes.length) {
-    parts.push(element('h3', 'One click, and see what it does'));
+    parts.push(element('h3', 'Changes with one click'));
     for (const change of changes.slice(0, 3)) parts.push(tryItem(change));
   }
   for (const it of looks) {
-    const item = words('div', it.text[0].toUpperCase() + it.text.slice(1), it.kind === 'task' ? 'task' : '');
+    const item = marked('div', it.text[0].toUpperCase() + it.text.slice(1), it.kind === 'task' ? 'task' : '');
     item.prepend(element('strong', `${kinds[it.kind]}: `));
     parts.push(item);
   }
@@ -58,7 +59,7 @@ function showGuide({document: {name}, guide, changes}) {
   const rest = guide.filter(it => !looks.includes(it));
   if (rest.length) parts.push(element('h3', 'The protocol'));
   for (const it of rest) {
-    parts.push(it.kind === 'code' ? element('pre', '', [element('code', it.text)]) : words('p', it.text));
+    parts.push(it.kind === 'code' ? element('pre', '', [element('code', it.text)]) : marked('p', it.text));
   }
   box.replaceChildren(...parts);
   box.scrollTop = 0;

@@ -1,32 +1,32 @@
 // The tab *Log*: the lines of all motes in chronological order, filtered by the words of a search or by a sentence.
-const MOST_LOGGED = 200;
-const logged = {run: null, lines: null, first: 0, key: ''};
+import {KINDS} from '../../timeline/page/data.js';
+import {chooseLine} from '../../timeline/page/details.js';
+import {byId, element, lineButton, makeButton} from '../../timeline/page/dom.js';
+import {chosen, overlays, panes, play} from '../../timeline/page/stage.js';
+import {count} from '../../timeline/page/words.js';
+import {orderOf, placesOf} from './chronology.js';
+import {ask, attempt} from './link.js';
+import {studio} from './state.js';
+import {searchesOf} from './stops.js';
 
-/** The lines that the filter leaves, by moment; null if neither a search nor a sentence reads so. */
+const MOST_LOGGED = 200;
+const logged = {run: null, lines: null, first: 0};
+
+/** The lines that a filter leaves, in chronological order; null if it is neither a search nor a sentence. */
 async function linesOfLog(run, text) {
   const {order, rank} = orderOf(run);
   if (!text) return order;
-  const found = new Set();
-  let isKnown = true;
-  for (const wish of searchesOf(text)) {
-    const [lines] = findLines(run, wish);
-    if (lines) for (const line of lines) found.add(rank[line]); else isKnown = false;
-  }
-  if (isKnown) return Uint32Array.from(found).sort().map(place => order[place]);
-  const said = await ask('lines', {number: studio.number, sentence: text});
-  if (said.said) {
-    byId('log-counts').textContent = said.said;
+  const [places] = placesOf(run, searchesOf(text));
+  if (places) return places.map(place => order[place]);
+  const answer = await ask('lines', {number: studio.number, sentence: text});
+  if (answer.said) {
+    byId('log-counts').textContent = answer.said;
     return null;
   }
-  const {traceStart} = run;
-  let mote = 0;
-  return Uint32Array.from([...said.rows].sort((a, b) => a - b).map(row => {
-    while (mote + 1 < run.begins.length && traceStart[mote + 1] + mote + 2 < row) mote++;
-    return rank[row - mote - 2];
-  })).sort().map(place => order[place]);
+  return Uint32Array.from(answer.rows, row => rank[run.atRow(row).line]).sort().map(place => order[place]);
 }
 
-/** How many lines there are of each kind. */
+/** How many lines there are of each kind, in words. */
 function countsOf(run, lines) {
   const kinds = new Array(KINDS.length).fill(0);
   for (const line of lines) kinds[run.kind[line]]++;
@@ -34,7 +34,7 @@ function countsOf(run, lines) {
     KINDS.map((kind, k) => kinds[k] ? `${kind} ${kinds[k].toLocaleString('en')}` : '').filter(Boolean).join(', ');
 }
 
-/** Reads the filter, and shows the lines from the moment that is shown on. */
+/** Reads the filter, and shows lines from the current moment on. */
 async function showLog() {
   const pane = panes[0];
   if (!pane) return;
@@ -54,7 +54,7 @@ function showLogFrom(first) {
   byId('log-later').disabled = last === lines.length;
   byId('log-lines').replaceChildren(...Array.from(lines.subarray(first, last), line => {
     const mote = run.moteOf(line);
-    return element('li', '', [lineButton(pane, `mote ${mote}`, run.text(line), '', chosen && chosen.line === line,
+    return element('li', '', [lineButton(`mote ${mote}`, run.text(line), '', chosen.line === line,
       () => {
         chooseLine(pane, line, true);
         showLogFrom(logged.first);
@@ -62,7 +62,7 @@ function showLogFrom(first) {
   }));
 }
 
-function beginLog() {
+export function beginLog() {
   const form = element('form'), input = element('input');
   form.className = 'bar';
   Object.assign(input, {id: 'log-asked', type: 'text', spellcheck: false, autocomplete: 'off', size: 36,
@@ -70,7 +70,8 @@ function beginLog() {
   const button = element('button', 'Show');
   button.type = 'submit';
   const move = (name, by, id) => Object.assign(makeButton(name,
-    () => showLogFrom(Math.max(0, Math.min(logged.lines.length - 1, logged.first + by * MOST_LOGGED)))), {id, disabled: true});
+    () => showLogFrom(Math.max(0, Math.min(logged.lines.length - 1, logged.first + by * MOST_LOGGED)))),
+  {id, disabled: true});
   form.append(Object.assign(element('label', 'Lines'), {htmlFor: 'log-asked'}), input, button,
     move('‹ earlier', -1, 'log-earlier'), move('later ›', 1, 'log-later'));
   form.addEventListener('submit', event => {
@@ -79,7 +80,7 @@ function beginLog() {
   });
   byId('log').append(form, Object.assign(element('p'), {id: 'log-counts'}),
     Object.assign(element('ol'), {id: 'log-lines'}));
-  // (another run, or the tab is opened: the log is that of the run which is shown)
+  // (the tab was opened, or another run is shown)
   overlays.push(pane => {
     if (!byId('log').hidden && logged.run !== pane.run) {
       logged.run = pane.run;

@@ -1,13 +1,24 @@
-// The map as a place to change the scenario: motes are moved, added and removed, and ways lose packets. What is done
-// there changes the text, which stays what counts.
-const ground = {adding: false, way: null, held: null};
+// The map as a way to change the scenario: motes are moved, added and removed, and links lose packets. Each of these
+// changes the text.
+import {byId, element, makeButton} from '../../timeline/page/dom.js';
+import {redraw} from '../../timeline/page/draw.js';
+import {colours, path, stroke} from '../../timeline/page/forms.js';
+import {delayOf, findHearers} from '../../timeline/page/index.js';
+import {chosen, mapOverlays, maps, overlays, panes} from '../../timeline/page/stage.js';
+import {count} from '../../timeline/page/words.js';
+import {Lost, Refused, ask} from './link.js';
+import {say} from './notices.js';
+import {reactions, runNow} from './running.js';
+import {studio} from './state.js';
+
+export const ground = {adding: false, way: null, held: null};
 
 /** Asks for a change of the text, and makes it. */
-async function editText(edit) {
-  const text = editor.text;
+export async function editText(edit) {
+  const {editor} = studio, {text} = editor;
   try {
     const {changes, said} = await ask('edit', {text, edit});
-    if (editor.text !== text) throw new Refused('The text was changed meanwhile; do it once more.');
+    if (editor.text !== text) throw new Refused('The text was changed meanwhile. Do it again.');
     byId('map-said').textContent = said;
     if (changes.length) {
       editor.apply(changes);
@@ -21,7 +32,7 @@ async function editText(edit) {
   }
 }
 
-/** The motes stand again where the run has them. */
+/** Puts the motes back to the places that they have in the run. */
 function restoreMotes() {
   const map = maps[0];
   if (!map) return;
@@ -39,7 +50,7 @@ const groundEdits = {
     return ground.adding || !map.run.places ? -1 : map.moteNear(x, y);
   },
 
-  /** The mote follows the pointer; who hears it is shown anew. */
+  /** Moves the mote with the pointer, and shows who hears it there. */
   drag(mote, x, y) {
     const map = maps[0], {run} = map;
     if (!ground.held) ground.held = {mote, place: run.places[mote]};
@@ -57,7 +68,7 @@ const groundEdits = {
     editText({what: 'move', mote, x: toX, y: toY});
   },
 
-  /** A click: a new mote where one is wanted, else the way between two motes. */
+  /** Reacts to a click: adds a mote if one is wanted, else shows the link between two motes. */
   click(x, y, mote) {
     const map = maps[0];
     if (ground.adding) {
@@ -72,7 +83,7 @@ const groundEdits = {
   },
 };
 
-/** The program of the mote that stands nearest. */
+/** The program of the nearest mote. */
 function programNear(map, x, y) {
   const {run} = map;
   let best = Infinity, found = 0;
@@ -86,11 +97,12 @@ function programNear(map, x, y) {
   return run.programs[run.begins[found]];
 }
 
-function setAdding(isAdding) {
+/** Waits for the place of a new mote, or stops waiting. */
+export function setAdding(isAdding) {
   ground.adding = isAdding;
   byId('add').setAttribute('aria-pressed', String(isAdding));
   maps[0].canvas.style.cursor = isAdding ? 'crosshair' : '';
-  if (isAdding) byId('map-said').textContent = 'Click on the map where the new mote shall stand.';
+  if (isAdding) byId('map-said').textContent = 'Click the place of the new mote on the map.';
 }
 
 /** Delay and losses between two motes, in both directions. */
@@ -122,8 +134,8 @@ function wayOf(run, s, r) {
   return box;
 }
 
-/** On the map: the way that is selected. */
-mapOverlays.push(map => {
+/** Draws the selected link on the map. */
+function drawWay(map) {
   const {way} = ground;
   if (!way || Math.max(...way) >= map.run.begins.length) return;
   const [s, r] = way, c = map.context;
@@ -132,10 +144,10 @@ mapOverlays.push(map => {
   path(c, [map.x(s), map.y(s), map.x(r), map.y(r)]);
   stroke(c, colours.mark, 5);
   c.restore();
-});
+}
 
-/** After a run: the map can be changed, and what is shown of a way is of this run. */
-function beginMotes() {
+/** Lets the map of a new run be changed, and shows what this run has of the selected link. */
+function renewMotes() {
   const map = maps[0];
   map.edits = map.run.places ? groundEdits : null;
   ground.held = null;
@@ -146,11 +158,19 @@ function beginMotes() {
   if (again) again.focus();
 }
 
-/** The button for the mote that is selected. */
+/** Names the button that removes the selected mote. */
 function nameRemove() {
-  const button = byId('remove'), mote = chosen ? chosen.mote : -1;
+  const button = byId('remove'), {mote} = chosen;
   button.disabled = mote < 0 || panes[0].run.begins.length < 2;
   const name = mote < 0 ? 'Remove the mote' : `Remove mote ${mote}`;
   if (button.textContent !== name) button.textContent = name;
 }
-overlays.push(nameRemove);
+
+/** Lets the map change the text from now on. */
+export function beginMotes() {
+  overlays.push(nameRemove);
+  mapOverlays.push(drawWay);
+  reactions.shown.push(renewMotes);
+  byId('add').addEventListener('click', () => maps.length && setAdding(!ground.adding));
+  byId('remove').addEventListener('click', () => chosen.pane && editText({what: 'remove', mote: chosen.mote}));
+}

@@ -1,36 +1,43 @@
-// The colours of a scenario's text: TOML by the editor's own mode, and within its texts the notation of programs. What
-// a statement does has the colour that it has on the lanes.
-// (NOTATION has the words of each colour, DECLARES those in front of a name; the server puts both in front of this.)
-const STYLE_OF = new Map(Object.entries(NOTATION).flatMap(([style, words]) => words.map(word => [word, style])));
+// The colours of a scenario's text: TOML by the editor's own mode, and the notation of programs in its strings. A
+// statement has the colour of its marks on the lanes.
 
-// What the editor has to know of a program, and of the tables around it.
+// What the editor needs to know of a program, and of the tables around it.
 const PROGRAM = {lineComment: '//', electricInput: /^\s*\}$/}, TABLES = {lineComment: '#'};
 
-/** One word or sign of a program. */
-function notationToken(stream, state) {
-  if (stream.eatSpace()) return null;
-  if (stream.match('//')) {
-    // (a program on one line of TOML ends with its quote)
-    if (state.quote.length > 1) stream.skipToEnd(); else while (!stream.eol() && stream.peek() !== state.quote)
-      stream.next();
-    return 'comment';
-  }
-  const word = stream.match(/^[A-Za-z0-9_]+/);
-  if (word) {
-    const before = state.before;
-    state.before = word[0];
-    if (/^[0-9]/.test(word[0])) return /^(0|[1-9][0-9]*)$/.test(word[0]) ? 'number' : 'error';
-    if (DECLARES.includes(before)) return 'def';
-    return STYLE_OF.get(word[0]) || (/[A-Z]/.test(word[0]) ? 'error' : 'variable');
-  }
-  const sign = stream.next();
-  state.before = sign;
-  if (sign === '{') state.depth++;
-  if (sign === '}') state.depth = Math.max(0, state.depth - 1);
-  return '{}();,=!+-*/%<>&|'.includes(sign) ? 'operator' : 'error';
+/** The tokens of programs. `colours` has the words of each colour, `naming` those in front of a name.
+
+    The result takes a stream and a state {quote, before, depth}, as CodeMirror's modes do, and returns a colour. */
+export function notationTokens({colours, naming}) {
+  const colourOf = new Map(Object.entries(colours).flatMap(([colour, words]) => words.map(word => [word, colour])));
+  return (stream, state) => {
+    if (stream.eatSpace()) return null;
+    if (stream.match('//')) return comment(stream, state);
+    const word = stream.match(/^[A-Za-z0-9_]+/);
+    if (word) {
+      const {before} = state;
+      state.before = word[0];
+      if (/^[0-9]/.test(word[0])) return /^(0|[1-9][0-9]*)$/.test(word[0]) ? 'number' : 'error';
+      if (naming.includes(before)) return 'def';
+      return colourOf.get(word[0]) || (/[A-Z]/.test(word[0]) ? 'error' : 'variable');
+    }
+    const sign = stream.next();
+    state.before = sign;
+    if (sign === '{') state.depth++;
+    if (sign === '}') state.depth = Math.max(0, state.depth - 1);
+    return '{}();,=!+-*/%<>&|'.includes(sign) ? 'operator' : 'error';
+  };
 }
 
-function defineMode() {
+function comment(stream, state) {
+  // (a program on one line of TOML ends with its quote)
+  if (state.quote.length > 1) stream.skipToEnd();
+  else while (!stream.eol() && stream.peek() !== state.quote) stream.next();
+  return 'comment';
+}
+
+/** Defines CodeMirror's mode `motes`. */
+export function defineMode(CodeMirror, words) {
+  const notationToken = notationTokens(words);
   CodeMirror.defineMode('motes', config => {
     const toml = CodeMirror.getMode(config, 'toml');
     return {

@@ -1,71 +1,75 @@
-// The state of a mote at a step, as the server's replay has it: variables, waits, timers and the queue; and values of
+// The state of a mote at a step, from the server's replay: variables, waits, timers and the queue; and values of
 // variables on the lanes.
-const states = {key: '', said: null, values: null, run: null};
+import {byId, element, makeButton} from '../../timeline/page/dom.js';
+import {redraw} from '../../timeline/page/draw.js';
+import {colours} from '../../timeline/page/forms.js';
+import {overlays, panes} from '../../timeline/page/stage.js';
+import {ask, attempt} from './link.js';
+import {studio} from './state.js';
 
-/** Asks for the state that the steps are at, and shows it when it is there. */
-async function showMoteState(pane, mote, line, key) {
-  const {run} = pane, asked = {number: studio.number, mote, row: run.numberOf(line, mote)};
-  states.key = key;
-  const said = await attempt(() => ask('state', asked));
-  if (!said || states.key !== key || steps.shown !== key) return;
-  states.said = said.said ? null : said;
-  const box = byId('state-cards');
-  if (said.said) return box.replaceChildren(card('State', [], said.said));
-  box.replaceChildren(...stateCards(said));
+/** The state that is shown, and the values on the lanes with their run. */
+export const states = {key: '', shown: null, values: null, run: null};
+
+/** A card with a title and items, or with a text if there are none. */
+export function card(title, items, empty) {
+  const made = element('div', '', [element('h3', title)]);
+  made.className = 'card';
+  const list = items.map(item => element('li', '', [item].flat()));
+  made.append(list.length ? element('ol', '', list) : element('p', empty));
+  return made;
 }
 
-/** The cards of a state. What the last step changed is marked. */
-function stateCards(said) {
-  if (said.halted) return [card('State', [], 'the mote has halted')];
+/** Asks for the state after a line, and shows it unless another one was asked for meanwhile. */
+export async function showMoteState(pane, mote, line, key) {
+  const {run} = pane, asked = {number: studio.number, mote, row: run.numberOf(line, mote)};
+  states.key = key;
+  const state = await attempt(() => ask('state', asked));
+  if (!state || states.key !== key) return;
+  states.shown = state.said ? null : state;
+  byId('state-cards').replaceChildren(...(state.said ? [card('State', [], state.said)] : stateCards(state)));
+}
+
+/** The cards of a state, with marks on what the next step changes. */
+function stateCards(state) {
+  if (state.halted) return [card('State', [], 'the mote has halted')];
   const cards = [];
-  for (const it of said.processes) {
+  for (const it of state.processes) {
     const variables = Object.entries(it.variables).map(([name, value]) => {
-      const isChanged = said.changed.includes(`${it.name}.${name}`), made = element('span', '', [
+      const isChanged = state.changed.includes(`${it.name}.${name}`), made = element('span', '', [
         element('code', name), ` = ${value}${isChanged ? ' (changed)' : ''}`]);
       if (isChanged) made.className = 'changed';
       return made;
     });
     cards.push(card(`Process ${it.name}`, [it.started ? it.waits : 'is not started', ...variables], ''));
   }
-  cards.push(card('Timers that run', said.timers.map(it =>
+  cards.push(card('Running timers', state.timers.map(it =>
     `${it.name} of ${it.process}: due at ${it.due}; set at ${it.set_at} in ${it.set_by}`), 'no timer runs'));
-  cards.push(card(`Event queue (${said.queue.length})`, said.queue.map(it =>
+  cards.push(card(`Event queue (${state.queue.length})`, state.queue.map(it =>
     `${it.event} ${it.word} for ${it.for}, posted at ${it.posted_at}`), 'the queue is empty'));
-  const semaphores = Object.entries(said.semaphores);
+  const semaphores = Object.entries(state.semaphores);
   if (semaphores.length) cards.push(card('Semaphores', semaphores.map(([name, value]) => `${name} = ${value}`), ''));
   return cards;
 }
 
-/** The next or the last line with which a call begins: a start or a take, of the mote selected or of all. */
-function stepCall(by) {
-  const pane = panes[0], {run} = pane, {order} = orderOf(run), now = rankNow(run);
-  const isOne = byId('step-of').value === 'one' && chosen;
-  let next = by > 0 ? Math.floor(now) + 1 : Math.ceil(now) - 1;
-  const isCall = line => (run.kind[line] === START || run.kind[line] === TAKE) &&
-    (!isOne || run.moteOf(line) === chosen.mote);
-  while (next >= 0 && next < order.length && !isCall(order[next])) next += by;
-  if (next >= 0 && next < order.length) chooseLine(pane, order[next], true);
-}
-
-/** Puts the values of variables on the lanes. */
+/** Writes the values of variables on the lanes. */
 async function showValues() {
   const names = byId('values-asked').value.trim(), pane = panes[0];
   if (!pane || !names) {
     states.values = null;
     return redraw();
   }
-  const said = await attempt(() => ask('values', {number: studio.number, names}));
-  if (!said) return;
-  byId('values-said').textContent = said.said || (said.more ? `${said.more} values more are not shown` : '');
-  const several = new Set((said.values || []).map(it => it[3])).size > 1;
+  const found = await attempt(() => ask('values', {number: studio.number, names}));
+  if (!found) return;
+  byId('values-said').textContent = found.said || (found.more ? `${found.more} more values are not shown` : '');
+  const values = found.values || [], several = new Set(values.map(it => it[3])).size > 1;
   states.run = pane.run;
-  states.values = (said.values || []).map(([mote, row, at, name, value]) =>
+  states.values = values.map(([mote, row, at, name, value]) =>
     ({mote, line: row ? row - mote - 2 : -1, at, words: several ? `${name} ${value}` : String(value)}));
   redraw();
 }
 
-// Values on the lanes: each at the line after which the variable got it.
-overlays.push(pane => {
+/** Draws values on the lanes, each at the line after which the variable got it. */
+function drawValues(pane) {
   if (!states.values || !pane.run.count) return;
   if (states.run !== pane.run) {
     states.run = pane.run;
@@ -88,12 +92,12 @@ overlays.push(pane => {
     c.fillText(words, x, y);
   }
   c.restore();
-});
+}
 
-/** The value of a variable under the pointer in the text, in the state that is shown. */
+/** Shows the value of the variable under the pointer in the text, in the state that is shown. */
 function hoverValue(event) {
-  const {mirror} = editor;
-  if (!mirror || !states.said) return;
+  const {mirror} = studio.editor;
+  if (!mirror || !states.shown) return;
   const place = mirror.coordsChar({left: event.clientX, top: event.clientY}), token = mirror.getTokenAt(place, true);
   const name = (token.string || '').trim();
   let process = '';
@@ -101,15 +105,17 @@ function hoverValue(event) {
     const found = mirror.getLine(row).match(/\bcode\s+([a-z][a-z0-9_]*)/);
     if (found) process = found[1];
   }
-  const owner = states.said.processes.find(it => it.name === process);
+  const owner = states.shown.processes.find(it => it.name === process);
   const isKnown = owner && Object.hasOwn(owner.variables, name);
-  const text = isKnown ? `${name} = ${owner.variables[name]} at mote ${states.said.mote}, moment ${states.said.at}` : '';
+  const {mote, at} = states.shown;
+  const text = isKnown ? `${name} = ${owner.variables[name]} at mote ${mote}, moment ${at}` : '';
   const box = mirror.getWrapperElement();
   if (box.title !== text) box.title = text;
 }
 
-/** The parts of the tab *Steps* on states. */
-function beginStates() {
+/** Adds the states to the tab *Steps*. */
+export function beginStates() {
+  overlays.push(drawValues);
   const bar = element('div'), input = Object.assign(element('input'), {id: 'values-asked', type: 'text',
     spellcheck: false, autocomplete: 'off', placeholder: 'newest'});
   bar.className = 'bar';

@@ -1,48 +1,58 @@
-// The tab *Why*: questions on the run, answered by the server.
+// The tab *Why*: questions about the run, which the server answers.
+import {chooseLine} from '../../timeline/page/details.js';
+import {byId, element, lineButton} from '../../timeline/page/dom.js';
+import {panes} from '../../timeline/page/stage.js';
+import {sayWhy, showChain, source} from '../../timeline/page/why.js';
+import {Lost, Refused, ask} from './link.js';
+import {studio} from './state.js';
+import {showTab} from './tabs.js';
 
-/** A chain as the server has it, with the places of its lines in the run. */
-function hopsOf(run, said) {
-  return said.chain.map(({mote, line: row, at, words, because, waited, how, for: wait}) =>
+/** The hops of a chain that the server found, with their lines in the run. */
+export function hopsOf({chain}) {
+  return chain.map(({mote, line: row, at, words, because, waited, how, for: wait}) =>
     ({line: how === 'start' ? -1 : row - mote - 2, mote, at, row, words, because, waited, wait: wait || ''}));
 }
 
-findChain = async (run, line) => {
-  const said = await ask('why', {number: studio.number, row: run.numberOf(line, run.moteOf(line))});
+/** The chain of a line, from the server. */
+async function askedChain(run, line) {
+  const answer = await ask('why', {number: studio.number, row: run.numberOf(line, run.moteOf(line))});
   showTab('why');
-  if (said.said) throw new Error(said.said);
-  return {hops: hopsOf(run, said), about: ''};
-};
+  if (answer.said) throw new Error(answer.said);
+  return {hops: hopsOf(answer), about: ''};
+}
 
-/** Answers the question that was written: with a chain, or with what came near. */
+/** Answers the question with a chain, or with what came near. */
 async function answerWhy() {
   const pane = panes[0], question = byId('why-asked').value.trim();
   if (!pane || !question) return;
-  let said;
+  let answer;
   try {
-    said = await ask('why', {number: studio.number, question});
+    answer = await ask('why', {number: studio.number, question});
   } catch (fault) {
     if (fault instanceof Lost || fault instanceof Refused) return;
     throw fault;
   }
-  if (said.said) return sayWhy(said.said);
-  if (said.chain) {
-    showChain(pane, hopsOf(pane.run, said), said.about || (said.holds ? '' : 'The sentence does not hold.'));
-    return chooseLine(pane, why.hops[0].line < 0 ? 0 : why.hops[0].line, true);
+  if (answer.said) return sayWhy(answer.said);
+  if (answer.chain) {
+    const hops = hopsOf(answer);
+    showChain(pane, hops, answer.about || (answer.holds ? '' : 'The sentence does not hold.'));
+    return chooseLine(pane, Math.max(0, hops[0].line), true);
   }
-  const items = said.motes.flatMap(({mote, misses}) => misses.map(it => missButton(pane, mote, it)));
-  sayWhy(`${said.about}. What came near:`, items);
+  const items = answer.motes.flatMap(({mote, misses}) => misses.map(it => missButton(pane, mote, it)));
+  sayWhy(`${answer.about}. What came near:`, items);
 }
 
 /** Something that came near, as a button if a line of a trace shows it. */
 function missButton(pane, mote, {words, line: row}) {
-  const {run} = pane, inTraces = row && row < run.numberOfPacket(0) - 1, text = `mote ${mote}: ${words}`;
-  if (!inTraces) return element('span', row ? `${text} (line ${row})` : text);
-  let owner = 0;
-  while (owner + 1 < run.begins.length && run.traceStart[owner + 1] + owner + 2 < row) owner++;
-  return lineButton(pane, `line ${row}`, text, '', false, () => chooseLine(pane, row - owner - 2, true));
+  const found = row ? pane.run.atRow(row) : null, text = `mote ${mote}: ${words}`;
+  const isInTrace = found && found.packet === undefined && found.line >= 0;
+  if (!isInTrace) return element('span', row ? `${text} (line ${row})` : text);
+  return lineButton(`line ${row}`, text, '', false, () => chooseLine(pane, found.line, true));
 }
 
-function beginWhy() {
+/** Lets the server find causes from now on. */
+export function beginWhy() {
+  source.chainOf = askedChain;
   const form = element('form'), input = element('input');
   form.className = 'bar';
   Object.assign(input, {id: 'why-asked', type: 'text', spellcheck: false, autocomplete: 'off', size: 44,

@@ -1,13 +1,14 @@
 // Packets: an arrow for each copy, from its sender's lane at the moment of sending to its receiver's at arrival.
+import {RECV, SEND, lowerBound} from './data.js';
+import {byId} from './dom.js';
+import {colours, drawArrow, head, path, stroke} from './forms.js';
+import {arrivalOf} from './index.js';
+import {AXIS, FULL_LANE, SMALL_LANE} from './layout.js';
+import {chosen} from './stage.js';
+
 const FEW = 250, MANY = 2500, MOST_ARROWS = 12000, MOST_VISITED = 15000;
 
-/** The moment at which a copy arrives, or would have arrived. */
-function arrivalOf(run, k, c) {
-  const after = run.copyAfter[c] || delayOf(run, run.packetSender[k], run.copyTo[c]);
-  return run.packetAt[k] + after;
-}
-
-/** Where the arrow of a copy goes from and to. */
+/** The ends of the arrow of a copy. */
 function arrowEnds(pane, k, c) {
   const {run} = pane, sender = run.packetSender[k], to = run.copyTo[c], line = run.copyLine[c], send = run.sendLine[k];
   const x0 = send >= 0 ? pane.lineX(send, sender) : pane.x(run.packetAt[k] + 0.5);
@@ -17,7 +18,7 @@ function arrowEnds(pane, k, c) {
 
 /** Collects the copies whose arrows cross the view; from a great many packets a sample is counted. */
 function copiesInView(pane) {
-  const {run, said} = pane, found = [], begin = pane.moment(pane.gutter), end = pane.moment(pane.width);
+  const {run, drawn} = pane, found = [], begin = pane.moment(pane.gutter), end = pane.moment(pane.width);
   const first = lowerBound(run.packetAt, begin - run.longest - 1), last = lowerBound(run.packetAt, end + 1, first);
   const stride = Math.max(1, Math.ceil((last - first) / MOST_VISITED)), bottom = pane.height;
   let copies = 0;
@@ -31,17 +32,17 @@ function copiesInView(pane) {
       if (found.length < 2 * MOST_ARROWS) found.push(k, c);
     }
   }
-  said.copies = copies * stride;
-  said.about = stride > 1;
+  drawn.copies = copies * stride;
+  drawn.about = stride > 1;
   return found;
 }
 
-function drawArrows(pane) {
-  const c = pane.context, found = copiesInView(pane), {said, run} = pane,
-    wish = document.getElementById('arrows').value;
+export function drawArrows(pane) {
+  const c = pane.context, found = copiesInView(pane), {drawn, run} = pane;
+  const wish = byId('arrows').value;
   pane.arrows = [];
-  if (wish === 'none' || wish === 'auto' && (said.copies > MANY || pane.lane < 4)) return;
-  const crowded = said.copies > FEW, size = pane.lane < 14 ? 3 : 4;
+  if (wish === 'none' || wish === 'auto' && (drawn.copies > MANY || pane.lane < 4)) return;
+  const crowded = drawn.copies > FEW, size = pane.lane < 14 ? 3 : 4;
   c.save();
   c.globalAlpha = crowded ? 0.4 : 0.85;
   for (let i = 0; i < found.length; i += 2) {
@@ -50,11 +51,11 @@ function drawArrows(pane) {
     pane.arrows.push(x0, y0, x1, y1, k, copy);
   }
   c.restore();
-  said.arrows = found.length / 2;
+  drawn.arrows = found.length / 2;
 }
 
 /** The copy whose arrow passes near a point, as packet and copy, or null. */
-function arrowNear(pane, x, y, reach) {
+export function arrowNear(pane, x, y, reach) {
   let best = reach, found = null;
   const {arrows} = pane;
   for (let i = 0; i < arrows.length; i += 6) {
@@ -69,9 +70,9 @@ function arrowNear(pane, x, y, reach) {
   return found;
 }
 
-/** What is selected: a ring around its line, the arrows of its packet, and a bow from an event's post to its takes. */
-function drawChosen(pane) {
-  if (!chosen || chosen.pane !== pane) return;
+/** Draws what is selected: a ring around its line, the arrows of its packet, bows from an event's post to its takes. */
+export function drawChosen(pane) {
+  if (chosen.pane !== pane) return;
   const {run, context: c} = pane, low = pane.lane < SMALL_LANE;
   const y = line => low ? pane.laneTop(run.moteOf(line)) + pane.lane / 2 :
     pane.lineY(run.silent[line] ? SEND : run.kind[line], run.moteOf(line));
@@ -87,7 +88,7 @@ function drawChosen(pane) {
       drawArrow(c, x0, y0, x1, y1, run.copyFate[copy], copy === chosen.copy ? 3 : 2, 5);
     }
   }
-  for (const [from, to] of chosen.bows || []) {
+  for (const [from, to] of chosen.bows) {
     const x0 = x(from), y0 = y(from), x1 = x(to), y1 = y(to), lift = Math.max(8, Math.min(26, pane.lane * 0.5));
     c.beginPath();
     c.moveTo(x0, y0);

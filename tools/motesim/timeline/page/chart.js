@@ -1,20 +1,24 @@
-// The sequence chart of a chain: a line of life for each mote, from top to bottom, and an arrow for each packet. It is an
-// SVG with its own colours, so that it can be saved and put on paper.
-// (in two parts, so that it is seen at once that the page has no address to fetch from)
+// The sequence chart of a chain: a lifeline for each mote, from top to bottom, and an arrow for each packet. It is an
+// SVG with its own colours, so that it can be saved and printed.
+// (in two parts: a search of the page for addresses to fetch from finds none)
+import {pathOf} from './causes.js';
+
 const SVG = 'http' + '://www.w3.org/2000/svg';
 const CHART = {column: 190, row: 24, top: 46, left: 74, most: 400};
 
-const escapeXml = text => text.replace(/[&<>"]/g, sign => ({'&': '&amp;', '<': '&lt;', '>': '&gt;', '"': '&quot;'})[sign]);
+const ESCAPES = {'&': '&amp;', '<': '&lt;', '>': '&gt;', '"': '&quot;'};
+const escapeXml = text => text.replace(/[&<>"]/g, sign => ESCAPES[sign]);
 
-/** The head of an arrow, which ends a little before its point, where a circle is. */
+/** The head of an arrow. It ends before the point, which has a circle. */
 function arrowHead(x0, y0, x1, y1) {
   const long = Math.hypot(x1 - x0, y1 - y0) || 1, dx = (x1 - x0) / long, dy = (y1 - y0) / long;
-  const at = (back, aside) => `${(x1 - dx * back - dy * aside).toFixed(1)} ${(y1 - dy * back + dx * aside).toFixed(1)}`;
+  const at = (back, aside) =>
+    `${(x1 - dx * back - dy * aside).toFixed(1)} ${(y1 - dy * back + dx * aside).toFixed(1)}`;
   return `<path class="head" d="M${at(5, 0)}L${at(15, 5)}L${at(15, -5)}z"/>`;
 }
 
 /** The chart of a chain, as the text of an SVG. A very long chain is cut at its older end, and says so. */
-function chartOf(run, hops) {
+export function chartOf(run, hops) {
   const shown = hops.slice(0, CHART.most).reverse(), motes = [...new Set(shown.map(hop => hop.mote))], parts = [];
   const x = mote => CHART.left + motes.indexOf(mote) * CHART.column + 12, y = row => CHART.top + (row + 1) * CHART.row;
   const width = CHART.left + motes.length * CHART.column + 20, height = y(shown.length) + 34;
@@ -49,23 +53,4 @@ function chartOf(run, hops) {
     '.packet{stroke:#d9480f;stroke-width:2;fill:none}.head,circle{fill:#d9480f}' +
     'text{fill:#1b1f24}.name{font-weight:bold}.moment{fill:#5a6470}</style>' +
     `<rect width="${width}" height="${height}" fill="#ffffff"/>${parts.join('')}</svg>`;
-}
-
-/** Each hop of a chart selects its line. */
-function linkChart(box, pane, hops) {
-  for (const part of box.querySelectorAll('[data-hop]')) {
-    const hop = hops[Number(part.dataset.hop)];
-    part.style.cursor = 'pointer';
-    part.addEventListener('click',
-      () => hop.line >= 0 ? chooseLine(pane, hop.line, true) : chooseMote(pane, hop.mote, true));
-  }
-}
-
-/** Saves a chart as a file. */
-function saveChart(run, hops) {
-  const link = element('a');
-  link.href = URL.createObjectURL(new Blob([chartOf(run, hops)], {type: 'image/svg+xml'}));
-  link.download = `why_mote_${hops[0].mote}_line_${hops[0].row}.svg`;
-  link.click();
-  setTimeout(() => URL.revokeObjectURL(link.href), 1000);
 }

@@ -1,24 +1,21 @@
-// The columns of a run, as motesim.timeline wrote them, and the lines of the report made of them again.
-const KINDS = ['start', 'leave', 'post', 'full', 'take', 'drop', 'print', 'busy', 'send', 'recv', 'lost', 'collide',
-  'deaf',
-  'halt'];
-const [START, LEAVE, POST, FULL, TAKE, DROP, PRINT, BUSY, SEND, RECV, LOST, COLLIDE, DEAF, HALT] = KINDS.keys();
-const ALL = 0xffff;
+// The columns of a run, as motesim.timeline.columns packs them, and the lines of the report that they hold.
+export const KINDS = ['start', 'leave', 'post', 'full', 'take', 'drop', 'print', 'busy', 'send', 'recv', 'lost',
+  'collide', 'deaf', 'halt'];
+export const [START, LEAVE, POST, FULL, TAKE, DROP, PRINT, BUSY, SEND, RECV, LOST, COLLIDE, DEAF, HALT] = KINDS.keys();
+/** The number of the process `all`. */
+export const ALL = 0xffff;
 const ARRAYS = {u8: Uint8Array, u16: Uint16Array, u32: Uint32Array};
 
-/** The bytes of a packed element of the page. */
-async function unpack(id) {
-  const element = document.getElementById(id);
-  const letters = atob(element.textContent.trim());
-  element.textContent = '';
-  const bytes = new Uint8Array(letters.length);
+/** The bytes that were compressed by zlib and written in base64. */
+export async function unpacked(text) {
+  const letters = atob(text.trim()), bytes = new Uint8Array(letters.length);
   for (let i = 0; i < letters.length; i++) bytes[i] = letters.charCodeAt(i);
   const stream = new Blob([bytes]).stream().pipeThrough(new DecompressionStream('deflate'));
   return new Response(stream).arrayBuffer();
 }
 
 /** The first place of a sorted array, from `low` on and below `high`, whose number isn't below `value`. */
-function lowerBound(array, value, low = 0, high = array.length) {
+export function lowerBound(array, value, low = 0, high = array.length) {
   while (low < high) {
     const middle = (low + high) >>> 1;
     if (array[middle] < value) low = middle + 1; else high = middle;
@@ -27,9 +24,8 @@ function lowerBound(array, value, low = 0, high = array.length) {
 }
 
 /** A run: for each line of a trace its moment (at), kind, process or sender (p), serial or number (x), event (e) and
-    value (w);
-    for each packet its moment, sender, number, value and copies. */
-class Run {
+    value (w); for each packet its moment, sender, number, value and copies. */
+export class Run {
   constructor(said, buffer) {
     Object.assign(this, said);
     let place = 0;
@@ -44,7 +40,7 @@ class Run {
     this.restorePackets();
   }
 
-  /** Moments stand as differences, serials and numbers as differences from what was expected. */
+  /** Adds up what is packed as differences: moments, and serials and numbers against the expected ones. */
   restoreTraces() {
     const {at, x, kind, traceStart, begins} = this;
     const last = new Int32Array(KINDS.length);
@@ -81,12 +77,28 @@ class Run {
 
   process(p) { return p === ALL ? 'all' : this.processes[p]; }
 
-  /** The mote in whose trace a line stands. */
+  /** The mote whose trace has a line. */
   moteOf(line) { return lowerBound(this.traceStart, line + 1) - 1; }
 
-  /** The number of a line of a trace in the report, counted from 1; and of a packet's line. */
+  /** The row of a trace's line in the report, counted from 1. */
   numberOf(line, mote) { return line + mote + 2; }
+
+  /** The row of a packet in the report. */
   numberOfPacket(k) { return this.count + this.begins.length + 2 + k; }
+
+  /** How many rows the report has: those of traces and packets, the heads of motes, `medium` and `left`. */
+  get rows() { return this.count + this.begins.length + this.packets + 2; }
+
+  /** What a row of the report is: {mote, line} in a trace, with line -1 at its head, or {packet}; null for others. */
+  atRow(row) {
+    const packet = row - this.numberOfPacket(0);
+    if (packet >= 0) return packet < this.packets ? {packet} : null;
+    let mote = 0;
+    while (mote + 1 < this.begins.length && this.numberOf(this.traceStart[mote + 1], mote) <= row) mote++;
+    const line = row - mote - 2;
+    if (line === this.traceStart[mote] - 1) return {mote, line: -1};
+    return line >= this.traceStart[mote] && line < this.traceStart[mote + 1] ? {mote, line} : null;
+  }
 
   /** The words of a trace line after its moment. */
   words(i) {
@@ -127,10 +139,10 @@ class Run {
     return c < this.copyStart[k + 1] && this.copyTo[c] === mote ? c : -1;
   }
 
-  /** The packet of which a copy is. */
+  /** The packet that a copy belongs to. */
   packetOfCopy(c) { return lowerBound(this.copyStart, c + 1) - 1; }
 
-  /** The lines of the turn in which a line stands: from, to. */
+  /** The lines of the turn that a line belongs to: from, to. */
   turn(line, mote) {
     const {at, traceStart} = this;
     return [lowerBound(at, at[line], traceStart[mote], traceStart[mote + 1]),

@@ -1,37 +1,25 @@
 // What is selected: its lines of the report, and what belongs to it. Each line is a button that selects that line.
-let chosen = null;
+import {COLLIDE, DEAF, DROP, KINDS, LOST, POST, RECV, SEND, TAKE, lowerBound} from './data.js';
+import {byId, element, lineButton, list, makeButton, table} from './dom.js';
+import {redraw} from './draw.js';
+import {COLLIDED, FATE_WORDS, GONE, MEDIUM, REFUSED, RING, UNHEARD, arrivalOf} from './index.js';
+import {setNow} from './play.js';
+import {choose, chosen, offers, panes, play} from './stage.js';
+import {revealMoment} from './time.js';
+import {count} from './words.js';
+
 const MOST_LISTED = 120;
 
-function element(name, text, inside = []) {
-  const made = document.createElement(name);
-  if (text) made.textContent = text;
-  made.append(...inside);
-  return made;
-}
-
-/** A line of the report as a button. */
-function lineButton(pane, where, text, what, isCurrent, act) {
-  const button = element('button');
-  button.type = 'button';
-  button.className = 'line';
-  button.append(Object.assign(element('span', where), {className: 'where'}), element('code', text));
-  if (what) button.append(Object.assign(element('span', what), {className: 'what'}));
-  if (isCurrent) button.setAttribute('aria-current', 'true');
-  button.addEventListener('click', act);
-  return button;
-}
-
+/** A line of a trace as a button that selects it. */
 function traceButton(pane, line, what) {
   const {run} = pane, mote = run.moteOf(line);
-  return lineButton(pane, `line ${run.numberOf(line, mote)}`, run.text(line), what, chosen.line === line,
+  return lineButton(`line ${run.numberOf(line, mote)}`, run.text(line), what, chosen.line === line,
     () => chooseLine(pane, line, true));
 }
 
-const list = (name, items) => element(name, '', items.map(item => element('li', '', [item])));
-
-function selectNothing() {
-  chosen = null;
-  const box = document.getElementById('details');
+export function selectNothing() {
+  choose({});
+  const box = byId('details');
   box.classList.add('empty');
   box.replaceChildren(element('h2', 'Nothing is selected'),
     element('p',
@@ -41,9 +29,9 @@ function selectNothing() {
 }
 
 /** Selects a line of a trace; `show` brings it into view. */
-function chooseLine(pane, line, show) {
+export function chooseLine(pane, line, show) {
   const {run} = pane, mote = run.moteOf(line), kind = run.kind[line];
-  chosen = {pane, mote, line, k: -1, copy: -1, bows: [], next: []};
+  choose({pane, mote, line});
   if (kind === SEND) chosen.k = run.packetOf(mote, run.x[line]);
   else if (kind === RECV || kind === LOST || kind === COLLIDE || kind === DEAF) {
     chosen.k = run.packetOf(run.p[line], run.x[line]);
@@ -52,19 +40,19 @@ function chooseLine(pane, line, show) {
   tell(pane, show);
 }
 
-/** What is selected, in words that find it in another run. */
-function chosenInWords() {
-  if (!chosen) return null;
+/** What is selected, in a form that finds it in another run; or null. */
+export function chosenInWords() {
+  if (!chosen.pane) return null;
   const {pane: {run}, mote, line, k, copy} = chosen;
   if (line >= 0) return {mote, at: run.at[line], words: run.words(line)};
   if (k >= 0) return {mote, sender: run.packetSender[k], number: run.packetNumber[k], to: run.copyTo[copy]};
   return {mote};
 }
 
-/** Selects the same again after another run has taken the place of a pane's; else the mote, if it is there. */
-function chooseAgain(pane, kept) {
+/** Selects the same in the run that a pane shows now; else the mote, if that run has it. */
+export function chooseAgain(pane, kept) {
   const {run} = pane, {mote, at, words, sender, number, to} = kept;
-  chosen = null;
+  choose({});
   if (mote >= run.begins.length) return selectNothing();
   if (words !== undefined) {
     const from = lowerBound(run.at, at, run.traceStart[mote], run.traceStart[mote + 1]);
@@ -79,47 +67,48 @@ function chooseAgain(pane, kept) {
 }
 
 /** Selects a copy of a packet by its arrow. */
-function chooseCopy(pane, k, copy, show) {
+export function chooseCopy(pane, k, copy, show) {
   const {run} = pane;
   if (run.copyLine[copy] >= 0) return chooseLine(pane, run.copyLine[copy], show);
-  chosen = {pane, mote: run.copyTo[copy], line: -1, k, copy, bows: [],
-    next: run.sendLine[k] >= 0 ? [run.sendLine[k]] : []};
+  choose({pane, mote: run.copyTo[copy], k, copy, next: run.sendLine[k] >= 0 ? [run.sendLine[k]] : []});
   tell(pane, show);
 }
 
-function chooseMote(pane, mote, show) {
-  chosen = {pane, mote, line: -1, k: -1, copy: -1, bows: [], next: []};
+export function chooseMote(pane, mote, show) {
+  choose({pane, mote});
   tell(pane, show);
 }
 
+/** Lists what is selected, and draws it. */
 function tell(pane, show) {
-  const box = document.getElementById('details'), {run} = pane, {line, k} = chosen;
+  const box = byId('details'), {run} = pane, {line, k} = chosen;
   box.replaceChildren();
   if (line >= 0 || k >= 0) {
     const moment = line >= 0 ? run.at[line] : arrivalOf(run, k, chosen.copy);
     setNow(Math.min(moment, run.end));
-    if (show) revealMoment(pane, moment, chosen.mote);
-  } else if (show) pane.reveal(chosen.mote);
+    if (show) revealMoment(moment);
+  }
+  if (show) pane.reveal(chosen.mote);
   if (panes.length > 1) box.append(element('p', `In ${run.name}:`));
   if (k >= 0) tellPacket(box, pane);
   if (line >= 0 && [POST, TAKE, DROP].includes(run.kind[line])) tellEvent(box, pane);
-  if (line >= 0) offerWhy(box, pane);
+  if (line >= 0) for (const offer of offers) offer(box, pane);
   if (line >= 0) tellTurn(box, pane); else if (k < 0) tellMote(box, pane);
   box.classList.remove('empty');
   speak(pane);
   redraw();
 }
 
-/** What a screen reader is told of what was selected. */
+/** Tells readers of screens what was selected. */
 function speak(pane) {
   const {run} = pane, {line, k, mote} = chosen, parts = [`Mote ${mote}`];
   if (line >= 0) parts.push(`moment ${run.at[line]}`, run.words(line));
   if (k >= 0) parts.push(`packet ${run.packetNumber[k]} of mote ${run.packetSender[k]}`);
   if (chosen.copy >= 0) parts.push(FATE_WORDS[run.copyFate[chosen.copy]]);
-  document.getElementById('spoken').textContent = parts.join(', ');
+  byId('spoken').textContent = parts.join(', ');
 }
 
-/** A packet: the medium's line, the send, each copy and what became of it. */
+/** Adds a packet: the medium's line, the send, and each copy with its fate. */
 function tellPacket(box, pane) {
   const {run} = pane, {k, mote} = chosen, s = run.packetSender[k];
   box.append(element('h2', `Packet ${run.packetNumber[k]} of mote ${s}, value ${run.packetValue[k]}`));
@@ -135,21 +124,21 @@ function tellPacket(box, pane) {
       if (chosen.line === line) chosen.next = [hand >= 0 ? hand : run.sendLine[k]];
     } else {
       const arrives = arrivalOf(run, k, copy);
-      items.push(lineButton(pane, `to ${to}`, fate === MEDIUM ? `${to}@lost` : `${to}@${arrives}`, what,
+      items.push(lineButton(`to ${to}`, fate === MEDIUM ? `${to}@lost` : `${to}@${arrives}`, what,
         chosen.copy === copy,
         () => chooseCopy(pane, k, copy, true)));
     }
     if (items.length > MOST_LISTED) {
-      items.push(element('span', `and ${run.copyStart[k + 1] - copy - 1} copies more`));
+      items.push(element('span', `and ${run.copyStart[k + 1] - copy - 1} more copies`));
       break;
     }
   }
-  box.append(list('ul', [lineButton(pane, `line ${run.numberOfPacket(k)}`, run.packetText(k),
+  box.append(list('ul', [lineButton(`line ${run.numberOfPacket(k)}`, run.packetText(k),
     'in the log of the medium', false,
     () => run.sendLine[k] >= 0 && chooseLine(pane, run.sendLine[k], true)), ...items]));
 }
 
-/** An event from its post to where it is taken or dropped. */
+/** Adds an event, from its post to its takes or drop. */
 function tellEvent(box, pane) {
   const {run} = pane, {line, mote} = chosen, serial = run.x[line], post = run.postOf(mote, serial), items = [];
   box.append(element('h2', `Event ${serial} of mote ${mote}: ${run.events[run.e[line]]} ${run.w[line]}`));
@@ -160,7 +149,7 @@ function tellEvent(box, pane) {
     const isOf = (run.kind[i] === TAKE || run.kind[i] === DROP) && run.x[i] === serial;
     if ((run.kind[i] === TAKE || run.kind[i] === DROP) && run.x[i] > serial) break;
     if (!isOf) continue;
-    items.push(traceButton(pane, i, run.kind[i] === TAKE ? 'taken' : 'dropped: the process isn\'t there'));
+    items.push(traceButton(pane, i, run.kind[i] === TAKE ? 'taken' : 'dropped: the process isn\'t started'));
     if (post >= 0) chosen.bows.push([post, i]);
     if (chosen.line === post && !chosen.next.length) chosen.next.push(i);
   }
@@ -173,12 +162,12 @@ function tellEvent(box, pane) {
   if (run.silent[line]) items.push(element('span', 'This timer sends in other runs; in this run it doesn\'t.'));
   for (const copy of copiesOfTurn(run, line, mote)) {
     if (run.handLine[copy] === post && post >= 0) items.unshift(traceButton(pane, run.copyLine[copy],
-      'the packet that it brings'));
+      'the packet that it is about'));
   }
   box.append(list('ul', items));
 }
 
-/** The copies that were received in the turn in which an event was posted. */
+/** The copies that were received in the turn that posted an event. */
 function copiesOfTurn(run, line, mote) {
   const post = run.postOf(mote, run.x[line]), found = [];
   if (post < 0 || run.e[post] !== run.packetEvent) return found;
@@ -190,30 +179,26 @@ function copiesOfTurn(run, line, mote) {
   return found;
 }
 
-/** All lines that the mote wrote at this moment. */
+/** Adds all lines that the mote wrote at this moment. */
 function tellTurn(box, pane) {
   const {run} = pane, {line, mote} = chosen, [from, to] = run.turn(line, mote), items = [];
   box.append(element(box.children.length ? 'h3' : 'h2', `Mote ${mote} at moment ${run.at[line]}: its turn`));
   const first = Math.max(from, Math.min(line - MOST_LISTED / 2, to - MOST_LISTED));
   for (let i = first; i < Math.min(to, first + MOST_LISTED); i++) {
-    items.push(traceButton(pane, i, run.silent[i] ? 'a timer that elsewhere sends; here the process kept silent' :
-      ''));
+    items.push(traceButton(pane, i, run.silent[i] ? 'a timer that sends in other runs, and not in this one' : ''));
   }
   box.append(list('ol', items));
   if (to - from > MOST_LISTED) box.append(element('p',
     `${to - from - MOST_LISTED} lines of this turn are not listed.`));
-  const more = element('button', `All of mote ${mote}`);
-  more.type = 'button';
-  more.addEventListener('click', () => chooseMote(pane, mote, false));
-  box.append(element('p', '', [more]));
+  box.append(element('p', '', [makeButton(`All of mote ${mote}`, () => chooseMote(pane, mote, false))]));
 }
 
-/** A mote: what it runs, whom it hears, what came over each link. */
+/** Adds a mote: what it runs, whom it hears, and what came over each link. */
 function tellMote(box, pane) {
   const {run} = pane, {mote} = chosen, sums = new Map(), kinds = new Array(KINDS.length).fill(0);
   for (let i = run.traceStart[mote]; i < run.traceStart[mote + 1]; i++) kinds[run.kind[i]]++;
   box.append(element('h2', `Mote ${mote}, which runs ${run.programs[run.begins[mote]]}`));
-  const place = run.places ? `It stands at ${run.places[mote][0]}, ${run.places[mote][1]}. ` : '';
+  const place = run.places ? `It is at ${run.places[mote][0]}, ${run.places[mote][1]}. ` : '';
   const hears = run.hearers[mote];
   box.append(element('p', place + (hears.length ? `It hears ${count(hears.length, 'mote')}` +
     (hears.length <= 30 ? `: ${hears.join(', ')}. ` : '. ') : 'It hears nobody. ') +
@@ -227,32 +212,29 @@ function tellMote(box, pane) {
       fate === GONE ? 4 : 1]++;
     sums.set(s, sum);
   }
-  const head = element('tr', '', ['from', 'copies', 'came', 'lost', 'collided',
-    'refused'].map(name => element('th', name)));
-  const rows = [...sums].sort((a, b) => a[0] - b[0]).slice(0,
-    MOST_LISTED).map(([s, [all, came, lost, met, refused]]) => {
+  const rows = [...sums].sort((a, b) => a[0] - b[0]).slice(0, MOST_LISTED).map(([s, ofLink]) => {
     const every = run.lossOf.get(s * 65536 + mote), name = `mote ${s}` + (every ? ` (loses 1 in ${every})` : '');
-    return element('tr', '', [name, all, came, lost, met, refused].map(value => element('td', String(value))));
+    return element('tr', '', [name, ...ofLink].map(value => element('td', String(value))));
   });
-  if (rows.length) box.append(element('table', '', [element('thead', '', [head]), element('tbody', '', rows)]));
+  if (rows.length) box.append(table(['from', 'copies', 'came', 'lost', 'collided', 'refused'], rows));
   const first = run.traceStart[mote], end = Math.min(run.traceStart[mote + 1], first + 40);
   box.append(element('h3', 'Its first lines'));
   box.append(list('ol', Array.from({length: end - first}, (_, i) => traceButton(pane, first + i, ''))));
 }
 
-/** Enter: from a send to its copies, from a copy to its event, from a post to its take, from there to what it sent. */
-function follow() {
-  if (!chosen) return;
+/** Follows what is selected: from a send to a copy, from a copy to its event, from a post to its take, from there to
+    what was sent or posted. */
+export function follow() {
   const {pane, next} = chosen;
-  if (next.length && next[0] >= 0) chooseLine(pane, next[0], true);
+  if (pane && next.length && next[0] >= 0) chooseLine(pane, next[0], true);
 }
 
-/** The line before or behind the one that is selected; the first in view where none is. */
-function walk(pane, by) {
+/** Selects the line before or after the selected one; if there is none, the first in view. */
+export function walk(pane, by) {
   const {run} = pane;
-  if (!chosen || chosen.pane !== pane) {
-    const [from] = lanesInView(pane), mote = pane.order[Math.min(from, pane.order.length - 1)];
-    const line = linesInView(pane, mote)[0];
+  if (chosen.pane !== pane) {
+    const [from] = pane.lanesInView(), mote = pane.order[Math.min(from, pane.order.length - 1)];
+    const line = pane.linesInView(mote)[0];
     return line < run.traceStart[mote + 1] ? chooseLine(pane, line, true) : chooseMote(pane, mote, true);
   }
   const {mote} = chosen, first = run.traceStart[mote], end = run.traceStart[mote + 1];
@@ -261,9 +243,9 @@ function walk(pane, by) {
   chooseLine(pane, Math.max(first, Math.min(end - 1, now)), true);
 }
 
-/** The same moment on the lane above or below. */
-function walkLanes(pane, by) {
-  if (!chosen || chosen.pane !== pane) return walk(pane, 0);
+/** Selects the same moment on the lane above or below. */
+export function walkLanes(pane, by) {
+  if (chosen.pane !== pane) return walk(pane, 0);
   const {run} = pane, place = pane.place[chosen.mote] + by;
   if (place < 0 || place >= pane.order.length) return;
   const mote = pane.order[place], first = run.traceStart[mote], end = run.traceStart[mote + 1];

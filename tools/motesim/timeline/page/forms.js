@@ -1,42 +1,46 @@
-// The forms by which lines and copies are told apart, each drawn around a point; colours help, forms suffice.
-let colours = {};
+// The forms of lines and copies, each drawn around a point. No two differ only by colour.
+import {byId, element} from './dom.js';
+import {COLLIDED, GONE, HANDED, LEFT, MEDIUM, RECEIVED, REFUSED, RING, UNHEARD} from './index.js';
 
-/** The colours of the page, by the reader's system or for print. */
-function readColours() {
+/** The colours of the page by their names. */
+export const colours = {};
+
+/** Reads the colours from the style: those of the reader's system, or of print. */
+export function readColours() {
   const style = getComputedStyle(document.documentElement);
   for (const name of ['paper', 'panel', 'ink', 'quiet', 'grid', 'edge', 'band', 'send', 'recv', 'trouble', 'print',
-    'timer', 'run',
-    'run-ink', 'event', 'mark', 'halo', 'cursor']) {
+    'timer', 'run', 'run-ink', 'event', 'mark', 'halo', 'cursor']) {
     colours[name] = style.getPropertyValue('--' + name).trim();
   }
 }
 
-function path(c, points, close) {
+export function path(c, points, close) {
   c.beginPath();
-  for (let i = 0; i < points.length; i += 2) if (i)
-    c.lineTo(points[i], points[i + 1]); else c.moveTo(points[i], points[i + 1]);
+  for (let i = 0; i < points.length; i += 2) {
+    if (i) c.lineTo(points[i], points[i + 1]); else c.moveTo(points[i], points[i + 1]);
+  }
   if (close) c.closePath();
 }
 
-function stroke(c, colour, width) {
+export function stroke(c, colour, width) {
   c.strokeStyle = colour;
   c.lineWidth = width;
   c.stroke();
 }
 
-function fill(c, colour) {
+export function fill(c, colour) {
   c.fillStyle = colour;
   c.fill();
 }
 
-function cross(c, x, y, r, colour, width = 1.6) {
+export function cross(c, x, y, r, colour, width = 1.6) {
   path(c, [x - r, y - r, x + r, y + r]);
   stroke(c, colour, width);
   path(c, [x - r, y + r, x + r, y - r]);
   stroke(c, colour, width);
 }
 
-function star(c, x, y, r, colour, width = 1.6) {
+export function star(c, x, y, r, colour, width = 1.6) {
   c.beginPath();
   for (let i = 0; i < 3; i++) {
     const a = Math.PI * (i / 3 + 0.5), dx = Math.cos(a) * r, dy = Math.sin(a) * r;
@@ -61,7 +65,7 @@ function bracket(c, x, y, r, colour, side) {
 }
 
 /** Each form is drawn at x, y with a radius. */
-const FORM = {
+export const FORM = {
   send(c, x, y, r) { path(c, [x, y - r * 1.1, x + r, y + r * 0.8, x - r, y + r * 0.8], true); fill(c, colours.send); },
   silent(c, x, y, r) {
     path(c, [x, y - r * 1.1, x + r, y + r * 0.8, x - r, y + r * 0.8], true);
@@ -110,8 +114,10 @@ const FORM = {
   leave(c, x, y, r) { bracket(c, x, y, r, colours['run-ink'], -1); },
   halt(c, x, y, r) {
     c.beginPath();
-    for (let i = 0; i < 8; i++) c.lineTo(x + Math.cos((i + 0.5) * Math.PI / 4) * r * 1.5,
-      y + Math.sin((i + 0.5) * Math.PI / 4) * r * 1.5);
+    for (let i = 0; i < 8; i++) {
+      const a = (i + 0.5) * Math.PI / 4;
+      c.lineTo(x + Math.cos(a) * r * 1.5, y + Math.sin(a) * r * 1.5);
+    }
     c.closePath();
     fill(c, colours.trouble);
     path(c, [x - r * 0.8, y, x + r * 0.8, y]);
@@ -123,7 +129,7 @@ const FORM = {
   },
 };
 
-/** What the lines and the end of an arrow look like, by what becomes of the copy. */
+/** The line and the end of an arrow by the fate of its copy. */
 const ARROW = [];
 ARROW[HANDED] = {dash: [], end: 'head', colour: 'recv'};
 ARROW[RECEIVED] = {dash: [], end: 'open', colour: 'recv'};
@@ -135,15 +141,15 @@ ARROW[MEDIUM] = {dash: [6, 4], end: 'cross', colour: 'trouble'};
 ARROW[GONE] = {dash: [1, 4], end: 'bar', colour: 'quiet'};
 ARROW[LEFT] = {dash: [10, 3], end: 'open', colour: 'quiet'};
 
-function head(c, x0, y0, x1, y1, r, colour, filled) {
+export function head(c, x0, y0, x1, y1, r, colour, filled) {
   const a = Math.atan2(y1 - y0, x1 - x0);
   path(c, [x1 - Math.cos(a - 0.45) * r, y1 - Math.sin(a - 0.45) * r, x1, y1, x1 - Math.cos(a + 0.45) * r,
     y1 - Math.sin(a + 0.45) * r], filled);
   if (filled) fill(c, colour); else stroke(c, colour, 1.4);
 }
 
-/** One arrow; that of a copy lost on the way ends before it arrives, with a cross. */
-function drawArrow(c, x0, y0, x1, y1, fate, width, size, grey) {
+/** Draws an arrow. That of a copy lost on the way ends before it arrives, with a cross. */
+export function drawArrow(c, x0, y0, x1, y1, fate, width, size, grey) {
   const form = ARROW[fate], colour = grey || colours[form.colour];
   if (fate === MEDIUM) {
     x1 = x0 + (x1 - x0) * 0.62;
@@ -164,14 +170,14 @@ function drawArrow(c, x0, y0, x1, y1, fate, width, size, grey) {
   }
 }
 
-/** The legend, drawn by the same hands as the lanes. */
+/** The legend: each form with its meaning. */
 const LEGEND = [
   ['send', 'sent a packet'],
-  ['silent', 'a timer that elsewhere sends woke the process, and it kept silent'],
+  ['silent', 'a timer that sends in other runs, and not in this one'],
   ['recv', 'received a packet; in low lanes a stroke'],
   ['collide', 'a copy that collided'],
-  ['lost', 'a copy lost here: eight were waiting'],
-  ['deaf', 'a packet for which the program has no receiver'],
+  ['lost', 'a copy lost here: eight others were waiting'],
+  ['deaf', 'a packet without a receiver in the program'],
   ['run', 'a process runs'],
   ['start', 'a process starts'],
   ['leave', 'a process leaves'],
@@ -180,8 +186,8 @@ const LEGEND = [
   ['full', 'an event refused: the queue was full'],
   ['take', 'an event reached its process'],
   ['timer', 'a timer\'s event, posted or taken'],
-  ['drop', 'an event whose process isn\'t there'],
-  ['busy', 'a process that should start or end, but is busy'],
+  ['drop', 'an event whose process isn\'t started'],
+  ['busy', 'a process that was to start or end, but is busy'],
   ['halt', 'the mote halted'],
   [HANDED, 'a copy that was received and handed on'],
   [MEDIUM, 'a copy lost on the way: it doesn\'t arrive'],
@@ -193,12 +199,11 @@ const LEGEND = [
   [LEFT, 'a copy due after the end'],
 ];
 
-function drawLegend() {
-  const box = document.getElementById('forms');
+export function drawLegend() {
+  const box = byId('forms');
   box.textContent = '';
-  for (const [form, said] of LEGEND) {
-    const row = document.createElement('div'), canvas = document.createElement('canvas'),
-      dots = window.devicePixelRatio || 1;
+  for (const [form, meaning] of LEGEND) {
+    const row = element('div'), canvas = element('canvas'), dots = window.devicePixelRatio || 1;
     row.className = 'form';
     canvas.width = 56 * dots;
     canvas.height = 20 * dots;
@@ -207,9 +212,7 @@ function drawLegend() {
     const c = canvas.getContext('2d');
     c.scale(dots, dots);
     if (typeof form === 'number') drawArrow(c, 5, 10, 47, 10, form, 1.4, 4.5); else FORM[form](c, 28, 10, 5);
-    const text = document.createElement('span');
-    text.textContent = said;
-    row.append(canvas, text);
+    row.append(canvas, element('span', meaning));
     box.append(row);
   }
 }

@@ -1,18 +1,24 @@
-// What follows from a run's lines, made once when the page opens: which copy became what, which lines belong together,
-// which motes hear each other, and an overview for zooming out.
+// What follows from a run's lines, computed once when the page opens: the fate of each copy, which lines belong
+// together, which motes hear each other, and an overview for zooming out.
+import {BUSY, COLLIDE, DEAF, DROP, FULL, HALT, KINDS, LOST, POST, PRINT, RECV, SEND, START, TAKE} from './data.js';
 
-/** What became of a copy. */
+/** The fates of a copy. */
 const FATES = ['handed', 'full', 'deaf', 'ring', 'collided', 'lost', 'gone', 'left', 'received'];
-const [HANDED, REFUSED, UNHEARD, RING, COLLIDED, MEDIUM, GONE, LEFT, RECEIVED] = FATES.keys();
-const FATE_WORDS = ['received and handed on', 'received, but the event queue was full',
-  'received, but the program has no receiver',
-  'lost: eight packets were waiting already', 'collided with others', 'lost on the way',
-    'came to a mote that had halted',
-  'would arrive after the end', 'received, but not handed on'];
+export const [HANDED, REFUSED, UNHEARD, RING, COLLIDED, MEDIUM, GONE, LEFT, RECEIVED] = FATES.keys();
+export const FATE_WORDS = ['received and handed on', 'received, but the event queue was full',
+  'received, but the program has no receiver', 'lost: eight packets were waiting already', 'collided with others',
+  'lost on the way', 'came to a mote that had halted', 'would arrive after the end', 'received, but not handed on'];
 
 /** Classes of lines in the overview, the most notable last. */
-const OTHER = 1, HEARD = 2, SILENT = 4, SENT = 8, PRINTED = 16, TROUBLE = 32, HALTED = 64;
-const CLASS = [];
+export const OTHER = 1;
+export const HEARD = 2;
+export const SILENT = 4;
+export const SENT = 8;
+export const PRINTED = 16;
+export const TROUBLE = 32;
+export const HALTED = 64;
+/** The class of each kind of line. */
+export const CLASS = [];
 for (const kind of KINDS.keys()) CLASS[kind] = OTHER;
 for (const kind of [FULL, DROP, BUSY, LOST, COLLIDE, DEAF]) CLASS[kind] = TROUBLE;
 CLASS[PRINT] = PRINTED;
@@ -20,10 +26,11 @@ CLASS[SEND] = SENT;
 CLASS[RECV] = HEARD;
 CLASS[HALT] = HALTED;
 
-/** Lets the browser draw and answer between two pieces of long work. */
-const breathe = () => new Promise(done => setTimeout(done));
+/** Lets the browser draw and react between two pieces of long work. */
+export const breathe = () => new Promise(done => setTimeout(done));
 
-async function indexRun(run) {
+/** Adds to a run all that follows from its lines. */
+export async function indexRun(run) {
   run.timerEvent = run.events.indexOf('timer');
   run.packetEvent = run.events.indexOf('packet');
   indexPackets(run);
@@ -57,7 +64,7 @@ function indexPackets(run) {
   }
 }
 
-/** Where each event was posted; and to a take or drop its event and word, from there. */
+/** Finds the post of each event, and copies its event and word to its take or drop. */
 function indexEvents(run) {
   const {kind, x, e, w, traceStart} = run, motes = run.begins.length;
   run.postStart = new Uint32Array(motes + 1);
@@ -78,7 +85,7 @@ function indexEvents(run) {
   }
 }
 
-/** What became of each copy, by the trace of the mote that it came to. */
+/** Finds the fate of each copy in the trace of its receiver. */
 async function followCopies(run) {
   const {kind, at, x, p, e, w, traceStart} = run;
   run.handLine = new Int32Array(run.copies).fill(-1);
@@ -111,8 +118,8 @@ async function followCopies(run) {
   }
 }
 
-/** Who hears whom, by places and range; without a scenario by the copies that the medium's log names. */
-function findHearers(run) {
+/** Finds who hears whom: by places and range, or, without a scenario, by the copies in the log of the medium. */
+export function findHearers(run) {
   const motes = run.begins.length;
   run.hearers = Array.from({length: motes}, () => []);
   if (run.places) {
@@ -138,8 +145,14 @@ function findHearers(run) {
   run.lossOf = new Map(run.losses.map(([from, to, every]) => [from * 65536 + to, every]));
 }
 
-/** How many moments a copy takes from s to r: also one that was lost, whose arrival the report doesn't tell. */
-function delayOf(run, s, r) {
+/** The moment at which a copy arrives, or would have arrived. */
+export function arrivalOf(run, k, c) {
+  const after = run.copyAfter[c] || delayOf(run, run.packetSender[k], run.copyTo[c]);
+  return run.packetAt[k] + after;
+}
+
+/** The moments that a copy needs from s to r. For lost copies the report doesn't have them. */
+export function delayOf(run, s, r) {
   if (!run.places) return 1;
   const dx = run.places[s][0] - run.places[r][0], dy = run.places[s][1] - run.places[r][1];
   return run.base + Math.floor((dx * dx + dy * dy) / run.per);
@@ -168,24 +181,24 @@ function findGroups(run) {
   run.groups = groups.length && groups.length <= 8 ? groups : [{motes: Array.from({length: motes}, (_, m) => m)}];
   const several = run.groups.length > 1;
   run.groups.forEach((group, g) => {
-    const list = group.motes, said = list.length === 1 ? `mote ${list[0]}` :
+    const list = group.motes, name = list.length === 1 ? `mote ${list[0]}` :
       list[list.length - 1] - list[0] === list.length - 1
       ? `motes ${list[0]} to ${list[list.length - 1]}` : `${list.length} motes`;
-    group.name = group.alone ? `${said} that hear nobody` : several ? `Island ${g + 1}: ${said}` :
-      said[0].toUpperCase() + said.slice(1);
+    group.name = group.alone ? `${name} that hear nobody` : several ? `Island ${g + 1}: ${name}` :
+      name[0].toUpperCase() + name.slice(1);
   });
 }
 
-/** Where a timer's run may send and doesn't: of a timer that sends in some run of the same program. */
+/** Finds silences: runs of a timer that don't send, though the timer sends in another run of the same program. */
 function findSilence(run) {
   const {kind, e, w, p, traceStart} = run, speaks = new Set();
-  const each = (mote, told) => {
+  const each = (mote, report) => {
     let began = -1, sends = false;
     for (let i = traceStart[mote]; i <= traceStart[mote + 1]; i++) {
       const k = i < traceStart[mote + 1] ? kind[i] : START;
       if (k === SEND) sends = true;
       if (k !== TAKE && k !== START && !(i > began && began >= 0 && run.at[i] !== run.at[began])) continue;
-      if (began >= 0) told(began, sends);
+      if (began >= 0) report(began, sends);
       began = k === TAKE && e[i] === run.timerEvent ? i : -1;
       sends = false;
     }
@@ -197,7 +210,7 @@ function findSilence(run) {
   for (let m = 0; m < motes; m++) each(m, (i, sends) => { if (!sends && speaks.has(key(m, i))) run.silent[i] = 1; });
 }
 
-/** For each mote and each piece of time which classes of lines stand in it; and at which moments anything happens. */
+/** Notes the classes of lines of each mote in each piece of time, and the moments at which anything happens. */
 function makeOverview(run) {
   const {kind, at, traceStart, silent} = run, motes = run.begins.length;
   run.pieces = Math.min(run.end + 1, 2048);
@@ -230,7 +243,7 @@ function makeOverview(run) {
   }
 }
 
-/** Prints of each mote in order, for the map; and when each mote halted. */
+/** Lists what each mote printed, when each mote halted, and the links with lost or collided copies. */
 function countByMote(run) {
   const {kind, traceStart} = run, motes = run.begins.length;
   run.prints = Array.from({length: motes}, () => []);

@@ -1,62 +1,54 @@
-// Reads the page's runs, and answers mouse, keys and buttons.
-const panes = [], maps = [];
-let isWaiting = false, wasPrinting = false;
+// The page of runs: shows them, and reacts to mouse, keys and buttons.
+import {arrowNear} from './arrows.js';
+import {lowerBound} from './data.js';
+import {chooseAgain, chooseCopy, chooseLine, chooseMote, chosenInWords, follow, selectNothing, walk, walkLanes
+  } from './details.js';
+import {byId, element} from './dom.js';
+import {drawAll, redraw} from './draw.js';
+import {drawLegend, readColours} from './forms.js';
+import {arrivalOf} from './index.js';
+import {forgetForms} from './lanes.js';
+import {AXIS, FULL_LANE, SMALL_LANE, TALL_LANE} from './layout.js';
+import {MapView} from './map.js';
+import {Pane} from './pane.js';
+import {fillSpeeds, followNow, setNow, startPlaying, step, stopPlaying} from './play.js';
+import {find, findAgain, goTo} from './search.js';
+import {seriesOf} from './series.js';
+import {chosen, mapOverlays, maps, offers, overlays, page, panes, play, search} from './stage.js';
+import {isWhole, keepTime, leastScale, showTime, time, zoomTime} from './time.js';
+import {askWhy, closeWhy, drawChain, drawChainOnMap, offerWhy} from './why.js';
+import {count} from './words.js';
 
-/** Draws everything before the browser shows the next picture, however often it is called. */
-function redraw() {
-  if (isWaiting) return;
-  isWaiting = true;
-  requestAnimationFrame(drawAll);
-}
+/** The height that all panes together may have. The studio measures it in another way. */
+export const room = {forPanes: roomInWindow};
 
-function drawAll() {
-  isWaiting = false;
-  if (!panes.length) return;
-  const begin = performance.now();
-  for (const pane of panes) drawPane(pane);
-  for (const map of maps) map.draw();
-  sayDrawn(panes);
-  page.drawn = performance.now() - begin;
-  page.draws++;
-}
-
-/** How high all panes together may be: by the window, or as another page says. */
-let roomForPanes = () => {
+function roomInWindow() {
   const isWide = window.innerWidth > 900, above = document.querySelector('header').offsetHeight;
   const isAlone = document.body.classList.contains('only-timeline');
   return Math.max(380, isAlone ? window.innerHeight :
     isWide ? window.innerHeight - above - (panes.length > 1 ? 76 : 54) : window.innerHeight * 0.68);
-};
+}
 
-/** Panes and maps take the room that there is. */
-function resize() {
+/** Fits panes and maps to the window. */
+export function resize() {
   if (!panes.length) return;
-  const room = roomForPanes(), titles = panes.length > 1 ? panes.length * 28 : 0, fits = panes.map(pane => pane.isFit);
+  const height = room.forPanes(), titles = panes.length > 1 ? panes.length * 28 : 0;
+  const fits = panes.map(pane => pane.isFit);
   for (const pane of panes) {
     const wanted = pane.heads + AXIS + pane.order.length * TALL_LANE;
-    pane.resize(Math.round(Math.max(150, Math.min(wanted, (room - titles) / panes.length))));
+    pane.resize(Math.round(Math.max(150, Math.min(wanted, (height - titles) / panes.length))));
   }
-  const width = panes[0].width - panes[0].gutter, shown = time.width / time.scale,
-    isWhole = time.scale <= leastScale() * 1.001;
+  const width = panes[0].width - panes[0].gutter, shown = time.width / time.scale, wasWhole = isWhole();
   time.width = width;
-  time.scale = isWhole ? leastScale() : width / shown;
+  time.scale = wasWhole ? leastScale() : width / shown;
   keepTime();
   panes.forEach((pane, i) => fits[i] ? pane.fit() : pane.keep());
   for (const map of maps) map.resize();
 }
 
-function revealMoment(pane, moment, mote) {
-  const x = (moment + 0.5 - time.begin) * time.scale;
-  if (x < 20 || x > time.width - 20) {
-    time.begin = moment + 0.5 - time.width / 2 / time.scale;
-    keepTime();
-  }
-  pane.reveal(mote);
-}
-
 /** Zooms so that what is selected fills the view. */
 function zoomToChosen() {
-  if (!chosen || chosen.line < 0 && chosen.k < 0) return;
+  if (chosen.line < 0 && chosen.k < 0) return;
   const {pane, k, line} = chosen, {run} = pane;
   let first = line >= 0 ? run.at[line] : run.packetAt[k], last = first;
   if (k >= 0) {
@@ -74,7 +66,8 @@ function zoomToChosen() {
   redraw();
 }
 
-function whole() {
+/** Shows the whole run. */
+export function whole() {
   time.scale = leastScale();
   keepTime();
   for (const pane of panes) pane.fit();
@@ -99,7 +92,8 @@ const DO = {
   back: () => step(-1),
 };
 
-function act(name) {
+/** Does what a button or a key is for. */
+export function act(name) {
   DO[name]();
   keepTime();
   for (const pane of panes) pane.keep();
@@ -108,13 +102,11 @@ function act(name) {
 
 const KEYS = {
   '+': 'zoom-in', '=': 'zoom-in', '-': 'zoom-out', '_': 'zoom-out', '0': 'whole', ArrowLeft: 'left',
-    ArrowRight: 'right',
-  ArrowUp: 'up', ArrowDown: 'down', PageUp: 'page-up', PageDown: 'page-down', Home: 'begin', End: 'end', t: 'taller',
-    T: 'taller',
-  l: 'lower', L: 'lower', ' ': 'play', '.': 'step', ',': 'back',
+  ArrowRight: 'right', ArrowUp: 'up', ArrowDown: 'down', PageUp: 'page-up', PageDown: 'page-down', Home: 'begin',
+  End: 'end', t: 'taller', T: 'taller', l: 'lower', L: 'lower', ' ': 'play', '.': 'step', ',': 'back',
 };
 
-/** Keys: everywhere but in fields and on buttons, where they mean something else. */
+/** Reacts to keys everywhere but in fields and on buttons, where they mean something else. */
 function onKey(event) {
   if (event.ctrlKey || event.metaKey || event.altKey) return;
   const there = event.target.closest &&
@@ -123,17 +115,17 @@ function onKey(event) {
   if (isTyping && event.key !== 'Escape') return;
   if (there && (event.key === ' ' || event.key === 'Enter' || event.key.startsWith('Arrow') ||
     event.key.startsWith('Page'))) return;
-  const pane = panes.find(one => one.canvas === document.activeElement) || (chosen ? chosen.pane : panes[0]);
+  const pane = panes.find(one => one.canvas === document.activeElement) || chosen.pane || panes[0];
   if (event.key === '[') walk(pane, -1);
   else if (event.key === ']') walk(pane, 1);
   else if (event.key === '{') walkLanes(pane, -1);
   else if (event.key === '}') walkLanes(pane, 1);
   else if (event.key === 'Enter') follow();
   else if (event.key === 'f' || event.key === 'F') zoomToChosen();
-  else if ((event.key === 'w' || event.key === 'W') && chosen && chosen.line >= 0) askWhy(chosen.pane, chosen.line);
+  else if ((event.key === 'w' || event.key === 'W') && chosen.line >= 0) askWhy(chosen.pane, chosen.line);
   else if (event.key === 'n' || event.key === 'N') goTo(search.at + 1);
   else if (event.key === 'p' || event.key === 'P') goTo(search.at - 1);
-  else if (event.key === '/') document.getElementById('words').focus();
+  else if (event.key === '/') byId('words').focus();
   else if (event.key === 'Escape') {
     if (isTyping) event.target.blur(); else {
       selectNothing();
@@ -143,7 +135,8 @@ function onKey(event) {
   event.preventDefault();
 }
 
-/** Wheel: time; with Shift along it, with Ctrl the height of lanes; over the names up and down. */
+/** Reacts to the wheel: it zooms time, pans with Shift, changes the height of lanes with Ctrl, and goes up and down
+    over the names. */
 function onWheel(pane, event) {
   event.preventDefault();
   const by = event.deltaMode === 1 ? 30 : 1, dx = event.deltaX * by, dy = event.deltaY * by;
@@ -156,7 +149,7 @@ function onWheel(pane, event) {
   redraw();
 }
 
-/** A click: the nearest mark, else the nearest arrow, else the lane and the moment. */
+/** Reacts to a click: selects the nearest mark or arrow, else sets the moment. */
 function onClick(pane, x, y) {
   if (x < pane.gutter) {
     const mote = pane.moteAt(y);
@@ -175,7 +168,7 @@ function onClick(pane, x, y) {
   if (line >= 0) return chooseLine(pane, line, false);
   const mote = pane.moteAt(y), moment = Math.floor(pane.moment(x));
   if (mote >= 0 && pane.lane < SMALL_LANE) {
-    const [from, to] = linesInView(pane, mote), near = lowerBound(pane.run.at, moment, from, to);
+    const [from, to] = pane.linesInView(mote), near = lowerBound(pane.run.at, moment, from, to);
     if (near < to && (pane.run.at[near] - moment) * time.scale < 6) return chooseLine(pane, near, false);
   }
   setNow(moment);
@@ -210,19 +203,20 @@ function listenTo(pane) {
   canvas.addEventListener('pointercancel', () => { held = null; });
 }
 
-function listen() {
+/** Reacts to mouse, keys and buttons. */
+export function listen() {
   document.addEventListener('keydown', onKey);
   for (const button of document.querySelectorAll('[data-do]'))
     button.addEventListener('click', () => act(button.dataset.do));
-  document.getElementById('search').addEventListener('submit', event => {
+  byId('search').addEventListener('submit', event => {
     event.preventDefault();
-    find(document.getElementById('words').value);
+    find(byId('words').value);
   });
-  document.getElementById('words').addEventListener('search', event => { if (!event.target.value) find(''); });
-  document.getElementById('found-next').addEventListener('click', () => goTo(search.at + 1));
-  document.getElementById('found-before').addEventListener('click', () => goTo(search.at - 1));
-  document.getElementById('arrows').addEventListener('change', redraw);
-  document.getElementById('now').addEventListener('change', event => {
+  byId('words').addEventListener('search', event => { if (!event.target.value) find(''); });
+  byId('found-next').addEventListener('click', () => goTo(search.at + 1));
+  byId('found-before').addEventListener('click', () => goTo(search.at - 1));
+  byId('arrows').addEventListener('change', redraw);
+  byId('now').addEventListener('change', event => {
     stopPlaying();
     setNow(Number(event.target.value) || 0);
     followNow();
@@ -239,10 +233,10 @@ function listen() {
   window.matchMedia('print').addEventListener('change', event => recolour(event.matches));
 }
 
-/** The colours changed: everything is drawn again, at once where the page is being printed. */
+/** Draws everything again in other colours: at once if the page is being printed. */
 function recolour(now) {
   readColours();
-  sprites.clear();
+  forgetForms();
   drawLegend();
   for (const map of maps) map.still = null;
   if (now === true) drawAll(); else redraw();
@@ -260,28 +254,27 @@ function addPane(run, number, several) {
     '[ and ] choose a line, { and } another lane, Enter follows, plus and minus zoom, arrows pan.');
   canvas.setAttribute('aria-describedby', 'drawn');
   box.append(canvas);
-  document.getElementById('panes').append(box);
+  byId('panes').append(box);
   const pane = new Pane(run, number, box);
   const mapBox = element('section');
   mapBox.className = 'map';
-  document.getElementById('maps').append(mapBox);
+  byId('maps').append(mapBox);
   panes.push(pane);
   maps.push(new MapView(pane, mapBox, several));
   listenTo(pane);
 }
 
-/** Says how much there is to see. */
+/** Says how long and how large the runs are. */
 function sayAbout() {
-  const about = document.getElementById('about');
+  const about = byId('about');
   about.textContent = about.title = panes.map(({run}) => `${run.name}: ` +
     `${count(run.begins.length, 'mote')}, ${count(run.end + 1, 'moment')}, ${count(run.packets, 'packet')}, ` +
-    // (the heads of the motes, the packets, and the words `medium` and `left` have lines of the report too)
-    `a report of ${count(run.count + run.begins.length + run.packets + 2, 'line')}`).join('; ');
-  document.getElementById('now').max = time.end;
+    `a report of ${count(run.rows, 'line')}`).join('; ');
+  byId('now').max = time.end;
 }
 
 /** Shows the first runs of a page, one above another. */
-function showRuns(runs) {
+export function showRuns(runs) {
   time.end = Math.max(...runs.map(run => run.end));
   runs.forEach((run, number) => addPane(run, number, runs.length > 1));
   sayAbout();
@@ -290,15 +283,15 @@ function showRuns(runs) {
   resize();
 }
 
-/** Shows another run in the place of a pane's. Zoom, place and selection stay, as far as they can. */
-function showInstead(pane, run) {
-  const isWhole = time.scale <= leastScale() * 1.001, {isFit} = pane, kept = chosenInWords();
+/** Shows another run in a pane. Zoom, place and selection stay as far as they can. */
+export function showInstead(pane, run) {
+  const wasWhole = isWhole(), {isFit} = pane, kept = chosenInWords();
   pane.take(run);
   maps[pane.number].take(run);
   time.end = Math.max(...panes.map(one => one.run.end));
   sayAbout();
   resize();
-  if (isWhole) time.scale = leastScale();
+  if (wasWhole) time.scale = leastScale();
   keepTime();
   if (isFit) pane.fit(); else pane.keep();
   play.now = Math.min(play.now, time.end);
@@ -308,7 +301,8 @@ function showInstead(pane, run) {
   setNow(now);
 }
 
-/** For tests, and for a reader's console. */
-const page = {draws: 0, drawn: 0, ready: false, panes, time, play, search, chosen: () => chosen, redraw, drawAll,
-  find, act, setNow, count, seriesOf};
-window.motesim = page;
+overlays.push(drawChain);
+mapOverlays.push(drawChainOnMap);
+offers.push(offerWhy);
+Object.assign(page, {time, chosen: () => chosen.pane ? chosen : null, redraw, drawAll, find, act, setNow, count,
+  seriesOf});

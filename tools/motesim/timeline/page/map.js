@@ -1,107 +1,47 @@
-// The map of a run: motes at their places, who hears whom, what is lost where, and the packets that are on their way.
+// The map of a run: motes at their places, who hears whom, which links lose packets, and the packets on their way.
+import {COLLIDE, DEAF, KINDS, LOST, RECV, SEND, lowerBound} from './data.js';
+import {chooseMote} from './details.js';
+import {redraw} from './draw.js';
+import {FORM, colours, cross, drawArrow, fill, path, star, stroke} from './forms.js';
+import {HANDED, MEDIUM, arrivalOf} from './index.js';
+import {MapLayout} from './places.js';
+import {chosen, mapOverlays, play} from './stage.js';
+import {count} from './words.js';
+
 const MOST_LINKS = 12000;
 
-/** Places along one axis, in which wide empty stretches are shortened; whether any is; and the way back. */
-function shortened(values, most) {
-  const sorted = [...new Set(values)].sort((a, b) => a - b), at = new Map();
-  let place = 0, isShort = false;
-  sorted.forEach((value, i) => {
-    const gap = i ? value - sorted[i - 1] : 0;
-    place += Math.min(gap, most);
-    isShort = isShort || gap > most;
-    at.set(value, place);
-  });
-  const shown = sorted.map(value => at.get(value)), last = sorted.length - 1;
-  const back = where => {
-    const i = lowerBound(shown, where);
-    if (i === 0) return sorted[0] + where - shown[0];
-    if (i > last) return sorted[last] + where - shown[last];
-    return sorted[i] - (shown[i] - where) * (sorted[i] - sorted[i - 1]) / (shown[i] - shown[i - 1]);
-  };
-  return [values.map(value => at.get(value)), isShort, back];
-}
-
-class MapView {
+export class MapView extends MapLayout {
   constructor(pane, box, several) {
+    super(pane.run);
     this.pane = pane;
-    // What may be done with the motes on the map: hold, drag, drop and click; on a page to look at nothing.
+    // What the studio does with the motes on the map: hold, drag, drop and click.
     this.edits = null;
     box.innerHTML = '<h2></h2><canvas></canvas><p></p>';
     box.querySelector('h2').textContent = several ? `Map of ${pane.run.name}` : 'Map';
     this.canvas = box.querySelector('canvas');
     this.said = box.querySelector('p');
     this.context = this.canvas.getContext('2d');
-    this.zoom = 1;
-    this.dx = this.dy = 0;
-    this.take(pane.run);
     this.listen();
   }
 
   take(run) {
-    this.run = run;
+    super.take(run);
     this.still = null;
-    this.layOut();
   }
 
-  layOut() {
-    const {run} = this, motes = run.begins.length;
-    if (run.places) {
-      const most = run.range ? run.range * 1.6 : Infinity;
-      const [xs, shortX, backX] = shortened(run.places.map(place => place[0]), most);
-      const [ys, shortY, backY] = shortened(run.places.map(place => place[1]), most);
-      Object.assign(this, {xs, ys, backX, backY});
-      this.isShort = shortX || shortY;
-    } else {
-      this.xs = Array.from({length: motes}, (_, m) => Math.sin(m / motes * 2 * Math.PI));
-      this.ys = Array.from({length: motes}, (_, m) => -Math.cos(m / motes * 2 * Math.PI));
-    }
-    this.left = Math.min(...this.xs);
-    this.upper = Math.min(...this.ys);
-    this.spanX = Math.max(...this.xs) - this.left;
-    this.spanY = Math.max(...this.ys) - this.upper;
-    this.links = this.run.hearers.reduce((sum, list) => sum + list.length, 0) / 2;
-  }
-
+  /** Makes the picture as large as the page shows it, so that the mouse finds the motes where they are drawn. */
   resize() {
-    // (as wide as it is shown: a map that is stretched has its motes elsewhere than the mouse finds them)
-    const dots = window.devicePixelRatio || 1, width = this.canvas.clientWidth || 120;
-    const ratio = this.spanX > 0 ? Math.min(1, Math.max(0.3, (this.spanY + this.spanX * 0.1) / this.spanX)) : 0.6;
-    this.width = width;
-    this.height = Math.round(Math.min(440, Math.max(110, width * ratio)));
+    const dots = window.devicePixelRatio || 1;
+    this.fitTo(this.canvas.clientWidth || 120);
     const border = this.canvas.offsetHeight - this.canvas.clientHeight;
     this.canvas.style.height = this.height + border + 'px';
-    this.canvas.width = width * dots;
+    this.canvas.width = this.width * dots;
     this.canvas.height = this.height * dots;
     this.context.setTransform(dots, 0, 0, dots, 0, 0);
-    const room = 26;
-    this.fit = Math.min((width - 2 * room) / (this.spanX || 1), (this.height - 2 * room) / (this.spanY || 1));
-    if (!this.spanX && !this.spanY) this.fit = 1;
     this.still = null;
   }
 
-  x(m) { return this.width / 2 + this.dx + (this.xs[m] - this.left - this.spanX / 2) * this.fit * this.zoom; }
-  y(m) { return this.height / 2 + this.dy + (this.ys[m] - this.upper - this.spanY / 2) * this.fit * this.zoom; }
-
-  /** Where a point of the map is on the axes as they are shown, and where a mote there would stand. */
-  shownAt(x, y) {
-    const by = this.fit * this.zoom;
-    return [(x - this.width / 2 - this.dx) / by + this.left + this.spanX / 2,
-      (y - this.height / 2 - this.dy) / by + this.upper + this.spanY / 2];
-  }
-
-  placeAt(x, y) {
-    const [shownX, shownY] = this.shownAt(x, y);
-    return [Math.round(this.backX(shownX)), Math.round(this.backY(shownY))];
-  }
-
-  /** How large a mote is drawn: by the room that there is for each. */
-  get radius() {
-    const each = Math.sqrt((this.spanX * this.fit + 30) * (this.spanY * this.fit +
-      30) / this.run.begins.length) * this.zoom;
-    return Math.max(1.5, Math.min(12, each * 0.22));
-  }
-
-  /** Links and losses, which don't change with the moment, are kept as a picture. */
+  /** Draws links and losses, which don't change with the moment, as a picture to keep. */
   drawStill() {
     const {run} = this, dots = window.devicePixelRatio || 1, canvas = document.createElement('canvas');
     canvas.width = this.canvas.width;
@@ -126,7 +66,7 @@ class MapView {
     return canvas;
   }
 
-  /** The half of a link at the receiver that loses packets, dashed, with a cross and which of them. */
+  /** Draws the receiver's half of a link that loses packets: dashed, with a cross and their share. */
   drawLoss(c, s, r, every) {
     const x0 = this.x(s), y0 = this.y(s), x1 = this.x(r), y1 = this.y(r), mx = (x0 + x1) / 2, my = (y0 + y1) / 2;
     path(c, [mx, my, x1, y1]);
@@ -146,7 +86,7 @@ class MapView {
     }
   }
 
-  /** A star at the receiver's end of a link on which copies collided, a box where they found no room. */
+  /** Draws a star at the receiver's end of a link if copies collided there, and a box if they found no room. */
   drawTrouble(c, s, r, [, collided, ring]) {
     const dx = this.x(s) - this.x(r), dy = this.y(s) - this.y(r), long = Math.hypot(dx, dy);
     if (long < 4 * this.radius || long < 16 || !collided && !ring) return;
@@ -162,12 +102,12 @@ class MapView {
     c.drawImage(this.still, 0, 0, this.width, this.height);
     const flying = this.drawFlying();
     for (let m = 0; m < run.begins.length; m++) this.drawMote(m);
-    if (chosen && chosen.pane === this.pane && chosen.k >= 0) this.drawChosenPacket();
+    if (chosen.pane === this.pane && chosen.k >= 0) this.drawChosenPacket();
     for (const draw of mapOverlays) draw(this);
     const parts = [`Moment ${Math.floor(play.now)}: ${flying} on the way.`];
     if (this.links > MOST_LINKS) parts.push(`${count(this.links, 'link')} not drawn.`);
     if (this.isShort) parts.push('Wide empty stretches are shortened.');
-    if (!run.places) parts.push('The places are not known without a scenario.');
+    if (!run.places) parts.push('Without a scenario, the places are not known.');
     this.said.textContent = parts.join(' ');
   }
 
@@ -183,7 +123,7 @@ class MapView {
     }
   }
 
-  /** A dot for each copy between its sender and its receiver; a cross where it was lost on the way. */
+  /** Draws a dot for each copy between its sender and its receiver, and a cross for one that is lost on the way. */
   drawFlying() {
     const {context: c, run} = this, now = play.now;
     const last = lowerBound(run.packetAt, now + 1e-9);
@@ -205,9 +145,10 @@ class MapView {
         }
       }
     }
-    return count(flying, 'copy').replace('copys', 'copies');
+    return count(flying, 'copy');
   }
 
+  /** Draws a mote and what it does at this moment. */
   drawMote(m) {
     const {context: c, run} = this, x = this.x(m), y = this.y(m), r = this.radius;
     if (x < -20 || y < -20 || x > this.width + 20 || y > this.height + 20) return;
@@ -221,7 +162,7 @@ class MapView {
       else if (kind[i] === COLLIDE || kind[i] === LOST || kind[i] === DEAF) trouble = KINDS[kind[i]];
       else if (run.silent[i]) silent = true;
     }
-    const isChosen = chosen && chosen.pane === this.pane && chosen.mote === m, isHalted = run.haltAt[m] <= now;
+    const isChosen = chosen.pane === this.pane && chosen.mote === m, isHalted = run.haltAt[m] <= now;
     c.beginPath();
     c.arc(x, y, r, 0, 7);
     fill(c, sends ? colours.send : isHalted ? colours.grid : hears ? colours.recv : colours.run);
@@ -244,7 +185,7 @@ class MapView {
     if (r >= 5) this.drawPrinted(m, now, x, y + r + 2);
   }
 
-  /** What a mote printed last. */
+  /** Draws the value that a mote printed last. */
   drawPrinted(m, now, x, y) {
     const prints = this.run.prints[m];
     let low = 0, high = prints.length;
@@ -261,36 +202,6 @@ class MapView {
     c.fillText(String(this.run.w[prints[low - 1]]), x, y);
   }
 
-  moteNear(x, y) {
-    let best = Math.max(12, this.radius + 4), found = -1;
-    for (let m = 0; m < this.run.begins.length; m++) {
-      const away = Math.hypot(x - this.x(m), y - this.y(m));
-      if (away < best) {
-        best = away;
-        found = m;
-      }
-    }
-    return found;
-  }
-
-  /** The two motes of the link that passes near a point, or null. */
-  linkNear(x, y) {
-    let best = 7, found = null;
-    this.run.hearers.forEach((list, s) => {
-      for (const r of list) {
-        if (r < s) continue;
-        const x0 = this.x(s), y0 = this.y(s), dx = this.x(r) - x0, dy = this.y(r) - y0, square = dx * dx + dy * dy || 1;
-        const share = Math.max(0, Math.min(1, ((x - x0) * dx + (y - y0) * dy) / square));
-        const away = Math.hypot(x - x0 - share * dx, y - y0 - share * dy);
-        if (away < best) {
-          best = away;
-          found = [s, r];
-        }
-      }
-    });
-    return found;
-  }
-
   listen() {
     new ResizeObserver(() => {
       if (!this.canvas.clientWidth || this.canvas.clientWidth === this.width) return;
@@ -302,12 +213,7 @@ class MapView {
       'Map of the motes: who hears whom, and the packets on their way at the moment that is played');
     this.canvas.addEventListener('wheel', event => {
       event.preventDefault();
-      const factor = Math.exp(-event.deltaY * 0.0015), zoom = Math.max(1, Math.min(40, this.zoom * factor)),
-        by = zoom / this.zoom;
-      const x = event.offsetX - this.width / 2, y = event.offsetY - this.height / 2;
-      this.dx = zoom === 1 ? 0 : x + (this.dx - x) * by;
-      this.dy = zoom === 1 ? 0 : y + (this.dy - y) * by;
-      this.zoom = zoom;
+      this.zoomAt(Math.exp(-event.deltaY * 0.0015), event.offsetX, event.offsetY);
       this.still = null;
       redraw();
     }, {passive: false});

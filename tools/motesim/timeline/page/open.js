@@ -1,6 +1,18 @@
 // Opens the page of tools/timeline on the runs that it holds.
+import {Run, lowerBound, unpacked} from './data.js';
+import {chooseLine, chooseMote} from './details.js';
+import {byId} from './dom.js';
+import {drawAll} from './draw.js';
+import {readColours} from './forms.js';
+import {breathe, indexRun} from './index.js';
+import {AXIS, FULL_LANE} from './layout.js';
+import {listen, resize, showRuns, whole} from './main.js';
+import {setNow} from './play.js';
+import {offerSeries} from './plots.js';
+import {page, panes} from './stage.js';
+import {showTime, time} from './time.js';
 
-/** The page opens on the whole run, or around the moment that it was made for. */
+/** Shows the whole run, or the moments around the one that the page was made for. */
 function openAt(said) {
   whole();
   if (said.start === null) return;
@@ -16,7 +28,7 @@ function openAt(said) {
   }
 }
 
-/** What the page's address asks for behind #: from, to, lane (a height), mote, line (its number), only=timeline. */
+/** Does what the page's address asks for after #: from, to, lane (a height), mote, line (a number), only=timeline. */
 function openAsAddressed() {
   const wish = new URLSearchParams(location.hash.slice(1)), number = name => Number(wish.get(name)), pane = panes[0];
   if (wish.get('only') === 'timeline') {
@@ -31,13 +43,10 @@ function openAsAddressed() {
     pane.reveal(number('mote'));
   }
   if (wish.has('line')) {
-    const {traceStart} = pane.run, wanted = number('line');
-    let mote = 0;
-    while (mote + 1 < pane.order.length && traceStart[mote + 1] + mote + 2 < wanted) mote++;
-    const line = wanted - mote - 2;
-    if (line >= traceStart[mote] && line < traceStart[mote + 1]) {
-      const after = pane.run.at[line] - time.begin, isShown = after >= 0 && after <= time.width / time.scale;
-      chooseLine(pane, line, !wish.has('from') || !isShown);
+    const found = pane.run.atRow(number('line'));
+    if (found && found.line >= 0) {
+      const after = pane.run.at[found.line] - time.begin, isShown = after >= 0 && after <= time.width / time.scale;
+      chooseLine(pane, found.line, !wish.has('from') || !isShown);
     }
   }
 }
@@ -53,10 +62,11 @@ function chooseAt({start, mote}) {
 }
 
 async function open() {
-  const said = JSON.parse(document.getElementById('said').textContent), runs = [], begin = performance.now();
+  const said = JSON.parse(byId('data').textContent), runs = [], begin = performance.now();
   readColours();
   for (const [number, table] of said.runs.entries()) {
-    const run = new Run(table, await unpack(`run${number}`));
+    const packed = byId(`run${number}`), run = new Run(table, await unpacked(packed.textContent));
+    packed.textContent = '';
     await breathe();
     await indexRun(run);
     runs.push(run);
@@ -70,8 +80,9 @@ async function open() {
   drawAll();
 }
 
+window.motesim = page;
 open().catch(fault => {
-  const about = document.getElementById('about');
+  const about = byId('about');
   about.className = 'fault';
   about.textContent = `This page can't be shown here: ${fault.message}`;
   console.error(fault);

@@ -1,11 +1,17 @@
-// The moment that the map shows, and playing from moment to moment.
-const play = {now: 0, before: -1, runs: false, last: 0};
+// The moment that the maps show, and playing from moment to moment.
+import {byId, element} from './dom.js';
+import {redraw} from './draw.js';
+import {panes, play} from './stage.js';
+import {keepTime, time} from './time.js';
+import {count} from './words.js';
+
 const SPEEDS = [0.5, 1, 2, 5, 10, 20, 50, 100, 200, 500, 1000, 5000, 20000];
 
-function setNow(moment) {
+/** Sets the moment that the maps show. */
+export function setNow(moment) {
   play.now = Math.max(0, Math.min(time.end, moment));
   play.before = play.now - 1;
-  document.getElementById('now').value = Math.floor(play.now);
+  byId('now').value = Math.floor(play.now);
   redraw();
 }
 
@@ -16,14 +22,14 @@ function nextBusy(by) {
   return Math.max(0, Math.min(time.end, moment));
 }
 
-function step(by) {
+export function step(by) {
   stopPlaying();
   setNow(nextBusy(by));
   followNow();
 }
 
 /** Keeps the moment that is played in view. */
-function followNow() {
+export function followNow() {
   const x = (play.now - time.begin) * time.scale;
   if (x < 0 || x > time.width * 0.92) {
     time.begin = play.now - time.width * 0.1 / time.scale;
@@ -31,16 +37,16 @@ function followNow() {
   }
 }
 
-function stopPlaying() {
+export function stopPlaying() {
   play.runs = false;
-  document.getElementById('play').textContent = 'Play';
+  byId('play').textContent = 'Play';
 }
 
-function startPlaying() {
+export function startPlaying() {
   if (play.now >= time.end) setNow(0);
   play.runs = true;
   play.last = performance.now();
-  document.getElementById('play').textContent = 'Stop';
+  byId('play').textContent = 'Stop';
   requestAnimationFrame(playOn);
 }
 
@@ -49,16 +55,16 @@ function playOn(now) {
   const past = Math.min(200, Math.max(0, now - play.last)) / 1000;
   play.last = now;
   play.before = play.now;
-  play.now = Math.min(time.end, play.now + past * Number(document.getElementById('speed').value));
-  document.getElementById('now').value = Math.floor(play.now);
+  play.now = Math.min(time.end, play.now + past * Number(byId('speed').value));
+  byId('now').value = Math.floor(play.now);
   followNow();
   redraw();
   if (play.now >= time.end) stopPlaying(); else requestAnimationFrame(playOn);
 }
 
-/** Speeds to choose from; at first the whole run takes some 25 seconds. */
-function fillSpeeds() {
-  const box = document.getElementById('speed'), wish = (time.end + 1) / 25;
+/** Offers speeds. The first choice plays the whole run in some 25 seconds. */
+export function fillSpeeds() {
+  const box = byId('speed'), wish = (time.end + 1) / 25;
   let best = SPEEDS[0];
   for (const speed of SPEEDS) {
     if (speed <= wish) best = speed;

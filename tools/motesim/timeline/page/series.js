@@ -1,18 +1,19 @@
-// What happens in each interval of a run, as small plots: the columns of tools/summary --by.
-const PLOTS = [['sent', 'packets sent'], ['received', 'copies received'], ['failed', 'copies that were not'],
-  ['queue', 'longest event queue'], ['delay', 'moments on the way'], ['waited', 'moments in queues']];
+// What happens in each interval of a run.
+import {DROP, POST, TAKE} from './data.js';
+import {COLLIDED, GONE, LEFT, MEDIUM, RING} from './index.js';
+
 const PARTS = 60;
 
 /** An interval of 1, 2 or 5 times a power of ten, so that a run has about sixty of them. */
-function intervalOf(run) {
+export function intervalOf(run) {
   const least = (run.end + 1) / PARTS;
   for (let power = 1; ; power *= 10) {
     for (const times of [1, 2, 5]) if (power * times >= least) return power * times;
   }
 }
 
-/** The columns of the intervals of a run. */
-function seriesOf(run, by) {
+/** The columns of a run's intervals of `by` moments, as tools/summary --by has them. */
+export function seriesOf(run, by) {
   const parts = Math.floor(run.end / by) + 1, column = () => new Float64Array(parts);
   const its = {by, parts, sent: column(), received: column(), lost: column(), ring: column(), collided: column(),
     halted: column(), late: column(), queue: column(), way: column(), wait: column(), taken: column()};
@@ -61,54 +62,4 @@ function followQueue(run, mote, its) {
     until = part;
   }
   if (posted > taken) keep(posted - taken, until, its.parts - 1);
-}
-
-/** A small plot of a column, with bars that select their moment. */
-function plotOf(its, name, title) {
-  const most = Math.max(...its[name], 0), box = element('figure'), canvas = element('canvas');
-  const shown = Number.isInteger(most) ? most : most.toFixed(2);
-  canvas.width = its.parts * 4 * 2;
-  canvas.height = 80;
-  canvas.setAttribute('role', 'img');
-  canvas.setAttribute('aria-label', `${title}: at most ${shown} in ${count(its.by, 'moment')}`);
-  const c = canvas.getContext('2d');
-  c.fillStyle = colours[name === 'failed' ? 'trouble' : name === 'sent' ? 'send' : name === 'received' ? 'recv' : 'timer'];
-  its[name].forEach((value, i) => {
-    const tall = most ? value / most * 76 : 0;
-    c.fillRect(i * 8, 80 - tall, 7, tall);
-  });
-  c.fillStyle = colours.edge;
-  c.fillRect(0, 79, canvas.width, 1);
-  canvas.addEventListener('click', event => {
-    setNow(Math.floor(event.offsetX / canvas.clientWidth * its.parts) * its.by);
-    followNow();
-  });
-  box.append(element('figcaption', `${title}, at most ${shown}`), canvas);
-  return box;
-}
-
-/** Shows the plots of a run in a box. */
-function showSeries(run, box) {
-  const its = seriesOf(run, intervalOf(run));
-  box.replaceChildren(element('p', `In each ${count(its.by, 'moment')}, for the whole net (as tools/summary --by ` +
-    `${its.by}). A click sets the moment.`), ...PLOTS.map(([name, title]) => plotOf(its, name, title)));
-  box.classList.add('series');
-  return its;
-}
-
-/** The plots of the page of a run, which are made when they are opened. */
-function offerSeries() {
-  const box = element('details'), plots = element('div');
-  box.id = 'over-time';
-  box.append(element('summary', 'Over time'), plots);
-  box.addEventListener('toggle', () => {
-    if (!box.open || plots.children.length) return;
-    for (const pane of panes) {
-      const part = element('div');
-      showSeries(pane.run, part);
-      if (panes.length > 1) plots.append(element('h3', pane.run.name));
-      plots.append(part);
-    }
-  });
-  document.querySelector('aside').append(element('section', '', [box]));
 }

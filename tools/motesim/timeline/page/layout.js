@@ -1,43 +1,28 @@
-// Where moments and motes lie on the screen. All panes share one stretch of time; each has its own lanes.
-const AXIS = 24, HEAD = 46, MOST_SCALE = 600, SMALL_LANE = 9, FULL_LANE = 32, TALL_LANE = 150, APART = 14;
+// The lanes of a pane: where motes, moments and lines are on it.
+import {DEAF, DROP, FULL, POST, PRINT, RECV, SEND, TAKE, lowerBound} from './data.js';
+import {time} from './time.js';
 
-/** The stretch of time in view: `begin` is the moment at the left edge, `scale` how many pixels a moment has. */
-const time = {begin: 0, scale: 1, end: 0, width: 100};
+/** The height of the axis, and of the head of an island. */
+export const AXIS = 24;
+export const HEAD = 46;
+/** Heights of lanes: below the first, lanes are drawn as colours; from the second on, in rows of forms. */
+export const SMALL_LANE = 9;
+export const FULL_LANE = 32;
+export const TALL_LANE = 150;
+/** From this scale on, the lines of a moment are drawn apart. */
+export const APART = 14;
 
-const leastScale = () => time.width / (time.end + 1) * 0.98;
-
-function keepTime() {
-  time.scale = Math.min(MOST_SCALE, Math.max(leastScale(), time.scale));
-  const shown = time.width / time.scale, slack = Math.max(0, shown - time.end - 1);
-  time.begin = Math.min(Math.max(time.begin, -slack / 2), Math.max(-slack / 2, time.end + 1 - shown));
-}
-
-function zoomTime(factor, x = time.width / 2) {
-  const moment = time.begin + x / time.scale;
-  time.scale = Math.min(MOST_SCALE, Math.max(leastScale(), time.scale * factor));
-  time.begin = moment - x / time.scale;
-  keepTime();
-}
-
-function showTime(first, last) {
-  time.scale = time.width / Math.max(1, last - first + 1);
-  keepTime();
-  time.begin = (first + last + 1) / 2 - time.width / time.scale / 2;
-  keepTime();
-}
-
-class Pane {
-  constructor(run, number, box) {
-    this.number = number;
-    this.canvas = box.querySelector('canvas');
-    this.context = this.canvas.getContext('2d');
+export class Layout {
+  constructor(run) {
     this.top = 0;
     this.lane = 20;
     this.gutter = 70;
+    this.width = 200;
+    this.height = 200;
     this.take(run);
   }
 
-  /** Lanes for the motes of a run, which stand by islands. */
+  /** Makes lanes for the motes of a run, in the order of islands. */
   take(run) {
     this.run = run;
     this.order = [];
@@ -53,28 +38,16 @@ class Pane {
     });
   }
 
-  /** The canvas takes the place that it has on the page. */
-  resize(height) {
-    const dots = window.devicePixelRatio || 1;
-    this.width = Math.max(200, this.canvas.parentElement.clientWidth);
-    this.height = height;
-    this.canvas.style.height = height + 'px';
-    this.canvas.width = Math.round(this.width * dots);
-    this.canvas.height = Math.round(height * dots);
-    this.context.setTransform(dots, 0, 0, dots, 0, 0);
-    this.dots = dots;
-    this.gutter = this.width < 560 ? 64 : 74;
-  }
-
   get heads() { return this.run.groups.length * HEAD; }
 
-  /** Lanes of the height at which all are in view, in so far as they can be told apart. */
+  /** Makes lanes so low that all are in view, but not too low to be seen. */
   fit() {
     this.lane = Math.min(TALL_LANE, this.fitting);
     this.top = 0;
     this.keep();
   }
 
+  /** The height of lanes at which all are in view. */
   get fitting() {
     const each = (this.height - AXIS - this.heads - 2) / this.order.length;
     return each > 0.1 ? each : SMALL_LANE;
@@ -84,12 +57,13 @@ class Pane {
 
   get full() { return this.heads + this.order.length * this.lane; }
 
+  /** Keeps the lanes within the pane. */
   keep() {
     this.lane = Math.min(240, Math.max(Math.min(1, this.fitting), this.lane));
     this.top = Math.max(0, Math.min(this.top, this.full - (this.height - AXIS)));
   }
 
-  /** Lanes get taller by a factor, and the one at y stays where it is. */
+  /** Makes lanes taller by a factor; the lane at y stays there. */
   zoomLanes(factor, y = this.height / 2) {
     const place = this.placeAt(y), before = this.laneTopOfPlace(Math.min(place, this.order.length - 1));
     this.lane *= factor;
@@ -108,7 +82,7 @@ class Pane {
   laneTop(mote) { return this.laneTopOfPlace(this.place[mote]); }
   headTop(g) { return AXIS - this.top + g * HEAD + this.run.groups[g].first * this.lane; }
 
-  /** The place in the order of lanes at y: of the next lane below, where a head stands there. */
+  /** The place of the lane at y in the order of lanes; at a head, of the next lane below. */
   placeAt(y) {
     let low = 0, high = this.order.length;
     while (low < high) {
@@ -123,7 +97,7 @@ class Pane {
     return place < this.order.length && this.laneTopOfPlace(place) <= y ? this.order[place] : -1;
   }
 
-  /** Where a line of a trace is drawn: within its moment by its place in the turn, where there is room for that. */
+  /** The x of a line: within its moment by its place in the turn, if there is room for that. */
   lineX(line, mote, turn) {
     const middle = this.x(this.run.at[line] + 0.5);
     if (time.scale < APART) return middle;
@@ -131,7 +105,7 @@ class Pane {
     return middle + time.scale * 0.86 * share * ((line - from + 0.5) / (to - from) - 0.5);
   }
 
-  /** The height in a lane at which a line of a kind is drawn. */
+  /** The y of a line of a kind: by its row in the lane. */
   lineY(kind, mote) {
     const top = this.laneTop(mote);
     if (this.lane < FULL_LANE) return top + this.lane * (kind === RECV ? 0.8 : kind === PRINT ? 0.3 : 0.5);
@@ -151,5 +125,20 @@ class Pane {
     if (top < AXIS + 4) this.top -= AXIS + 40 - top;
     else if (bottom > this.height - 4) this.top += bottom - this.height + 40;
     this.keep();
+  }
+
+  /** The places of the lanes in view: from, to. */
+  lanesInView() {
+    const from = this.placeAt(AXIS);
+    let to = this.placeAt(this.height - 1);
+    if (to < this.order.length && this.laneTopOfPlace(to) < this.height) to++;
+    return [from, Math.max(from, to)];
+  }
+
+  /** The lines of a mote that are in view: from, to. */
+  linesInView(mote) {
+    const {at, traceStart} = this.run, low = traceStart[mote], high = traceStart[mote + 1];
+    const from = lowerBound(at, Math.floor(this.moment(this.gutter)), low, high);
+    return [from, lowerBound(at, Math.ceil(this.moment(this.width)) + 1, from, high)];
   }
 }

@@ -1,0 +1,144 @@
+// Runs the text, and shows its run, its error, or the limit that it met.
+import {Run} from '../../timeline/page/data.js';
+import {selectNothing} from '../../timeline/page/details.js';
+import {byId} from '../../timeline/page/dom.js';
+import {drawAll} from '../../timeline/page/draw.js';
+import {indexRun} from '../../timeline/page/index.js';
+import {listen, showInstead, showRuns, whole} from '../../timeline/page/main.js';
+import {setNow} from '../../timeline/page/play.js';
+import {collect} from '../../timeline/page/search.js';
+import {page, panes} from '../../timeline/page/stage.js';
+import {count} from '../../timeline/page/words.js';
+import {Lost, Refused, ask, attempt} from './link.js';
+import {say, showState, unsay} from './notices.js';
+import {studio} from './state.js';
+
+/** What other modules do with a run that is shown, and with the results of one: functions. */
+export const reactions = {shown: [], judged: []};
+
+/** Runs the text, or another one, and shows the result unless a newer run was asked for meanwhile. */
+export async function runNow(other) {
+  clearTimeout(studio.timer);
+  const isOther = typeof other === 'string', text = isOther ? other : studio.editor.text;
+  const asked = ++studio.asked, {changedAt} = studio;
+  if (!isOther) unsay('shown');
+  if (!studio.document) return;
+  showState('busy', 'running');
+  let got;
+  try {
+    got = await ask('run', {text, name: studio.document.name, pinned: studio.pinned});
+  } catch (fault) {
+    if (fault instanceof Lost) return;
+    if (!(fault instanceof Refused)) throw fault;
+    setStale(true);
+    return say('limit', fault.message);
+  }
+  if (asked !== studio.asked) return;
+  const length = new DataView(got).getUint32(0, true);
+  const answer = JSON.parse(new TextDecoder().decode(new Uint8Array(got, 4, length)));
+  if (answer.superseded) return;
+  if (answer.fault) return showFault(answer.fault);
+  if (answer.limit) return showLimit(answer.limit);
+  const run = new Run(answer.run, got.slice(4 + length));
+  await indexRun(run);
+  if (asked !== studio.asked) return;
+  noFault();
+  showRun(run, answer);
+  if (changedAt && changedAt === studio.changedAt) noteLatency(performance.now() - changedAt);
+  showState('good', `${count(run.rows, 'line')} of report`);
+  await judge(answer.number);
+}
+
+/** Keeps the last times from a key to the lanes. */
+function noteLatency(time) {
+  studio.latency.push(time);
+  if (studio.latency.length > 200) studio.latency.shift();
+}
+
+function showRun(run, answer) {
+  studio.programs = answer.programs;
+  studio.number = answer.number;
+  if (!panes.length) {
+    showRuns([run]);
+    listen();
+    whole();
+    page.ready = true;
+  } else {
+    showInstead(panes[0], run);
+    if (studio.fresh) {
+      whole();
+      setNow(0);
+      selectNothing();
+      byId('words').value = '';
+      collect([]);
+      byId('found').textContent = '';
+      byId('matches').hidden = true;
+    }
+  }
+  if (studio.fresh) Object.assign(studio, {fresh: false, before: 0});
+  setStale(false);
+  for (const react of reactions.shown) react(run);
+  drawAll();
+}
+
+/** Asks for the results of a run, and for its differences from the run before. */
+async function judge(number) {
+  const {where, name} = studio.document, against = studio.pinned || studio.before;
+  const results = await attempt(() => ask('judge', {number, against, is_pinned: Boolean(studio.pinned), where, name,
+    saved: studio.saved}));
+  if (!results || results.gone || number !== studio.number) return;
+  studio.before = number;
+  for (const react of reactions.judged) react(results, against);
+  studio.judged = number;
+}
+
+function setStale(isStale) { document.body.classList.toggle('stale', isStale); }
+
+function showFault({words: lines, line, place}) {
+  setStale(true);
+  unsay('limit');
+  byId('fault').hidden = false;
+  byId('warnings').hidden = true;
+  byId('fault').querySelector('pre').textContent = [line, ...lines].join('\n');
+  byId('fault-place').hidden = !place;
+  if (place) studio.editor.mark(place); else studio.editor.clear();
+  const where = place ? `error in line ${place[0] + 1}` : 'an error';
+  showState('bad', panes.length ? `${where}: the last run is shown` : where);
+  sayNoRun();
+  page.ready = true;
+  studio.editor.refresh();
+}
+
+function sayNoRun() { if (!panes.length) byId('about').textContent = 'There is no run to show yet.'; }
+
+function noFault() {
+  const was = !byId('fault').hidden;
+  byId('fault').hidden = true;
+  studio.editor.clear();
+  unsay('limit');
+  if (was) studio.editor.refresh();
+}
+
+function showLimit(words) {
+  noFault();
+  setStale(true);
+  say('limit', words);
+  showState('bad', panes.length ? 'stopped: the last run is shown' : 'stopped');
+  sayNoRun();
+  page.ready = true;
+}
+
+export function unpin() {
+  studio.pinned = 0;
+  byId('pin').setAttribute('aria-pressed', 'false');
+  byId('pin').textContent = 'Pin this run';
+}
+
+/** Pins the run that is shown, or releases the pinned one. */
+export function pin() {
+  if (studio.pinned) return unpin();
+  if (!studio.number) return;
+  studio.pinned = studio.number;
+  byId('pin').setAttribute('aria-pressed', 'true');
+  byId('pin').textContent = 'Pinned';
+}

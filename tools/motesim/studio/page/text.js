@@ -1,0 +1,30 @@
+// Places and pieces of a text.
+
+/** The line and the column of an offset, from 0. */
+export function lineAndColumn(text, offset) {
+  const before = text.slice(0, offset).split('\n');
+  return [before.length - 1, before[before.length - 1].length];
+}
+
+/** The offset of a line and a column; at most the length of the text. */
+export function offsetOf(text, [line, column]) {
+  const rows = text.split('\n');
+  let offset = 0;
+  for (let row = 0; row < Math.min(line, rows.length); row++) offset += rows[row].length + 1;
+  return Math.min(offset + column, text.length);
+}
+
+/** The changes that replace a piece of a text everywhere, the last one first. */
+export function replacements(whole, old, text) {
+  const changes = [];
+  for (let from = whole.indexOf(old); old && from >= 0; from = whole.indexOf(old, from + old.length)) {
+    changes.unshift({from: lineAndColumn(whole, from), to: lineAndColumn(whole, from + old.length), text});
+  }
+  return changes;
+}
+
+/** A piece of a program on one line, shortened if it is long. */
+export function oneLine(text) {
+  const line = text.trim().replace(/\s+/g, ' ');
+  return line.length > 90 ? `${line.slice(0, 88)}…` : line;
+}

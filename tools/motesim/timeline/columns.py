@@ -1,0 +1,165 @@
+"""The columns of a run, as a page has them: numbers, compressed by zlib. `page/data.js` reads them.
+
+    table, packed = data_of(run)
+"""
+from __future__ import annotations
+
+import sys
+import zlib
+from array import array
+from collections.abc import Callable, Iterator, Sequence
+from itertools import chain, repeat
+from operator import sub
+from typing import Any
+
+from motesim.faults import Fault
+from motesim.notation.keywords import EVENTS
+from motesim.report import KINDS, LOST, Log, Report, Trace
+from motesim.runner.run import Run
+from motesim.scenario import Scenario
+
+ALL = 0xFFFF
+LEVEL = 6
+# The column that a field of a line belongs to.
+OF_FIELDS = {'process': 'p', 'sender': 'p', 'serial': 'x', 'number': 'x', 'event': 'e', 'word': 'w', 'value': 'w'}
+ARRAYS = {'u8': 'B', 'u16': 'H', 'u32': 'I'}
+
+
+def _zigzag(numbers: Sequence[int]) -> list[int]:
+    """Each number as its difference from the expected one: small if it is near, and never negative."""
+    steps = map(sub, numbers, chain((-1,), numbers))
+    return [2 * step - 2 if step > 0 else 1 - 2 * step for step in steps]
+
+
+def _in_row(numbers: array[int]) -> bool:
+    """True if the numbers are 0, 1, 2, .."""
+    return not numbers or numbers[-1] == len(numbers) - 1 and numbers == array(numbers.typecode, range(len(numbers)))
+
+
+def _differences(numbers: Sequence[int]) -> Iterator[int]:
+    return map(sub, numbers, chain((0,), numbers))
+
+
+class Columns:
+    """The columns of a run. `names` has them in their order, each with its kind of number."""
+    names = {'traceStart': 'u32', 'at': 'u32', 'x': 'u32', 'packetAt': 'u32', 'copyAfter': 'u32', 'w': 'u16',
+             'p': 'u16', 'e': 'u16', 'begins': 'u16', 'packetSender': 'u16', 'packetValue': 'u16', 'copyCount': 'u16',
+             'copyTo': 'u16', 'kind': 'u8'}
+
+    def __init__(self, report: Report):
+        self.columns = {name: array(ARRAYS[kind]) for name, kind in self.names.items()}
+        trace = report.trace
+        known = trace.processes()
+        self.processes = [name for name in trace.names if name in known and name != 'all']
+        self.events = [name for name in trace.names if name in EVENTS]
+        self.programs = list(dict.fromkeys(mote.program for mote in report.motes))
+        try:
+            self._add_traces(report, trace)
+            self._add_medium(report.log, len(report.motes))
+        except OverflowError:
+            raise Fault('the report has a number that is too large for a page') from None
+
+    def _add_traces(self, report: Report, trace: Trace) -> None:
+        """The lines of all motes. Moments are differences; serials and numbers are differences from the expected ones."""
+        columns = self.columns
+        columns['traceStart'].extend(trace.starts)
+        columns['kind'].frombytes(trace.kind)
+        columns['begins'].extend(map(self.programs.index, (mote.program for mote in report.motes)))
+        for begin, end in zip(trace.starts, trace.starts[1:]):
+            columns['at'].extend(_differences(trace.at[begin:end]))
+        for name in 'x', 'p', 'e', 'w':
+            parts = [self._part(trace, kind, name) for kind in KINDS]
+            following: Callable[[Iterator[int]], int] = next
+            columns[name].extend(map(following, map(parts.__getitem__, trace.kind)))
+
+    def _part(self, trace: Trace, kind: str, name: str) -> Iterator[int]:
+        """The numbers that the lines of a kind have in a column, in their order."""
+        for field, column in trace.of[kind].items():
+            if OF_FIELDS[field] != name:
+                continue
+            if name == 'x':
+                return self._numbers(trace, kind, column)
+            if name in 'pe' and field != 'sender':
+                places = {it: place for place, it in enumerate(self.events if name == 'e' else self.processes)}
+                table = [places.get(it, ALL) for it in trace.names]
+                return map(table.__getitem__, column)
+            return iter(column)
+        return repeat(0)
+
+    def _numbers(self, trace: Trace, kind: str, column: array[int]) -> Iterator[int]:
+        """Serials or numbers, as differences from the expected ones."""
+        for mote in range(len(trace.starts) - 1):
+            numbers = column[trace.place(mote, kind)]
+            yield from repeat(0, len(numbers)) if _in_row(numbers) else _zigzag(numbers)
+
+    def _add_medium(self, log: Log, motes: int) -> None:
+        """The packets with their copies. A lost copy has the time 0."""
+        columns = self.columns
+        sent = [0] * motes
+        for sender, number in zip(log.sender, log.number):
+            if number != sent[sender]:
+                raise Fault('the packets of mote %d are not numbered 0, 1, 2, ..' % sender)
+            sent[sender] += 1
+        columns['packetAt'].extend(_differences(log.at))
+        columns['packetSender'].extend(iter(log.sender))
+        columns['packetValue'].extend(log.value)
+        columns['copyCount'].extend(map(sub, log.first[1:], log.first))
+        columns['copyTo'].extend(iter(log.to))
+        columns['copyAfter'].extend(0 if arrival == LOST else arrival - at
+                                    for arrival, at in zip(log.arrival, log.of_copies(log.at)))
+
+    def parts(self) -> Iterator[bytes]:
+        """All columns one after another, each at a multiple of 4."""
+        for column in self.columns.values():
+            if sys.byteorder == 'big':
+                column = column[:]
+                column.byteswap()
+            yield column.tobytes()
+            yield bytes(-len(column) * column.itemsize % 4)
+
+    def joined(self) -> bytes:
+        """All columns as one."""
+        return b''.join(self.parts())
+
+    def packed(self) -> bytes:
+        """All columns, compressed."""
+        packer = zlib.compressobj(LEVEL)
+        return b''.join([*map(packer.compress, self.parts()), packer.flush()])
+
+    def table(self) -> list[list[Any]]:
+        """What the page needs to find the columns: name, kind of number, length."""
+        return [[name, kind, len(self.columns[name])] for name, kind in self.names.items()]
+
+
+def _last_moment(report: Report) -> int:
+    """The last moment at which anything was written or sent: the end of a run whose scenario isn't known."""
+    starts, at = report.trace.starts, report.trace.at
+    moments = [at[end - 1] for begin, end in zip(starts, starts[1:]) if begin < end]
+    return max(moments + list(report.log.at[-1:]), default=0)
+
+
+def _of_scenario(scenario: Scenario | None) -> dict[str, Any]:
+    """What the page shows of a scenario: places, range, losses."""
+    if scenario is None:
+        return {'places': None}
+    return {
+        'places': [[place.x, place.y] for place in scenario.places], 'range': scenario.range, 'base': scenario.base,
+        'per': scenario.per, 'collide': scenario.collide,
+        'losses': [[sender, to, every] for (sender, to), every in scenario.losses.items()],
+    }
+
+
+def table_of(run: Run, columns: Columns) -> dict[str, Any]:
+    """The table of names and numbers that the page needs besides the columns of a run."""
+    end = run.scenario.end if run.scenario else _last_moment(run.report)
+    return {
+        'name': run.name, 'end': max(end, _last_moment(run.report)), 'left': run.report.left,
+        'programs': columns.programs, 'processes': columns.processes, 'events': columns.events,
+        'columns': columns.table(), **_of_scenario(run.scenario),
+    }
+
+
+def data_of(run: Run) -> tuple[dict[str, Any], bytes]:
+    """What a page has of a run: a table of names and numbers, and packed columns."""
+    columns = Columns(run.report)
+    return table_of(run, columns), columns.packed()

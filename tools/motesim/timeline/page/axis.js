@@ -1,0 +1,118 @@
+// What surrounds the lanes of a pane: axis, grid, bands, the names of motes, and the moment that the map shows.
+import {colours, fill, path} from './forms.js';
+import {AXIS, SMALL_LANE} from './layout.js';
+import {chosen, play} from './stage.js';
+import {niceStep, time} from './time.js';
+
+/** The axis of moments. */
+export function drawAxis(pane) {
+  const c = pane.context, step = niceStep(76 / time.scale), first = Math.max(0, Math.ceil(time.begin / step) * step);
+  const last = Math.min(time.end, pane.moment(pane.width));
+  c.fillStyle = colours.panel;
+  c.fillRect(0, 0, pane.width, AXIS);
+  c.font = '12px system-ui, "DejaVu Sans", sans-serif';
+  c.textAlign = 'center';
+  c.textBaseline = 'middle';
+  const middle = time.scale > 26 ? 0.5 : 0;
+  for (let moment = first; moment <= last; moment += step) {
+    const x = pane.x(moment);
+    c.fillStyle = colours.edge;
+    if (x >= pane.gutter) c.fillRect(Math.round(x), AXIS - 5, 1, 5);
+    c.fillStyle = colours.quiet;
+    const half = c.measureText(String(moment)).width / 2;
+    const at = Math.max(pane.x(moment + middle), pane.gutter + half + 1);
+    if (x >= pane.gutter && at + half < pane.width - 2) c.fillText(String(moment), at, AXIS / 2);
+  }
+  c.textAlign = 'left';
+  c.fillStyle = colours.panel;
+  c.fillRect(0, 0, pane.gutter, AXIS);
+  c.fillStyle = colours.quiet;
+  c.fillText('moment', 6, AXIS / 2, pane.gutter - 9);
+  c.fillStyle = colours.edge;
+  c.fillRect(0, AXIS - 1, pane.width, 1);
+}
+
+/** The grid, and what is before and after the run. */
+export function drawGrid(pane) {
+  const c = pane.context, step = niceStep(76 / time.scale);
+  const first = Math.max(0, Math.ceil(time.begin / step) * step), last = Math.min(time.end, pane.moment(pane.width));
+  c.fillStyle = colours.grid;
+  for (let moment = first; moment <= last; moment += step)
+    c.fillRect(Math.round(pane.x(moment)), AXIS, 1, pane.height);
+  const before = pane.x(0), behind = pane.x(pane.run.end + 1);
+  c.fillStyle = colours.panel;
+  if (before > pane.gutter) c.fillRect(pane.gutter, AXIS, before - pane.gutter, pane.height);
+  if (behind < pane.width) c.fillRect(behind, AXIS, pane.width - behind, pane.height);
+}
+
+/** The bands behind the lanes, which tell neighbouring lanes apart. */
+export function drawBands(pane, from, to) {
+  const c = pane.context;
+  if (pane.lane < 5) return;
+  const left = Math.max(pane.gutter, pane.x(0)), right = Math.min(pane.width, pane.x(pane.run.end + 1));
+  for (let place = from; place < to; place++) {
+    const y = pane.laneTopOfPlace(place);
+    if (place % 2) {
+      c.fillStyle = colours.band;
+      c.fillRect(left, y, right - left, pane.lane);
+    }
+    if (pane.lane >= SMALL_LANE) {
+      c.fillStyle = colours.grid;
+      c.fillRect(left, Math.round(y + pane.lane) - 1, right - left, 1);
+    }
+  }
+}
+
+/** The column of the names of motes. */
+export function drawColumn(pane, from, to) {
+  const {context: c} = pane;
+  c.fillStyle = colours.panel;
+  for (let place = from; place < to; place++) c.fillRect(0, pane.laneTopOfPlace(place), pane.gutter - 1,
+    Math.max(1, pane.lane + 0.5));
+  c.fillStyle = colours.edge;
+  c.fillRect(pane.gutter - 1, AXIS, 1, pane.height);
+}
+
+/** The names of motes, in that column. */
+export function drawNames(pane, from, to) {
+  const {run, context: c} = pane;
+  const step = pane.lane >= 11 ? 1 : niceStep(13 / pane.lane), several = run.programs.length > 1;
+  c.textBaseline = 'middle';
+  for (let place = from; place < to; place++) {
+    const mote = pane.order[place], y = pane.laneTopOfPlace(place);
+    const isChosen = chosen.pane === pane && chosen.mote === mote;
+    if (mote % step && !isChosen) continue;
+    if (isChosen) {
+      c.fillStyle = colours.halo;
+      c.fillRect(0, y, pane.gutter - 1, Math.max(2, pane.lane));
+    }
+    c.fillStyle = colours.ink;
+    c.font = (isChosen ? 'bold ' : '') + '12px system-ui, "DejaVu Sans", sans-serif';
+    const both = several && pane.lane >= 30, name = pane.lane >= 11 ? `mote ${mote}` : String(mote);
+    c.fillText(name, 6, y + pane.lane / 2 - (both ? 7 : 0), pane.gutter - 9);
+    if (both) {
+      c.font = '11px system-ui, "DejaVu Sans", sans-serif';
+      c.fillStyle = colours.quiet;
+      c.fillText(run.programs[run.begins[mote]], 6, y + pane.lane / 2 + 8, pane.gutter - 10);
+    }
+  }
+}
+
+/** The moment that the map shows, on the lanes. */
+export function drawCursor(pane) {
+  const c = pane.context, moment = Math.floor(play.now), x = pane.x(moment), wide = Math.max(1.5, time.scale);
+  if (x + wide < pane.gutter || x > pane.width) return;
+  c.save();
+  c.globalAlpha = time.scale > 60 ? 0.08 : time.scale > 3 ? 0.16 : 0.8;
+  c.fillStyle = colours.cursor;
+  c.fillRect(Math.max(pane.gutter, x), AXIS, wide, pane.height);
+  c.restore();
+}
+
+/** The same moment, on the axis. */
+export function drawCursorHead(pane) {
+  const c = pane.context, x = pane.x(Math.floor(play.now)) + Math.max(1.5, time.scale) / 2;
+  if (x < pane.gutter || x > pane.width) return;
+  path(c, [x - 5, AXIS - 7, x + 5, AXIS - 7, x, AXIS - 1], true);
+  fill(c, colours.cursor);
+}

@@ -1,0 +1,64 @@
+// The causes of a run's lines, and the chains that they make.
+import {COLLIDE, DROP, LOST, RECV, TAKE, unpacked} from './data.js';
+import {count} from './words.js';
+
+const WAIT_NAMES = {timer: 'waiting for timers', medium: 'on the way', queue: 'in queues',
+  full: 'for timers that found the queue full'};
+
+/** Unpacks the causes that a page has of its run. `causeOf` has the cause of each line, -1 for the head of a trace. */
+async function readCauses(run) {
+  const packed = run.why;
+  if (!packed || packed.none || run.causeOf) return;
+  const back = new Uint32Array(await unpacked(packed.causes));
+  run.reasonOf = new Uint16Array(await unpacked(packed.reasons));
+  run.causeOf = Int32Array.from(back, (far, line) => far ? line - (far & 1 ? -(far >>> 1) : far >>> 1) : -1);
+}
+
+/** A hop of a chain: a line with the reason, and what it waited for since its cause. `line` is -1 at a head. */
+function hopOf(run, line) {
+  const mote = run.moteOf(line), cause = run.causeOf[line], at = run.at[line], before = cause < 0 ? 0 : run.at[cause];
+  const kind = run.kind[line], [text, wait] = run.why.texts[run.reasonOf[line]], hop = {line, mote, at, cause,
+    row: run.numberOf(line, mote), words: run.words(line), waited: at - before, wait, because: text};
+  if (kind === RECV || kind === LOST || kind === COLLIDE) {
+    hop.wait = 'medium';
+    hop.because = `packet ${run.x[line]} of mote ${run.p[line]} came, after ${count(hop.waited, 'moment')} on the way`;
+    if (kind !== RECV) hop.because += kind === LOST ? ', when eight packets were waiting' : ', with others';
+  } else if (kind === TAKE || kind === DROP) {
+    hop.wait = hop.waited ? 'queue' : '';
+    hop.because = kind === TAKE ? `event ${run.x[line]} was next in the queue` :
+      `event ${run.x[line]} came, and ${run.process(run.p[line])} was not there`;
+    if (hop.waited) hop.because += `, ${count(hop.waited, 'moment')} after it was posted`;
+  } else if (!text && cause >= 0 && run.kind[cause] === RECV) {
+    hop.because = `the radio process hands on packet ${run.x[cause]} of mote ${run.p[cause]}`;
+  }
+  return hop;
+}
+
+/** The head of a trace, with which a chain starts. */
+function headOf(run, mote) {
+  return {line: -1, mote, at: 0, cause: -1, row: run.traceStart[mote] + mote + 1,
+    words: `mote ${mote} ${run.programs[run.begins[mote]]}`, waited: 0, wait: '', because: 'the start'};
+}
+
+/** The chain of a line from the page's own causes. */
+export async function chainOf(run, line) {
+  if (!run.causeOf) await readCauses(run);
+  if (!run.causeOf) throw new Error(run.why ? run.why.none : 'This page has no causes.');
+  const hops = [];
+  for (let at = line; at >= 0; at = run.causeOf[at]) hops.push(hopOf(run, at));
+  hops.push(headOf(run, hops[hops.length - 1].mote));
+  return {hops, about: ''};
+}
+
+/** The moments of a chain by what they were spent on, in words. */
+export function pathOf(hops) {
+  const sums = {timer: 0, medium: 0, queue: 0, full: 0}, times = {timer: 0, medium: 0, queue: 0, full: 0};
+  for (const hop of hops) {
+    if (!hop.wait) continue;
+    sums[hop.wait] += hop.waited;
+    times[hop.wait]++;
+  }
+  const parts = Object.keys(sums).filter(kind => times[kind]).map(kind => `${sums[kind]} ${WAIT_NAMES[kind]}` +
+    (kind === 'medium' ? `, over ${count(times.medium, 'hop')}` : ''));
+  return `Critical path: ${count(hops[0].at, 'moment')}${parts.length ? `: ${parts.join('; ')}` : ''}.`;
+}

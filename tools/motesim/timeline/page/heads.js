@@ -1,0 +1,66 @@
+// The heads of islands: how many packets each sent, and when.
+import {colours} from './forms.js';
+import {AXIS, HEAD} from './layout.js';
+import {niceStep, time} from './time.js';
+import {count} from './words.js';
+
+/** Draws a head: the sends and silences of its motes in each bin of moments. */
+function drawHead(pane, g, most, bin) {
+  const {run, context: c} = pane, group = run.groups[g], y = pane.headTop(g);
+  if (y > pane.height || y + HEAD < AXIS) return;
+  c.fillStyle = colours.panel;
+  c.fillRect(0, y, pane.width, HEAD);
+  c.fillStyle = colours.edge;
+  c.fillRect(0, y + HEAD - 1, pane.width, 1);
+  const base = y + HEAD - 2, tall = HEAD - 22;
+  sumsOf(pane, group, bin, (j, sent, quiet) => {
+    const left = Math.max(pane.gutter, pane.x(j * bin * run.piece)),
+      right = Math.min(pane.width, pane.x((j + 1) * bin * run.piece));
+    if (right <= left) return;
+    const h = sent / most * tall, more = quiet / most * tall;
+    c.fillStyle = colours.send;
+    c.fillRect(left + 0.5, base - h, Math.max(1, right - left - 1), h);
+    if (quiet) {
+      c.strokeStyle = colours.quiet;
+      c.lineWidth = 1;
+      c.strokeRect(left + 1, base - h - more + 0.5, Math.max(1, right - left - 2), Math.max(1, more - 1));
+    }
+  });
+  c.font = 'bold 12.5px system-ui, "DejaVu Sans", sans-serif';
+  c.textBaseline = 'middle';
+  c.textAlign = 'left';
+  c.fillStyle = colours.ink;
+  c.fillText(group.name, 6, y + 10);
+  const from = 6 + c.measureText(group.name).width + 10;
+  c.font = '12.5px system-ui, "DejaVu Sans", sans-serif';
+  c.fillStyle = colours.quiet;
+  const anySilent = run.groups.some(one => one.quiet), words = `${count(group.sent, 'packet')} sent` +
+    (!anySilent ? '' : group.quiet ? `, ${count(group.quiet, 'time')} silent instead` : ', never silent instead');
+  const moments = Math.round(bin * run.piece), bars = ` (bars: in ${count(moments, 'moment')})`;
+  const room = pane.width - from - 6;
+  c.fillText(c.measureText(words + bars).width < room ? words + bars : words, from, y + 10, Math.max(10, room));
+}
+
+/** Reports the sends and silences of a group for each bin in view. */
+function sumsOf(pane, group, bin, report) {
+  const {run} = pane, share = run.pieces / (run.end + 1);
+  const first = Math.max(0, Math.floor(pane.moment(pane.gutter) * share / bin));
+  const last = Math.min(Math.ceil(run.pieces / bin), Math.ceil(pane.moment(pane.width) * share / bin));
+  for (let j = first; j < last; j++) {
+    let sent = 0, quiet = 0;
+    for (let piece = j * bin; piece < Math.min(run.pieces, (j + 1) * bin); piece++) {
+      sent += group.sends[piece];
+      quiet += group.silences[piece];
+    }
+    if (sent || quiet) report(j, sent, quiet);
+  }
+}
+
+/** Draws the heads of all islands, to one scale. */
+export function drawHeads(pane) {
+  const {run} = pane, bin = Math.max(1, Math.round(niceStep(9 / time.scale) / run.piece));
+  let most = 1;
+  for (const group of run.groups) sumsOf(pane, group, bin,
+    (j, sent, quiet) => { most = Math.max(most, sent + quiet); });
+  for (let g = 0; g < run.groups.length; g++) drawHead(pane, g, most, bin);
+}

@@ -1,0 +1,95 @@
+// Lanes with too many lines for forms: as colours of pixels, or as strokes.
+import {colours} from './forms.js';
+import {CLASS, HALTED, HEARD, OTHER, PRINTED, SENT, SILENT, TROUBLE} from './index.js';
+import {time} from './time.js';
+
+/** The classes of lines of one mote by columns of a pixel, into an array of bits. */
+function columnsOf(pane, mote, bits) {
+  const {run} = pane, width = bits.length, first = pane.moment(pane.gutter), perPixel = 1 / time.scale;
+  const share = run.pieces / (run.end + 1);
+  if (perPixel * share >= 1) {
+    const row = mote * run.pieces;
+    for (let j = 0; j < width; j++) {
+      const a = Math.max(0, Math.floor((first + j * perPixel) * share));
+      const b = Math.min(run.pieces, Math.floor((first + (j + 1) * perPixel) * share));
+      for (let piece = a; piece < b; piece++) bits[j] |= run.overview[row + piece];
+    }
+    return;
+  }
+  const [from, to] = pane.linesInView(mote), {at, kind, silent} = run,
+    broad = Math.max(1, Math.floor(time.scale * 0.7));
+  for (let i = from; i < to; i++) {
+    const x = Math.round((at[i] + 0.5 - first) * time.scale - broad / 2), bit = silent[i] ? SILENT : CLASS[kind[i]];
+    for (let j = Math.max(0, x); j < Math.min(width, x + broad); j++) bits[j] |= bit;
+  }
+}
+
+/** A colour #rrggbb as a picture's number. */
+function pixelOf(colour) {
+  const number = parseInt(colour.slice(1), 16);
+  return (0xff000000 | (number & 255) << 16 | number & 0xff00 | number >> 16) >>> 0;
+}
+
+const CLASS_COLOURS = [[HALTED, 'ink'], [TROUBLE, 'trouble'], [PRINTED, 'print'], [SENT, 'send'], [SILENT, 'quiet'],
+  [HEARD, 'recv'], [OTHER, 'run']];
+
+/** Draws lanes too low for forms: each pixel has the colour of its most notable line. */
+export function drawOverview(pane, from, to) {
+  const {run} = pane, width = Math.max(1, Math.floor(pane.width - pane.gutter)), table = new Uint32Array(128);
+  for (let mask = 1; mask < 128; mask++) {
+    table[mask] = pixelOf(colours[CLASS_COLOURS.find(([bit]) => mask & bit)[1]]);
+  }
+  let first = from;
+  while (first < to) {
+    const group = pane.groupOf[pane.order[first]];
+    let last = first;
+    while (last < to && pane.groupOf[pane.order[last]] === group) last++;
+    const rows = Math.max(1, Math.min(last - first, Math.ceil((last - first) * pane.lane)));
+    const image = new ImageData(width, rows), pixels = new Uint32Array(image.data.buffer),
+      bits = new Uint8Array(width);
+    for (let row = 0, place = first; row < rows; row++) {
+      bits.fill(0);
+      const until = first + Math.floor((row + 1) * (last - first) / rows);
+      for (; place < until; place++) columnsOf(pane, pane.order[place], bits);
+      for (let j = 0; j < width; j++) pixels[row * width + j] = table[bits[j]];
+    }
+    paint(pane, image, pane.laneTopOfPlace(first), (last - first) * pane.lane);
+    first = last;
+  }
+  for (let place = from; place < to; place++) {
+    const [a, b] = pane.linesInView(pane.order[place]);
+    pane.drawn.lines += b - a;
+  }
+  pane.drawn.asColours = true;
+}
+
+/** The strokes of a lane with a great many lines: class, colour, and the heights of its row. */
+const STROKES = [[OTHER, 'run', 0.45, 0.55], [HEARD, 'recv', 0.66, 0.94], [SILENT, 'quiet', 0.3, 0.6],
+  [SENT, 'send', 0.16, 0.6], [PRINTED, 'print', 0.08, 0.3], [TROUBLE, 'trouble', 0.04, 0.96], [HALTED, 'ink', 0, 1]];
+
+export function drawStrokes(pane, mote) {
+  const width = Math.max(1, Math.floor(pane.width - pane.gutter)), tall = Math.max(1, Math.round(pane.lane));
+  const bits = new Uint8Array(width), image = new ImageData(width, tall), pixels = new Uint32Array(image.data.buffer);
+  columnsOf(pane, mote, bits);
+  for (const [bit, colour, from, to] of STROKES) {
+    const value = pixelOf(colours[colour]), first = Math.floor(tall * from), last = Math.ceil(tall * to);
+    for (let j = 0; j < width; j++) {
+      if (bits[j] & bit) for (let y = first; y < last; y++) pixels[y * width + j] = value;
+    }
+  }
+  paint(pane, image, pane.laneTop(mote), pane.lane);
+  const [from, to] = pane.linesInView(mote);
+  pane.drawn.lines += to - from;
+  pane.drawn.strokes += to - from;
+}
+
+/** Draws a picture with a column for each pixel of the pane. */
+function paint(pane, image, top, tall) {
+  pane.scratch = pane.scratch || document.createElement('canvas');
+  pane.scratch.width = image.width;
+  pane.scratch.height = image.height;
+  pane.scratch.getContext('2d').putImageData(image, 0, 0);
+  pane.context.imageSmoothingEnabled = false;
+  pane.context.drawImage(pane.scratch, pane.gutter, top, image.width, tall);
+  pane.context.imageSmoothingEnabled = true;
+}

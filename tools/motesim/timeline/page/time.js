@@ -1,0 +1,55 @@
+// The stretch of time in view, which all panes share.
+
+const MOST_SCALE = 600;
+
+/** `begin` is the moment at the left edge, `scale` the pixels of a moment, `width` the pixels of the view. */
+export const time = {begin: 0, scale: 1, end: 0, width: 100};
+
+/** The scale at which the whole run is in view. */
+export const leastScale = () => time.width / (time.end + 1) * 0.98;
+
+/** Whether the whole run is in view. */
+export const isWhole = () => time.scale <= leastScale() * 1.001;
+
+/** Keeps the view within the run. */
+export function keepTime() {
+  time.scale = Math.min(MOST_SCALE, Math.max(leastScale(), time.scale));
+  const shown = time.width / time.scale, slack = Math.max(0, shown - time.end - 1);
+  time.begin = Math.min(Math.max(time.begin, -slack / 2), Math.max(-slack / 2, time.end + 1 - shown));
+}
+
+/** Zooms so that the moment at x stays there. */
+export function zoomTime(factor, x = time.width / 2) {
+  const moment = time.begin + x / time.scale;
+  time.scale = Math.min(MOST_SCALE, Math.max(leastScale(), time.scale * factor));
+  time.begin = moment - x / time.scale;
+  keepTime();
+}
+
+/** Zooms to the moments from the first to the last. */
+export function showTime(first, last) {
+  time.scale = time.width / Math.max(1, last - first + 1);
+  keepTime();
+  time.begin = (first + last + 1) / 2 - time.width / time.scale / 2;
+  keepTime();
+}
+
+/** Moves the view so that a moment is in it. */
+export function revealMoment(moment) {
+  const x = (moment + 0.5 - time.begin) * time.scale;
+  if (x >= 20 && x <= time.width - 20) return;
+  time.begin = moment + 0.5 - time.width / 2 / time.scale;
+  keepTime();
+}
+
+/** The moments in view, in words. */
+export function momentsInWords() {
+  const last = Math.min(time.end, Math.ceil(time.begin + time.width / time.scale) - 1);
+  return `Moments ${Math.max(0, Math.floor(time.begin))} to ${last} of ${time.end}.`;
+}
+
+/** The least step of 1, 2 or 5 times a power of ten that isn't below the wanted one. */
+export function niceStep(wanted) {
+  const power = 10 ** Math.floor(Math.log10(Math.max(1, wanted)));
+  for (const times of [1, 2, 5, 10]) if (power * times >= wanted) return Math.max(1, power * times);
+}

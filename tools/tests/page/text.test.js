@@ -1,0 +1,47 @@
+// Texts: places, replacements, numbers with nouns, and the difference of two runs in words.
+import assert from 'node:assert/strict';
+import {test} from 'node:test';
+import {differenceInWords} from '../../motesim/studio/page/difference.js';
+import {lineAndColumn, offsetOf, oneLine, replacements} from '../../motesim/studio/page/text.js';
+import {count} from '../../motesim/timeline/page/words.js';
+
+const TEXT = 'one\ntwo one\n\none';
+
+test('places and offsets belong to each other', () => {
+  for (let offset = 0; offset <= TEXT.length; offset++) {
+    assert.equal(offsetOf(TEXT, lineAndColumn(TEXT, offset)), offset);
+  }
+  assert.deepEqual(lineAndColumn(TEXT, 8), [1, 4]);
+  assert.equal(offsetOf(TEXT, [9, 9]), TEXT.length);
+});
+
+test('replacements are made from the end', () => {
+  const changes = replacements(TEXT, 'one', 'three');
+  assert.deepEqual(changes.map(it => it.from), [[3, 0], [1, 4], [0, 0]]);
+  let text = TEXT;
+  for (const {from, to, text: piece} of changes) {
+    text = text.slice(0, offsetOf(text, from)) + piece + text.slice(offsetOf(text, to));
+  }
+  assert.equal(text, TEXT.replaceAll('one', 'three'));
+  assert.deepEqual(replacements(TEXT, '', 'x'), []);
+});
+
+test('a piece of a program is shown on one line', () => {
+  assert.equal(oneLine('  send 1;\n  send 2;\n'), 'send 1; send 2;');
+  assert.equal(oneLine('x'.repeat(200)).length, 89);
+});
+
+test('numbers have their nouns', () => assert.deepEqual(
+  [[0, 'packet'], [1, 'copy'], [2, 'copy'], [1234, 'line']].map(it => count(...it)),
+  ['0 packets', '1 copy', '2 copies', '1,234 lines']));
+
+test('a difference is one sentence', () => {
+  const other = 'the run before', of = difference => differenceInWords({same: false, first: null, motes: [], ...difference},
+    other);
+  assert.equal(of({same: true}), 'The same report as that of the run before.');
+  assert.equal(of({first: {at: 30, mote: 2, inMedium: false}}),
+    'The first difference from the run before is at moment 30, in the trace of mote 2.');
+  assert.equal(of({first: {at: 30, mote: 2, inMedium: true}}),
+    'The first difference from the run before is at moment 30, in the log of the medium.');
+  assert.equal(of({motes: [4, 5]}), 'Other programs than in the run before: mote 4, 5.');
+});
