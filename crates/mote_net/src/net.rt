@@ -8,7 +8,7 @@ use crate::programs::NamedProgram;
 use program_tree::Program;
 use radio_medium::Medium;
 
-/// What is set up of a mote before a run: the place of its program among the programs of the net, and how many
+/// The setup of a mote before a run: the place of its program among the programs of the net, and how many
 /// events its queue holds.
 #[derive(Clone, Copy, Debug)]
 pub struct MoteSetup {
@@ -86,7 +86,7 @@ impl Net {
         u64::from(self.end)
     }
 
-    /// Whether copies that reach a mote at one moment are all lost.
+    /// Returns `true` if copies that reach a mote at one moment are all lost.
     pub fn collide(&self) -> bool
         ensures { result ≡ (net_of self.now).collide }
     {
@@ -101,7 +101,7 @@ impl Net {
         &self.medium
     }
 
-    /// How many motes there are.
+    /// The number of motes.
     pub fn motes(&self) -> u16
         ensures value { result ≡ length (net_of self.now).motes }
         ensures some { fewest_motes ≤ result }
@@ -128,7 +128,7 @@ impl Net {
         self.programs[place].name.as_str()
     }
 
-    /// How many events the queue of a mote of the net holds.
+    /// The number of events that the queue of a mote of the net holds.
     pub fn queue(&self, mote: u16) -> u16
         requires { mote < length (net_of self.now).motes }
         ensures value { option_map (λ m. m.queue) (slice_get (net_of self.now).motes mote) ≡ Some result }

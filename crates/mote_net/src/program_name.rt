@@ -38,6 +38,9 @@ impl Eq for ProgramName {
 
 impl ProgramName {
     /// A text as a name.
+    ///
+    /// # Errors
+    /// If an allocation failed.
     pub fn from_str(alloc: Global, text: &str) -> Result<ProgramName, AllocError>
         ensures { IfOk result (λ name. name ≡ text.now) }
     {
@@ -45,6 +48,7 @@ impl ProgramName {
         Ok(ProgramName { text })
     }
 
+    /// The name as a text.
     pub fn as_str(&self) -> &str
         ensures { result.now ≡ self.now }
     {

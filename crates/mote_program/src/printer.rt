@@ -14,7 +14,7 @@ use program_tree::program::Program;
 use program_tree::token::Token;
 use std::alloc::{AllocError, Global};
 
-/// How many braces are open after a token, from how many are open before it.
+/// The number of braces that are open after a token, from the number before it.
 fn braces_behind(braces: usize, token: &Token) -> usize
     requires { braces + 1 < 2 ^ 64 }
     ensures { result ≡ braces_behind braces (token_of token.now) }
@@ -26,7 +26,7 @@ fn braces_behind(braces: usize, token: &Token) -> usize
     }
 }
 
-/// Whether a `(` follows the word without a space.
+/// Returns `true` if a `(` follows the word without a space.
 fn tells(keyword: Keyword) -> bool
     ensures { result ≡ tells keyword }
 {
@@ -41,7 +41,7 @@ fn tells(keyword: Keyword) -> bool
     )
 }
 
-/// Whether a token ends its line, if these come after it.
+/// Returns `true` if a token ends its line, with these after it.
 fn ends_line(token: &Token, rest: &[Token]) -> bool
     ensures { result ≡ ends_line (token_of token.now) (map token_of rest.now) }
 {
@@ -52,7 +52,7 @@ fn ends_line(token: &Token, rest: &[Token]) -> bool
     }
 }
 
-/// Whether no space stands between a token and the next.
+/// Returns `true` if there is no space between a token and the next.
 fn stands_close(token: &Token, rest: &[Token]) -> bool
     ensures { result ≡ stands_close (token_of token.now) (map token_of rest.now) }
 {
@@ -85,7 +85,7 @@ fn indent(text: &mut String, mut depth: usize) -> Result<(), AllocError>
     Ok(())
 }
 
-/// Adds what stands after a token, with this many braces open.
+/// Adds the space or line feed after a token, with this many braces open.
 fn part(text: &mut String, braces: usize, token: &Token, rest: &[Token]) -> Result<(), AllocError>
     ensures { OnOk result (string_bytes text.new ≡ string_bytes text.old ++ gap braces (token_of token.now)
         (map token_of rest.now)) }
@@ -115,9 +115,9 @@ pub(crate) fn print(alloc: Global, mut tokens: &[Token]) -> Result<String, Alloc
     Ok(text)
 }
 
-/// The canonical text of a program. Reading it gives the same program.
+/// Returns the canonical text of a program. Reading it returns the same program.
 ///
-/// Tokens are one space apart, but no space stands before `;`, `,` and `)`, after `(` and `!`, and between `is`,
+/// Tokens are one space apart, but there is no space before `;`, `,` and `)`, after `(` and `!`, and between `is`,
 /// `fired`, `expired`, `gone`, `running` or `count` and its `(`. Each `;`, `{` and `}` ends a line, but `} else {` is
 /// one line. A line is indented by two spaces for each brace that is open. Empty blocks are kept. The text ends with
 /// LF.

@@ -1,4 +1,4 @@
-//! How tokens are spelled.
+//! The spelling of tokens.
 ghost use Rattle.std.specs.Prelude.{◌≡◌, ◌++◌, OnOk, string_bytes};
 ghost use Rattle.program_tree.specs.Canonical.{keyword_word, operator_sign, spelling};
 ghost use Rattle.program_tree.specs.Tokens as token;

@@ -208,7 +208,7 @@ impl<'a> Scoped<'a> {
         add(out, Token::Semicolon)
     }
 
-    /// Adds a semicolon, and before it `into` and the variable that gets the answer, if there is one.
+    /// Adds a semicolon, and before it `into` and the variable that gets the result, if there is one.
     fn into_end(&self, told: Option<u8>, out: &mut Vec<Token<'a>>) -> Result<(), AllocError>
         ensures { OnOk result (map token_of out.new.items ≡ map token_of out.old.items
             ++ into_tokens (option_map (name_in (names_in self.now) a_variable) told)) }

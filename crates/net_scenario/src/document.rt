@@ -60,6 +60,9 @@ fn check_programs(programs: &Table, motes: &[Value]) -> Result<(), TableFault>
 }
 
 /// The first fault of a document, table by table, and then of names that no program has.
+///
+/// # Errors
+/// The first fault of the tables.
 #[tactic(auto, using(crate::proofs::Each::document_fault_of))]
 pub fn check_document(top: &Table) -> Result<(), TableFault>
     ensures { Checks result (document_fault (table_view top.now)) }

@@ -1,4 +1,4 @@
-//! Why a scenario was refused.
+//! The errors of a scenario.
 ghost use Rattle.std.specs.Prelude.{◌≡◌};
 
 use mote_net::ProgramName;
@@ -16,7 +16,7 @@ pub enum TableFault {
     UnknownProgram,
 }
 
-/// Why there is no net of a text: its first fault, or an allocation failed in any part of the reading.
+/// The reason why a text describes no net: its first fault, or an allocation that failed in any part of the reading.
 #[derive(Debug, PartialEq, Eq, Drop)]
 pub enum ScenarioError {
     /// The text isn't TOML.

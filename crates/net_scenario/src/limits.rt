@@ -30,10 +30,11 @@ pub const LARGEST_BASE_OR_PER: i64 = 1_000_000;
 /// The largest number in a loss.
 pub const LARGEST_IN_LOSS: i64 = 1_000_000;
 
-/// The fewest and the most events that the queue of a mote may hold.
+/// The fewest events that the queue of a mote may hold.
 pub const SHORTEST_QUEUE: i64 = 1;
 
+/// The most events that the queue of a mote may hold.
 pub const LONGEST_QUEUE: i64 = 128;
 
-/// How many events the queue of a mote holds if the scenario doesn't say.
+/// The number of events that the queue of a mote holds if the scenario doesn't say.
 pub const USUAL_QUEUE: u16 = 32;

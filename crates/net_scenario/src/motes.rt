@@ -45,6 +45,9 @@ fn mote_of_table(programs: &[NamedProgram], queue: Option<&Table>, table: &Table
 }
 
 /// The motes of the tables among the items, in order.
+///
+/// # Errors
+/// If an allocation failed.
 pub fn motes_of(
     alloc: Global,
     programs: &[NamedProgram],

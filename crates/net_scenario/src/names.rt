@@ -45,6 +45,9 @@ fn any_no_text(table: &Table) -> bool
 }
 
 /// The first fault of the table of programs.
+///
+/// # Errors
+/// The first fault of the names.
 #[tactic(auto, using(crate::proofs::Tables::names_fault_of))]
 pub fn check_names(table: &Table) -> Result<(), TableFault>
     ensures { Checks result (names_fault (table_view table.now)) }

@@ -22,6 +22,9 @@ fn place_told(table: &Table) -> Place
 }
 
 /// The places of the motes among the items, in order.
+///
+/// # Errors
+/// If an allocation failed.
 pub fn places_of(alloc: Global, items: &[Value]) -> Result<Vec<Place>, AllocError>
     requires { first_some (keys_fault mote_rules) (tables_in (items_view items.now)) ≡ None }
     ensures { IfOk result (λ v. v.items ≡ map place_told (tables_in (items_view items.now))) }
@@ -48,6 +51,9 @@ fn loss_of(table: &Table) -> Loss
 }
 
 /// The losses among the items, in order.
+///
+/// # Errors
+/// If an allocation failed.
 pub fn losses_of(alloc: Global, items: &[Value]) -> Result<Vec<Loss>, AllocError>
     requires { first_some (keys_fault loss_rules) (tables_in (items_view items.now)) ≡ None }
     ensures { IfOk result (λ v. v.items ≡ map loss_of (tables_in (items_view items.now))) }

@@ -26,6 +26,9 @@ fn read_program(alloc: Global, name: &str, text: &str) -> Result<NamedProgram, S
 }
 
 /// The programs of a table, those too that no mote runs, or the first that can't be read.
+///
+/// # Errors
+/// `Program` with the first program that can't be read and its error; `Memory` if an allocation failed.
 pub fn read_programs(alloc: Global, table: &Table) -> Result<Vec<NamedProgram>, ScenarioError>
     ensures read { ReadsPrograms (texts_of (table_view table.now)) result }
     ensures in_order { IfOk result (λ programs. AreInOrder programs.items) }

@@ -16,7 +16,7 @@ use crate::rules::{Kind, fits_kind, fits_range, value_at};
 use crate::values::natural_at;
 use toml::Table;
 
-/// What a queue's length may be.
+/// The allowed lengths of a queue.
 fn queue_length() -> Kind
     ensures { result ≡ queue_length }
 {
@@ -40,6 +40,9 @@ fn any_out_of_range(table: &Table) -> bool
 }
 
 /// The first fault of the table of lengths, which is optional.
+///
+/// # Errors
+/// The first fault of the lengths.
 #[tactic(auto, using(crate::proofs::Tables::lengths_fault_of, crate::proofs::Tables::lengths_fault_of_none))]
 pub fn check_lengths(queue: Option<&Table>) -> Result<(), TableFault>
     ensures { Checks result (lengths_fault (members_of queue.entry)) }
@@ -65,6 +68,9 @@ fn any_without_program(programs: &Table, table: &Table) -> bool
 }
 
 /// Each length is for one of the programs.
+///
+/// # Errors
+/// The fault of a queue for a program that the scenario doesn't have.
 #[tactic(auto, using(crate::proofs::Tables::queue_fault_of))]
 pub fn check_queue_names(programs: &Table, queue: Option<&Table>) -> Result<(), TableFault>
     ensures { Checks result (queue_fault (table_view programs.now) (members_of queue.entry)) }
@@ -90,7 +96,7 @@ fn length_at(table: &Table, program: &str) -> u16
     }
 }
 
-/// How many events the queue holds in motes of a program.
+/// The number of events that the queue holds in motes of a program.
 pub fn queue_of(queue: Option<&Table>, program: &str) -> u16
     requires { lengths_fault (members_of queue) ≡ None }
     ensures value { result ≡ queue_of (members_of queue.entry) program.now }

@@ -57,10 +57,12 @@ fn net_from(alloc: Global, top: &Table) -> Result<Net, ScenarioError>
     Ok(Net::new(end, collide, medium, programs, motes))
 }
 
-/// The net that a scenario's text describes, or its first fault, looked for in this order: its length; its TOML; its
-/// tables in order; whether the programs exist that `queue` and the motes name; the texts of all programs, in byte
-/// order of their names; the numbers and losses of the medium. `Memory` may be returned in place of any of these, only
-/// if an allocation failed.
+/// Reads the net that a scenario's text describes.
+///
+/// # Errors
+/// The first fault of the text, looked for in this order: its length; its TOML; its tables in order; the programs that
+/// `queue` and the motes name; the texts of all programs, in byte order of their names; the numbers and losses of the
+/// medium. `Memory` may be returned instead of any of these, only if an allocation failed.
 pub fn read_scenario(alloc: Global, text: &str) -> Result<Net, ScenarioError>
     ensures { Answers text.now result }
 {

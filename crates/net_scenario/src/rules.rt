@@ -17,7 +17,7 @@ use crate::limits::{
 use crate::version::Version::{self, First, Second};
 use toml::{Table, Value};
 
-/// What a key may hold.
+/// The values that a key may hold.
 #[derive(Clone, Copy)]
 pub enum Kind {
     /// A whole number from the first to the second.
@@ -122,6 +122,7 @@ fn are_tables(items: &[Value]) -> bool
     items.iter().all(|item| item.is_table())
 }
 
+/// Returns `true` if a value is of this kind, whatever its range.
 #[tactic(auto, using(crate::proofs::Tables::are_tables_view))]
 pub fn fits_kind(value: &Value, kind: Kind) -> bool
     ensures { result ≡ has_kind kind (view value.now) }
@@ -138,6 +139,7 @@ pub fn fits_kind(value: &Value, kind: Kind) -> bool
     }
 }
 
+/// Returns `true` if a value of this kind is within its range.
 #[tactic(auto, using(crate::proofs::Tables::items_len_view))]
 pub fn fits_range(value: &Value, kind: Kind) -> bool
     ensures { result ≡ is_in_range kind (view value.now) }
@@ -219,6 +221,9 @@ fn any_out_of_range(version: Version, table: &Table, keys: &[Key]) -> bool
 }
 
 /// The first fault of a table against the keys that a version has.
+///
+/// # Errors
+/// The first fault of the table against these keys.
 #[tactic(auto, using(crate::proofs::Tables::keys_fault_of))]
 pub fn check_keys(version: Version, table: &Table, keys: &[Key]) -> Result<(), TableFault>
     ensures { Checks result (keys_fault (known_in version (map rule_of keys.now)) (table_view table.now)) }

@@ -10,7 +10,7 @@ pub enum Version {
 }
 
 impl Version {
-    /// Whether this version has what came in the other.
+    /// Returns `true` if this version has the keys that came in the other.
     pub fn has(self, since: Version) -> bool
         ensures { result ≡ has_come since self }
     {

@@ -82,7 +82,7 @@ impl Cursor<'_> {
     }
 }
 
-/// What stands between the braces of a code, but for its names.
+/// The text between the braces of a code, except its names.
 #[derive(Drop)]
 struct Content {
     starts: Vec<u16>,
@@ -133,7 +133,7 @@ impl Scope {
 }
 
 impl Reader<'_> {
-    /// What stands between the braces of a code. Its names are then in scope.
+    /// Reads the text between the braces of a code. Its names are then in scope.
     #[tactic(auto, using(crate::proofs::ContentLaws::content_steps))]
     fn content(&mut self) -> Result<Content, Refusal>
         requires { HasNoOwnNames self.old.scope }

@@ -86,7 +86,7 @@ impl Cursor<'_> {
     }
 }
 
-/// What stands before the codes of a program: the first counts of the semaphores, the processes that start at boot,
+/// The parts before the codes of a program: the first counts of the semaphores, the processes that start at boot,
 /// and the one that packets go to.
 #[derive(Drop)]
 struct Head {
@@ -96,7 +96,7 @@ struct Head {
 }
 
 impl Reader<'_> {
-    /// What stands before the codes.
+    /// Reads the parts before the codes.
     fn head(&mut self) -> Result<Head, Refusal>
         ensures ok { IfOk result (λ h. ReadsHead h.counts.items h.autostart.items h.receiver (scope_of self.old.scope)
             (scope_of self.new.scope) self.old.cursor self.new.cursor) }
@@ -115,7 +115,7 @@ impl Reader<'_> {
     }
 }
 
-/// What a text holds beside the names that are in scope after it: what stands before the codes, the codes, and their
+/// The parts of a program except the names that are in scope after it: those before the codes, the codes, and their
 /// timers.
 #[derive(Drop)]
 struct Parts {

@@ -44,7 +44,7 @@ impl<'a> Cursor<'a> {
         Cursor { rest: tokens }
     }
 
-    /// How many tokens are left.
+    /// The number of tokens that are left.
     pub(crate) fn left(&self) -> usize
         ensures { result ≡ length self.now }
     {
@@ -77,7 +77,7 @@ impl<'a> Cursor<'a> {
         })
     }
 
-    /// The fault of a token that can't stand here, or of the end.
+    /// The fault of a token that isn't allowed here, or of the end.
     pub(crate) fn unfit(&self) -> Refusal
         ensures { result ≡ Refusal.Fault (record { kind = unfit_at (first self.now); left = length self.now }) }
     {
@@ -106,7 +106,7 @@ impl<'a> Cursor<'a> {
         }
     }
 
-    /// Whether the next token is this keyword. If so, it is read.
+    /// Reads the next token if it is this keyword, and returns `true` then.
     pub(crate) fn accept(&mut self, keyword: Keyword) -> bool
         ensures no_longer { length self.new ≤ length self.old }
         ensures there { OnTrue result (first self.old ≡ Some (token.Keyword keyword)) }
@@ -123,7 +123,7 @@ impl<'a> Cursor<'a> {
         }
     }
 
-    /// Whether the next token is a comma. If so, it is read.
+    /// Reads the next token if it is a comma, and returns `true` then.
     pub(crate) fn comma(&mut self) -> bool
         ensures no_longer { length self.new ≤ length self.old }
         ensures there { OnTrue result (first self.old ≡ Some token.Comma) }

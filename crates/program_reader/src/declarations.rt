@@ -16,7 +16,7 @@ use program_tree::error::ReadErrorKind;
 use program_tree::token::Token;
 use std::alloc::{AllocError, Global};
 
-/// What a declaration makes.
+/// The things that a declaration makes.
 #[derive(Clone, Copy)]
 pub(crate) enum Kind {
     Event,
@@ -28,7 +28,7 @@ pub(crate) enum Kind {
     Thread,
 }
 
-/// How many names of a kind a program, or a process of it, may have; timers of both kinds are counted together.
+/// The most names of a kind that a program, or a process of it, may have; timers of both kinds are counted together.
 const EVENTS: usize = 117;
 
 const SEMAPHORES: usize = 64;
@@ -45,7 +45,7 @@ const THREADS: usize = 7;
 const LARGEST: u32 = 65535;
 
 impl Scope {
-    /// Whether no further name of this kind may be declared.
+    /// Returns `true` if no further name of this kind may be declared.
     fn is_full(&self, kind: Kind) -> bool
         ensures { result ≡ is_full (scope_of self.now).names (class_of_kind kind) }
     {

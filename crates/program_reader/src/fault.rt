@@ -1,4 +1,4 @@
-//! Why the tokens aren't a program, as the parts of the reader return it.
+//! The errors of tokens that aren't a program, as the parts of the reader return it.
 ghost use Rattle.std.specs.Prelude.{◌≡◌};
 ghost use Rattle.program_reader.specs.declared.fault.Refusal.TheVariants.{Memory};
 

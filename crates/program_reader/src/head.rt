@@ -1,4 +1,4 @@
-//! What stands before the codes of a program, after its events and semaphores.
+//! The parts before the codes of a program, after its events and semaphores.
 ghost use Rattle.std.specs.Prelude.{List, ◌≡◌, ◌≤◌, Some, None, ◌∷◌, ◌++◌, [], length, IfOk, OnOk, IfErr};
 ghost use Rattle.program_tree.specs.Grammar.{named, starts};
 ghost use Rattle.program_reader.specs.Head.{FailsIn, ReadsProcesses, CanStart, IsStarting, ReadsAutostart};

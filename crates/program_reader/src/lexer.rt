@@ -19,7 +19,7 @@ pub(crate) struct Lexed<'a> {
     pub(crate) lines: Vec<usize>,
 }
 
-/// What a text begins with: the length of a piece, and its token if it is one.
+/// The beginning of a text: the length of a piece, and its token if it is one.
 #[derive(Clone, Copy)]
 struct Front<'a> {
     token: Option<Token<'a>>,
@@ -66,7 +66,7 @@ fn word_len(rest: &[u8]) -> usize
         .unwrap_or(rest.len())
 }
 
-/// How far it is to the end of the line.
+/// The number of bytes up to the end of the line.
 fn line_len(rest: &[u8]) -> usize
     ensures len { result ≡ prefix_len (λ b. not (is_feed b)) rest.now }
     ensures within { result ≤ length rest.now }

@@ -22,7 +22,7 @@ use crate::scope::Context;
 use program_tree::flat_block::FlatBlock;
 use program_tree::keyword::Keyword;
 
-/// Where the block of a callback, `onpoll` or `onexit` stands.
+/// The place of the block of a callback, `onpoll` or `onexit`.
 const SIMPLE: Context<'static> = Context {
     level: 0,
     simple: true,
@@ -133,7 +133,7 @@ impl Reader<'_> {
         Ok(blocks)
     }
 
-    /// What runs at POLL, if present.
+    /// Reads the block that runs at POLL, if present.
     #[tactic(auto, using(crate::proofs::BlockLaws::on_poll_steps))]
     pub(crate) fn on_poll(&mut self) -> Result<Option<FlatBlock>, Refusal>
         ensures fixed { fixed self.new.scope ≡ fixed self.old.scope }
@@ -150,7 +150,7 @@ impl Reader<'_> {
         Ok(Some(block))
     }
 
-    /// What runs at EXIT, if present.
+    /// Reads the block that runs at EXIT, if present.
     #[tactic(auto, using(crate::proofs::BlockLaws::on_exit_steps))]
     pub(crate) fn on_exit(&mut self) -> Result<Option<FlatBlock>, Refusal>
         ensures fixed { fixed self.new.scope ≡ fixed self.old.scope }

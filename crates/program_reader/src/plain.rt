@@ -126,7 +126,7 @@ impl About {
         }
     }
 
-    /// What the name stands for.
+    /// The class of the thing that the name refers to.
     pub(crate) fn class(self) -> Class
         ensures { class_of result ≡ about_class self }
     {

@@ -29,7 +29,7 @@ pub(crate) struct Reader<'a> {
 }
 
 impl Reader<'_> {
-    /// The number of the name that stands here, if it stands for something of this class.
+    /// The number of the name at this place, if it refers to something of this class.
     #[tactic(auto, using(crate::proofs::NameSteps::number_steps))]
     fn number(&self, place: &Context, class: Class) -> Result<u8, Refusal>
         ensures ok { IfOk result (λ i. IsNamed (scope_of self.now.scope).names (context_of place.now).thread
@@ -48,7 +48,7 @@ impl Reader<'_> {
         }
     }
 
-    /// A name that stands for something of this class, by its number.
+    /// Reads a name that refers to something of this class, and returns its number.
     #[tactic(auto, using(crate::proofs::NameSteps::name_steps))]
     pub(crate) fn name(&mut self, place: &Context, class: Class) -> Result<u8, Refusal>
         ensures no_longer { length self.new.cursor ≤ length self.old.cursor }

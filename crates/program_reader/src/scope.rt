@@ -1,15 +1,15 @@
-//! The names in scope, by what they stand for.
+//! The names in scope, by the things that they refer to.
 ghost use Rattle.std.specs.Prelude.{◌≡◌, ◌+◌, ◌<◌, ◌≤◌, length, ℕ, IfSome};
 
 use program_tree::class::Class;
 use program_tree::names::Names;
 use std::alloc::Global;
 
-/// How deep blocks and expressions may be nested.
+/// The greatest depth of nested blocks and expressions.
 pub(crate) const LEVELS: usize = 32;
 
-/// What a name stands for, if one of some class is expected: nothing; something of the class, by its number; or
-/// something else.
+/// The thing that a name refers to, if one of some class is expected: nothing; something of the class, by its number;
+/// or something else.
 #[derive(Clone, Copy)]
 pub(crate) enum Found {
     Unknown,
@@ -17,7 +17,7 @@ pub(crate) enum Found {
     Here(u8),
 }
 
-/// Where a block or an expression stands: how many levels deep, in a simple block or not, and in the block of which
+/// The place of a block or an expression: how many levels deep, in a simple block or not, and in the block of which
 /// thread.
 #[derive(Clone, Copy)]
 pub(crate) struct Context<'a> {
@@ -43,7 +43,7 @@ impl<'a> Context<'a> {
         }
     }
 
-    /// Whether a name is that of the thread that is being read.
+    /// Returns `true` if a name is that of the thread that is being read.
     fn is_own(&self, class: Class, name: &str) -> bool
         ensures { result ≡ is_own_thread (context_of self.now).thread (class_of class) name.now }
     {
@@ -101,7 +101,7 @@ impl Scope {
         }
     }
 
-    /// Whether a name stands for anything.
+    /// Returns `true` if a name refers to anything.
     pub(crate) fn contains(&self, name: &str) -> bool
         ensures { result ≡ is_in_scope (scope_of self.now).names name.now }
     {
@@ -160,7 +160,7 @@ impl Scope {
         Some(place as u8)
     }
 
-    /// What a name stands for, if one of this class is expected.
+    /// Finds the thing that a name refers to, if one of this class is expected.
     #[tactic(auto, using(crate::proofs::ScopeLaws::find_steps))]
     pub(crate) fn find(&self, place: &Context, class: Class, name: &str) -> Found
         ensures few { (i : ℕ) → result ≡ Found.Here i → i < most_of (class_of class) }

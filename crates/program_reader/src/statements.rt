@@ -25,10 +25,10 @@ use program_tree::keyword::Keyword;
 use program_tree::token::Token;
 use program_tree::tree::{Action, Block, Stmt};
 
-/// How many statements a program may have.
+/// The most statements that a program may have.
 const STATEMENTS: usize = 4_096;
 
-/// Whether a statement can't stand in a simple block.
+/// Returns `true` if a statement isn't allowed in a simple block.
 fn is_wait(keyword: Keyword) -> bool
     ensures { result ≡ waits keyword }
 {
@@ -47,7 +47,7 @@ fn is_wait(keyword: Keyword) -> bool
 }
 
 impl Reader<'_> {
-    /// Whether a statement may begin with this keyword here.
+    /// Tests whether a statement may begin with this keyword here.
     #[tactic(auto, using(crate::proofs::StatementSteps::may_begin_steps))]
     fn may_begin(&self, place: &Context, keyword: Keyword) -> Result<(), Refusal>
         requires here { first self.now.cursor ≡ Some (token.Keyword keyword) }
@@ -123,7 +123,7 @@ impl Reader<'_> {
         Ok(variable)
     }
 
-    /// `;`, or `into`, a variable that gets the answer and `;`.
+    /// Reads `;`, or `into`, a variable that gets the result and `;`.
     #[tactic(auto, using(crate::proofs::StatementSteps::into_start))]
     fn into_end(&mut self, place: &Context) -> Result<Option<u8>, Refusal>
         ensures no_longer { length self.new.cursor ≤ length self.old.cursor }
@@ -319,7 +319,7 @@ impl Reader<'_> {
         }
     }
 
-    /// What may follow the first block of an `if`.
+    /// Reads the part that may follow the first block of an `if`.
     #[cycle(statement)]
     #[tactic(auto, using(crate::proofs::Blocks::else_start))]
     fn otherwise(&mut self, place: &Context) -> Result<Option<Block>, Refusal>

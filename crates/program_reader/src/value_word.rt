@@ -51,7 +51,7 @@ impl Alone {
 }
 
 impl Telling {
-    /// What the name stands for.
+    /// The class of the thing that the name refers to.
     pub(crate) fn class(self) -> Class
         ensures class { class_of result ≡ telling_class self }
         ensures form { word_of (telling_keyword self) ≡ tells_of (name (class_of result)) }
@@ -77,7 +77,7 @@ impl Telling {
 }
 
 impl ValueWord {
-    /// What a keyword is in an expression.
+    /// Classifies a keyword in an expression.
     pub(crate) fn of(keyword: Keyword) -> Option<ValueWord>
         ensures some { IfSome result (λ v. keyword ≡ value_keyword v) }
         ensures none { result ≡ None → word_of keyword ≡ no_value }

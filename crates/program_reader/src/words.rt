@@ -13,10 +13,10 @@ use program_tree::token::Token;
 /// A text and the token that it is.
 pub(crate) type Entry<'a> = (&'a [u8], Token<'a>);
 
-/// What numbers above 65,535 count as.
+/// The value that numbers above 65,535 count as.
 const TOO_LARGE: u32 = 65_536;
 
-/// How many characters a name may have.
+/// The most characters that a name may have.
 const LONGEST_NAME: usize = 16;
 
 /// The words that no program can have as names.
@@ -123,7 +123,7 @@ fn begins_lowercase(word: &[u8]) -> bool
     }
 }
 
-/// The token beside a text in a table.
+/// The token next to a text in a table.
 fn lookup(table: &'static [Entry<'static>], word: &[u8]) -> Option<Token<'static>>
     ensures { option_map token_of result ≡ spec.lookup (map entry_of table.now) word.now }
 {

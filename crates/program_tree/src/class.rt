@@ -1,6 +1,6 @@
 //! The classes of names.
 
-/// What a name can stand for.
+/// The kinds of things that a name can refer to.
 #[derive(Clone, Copy)]
 pub enum Class {
     Event,

@@ -1,4 +1,4 @@
-//! Why a text isn't a program.
+//! The errors of a text that isn't a program.
 ghost use Rattle.std.specs.Prelude.{◌≡◌};
 ghost use Rattle.program_tree.specs.declared.error.ReadErrorKind.TheVariants.{Memory};
 
@@ -25,7 +25,7 @@ pub enum ReadErrorKind {
     /// The 65th process, semaphore or timer, the 118th event, the 65th variable or 8th thread of a process, or the
     /// first token of the 4,097th statement.
     TooMany = 8,
-    /// The text ends where `process` should stand.
+    /// The text ends before `process`.
     NoProcess = 9,
     /// A name of another class than is expected, such as a process's for a variable, or the name of a thread in a
     /// `spawn` of its own block.
@@ -45,8 +45,8 @@ impl ReadErrorKind {
     }
 }
 
-/// Why a text isn't a program, and the line of the token at which it goes wrong. The first line is 1; if an allocation
-/// failed, the line is 0.
+/// The reason why a text isn't a program, and the line of the token that breaks the rule. The first line is 1; if an
+/// allocation failed, the line is 0.
 #[derive(Clone, Copy, Debug, PartialEq, Eq)]
 pub struct ReadError {
     pub kind: ReadErrorKind,

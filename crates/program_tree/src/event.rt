@@ -11,7 +11,7 @@ pub enum Proc {
     Radio,
 }
 
-/// Whom an event is posted to: one process, or all on the process list (`PROCESS_BROADCAST` of `process.h`).
+/// The receivers of an event: one process, or all on the process list (`PROCESS_BROADCAST` of `process.h`).
 #[derive(Clone, Copy, Debug, PartialEq, Eq)]
 pub enum Target {
     One(Proc),

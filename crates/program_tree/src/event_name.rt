@@ -1,4 +1,4 @@
-//! Events as programs name them. The types say which of them may stand where.
+//! Events as programs name them. The types say which of them may be used in which place.
 ghost use Rattle.std.specs.Prelude.{◌≡◌, ◌<◌};
 
 use crate::event::SystemEvent;

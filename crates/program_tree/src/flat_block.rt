@@ -21,6 +21,9 @@ impl FlatBlock {
     ghost use Rattle.program_tree.specs.FlatBlock.{tree_in};
 
     /// A block, with the flat code that is made from it here. It fails only if an allocation does.
+    ///
+    /// # Errors
+    /// If an allocation failed.
     pub fn new(alloc: Global, block: Block) -> Result<FlatBlock, AllocError>
         requires { size (block_of block) < 2 ^ 16 }
         ensures { IfOk result (λ b. tree_in b ≡ block_of block) }

@@ -8,7 +8,7 @@ use crate::instruction::{END, Instruction};
 use crate::tree::{Block, Stmt};
 use std::alloc::{AllocError, Global};
 
-/// How many statements stand in a block, those of inner blocks included.
+/// The number of statements in a block, those of inner blocks included.
 #[cycle(count)]
 fn count(block: &Block) -> u16
     requires { size (block_of block.now) < 2 ^ 16 }
@@ -21,7 +21,7 @@ fn count(block: &Block) -> u16
     total
 }
 
-/// How many stand in the `else` block of an `if`, if it has one.
+/// The number of statements in the `else` block of an `if`, or 0 without one.
 #[cycle(count)]
 fn count_other(other: &Option<Block>) -> u16
     requires { other_size (otherwise_of (option_map block_of other.now)) < 2 ^ 16 }
@@ -33,7 +33,7 @@ fn count_other(other: &Option<Block>) -> u16
     }
 }
 
-/// How many a statement counts as: itself and those of its blocks.
+/// The number of statements that a statement counts as: itself and those of its blocks.
 #[cycle(count)]
 fn count_statement(statement: &Stmt) -> u16
     requires { statement_size (statement_of statement.now) < 2 ^ 16 }
@@ -46,7 +46,7 @@ fn count_statement(statement: &Stmt) -> u16
     }
 }
 
-/// Where a block is entered: at the place of its first statement, or at `after` if it has none.
+/// The place where a block is entered: that of its first statement, or `after` if it has none.
 fn entry(block: &Block, place: u16, after: u16) -> u16
     ensures { result ≡ entry_of (block_of block.now) place after }
 {
@@ -142,6 +142,9 @@ fn add_statement(
 }
 
 /// The flat code of a block. It is entered at place 0.
+///
+/// # Errors
+/// If an allocation failed.
 pub fn flatten(alloc: Global, block: &Block) -> Result<Vec<Instruction>, AllocError>
     requires { size (block_of block.now) < 2 ^ 16 }
     ensures { IfOk result (λ code. IsFlat (block_of block.now) code.items) }

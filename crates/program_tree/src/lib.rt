@@ -1,4 +1,4 @@
-//! What a program of motes is: the trees of texts, the names that they share with the kernel, and the words of the
+//! The programs of motes: the trees of texts, the names that they share with the kernel, and the words of the
 //! notation.
 #![tactic(auto)]
 

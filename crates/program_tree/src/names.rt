@@ -29,6 +29,7 @@ impl Model for Names {
 }
 
 impl Names {
+    /// No names.
     pub fn new(alloc: Global) -> Names
         ensures { result ≡ [] }
     {
@@ -37,13 +38,14 @@ impl Names {
         }
     }
 
-    /// How many names there are.
+    /// The number of names.
     pub fn len(&self) -> usize
         ensures { result ≡ length self.now }
     {
         self.set.len()
     }
 
+    /// Returns `true` if there are no names.
     pub fn is_empty(&self) -> bool
         ensures { result ≡ (length self.now == 0) }
     {
@@ -67,6 +69,9 @@ impl Names {
     }
 
     /// Declares a name that hasn't been declared yet.
+    ///
+    /// # Errors
+    /// If an allocation failed.
     pub fn add(&mut self, alloc: Global, name: &str) -> Result<(), AllocError>
         requires { place_of self.old name.now ≡ None }
         ensures ok { OnOk result (self.new ≡ self.old ++ name.now ∷ []) }

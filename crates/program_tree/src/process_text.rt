@@ -11,7 +11,7 @@ ghost use Rattle.program_tree.specs.Tree.{IsWithinLimits};
 use crate::flat_block::FlatBlock;
 use crate::names::Names;
 
-/// What a process runs: its variables with their first values, its timers, its threads, and its blocks.
+/// The text that a process runs: its variables with their first values, its timers, its threads, and its blocks.
 #[derive(Drop)]
 pub struct ProcessText {
     pub number: u8,
@@ -75,7 +75,7 @@ impl ProcessText {
         &self.body
     }
 
-    /// What runs before the body at POLL, if the process has it.
+    /// The block that runs before the body at POLL, if the process has one.
     pub fn on_poll(&self) -> Option<&FlatBlock>
         ensures value { option_map (λ b. tree_in b.now) result ≡ (code_of self.now).on_poll }
         ensures within { IfSome result (λ b. IsWithinLimits (tree_in b.now)) }
@@ -83,7 +83,7 @@ impl ProcessText {
         self.on_poll.as_ref()
     }
 
-    /// What runs before the body at EXIT, if the process has it.
+    /// The block that runs before the body at EXIT, if the process has one.
     pub fn on_exit(&self) -> Option<&FlatBlock>
         ensures value { option_map (λ b. tree_in b.now) result ≡ (code_of self.now).on_exit }
         ensures within { IfSome result (λ b. IsWithinLimits (tree_in b.now)) }
@@ -91,7 +91,7 @@ impl ProcessText {
         self.on_exit.as_ref()
     }
 
-    /// How many threads there are. A process has at most 7, and each spawns only threads before itself.
+    /// The number of threads. A process has at most 7, and each spawns only threads before itself.
     pub fn threads(&self) -> u8
         ensures value { result ≡ length (code_of self.now).thread_bodies }
         ensures few { result ≤ 7 }

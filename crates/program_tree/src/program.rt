@@ -76,6 +76,7 @@ impl Program {
     ghost use Rattle.program_tree.specs.Code.{declared_name};
     ghost use Rattle.program_tree.specs.Program.{tree_of};
 
+    /// A program of these parts, whose numbers refer to one another.
     pub fn new(
         events: Names,
         semaphores: Names,
@@ -119,7 +120,7 @@ impl Program {
         }
     }
 
-    /// How many processes there are.
+    /// The number of processes.
     pub fn processes(&self) -> u8
         ensures value { result ≡ length (tree_of self.now).processes }
         ensures few { result ≤ 64 }
@@ -135,7 +136,7 @@ impl Program {
         self.processes.get(usize::from(process))
     }
 
-    /// What a process runs, by its number.
+    /// The text that a process runs, by its number.
     pub fn process(&self, process: u8) -> &ProcessText
         requires { process < length (tree_of self.now).processes }
         ensures { slice_get (tree_of self.now).codes process ≡ Some (code_of result.now) }
@@ -171,7 +172,7 @@ impl Program {
         self.receiver
     }
 
-    /// How many timers of both kinds there are.
+    /// The number of timers of both kinds together.
     pub fn timers(&self) -> u16
         ensures value { result ≡ length (tree_of self.now).timers }
         ensures few { result ≤ 64 }
@@ -179,7 +180,7 @@ impl Program {
         self.timers.len() as u16
     }
 
-    /// Whether a timer is a callback timer.
+    /// Returns `true` if a timer is a callback timer.
     pub fn is_callback(&self, timer: u16) -> bool
         requires { timer < length (tree_of self.now).timers }
         ensures { IfSome (slice_get (tree_of self.now).timers timer) (λ t. result ≡ t.is_callback) }

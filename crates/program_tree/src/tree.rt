@@ -37,15 +37,15 @@ pub enum Expr {
     Moment,
     /// The number of the mote itself.
     Mote,
-    /// Whether the event is this one.
+    /// 1 if the event is this one, else 0.
     Is(AnyEvent),
-    /// Whether the event is TIMER of this timer.
+    /// 1 if the event is TIMER of this timer, else 0.
     Fired(u8),
-    /// Whether nobody owns the timer.
+    /// 1 if no process owns the timer, else 0.
     Expired(u8),
-    /// Whether the event is EXITED of this process.
+    /// 1 if the event is EXITED of this process, else 0.
     Gone(u8),
-    /// Whether the process is running or called.
+    /// 1 if the process is running or called, else 0.
     Running(u8),
     /// The count of a semaphore.
     Count(u8),
@@ -71,7 +71,7 @@ pub enum Action {
     Pause,
     Acquire(u8),
     Signal(u8),
-    /// Posts an event with this word to a process; the variable, if any, gets the answer.
+    /// Posts an event with this word to a process; the variable, if any, gets the result.
     Post(u8, SentEvent, Expr, Option<u8>),
     Broadcast(CastEvent, Expr, Option<u8>),
     Synch(u8, SentEvent, Expr),
@@ -102,6 +102,7 @@ pub struct Block {
 }
 
 impl Block {
+    /// A block of these statements.
     #[tactic(auto, using(crate::proofs::TreeLaws::listed_block))]
     pub fn new(statements: Vec<Stmt>) -> Block
         ensures { listed (block_of result) ≡ map statement_of statements.items }

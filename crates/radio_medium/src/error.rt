@@ -1,9 +1,9 @@
-//! Why there is no medium.
+//! The errors of a medium's numbers and losses.
 ghost use Rattle.std.specs.Prelude.{◌≡◌};
 
 use std::alloc::{AllocError, AllocFailed};
 
-/// Why no medium has these numbers and losses.
+/// The reason why no medium has these numbers and losses.
 #[derive(Clone, Copy, Debug, PartialEq, Eq)]
 pub enum MediumError {
     /// Out of memory: an allocation failed.

@@ -6,7 +6,7 @@ ghost use Rattle.radio_medium.specs.Groups.{AreGroups, HoldsMotes, Holds, IsBeyo
 use crate::place::{Place, gap};
 use std::alloc::{AllocError, Global};
 
-/// How many motes are in a group; the last one may have fewer.
+/// The number of motes in a group; the last one may have fewer.
 pub(crate) const GROUP_SIZE: usize = 32;
 
 /// A group: the place of its first mote (`centre`), and how far the others are from that at most, along each axis.
@@ -47,7 +47,7 @@ impl Group {
         group
     }
 
-    /// Whether a mote of the group may be within the range of a place. Most groups are too far by one axis alone.
+    /// Returns `true` if a mote of the group may be within the range of a place. Most groups are too far on one axis.
     pub(crate) fn is_near(self, range: u32, from: Place) -> bool
         ensures { result ≡ false → IsBeyond self range from }
     {
@@ -56,14 +56,14 @@ impl Group {
     }
 }
 
-/// Whether |from - centre| <= range + farthest, on one axis.
+/// Returns `true` if |from - centre| <= range + farthest, on one axis.
 fn reaches(range: u32, from: i32, centre: i32, farthest: u64) -> bool
     ensures { result ≡ nat_le (unsigned_abs (from -ℤ centre) - range) farthest }
 {
     gap(from, centre).saturating_sub(u64::from(range)) <= farthest
 }
 
-/// How many groups this many motes make.
+/// The number of groups that this many motes make.
 fn count_of(motes: usize) -> usize
     requires { motes ≤ 1000 }
     ensures enough { motes ≤ result * 32 }

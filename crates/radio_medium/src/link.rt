@@ -19,14 +19,14 @@ use std::alloc::{AllocError, Global};
 pub(crate) struct Link {
     /// The receiver.
     pub(crate) to: u16,
-    /// How many moments a packet takes.
+    /// The number of moments that a packet needs.
     pub(crate) delay: u64,
-    /// Of how many packets the medium loses the last one on this link, if it loses any.
+    /// The medium loses the last of each so many packets on this link, if it loses any.
     pub(crate) every: Option<u32>,
 }
 
 impl Link {
-    /// What becomes of the copy of a packet.
+    /// The fate of the copy of a packet.
     fn fate(self, sent: &Sent) -> Fate
         requires fit { IsFit self }
         requires moment { sent.now.at ≤ 2 ^ 40 }
@@ -41,7 +41,7 @@ impl Link {
     }
 }
 
-/// What becomes of a packet on each link.
+/// The fate of a packet on each link.
 pub(crate) fn fates_along(
     alloc: Global,
     links: &[Link],

@@ -49,7 +49,7 @@ fn add_loss(every: &mut EveryByPair, motes: usize, loss: Loss) -> Result<(), Med
     }
 }
 
-/// Whether a loss is between two different motes of the net, and loses the last of some packets.
+/// Returns `true` if a loss is between two different motes of the net, and loses the last of some packets.
 fn is_good(motes: usize, loss: Loss) -> bool
     ensures { result ≡ is_good motes loss }
 {
@@ -57,7 +57,7 @@ fn is_good(motes: usize, loss: Loss) -> bool
     is_there && loss.sender != loss.to && loss.every != 0
 }
 
-/// Whether packet `number` is lost, if the last of each `every` packets is; without `every` none is.
+/// Returns `true` if packet `number` is lost, if the last of each `every` packets is; without `every` none is.
 pub(crate) fn is_lost(number: u64, every: Option<u32>) -> bool
     requires { ForSome every (λ k. 0 < k) }
     ensures { result ≡ is_lost number every }

@@ -14,7 +14,7 @@ use radio_packet::{Fate, RadioCopy, Sent};
 use std::alloc::{AllocError, Global};
 use std::marker::Model;
 
-/// The radio medium between motes that stand still. The links of each mote are found once, so that a packet costs no
+/// The radio medium between motes that don't move. The links of each mote are found once, so that a packet costs no
 /// more than its receivers.
 pub struct Medium {
     alloc: Global,
@@ -55,8 +55,11 @@ impl Model for Medium {
 }
 
 impl Medium {
-    /// The medium of motes that stand at these places, numbered from 0. A mote hears others within the range; a packet
-    /// takes `base` moments and one more for each whole `per` in the square of the distance.
+    /// Makes the medium of motes at these places, numbered from 0. A mote hears others within the range; a packet needs
+    /// `base` moments and one more for each whole `per` in the square of the distance.
+    ///
+    /// # Errors
+    /// The first fault of the numbers and losses, or `Memory` if an allocation failed.
     pub fn new(
         alloc: Global,
         places: &[Place],
@@ -90,7 +93,7 @@ impl Medium {
         })
     }
 
-    /// Whether mote r hears mote s. No mote hears itself.
+    /// Returns `true` if mote r hears mote s. No mote hears itself.
     #[tactic(auto, using(crate::proofs::Hearing::hears_between))]
     pub fn hears(&self, r: u16, s: u16) -> bool
         requires receiver { r < length self.now.places }
@@ -100,7 +103,7 @@ impl Medium {
         r != s && self.reach.covers(self.square_distance(s, r))
     }
 
-    /// How many moments a packet takes from mote s to mote r, which hears it.
+    /// The number of moments that a packet needs from mote s to mote r, which hears it.
     #[tactic(auto, using(crate::proofs::Faults::per_above), unfolding(crate::specs::Medium::delay))]
     pub fn delay(&self, s: u16, r: u16) -> u64
         requires sender { s < length self.now.places }
@@ -121,6 +124,9 @@ impl Medium {
     }
 
     /// The fates of the copies of a packet, one for each mote that hears the sender, by rising number.
+    ///
+    /// # Errors
+    /// If an allocation failed.
     pub fn fates(&self, sent: &Sent) -> Result<Vec<Fate>, AllocError>
         requires sender { sent.now.sender < length self.now.places }
         requires moment { sent.now.at ≤ 2 ^ 40 }
@@ -130,6 +136,9 @@ impl Medium {
     }
 
     /// The copies of a packet that aren't lost, by rising number of the mote to which they go.
+    ///
+    /// # Errors
+    /// If an allocation failed.
     pub fn copies(&self, sent: &Sent) -> Result<Vec<RadioCopy>, AllocError>
         requires sender { sent.now.sender < length self.now.places }
         requires moment { sent.now.at ≤ 2 ^ 40 }

@@ -1,16 +1,16 @@
-//! Where motes stand.
+//! The places of motes.
 
 ghost use Rattle.std.specs.Prelude.{◌≡◌, ◌≤◌, ◌<◌, ◌^◌, ◌-ℤ◌, nat_le, unsigned_abs};
 ghost use Rattle.radio_medium.specs.Medium.{square_distance};
 
-/// Where a mote stands. Places, distances and ranges have one unit.
+/// The place of a mote. Places, distances and ranges have one unit.
 #[derive(Clone, Copy, Debug, PartialEq, Eq)]
 pub struct Place {
     pub x: i32,
     pub y: i32,
 }
 
-/// How far apart two numbers are: |a - b|.
+/// The difference of two numbers: |a - b|.
 #[inline(always)]
 pub(crate) fn gap(a: i32, b: i32) -> u64
     ensures { result ≡ unsigned_abs (a -ℤ b) }
@@ -34,7 +34,7 @@ impl Place {
         dx * dx + dy * dy
     }
 
-    /// Whether the square of the distance to another place is at most this. Most places are too far by x alone.
+    /// Returns `true` if the square of the distance to another place is at most this. Most places are too far in x.
     #[tactic(auto, unfolding(crate::specs::Medium::square_distance))]
     #[inline(always)]
     pub(crate) fn is_within(self, square: u64, other: Place) -> bool

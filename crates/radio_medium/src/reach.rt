@@ -1,12 +1,12 @@
-//! How far a packet is heard, and how long it takes.
+//! The range of a packet, and its delay.
 
 ghost use Rattle.std.specs.Prelude.{◌≡◌, ◌+◌, ◌/◌, ◌^◌, ◌<◌, ◌≤◌, nat_le, unsigned_abs};
 ghost use Rattle.radio_medium.specs.Medium.{square, square_distance};
 
 use crate::place::Place;
 
-/// How far a packet is heard, how long it takes at least, and for how much of the square of the distance it takes one
-/// moment more.
+/// The range within which a packet is heard, its least delay, and the part of the square of the distance for which it
+/// needs one moment more.
 #[derive(Clone, Copy)]
 pub(crate) struct Reach {
     pub(crate) range: u32,
@@ -15,14 +15,14 @@ pub(crate) struct Reach {
 }
 
 impl Reach {
-    /// Whether a packet is heard at a distance with this square.
+    /// Returns `true` if a packet is heard at a distance with this square.
     pub(crate) fn covers(self, square_distance: u64) -> bool
         ensures { result ≡ nat_le square_distance (square self.range) }
     {
         square_distance <= u64::from(self.range) * u64::from(self.range)
     }
 
-    /// Whether a packet is heard between two places.
+    /// Returns `true` if a packet is heard between two places.
     #[inline(always)]
     pub(crate) fn joins(self, a: Place, b: Place) -> bool
         requires a_x { unsigned_abs a.x ≤ 30000 }
@@ -34,7 +34,7 @@ impl Reach {
         a.is_within(u64::from(self.range) * u64::from(self.range), b)
     }
 
-    /// How many moments a packet takes at a distance with this square.
+    /// The number of moments that a packet needs at a distance with this square.
     pub(crate) fn delay(self, square_distance: u64) -> u64
         requires distance { square_distance < 2 ^ 33 }
         requires per { 0 < self.per }
