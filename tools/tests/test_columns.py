@@ -68,7 +68,7 @@ class Reading(unittest.TestCase):
         chance = random.Random(5)
         kept = 0
         for turn in range(4000):
-            text = SMALL
+            text = chance.choice([SMALL, SMALL.replace('talk', 't4lk').replace(' busy\n', ' b1\n').replace('msg', 'm5g')])
             for _ in range(chance.choice([1, 1, 2])):
                 rows = text.split('\n')
                 one, other = chance.randrange(len(rows)), chance.randrange(len(rows))
@@ -97,6 +97,36 @@ class Reading(unittest.TestCase):
                 self.assertTrue(self.check(SMALL.encode()))
                 self.assertFalse(self.check(SMALL.replace('9 drop', '3 drop').encode()))
                 self.assertFalse(self.check(SMALL.replace('7 deaf', '7 halt\n7 deaf').encode()))
+
+    def test_names_with_digits_stay_apart(self):
+        text = SMALL.replace('4 full all msg', '4 full a1 a1').replace('4 take 0 talk', '4 take 0 a11').replace(
+            '4 print talk', '4 print a_1').replace('0 start busy', '0 start b').replace('9 drop 1 busy', '9 drop 1 b2')
+        self.assertTrue(self.check(text.encode()))
+        self.assertFalse(self.check(text.replace('a_1', 'a_1' + 'x' * 14).encode()))
+
+    def test_more_names_than_a_byte_has_numbers(self):
+        for count in 255, 256, 300:
+            rows = ['%d start %s%s' % (at, chr(97 + at % 26), chr(97 + at // 26)) for at in range(count)]
+            rows = [row.replace('start is', 'start xis').replace('start if', 'start xif') for row in rows]
+            text = '\n'.join(['mote 0 p', *rows, 'medium', 'left 0', ''])
+            self.assertTrue(self.check(text.encode()), count)
+
+    def test_numbers_at_their_limits(self):
+        for number, is_one in ((2 ** 62 - 1, True), (2 ** 62, False), (2 ** 64 - 1, False), (10 ** 18, True)):
+            for form in '7 deaf 0 %d', '7 lost 0 %d':
+                text = SMALL.replace('7 deaf 0 4611686018427387903', form % number)
+                self.assertEqual(self.check(text.encode()), is_one, number)
+            self.assertEqual(self.check(SMALL.replace('1@12', '1@%d' % number).encode()), is_one, number)
+            self.assertEqual(self.check(SMALL.replace('9 0 1 3', '9 0 %d 3' % number).encode()), is_one, number)
+        for moment, is_one in ((1_000_000, True), (1_000_001, False)):
+            self.assertEqual(self.check(SMALL.replace('8 halt', '%d halt' % moment).encode()), is_one)
+
+    def test_a_log_in_pieces_has_its_order(self):
+        for size in 1, 12, 25:
+            with mock.patch.object(fast, 'PIECE', size):
+                self.assertTrue(self.check(SMALL.encode()))
+                self.assertFalse(self.check(SMALL.replace('9 0 1 3 1@12', '4 2 0 3 1@12').encode()))
+                self.assertFalse(self.check(SMALL.replace('9 0 1 3 1@12', '3 0 1 3 1@12').encode()))
 
     def test_several_processes_read_the_same(self):
         rows = ['mote %d p%s' % (mote, '\n%d start %s' % (mote, 'abcdef'[mote % 6])) for mote in range(40)]

@@ -1,14 +1,16 @@
 """How compare finds where two reports part. The reports are worked out by hand."""
+import random
 import subprocess
 import sys
 import tempfile
 import unittest
+from collections import Counter
 from pathlib import Path
 
 from here import TOOLS
 from motesim.comparison import reports as compare
 from motesim.comparison import scenarios as scenario_differences
-from motesim.report import Report
+from motesim.report import Report, ReportFault
 from motesim.runner.run import Run
 from motesim.scenario import Scenario
 
@@ -68,7 +70,54 @@ def compared(a, b):
     return '\n'.join(lines), first, is_same
 
 
+def counted_naively(a, b):
+    """Where the lists of two reports part, and how many lines only one of them has, line by line."""
+    places, counts = [], (Counter(), Counter())
+    lists = [{it.number: list(map(str, it.lines)) for it in report.motes} | {compare.MEDIUM: list(map(str, report.medium))}
+             for report in (a, b)]
+    for mote in sorted(lists[0] | lists[1]):
+        one, other = (its.get(mote, []) for its in lists)
+        if one == other:
+            continue
+        places.append((mote, next((at for at, (x, y) in enumerate(zip(one, other)) if x != y), min(len(one), len(other)))))
+        kinds = [Counter(('medium' if mote == compare.MEDIUM else it.split(' ')[1], it) for it in its) for its in (one, other)]
+        for side in 0, 1:
+            for (kind, _), count in (kinds[side] - kinds[1 - side]).items():
+                counts[side][mote, kind] += count
+    return places, counts
+
+
 class Differences(unittest.TestCase):
+    def test_columns_differ_where_lines_do(self):
+        """Reports that are changed at random, against a comparison line by line."""
+        chance, found = random.Random(3), 0
+        for _ in range(600):
+            texts = []
+            for text in chance.choice([(A, B), (A, A), (B, A)]):
+                rows = text.split('\n')
+                for _ in range(chance.choice([0, 1, 1, 2])):
+                    one, other = chance.randrange(len(rows)), chance.randrange(len(rows))
+                    how = chance.randrange(4)
+                    if how == 0:
+                        rows.insert(one, rows[other])
+                    elif how == 1:
+                        del rows[one]
+                    elif how == 2:
+                        rows[one] = rows[one].replace('hearer', 'h2')
+                    else:
+                        rows[one] = rows[one][:-1] + chance.choice('0123456789')
+                texts.append('\n'.join(rows))
+            try:
+                a, b = map(Report.parse, texts)
+            except ReportFault:
+                continue
+            found += 1
+            differences = compare.differences(a, b)
+            places, counts = counted_naively(a, b)
+            self.assertEqual(sorted((it.mote, it.place) for it in differences), places, texts)
+            self.assertEqual(compare.only_in((a, b), differences), counts, texts)
+        self.assertGreater(found, 200)
+
     def test_the_first_difference_is_by_moments(self):
         found = compare.differences(Report.parse(A), Report.parse(B))
         self.assertEqual([tuple(it) for it in found], [(5, 2, 1), (5, compare.MEDIUM, 2), (8, 1, 3)])

@@ -188,6 +188,32 @@ class Sentences(unittest.TestCase):
             self.assertEqual(sentence[fault.place:].split(' ')[0], word)
             self.assertTrue(any(it.startswith(wanted) or wanted in it for it in fault.wanted), fault.wanted)
 
+    def test_counting_finds_what_the_lines_show(self):
+        """Sentences that only count, judged by the columns alone and by the lines."""
+        class ByLines(Judge):
+            def is_plainly_kept(self, it, motes):
+                return False
+
+            def count_copies(self, it):
+                return len(self.of_copies(it))
+        by_lines = ByLines(self.judge.report, self.judge.scenario)
+        deeds = ['mote 1 %s', 'every mote %s', 'motes 1 to 3 together %s', 'some mote %s', 'at least 2 motes %s']
+        verbs = ['print', 'print flood', 'print flood 2', 'print flood its number', 'send', 'send 1', 'receive 1',
+                 'receive 2 from mote 1', "write 'post 0 flood'", "write 'lost' or 'recv'", "write 'recv 1 0 01'", 'start flood']
+        times = ['at least %d times', 'at most %d', 'exactly %d', 'at least %d times from 41 to 46',
+                 'at most %d by 43', 'at least %d times in each 10 from 30 to 59', 'exactly %d after 46']
+        found = [deed % '%s %s' % (verb, time % count) for deed in deeds for verb in verbs for time in times
+                 for count in (0, 1, 2)]
+        found += ['%s copies %s%s' % (count, how, at) for count in ('at least 1', 'at most 2', 'exactly 3', 'at least 50 % of', 'exactly 0 % of')
+                  for how in ('arrive', 'collide', 'overflow', 'are lost') for at in ('', ' at motes 1 to 2')]
+        holds = 0
+        for sentence in found:
+            meant = read_sentence(sentence, self.names)
+            broken = self.judge.broken(meant)
+            self.assertEqual(broken, by_lines.broken(meant), sentence)
+            holds += broken is None
+        self.assertTrue(200 < holds < len(found) - 200, (holds, len(found)))
+
     def test_counts_have_ends(self):
         for compare, least, most in [
             ('at least', 3, None), ('at most', 0, 3), ('exactly', 3, 3), ('more than', 4, None), ('fewer than', 0, 2),

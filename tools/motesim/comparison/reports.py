@@ -12,8 +12,6 @@ from __future__ import annotations
 
 from collections import Counter
 from collections.abc import Iterator, Sequence
-from itertools import compress, count
-from operator import ne
 from typing import Any, NamedTuple
 
 from motesim.comparison import scenarios as scenario_differences
@@ -52,12 +50,6 @@ def number_of(n: int, what: str) -> str:
     return '%d %s%s' % (n, what, '' if n == 1 else 's')
 
 
-def part(a: Sequence[Any], b: Sequence[Any]) -> int | None:
-    """The first place at which two lists differ, or None."""
-    shorter = min(len(a), len(b))
-    return next(compress(count(), map(ne, a, b)), None if len(a) == len(b) else shorter)
-
-
 def lists_of(report: Report) -> dict[int, Sequence[Any]]:
     """The lines of each mote, and those of the medium."""
     found: dict[int, Sequence[Any]] = {mote.number: mote.lines for mote in report.motes}
@@ -73,11 +65,9 @@ def differences(a: Report, b: Report) -> list[Difference]:
     ours, others, found = lists_of(a), lists_of(b), []
     columns = Both(a, b)
     for mote in sorted(ours | others):
-        if columns.are_same(mote):
-            continue
-        pair = ours.get(mote, ()), others.get(mote, ())
-        index = part(*pair)
+        index = columns.first_difference(mote)
         if index is not None:
+            pair = ours.get(mote, ()), others.get(mote, ())
             found.append(Difference(min(lines[index].at for lines in pair if index < len(lines)), mote, index))
     return sorted(found, key=lambda it: (it.at, it.mote == MEDIUM, it.mote))
 
@@ -114,7 +104,7 @@ def first_collision(ours: Met, others: Met) -> Collision | None:
 
 def sent(report: Report, packet: tuple[int, int]) -> str:
     """A packet in words."""
-    found = report.packets.get(packet)
+    found = report.packet(*packet)
     return 'packet %d of mote %d%s' % (packet[1], packet[0], ' (sent at %d)' % found.at if found else '')
 
 
@@ -139,8 +129,8 @@ def origin(line: Line | Packet, report: Report) -> str:
     """Where what a line tells comes from: the packet's way, or the post of the event."""
     if isinstance(line, Packet):
         return ''
-    if line.kind in OF_PACKETS and line.kind != 'send' and line.packet in report.packets:
-        packet = report.packets[line.packet]
+    packet = report.packet(*line.packet) if line.packet and line.kind != 'send' else None
+    if packet:
         return 'packet %d of mote %d was sent at %d with value %d' % (
             packet.number, packet.sender, packet.at, packet.value)
     if line.kind in ('take', 'drop'):
@@ -228,7 +218,8 @@ def only_in(reports: Pair, found: list[Difference]) -> Counts:
     columns = Both(*reports)
     for it in found:
         for kind in ('medium',) if it.mote == MEDIUM else KINDS:
-            only = columns.only_packets() if it.mote == MEDIUM else columns.only_lines(it.mote, kind)
+            only = (columns.only_packets(it.place) if it.mote == MEDIUM else
+                    columns.only_lines(it.mote, kind, it.place))
             for into, number in zip(counts, only):
                 if number:
                     into[it.mote, kind] = number

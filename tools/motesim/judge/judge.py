@@ -4,16 +4,19 @@
 """
 from __future__ import annotations
 
+from bisect import bisect_left, bisect_right
 from collections.abc import Iterator, Sequence
 from functools import cached_property
-from itertools import compress, count as counting
+from itertools import compress, repeat
+from itertools import count as counting
+from operator import and_
 from typing import NamedTuple
 
 from motesim.judge import relations
 from motesim.judge.sentences import (
     Copies, Count, Deed, Does, Hears, Lines, MediumLine, Motes, Packets, Pattern, Refused, Sentence, Value, Window,
 )
-from motesim.report import FIELDS, LOST, Line, Report, Rows
+from motesim.report import LOST, Line, Report, Rows
 from motesim.scenario import Scenario
 
 BECAME = {'collided': 'collide', 'received': 'recv', 'full': 'lost'}
@@ -75,7 +78,8 @@ class Judge:
     def events(self, mote: int, kind: str) -> Iterator[Event]:
         """The lines of a kind that a mote has, with their rows."""
         trace = self.report.trace
-        return map(Event, (row + mote + 2 for row in trace.rows(mote, kind)), trace.lines(mote, kinds=(kind,)))
+        found = zip(map((mote + 2).__add__, trace.rows(mote, kind)), trace.lines(mote, kinds=(kind,)))
+        return map(tuple.__new__, repeat(Event), found)
 
     def hears(self, r: int, s: int) -> bool:
         """Whether mote r hears mote s by a link that doesn't lose all."""
@@ -114,20 +118,48 @@ class Judge:
             heard = {s for s in heard if self.hears(s, mote)}
         return {sum(1 << s for s in heard - value.but)}
 
+    def fits(self, pattern: Pattern, mote: int) -> bytes:
+        """For each line of the pattern's kind that a mote has, 1 if it has the pattern, else 0."""
+        trace, kind = self.report.trace, str(pattern[0])
+        place, fields = trace.place(mote, kind), trace.of[kind]
+        # (a value may be unknown for this mote, whether or not it has such lines)
+        wanted = [set(map(str, self.values(it, mote))) if isinstance(it, Value) else it and {it} for it in pattern[1:]]
+        count: int = place.stop - place.start
+        found = bytes([len(wanted) <= len(fields)]) * count
+        for words, (field, column) in zip(wanted, fields.items()):
+            if words is not None and any(found):
+                allowed = trace.numbers_of(field, words)
+                found = bytes(map(and_, found, map(allowed.__contains__, column[place])))
+        return found
+
     def matches(self, pattern: Pattern, mote: int) -> Iterator[Event]:
         """The lines of a mote that have this pattern."""
-        tests = [(index, set(map(str, self.values(it, mote))) if isinstance(it, Value) else {it})
-                 for index, it in enumerate(pattern[1:], 2) if it is not None]
-        if len(pattern) > 1 + len(FIELDS[str(pattern[0])].split()):
-            return
-        for event in self.events(mote, str(pattern[0])):
-            if all(str(event.line[index]) in allowed for index, allowed in tests):
-                yield event
+        found = self.fits(pattern, mote)
+        return compress(self.events(mote, str(pattern[0])), found) if any(found) else iter(())
 
     def done(self, deed: Deed, motes: tuple[int, ...]) -> list[Event]:
         """The lines of these motes that show a deed."""
-        found = {event for mote in motes for pattern in deed.patterns for event in self.matches(pattern, mote)}
-        return sorted(found, key=lambda event: event.row)
+        found = [event for mote in motes for pattern in deed.patterns for event in self.matches(pattern, mote)]
+        if len(deed.patterns) == 1 and list(motes) == sorted(motes):
+            return found
+        return sorted(set(found), key=lambda event: event.row)
+
+    def tally(self, pattern: Pattern, mote: int, span: Span) -> int:
+        """How many lines of a mote have this pattern, in these moments."""
+        trace, kind = self.report.trace, str(pattern[0])
+        found = self.fits(pattern, mote)
+        if span == (0, None):
+            return sum(found)
+        moments = list(map(trace.at.__getitem__, trace.rows(mote, kind)))
+        end = len(moments) if span[1] is None else bisect_right(moments, span[1])
+        return sum(found[bisect_left(moments, span[0]):end])
+
+    def is_plainly_kept(self, it: Does, motes: tuple[int, ...]) -> bool:
+        """Whether a sentence that only counts lines of one pattern holds, which its counts show without the lines."""
+        if it.than or it.relation or it.deed.way != 'any' or len(it.deed.patterns) != 1:
+            return False
+        return all(it.count.admits(sum(self.tally(it.deed.patterns[0], mote, span) for mote in motes))
+                   for span in self.spans(it.window, motes))
 
     def spans(self, window: Window, motes: tuple[int, ...]) -> list[Span]:
         """The moments that a window stands for, of these motes."""
@@ -215,6 +247,8 @@ class Judge:
     def of_unit(self, it: Does, motes: tuple[int, ...]) -> Broken | None:
         """Whether a mote, or several together, does what is said."""
         try:
+            if self.is_plainly_kept(it, motes):
+                return None
             events = self.done(it.deed, motes)
             if it.than:
                 return self.than(it, events, motes)
@@ -279,11 +313,19 @@ class Judge:
         motes = set(range(len(self.report.motes)) if it.motes is None else it.motes)
         log, end = self.report.log, self.scenario.end
         due = sum(at == LOST or at <= end for to, at in zip(log.to, log.arrival) if to in motes)
-        found = self.of_copies(it)
-        if it.count.admits(len(found), due):
+        found = self.count_copies(it)
+        if it.count.admits(found, due):
             return None
-        part = ' (%.1f %%)' % (100 * len(found) / due) if due else ''
-        return Broken('%d of %d copies that were due do%s; wanted: %s' % (len(found), due, part, it.count))
+        part = ' (%.1f %%)' % (100 * found / due) if due else ''
+        return Broken('%d of %d copies that were due do%s; wanted: %s' % (found, due, part, it.count))
+
+    def count_copies(self, it: Copies) -> int:
+        """How many copies have this outcome, whenever that was."""
+        motes = set(range(len(self.report.motes)) if it.motes is None else it.motes)
+        if it.outcome == 'lost':
+            return sum(map(motes.__contains__, compress(self.report.log.to, map(LOST.__eq__, self.report.log.arrival))))
+        places = (self.report.trace.place(mote, BECAME[it.outcome]) for mote in motes)
+        return sum(place.stop - place.start for place in places)
 
     def of_copies(self, it: Copies) -> list[Row]:
         """The rows that tell this outcome of copies, each as often as it does."""
@@ -333,6 +375,8 @@ class Judge:
                 return self.left(it.count)
             if it.count.is_part:
                 return self.part_of_copies(it)
+            if it.window == Window() and it.count.admits(self.count_copies(it)):
+                return None
             return self.rows_in('such copies', self.of_copies(it), it.count, it.window)
         if isinstance(it, Packets):
             return self.rows_in('packets', self.of_packets(), it.count, it.window)

@@ -4,10 +4,10 @@
     columns  all lines and packets as arrays            fast     reads a report in large pieces, into columns
     report   a report with its motes                    belongs  whether a report is of a scenario
 """
-from motesim.report.columns import KINDS, LOST, NONE, Log, Trace
+from motesim.report.columns import KINDS, LOST, MASKS, NONE, Log, Trace
 from motesim.report.lines import FIELDS, MOST_MOMENT, MOST_WORD, Copy, Line, Packet
 from motesim.report.report import OUTCOMES, Mote, Outcome, Report, Rows
 from motesim.report.strict import ReportFault
 
-__all__ = ['FIELDS', 'KINDS', 'LOST', 'MOST_MOMENT', 'MOST_WORD', 'NONE', 'OUTCOMES', 'Copy', 'Line', 'Log', 'Mote', 'Outcome', 'Packet',
+__all__ = ['FIELDS', 'KINDS', 'LOST', 'MASKS', 'MOST_MOMENT', 'MOST_WORD', 'NONE', 'OUTCOMES', 'Copy', 'Line', 'Log', 'Mote', 'Outcome', 'Packet',
            'Report', 'ReportFault', 'Rows', 'Trace']

@@ -114,6 +114,12 @@ class Trace:
         """All lines of a kind, by their indices."""
         return array('I', compress(range(len(self)), self.kind.translate(MASKS[CODES[kind]])))
 
+    def numbers_of(self, field: str, words: Iterable[str]) -> set[int]:
+        """The numbers by which the column of a field has these words; words that it can't have are left out."""
+        if field in ('process', 'event'):
+            return {self.names.index(word) for word in words if word in self.names}
+        return {int(word) for word in words if len(word) < 20 and word.isdecimal() and str(int(word)) == word}
+
     def _named(self, field: str, column: Iterable[int]) -> Iterable[Any]:
         """Words in place of numbers, where a field has names."""
         return map(self.names.__getitem__, column) if field in ('process', 'event') else column
@@ -231,8 +237,8 @@ class Log(Sequence[Packet]):
         self.first = array('I', [0])
         self.to, self.arrival = array('I'), array('Q')
 
-    def extend(self, at: list[int], sender: list[int], number: list[int], value: list[int], copies: list[int],
-               to: list[int], arrival: list[int]) -> None:
+    def extend(self, at: Iterable[int], sender: Iterable[int], number: Iterable[int], value: Iterable[int],
+               copies: Iterable[int], to: Iterable[int], arrival: Iterable[int]) -> None:
         """Adds packets: their columns, how many copies each has, and the columns of the copies."""
         self.at.extend(at)
         self.sender.extend(sender)
@@ -250,6 +256,10 @@ class Log(Sequence[Packet]):
 
     def __len__(self) -> int:
         return len(self.at)
+
+    def packets(self) -> tuple[array[int], ...]:
+        """The columns of the packets, without their copies."""
+        return self.at, self.sender, self.number, self.value
 
     def of_copies(self, column: Iterable[int]) -> Iterator[int]:
         """For each copy, what a column has of its packet."""

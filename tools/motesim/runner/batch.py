@@ -10,6 +10,7 @@ from __future__ import annotations
 import gc
 import os
 import signal
+import sys
 import threading
 import time
 from collections import deque
@@ -31,6 +32,8 @@ MOST_AHEAD = 32
 # Seconds between two looks at the clock while workers work.
 TICK = 0.2
 SECONDS_TO_END = 2.0
+# How many processes share one piece of work.
+MOST_SHARING = 4
 
 
 @dataclass(frozen=True)
@@ -246,3 +249,24 @@ def run_each(work: Callable[[Item], Result], items: Iterable[Item], *, workers: 
         yield from _in_order(found) if ordered else (done for _, done in found)
     finally:
         batch.end()
+
+
+def each_part(work: Callable[[Item], Result], parts: Iterable[Item], is_much: bool) -> Iterator[Result]:
+    """The result of each part of a piece of work, in order; if it is much, several processes work.
+
+    The processes share what this one has in memory. Raises a `Fault` if one of them fails.
+    """
+    workers = min(MOST_SHARING, os.cpu_count() or 1)
+    if not is_much or workers < 2 or _is_worker():
+        yield from map(work, parts)
+        return
+    for done in run_each(work, parts, workers=workers, ordered=True):
+        if done.result is None:
+            raise Fault(done.fault)
+        yield done.result
+
+
+def _is_worker() -> bool:
+    """Whether this process is a worker itself, which may have none."""
+    processes = sys.modules.get('multiprocessing')
+    return processes is not None and bool(processes.current_process().daemon)

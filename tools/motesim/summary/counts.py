@@ -46,7 +46,10 @@ import csv
 import json
 import sys
 from collections import Counter
-from typing import Any, Iterator
+from collections.abc import Iterator
+from itertools import repeat
+from operator import add, mul
+from typing import Any
 
 from motesim.faults import Fault, command
 from motesim.summary.flows import NAMES as FLOW_NAMES
@@ -107,18 +110,40 @@ def of_net(motes: list[Row]) -> Row:
     return row
 
 
-def links_of(report: Report) -> Iterator[tuple[int, int]]:
-    """The sender and the receiver of each copy."""
-    return zip(report.log.of_copies(report.log.sender), report.log.to)
+# A link: its sender and its receiver.
+Link = tuple[int, int]
 
 
-def by_link(report: Report, scenario: Scenario | None, became: Counter[Any]) -> list[Row]:
-    """A row for each pair of sender and receiver between which copies went, and for all pairs of a scenario."""
-    delays: dict[tuple[int, int], int | None] = {}
+def links_of(report: Report) -> Iterator[int]:
+    """The link of each copy as a number: that of the sender, times the count of motes, and that of the receiver."""
     log = report.log
+    return map(add, log.of_copies(map(mul, log.sender, repeat(len(report.motes)))), log.to)
+
+
+def counted_links(report: Report) -> Counter[tuple[Link, str]]:
+    """How many copies of each link have each outcome."""
+    motes, kinds = len(report.motes), len(OUTCOMES)
+    counts = Counter(map(add, map(mul, links_of(report), repeat(kinds)), report.fates))
+    return Counter({(divmod(key // kinds, motes), OUTCOMES[key % kinds]): count for key, count in counts.items()})
+
+
+def delays_of(report: Report, links: set[Link]) -> dict[Link, int | None]:
+    """The delay of each link: that of the first copy that wasn't lost, or None."""
+    log, motes = report.log, len(report.motes)
+    delays: dict[Link, int | None] = dict.fromkeys(links)
+    left = {sender * motes + to for sender, to in links}
     for link, sent, arrival in zip(links_of(report), log.of_copies(log.at), log.arrival):
-        if delays.get(link) is None:
-            delays[link] = None if arrival == LOST else arrival - sent
+        if link in left and arrival != LOST:
+            delays[divmod(link, motes)] = arrival - sent
+            left.remove(link)
+            if not left:
+                break
+    return delays
+
+
+def by_link(report: Report, scenario: Scenario | None, became: Counter[tuple[Link, str]]) -> list[Row]:
+    """A row for each pair of sender and receiver between which copies went, and for all pairs of a scenario."""
+    delays = delays_of(report, {link for link, _ in became})
     if scenario:
         for s in range(scenario.motes):
             delays.update(((s, r), scenario.delay(s, r)) for r in scenario.hearers(s))
@@ -128,7 +153,7 @@ def by_link(report: Report, scenario: Scenario | None, became: Counter[Any]) -> 
 
 def summary(run: Run) -> tuple[list[Row], Row, list[Row]]:
     """The rows of the motes, that of the net, and those of the links."""
-    links = Counter(zip(links_of(run.report), map(OUTCOMES.__getitem__, run.report.fates)))
+    links = counted_links(run.report)
     receivers: Counter[Any] = Counter()
     for ((_, to), what), number in links.items():
         receivers[to, what] += number

@@ -14,7 +14,8 @@ from typing import Any
 
 from motesim.faults import Fault
 from motesim.notation.keywords import EVENTS
-from motesim.report import KINDS, LOST, Log, Report, Trace
+from motesim.report import KINDS, LOST, Log, Report
+from motesim.runner.batch import each_part
 from motesim.runner.run import Run
 from motesim.scenario import Scenario
 
@@ -23,6 +24,9 @@ LEVEL = 6
 # The column that a field of a line belongs to.
 OF_FIELDS = {'process': 'p', 'sender': 'p', 'serial': 'x', 'number': 'x', 'event': 'e', 'word': 'w', 'value': 'w'}
 ARRAYS = {'u8': 'B', 'u16': 'H', 'u32': 'I'}
+TOO_LARGE = 'the report has a number that is too large for a page'
+# From how many lines on several processes make the columns, and of how many motes each makes them at once.
+MANY, MOTES_AT_ONCE = 300_000, 16
 
 
 def _zigzag(numbers: Sequence[int]) -> list[int]:
@@ -48,48 +52,63 @@ class Columns:
 
     def __init__(self, report: Report):
         self.columns = {name: array(ARRAYS[kind]) for name, kind in self.names.items()}
-        trace = report.trace
+        self.trace = trace = report.trace
         known = trace.processes()
         self.processes = [name for name in trace.names if name in known and name != 'all']
         self.events = [name for name in trace.names if name in EVENTS]
         self.programs = list(dict.fromkeys(mote.program for mote in report.motes))
+        self._add_traces(report)
         try:
-            self._add_traces(report, trace)
             self._add_medium(report.log, len(report.motes))
         except OverflowError:
-            raise Fault('the report has a number that is too large for a page') from None
+            raise Fault(TOO_LARGE) from None
 
-    def _add_traces(self, report: Report, trace: Trace) -> None:
-        """The lines of all motes. Moments are differences; serials and numbers are differences from the expected ones."""
-        columns = self.columns
-        columns['traceStart'].extend(trace.starts)
-        columns['kind'].frombytes(trace.kind)
+    def _add_traces(self, report: Report) -> None:
+        """The lines of all motes."""
+        columns, motes = self.columns, len(report.motes)
+        columns['traceStart'].extend(self.trace.starts)
+        columns['kind'].frombytes(self.trace.kind)
         columns['begins'].extend(map(self.programs.index, (mote.program for mote in report.motes)))
-        for begin, end in zip(trace.starts, trace.starts[1:]):
-            columns['at'].extend(_differences(trace.at[begin:end]))
-        for name in 'x', 'p', 'e', 'w':
-            parts = [self._part(trace, kind, name) for kind in KINDS]
-            following: Callable[[Iterator[int]], int] = next
-            columns[name].extend(map(following, map(parts.__getitem__, trace.kind)))
+        groups = [range(first, min(first + MOTES_AT_ONCE, motes)) for first in range(0, motes, MOTES_AT_ONCE)]
+        for part in each_part(self._lines, groups, is_much=len(self.trace) >= MANY):
+            for name, column in part.items():
+                columns[name].extend(column)
 
-    def _part(self, trace: Trace, kind: str, name: str) -> Iterator[int]:
+    def _lines(self, motes: range) -> dict[str, array[int]]:
+        """The columns of some motes' lines. Moments are differences; serials and numbers are differences from the
+        expected ones."""
+        starts, found = self.trace.starts, {'at': array('I')}
+        for mote in motes:
+            found['at'].extend(_differences(self.trace.at[starts[mote]:starts[mote + 1]]))
+        kinds = bytes(self.trace.kind[starts[motes.start]:starts[motes.stop]])
+        following: Callable[[Iterator[int]], int] = next
+        for name in 'xpew':
+            parts = [self._part(motes, kind, name) for kind in KINDS]
+            try:
+                found[name] = array(ARRAYS[self.names[name]], map(following, map(parts.__getitem__, kinds)))
+            except OverflowError:
+                raise Fault(TOO_LARGE) from None
+        return found
+
+    def _part(self, motes: range, kind: str, name: str) -> Iterator[int]:
         """The numbers that the lines of a kind have in a column, in their order."""
-        for field, column in trace.of[kind].items():
+        place = slice(self.trace.place(motes.start, kind).start, self.trace.place(motes.stop - 1, kind).stop)
+        for field, column in self.trace.of[kind].items():
             if OF_FIELDS[field] != name:
                 continue
             if name == 'x':
-                return self._numbers(trace, kind, column)
+                return self._numbers(motes, kind, column)
             if name in 'pe' and field != 'sender':
                 places = {it: place for place, it in enumerate(self.events if name == 'e' else self.processes)}
-                table = [places.get(it, ALL) for it in trace.names]
-                return map(table.__getitem__, column)
-            return iter(column)
+                table = [places.get(it, ALL) for it in self.trace.names]
+                return map(table.__getitem__, column[place])
+            return iter(column[place])
         return repeat(0)
 
-    def _numbers(self, trace: Trace, kind: str, column: array[int]) -> Iterator[int]:
+    def _numbers(self, motes: range, kind: str, column: array[int]) -> Iterator[int]:
         """Serials or numbers, as differences from the expected ones."""
-        for mote in range(len(trace.starts) - 1):
-            numbers = column[trace.place(mote, kind)]
+        for mote in motes:
+            numbers = column[self.trace.place(mote, kind)]
             yield from repeat(0, len(numbers)) if _in_row(numbers) else _zigzag(numbers)
 
     def _add_medium(self, log: Log, motes: int) -> None:
