@@ -10,6 +10,7 @@ from unittest import mock
 from here import TOP
 from motesim.explain import explanation as explain
 from motesim.explain import hints
+from motesim.explain.advice import advice
 from motesim.scenario import faults as scenario_faults
 from motesim.summary.flows import FlowFault, flow_rows, read_flow
 from motesim.explain.lint import warnings
@@ -32,8 +33,8 @@ BODIES = [
     ('if (seq == 1) { } else if (seq == 2) { }', 'into it'), ('send 1, seq;', '256'), ('print "got";', 'numbers'),
     ('for (seq = 0; seq < 3) { }', 'while'), ('# x', '//'), ('/* x */ print 1;', '//'), ('seq = random(3);', 'seed'),
     ('pritn 1;', '`print`'), ('print sen;', '`seen`'), ('if (seq = 1) { }', '`==`'), ('seq = -1;', '65535'),
-    ('print 1\n print 2;', 'missing after `1` on line 1'), ('int x;', 'var x = 0;'), ('x = 1;', '`var x = 0;`'),
-    ('while true { }', '`1` is true'), ('print Seq;', 'small letters'), ('sleep 3;', 'yield_until'),
+    ('print 1\n print 2;', 'missing after `1`'), ('int x;', 'var x = 0;'), ('x = 1;', '`var x = 0;`'),
+    ('while true { }', '1 is true'), ('print Seq;', 'small letters'), ('sleep 3;', 'yield_until'),
     ('yield_untl fired(t);', '`yield_until`'), ('var z = 0;', 'head of `code`'), ('set tt 4;', '`t`'),
     ('seq == 1;', '`=` assigns'), ('send 1 to 2;', 'all who hear it'), ('yield_until is(packt);', '`packet`'),
     ('print\u00a01;', 'U+00A0'), ('print \u201cx\u201d;', 'U+201C'), ('seq = [1];', 'arrays'),
@@ -70,11 +71,17 @@ def hint_of(text: str) -> str:
 
 
 class Hints(unittest.TestCase):
+    def hint(self, text: str) -> str:
+        fault = find_fault(text)
+        assert fault
+        found = advice(text, fault)
+        return ' '.join([found.hint, *found.shown()]) if found else ''
+
     def test_a_program(self) -> None:
         for body, wanted in BODIES:
             text = CODE % body
             with self.subTest(body):
-                self.assertIn(wanted, hints.of_program(text, find_fault(text)) or '')
+                self.assertIn(wanted, self.hint(text))
 
     def test_letters_in_a_number(self) -> None:
         for written, meant in ('1O', '10'), ('1o', '10'), ('l0', '10'), ('3I', '31'), ('2l', '21'):

@@ -12,8 +12,9 @@ import re
 import textwrap
 from typing import Any
 
-from motesim.explain import hints, missing
+from motesim.explain import hints, missing, synonyms
 from motesim.explain.advice import Advice, advice
+from motesim.explain.repair import Repair, repair
 from motesim.notation import faults as program_faults
 from motesim.scenario import encodings
 from motesim.scenario import faults as scenario_faults
@@ -78,7 +79,7 @@ def place_of_scenario(text: str, fault: ScenarioError) -> Place | None:
     """Where a fault of the scenario's own is; of what it lacks at its top a table that is named nearly so, or None."""
     if fault.lacks is None:
         return fault.place(text)
-    like = hints.like_of_missing(tables_or_none(text), fault)
+    like = synonyms.like_of_missing(tables_or_none(text), fault)
     return scenario_faults.place_of(text, (like,)) if like else None
 
 
@@ -116,11 +117,12 @@ def of_program(name: str, text: str, program: str, its: program_faults.ProgramEr
 
 def advised(found: Advice | None) -> list[str]:
     """Advice on a program's fault, with the line as it should be."""
-    if found is None:
-        return []
-    if found.line is None:
-        return hinted(found.hint)
-    return hinted(found.hint) + [found.head()] + (['  ' + found.line] if found.line else [])
+    return hinted(found.hint) + found.shown() if found else []
+
+
+def repaired(found: Repair) -> list[str]:
+    """The repair of a scenario, with the lines as they should be."""
+    return hinted(found.hint) + [found.head()] + ['  ' + line for line in found.lines]
 
 
 def hinted(hint: str | None) -> list[str]:
@@ -161,9 +163,13 @@ def explanation(name: str, data: bytes, line: str) -> list[str]:
         return (wrapped(encodings.shown(name, encoding)) + wrapped(rule_of(what))
                 + wrapped('Here may stand: text in UTF-8') + hinted(encodings.hint(name, encoding)))
     may = missing.may_stand(fault.lacks) if fault.lacks else fault.may
+    lines = where_told(name, text, fault) + wrapped(rule_of(what)) + wrapped('Here may stand: %s' % may)
+    found = None if is_report(data) else repair(text, fault)
+    if found:
+        return lines + repaired(found)
     hint = OF_REPORT if is_report(data) else (
         hints.of_scenario(tables_or_none(text), fault, text) or encodings.hint_of_byte(data))
-    return where_told(name, text, fault) + wrapped(rule_of(what)) + wrapped('Here may stand: %s' % may) + hinted(hint)
+    return lines + hinted(hint)
 
 
 def where_told(name: str, text: str, fault: ScenarioError) -> list[str]:

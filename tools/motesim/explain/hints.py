@@ -6,10 +6,10 @@ run shows.
 """
 from __future__ import annotations
 
-import difflib
 import re
-from collections.abc import Iterable
 
+from motesim.from_c.expressions import TOO_LARGE
+from motesim.explain.synonyms import CHANCE, at, like_of_missing, missing, nearest
 from motesim.notation.keywords import RESERVED
 from motesim.notation.parentheses import written
 from motesim.notation.faults import OPERATORS, STATEMENTS, ProgramError, Token, tokens_of
@@ -68,14 +68,6 @@ OF_QUOTES = 'These are quotes of another kind, as text programs make them: plain
 NO_END = re.compile('Expected "\'\'\'"|Unterminated string')
 # Letters that look like digits.
 DIGITS = str.maketrans('OoIl', '0011')
-# Keys that stand for a wish that the medium can't meet.
-CHANCE = ('probability', 'prob', 'p', 'rate', 'loss_rate', 'random', 'seed', 'noise', 'per_link', 'chance')
-
-
-def nearest(word: str, known: Iterable[str]) -> str | None:
-    """The known word that this one is most like, where one is near."""
-    found = difflib.get_close_matches(word.lower(), list(known), 1, 0.6)
-    return found[0] if found and found[0] != word else None
 
 
 def of_program(text: str, fault: ProgramError) -> str | None:
@@ -90,6 +82,8 @@ def of_program(text: str, fault: ProgramError) -> str | None:
         return _of_unexpected(before, here, behind, fault.may) or _of_operator(tokens, at, fault.may)
     if fault.kind == 3:
         return _of_unknown(before, here, fault.may)
+    if fault.kind == 5:
+        return TOO_LARGE
     if fault.kind == 6:
         return 'A callback can\'t wait, but may wake a process that does: `poll P;` or `post P msg 0;`.'
     return None
@@ -167,6 +161,10 @@ def _of_unexpected(before: list[Token], here: Token, behind: Token, may: list[st
         return 'A packet goes to all who hear it: for whom it is may stand in its value, as `send ((1 * 256) + x);`.'
     if word == 'var':
         return 'Variables are declared at the head of `code`, before its timers, threads and handlers.'
+    if word in ('event', 'semaphore'):
+        return 'Events and semaphores are declared above the `process` line: `event e;`, `semaphore s = 0;`.'
+    if word == 'else':
+        return 'An `else` follows the block of an `if` at once: `if .. { .. } else { .. }`.'
     if word == 'thread' or word in ('etimer', 'ctimer'):
         return 'In a `code` stand variables, then `etimer`s, `ctimer`s, threads, `onpoll`, `onexit`, and the body.'
     if '`;`' in may and last and here.line > last.line:
@@ -207,8 +205,6 @@ def _of_unknown(before: list[Token], here: Token, may: list[str]) -> str | None:
     like = nearest(here.text, known) or nearest(here.text, declared & known)
     if like:
         return 'Did you mean `%s`?' % like
-    if begins and here.text not in RESERVED:
-        return 'Variables are declared at the head of `code`: `var %s = 0;`.' % here.text
     return None
 
 
@@ -239,34 +235,15 @@ def of_scenario(tables: dict[str, object] | None, fault: ScenarioError, text: st
     if line == 'scenario fault 5' and name == 'version':
         return 'There are the versions 1 and 2; 2 has `collide` and the lengths of queues.'
     if line == 'scenario fault 6' and tables is not None:
-        programs, named = tables.get('programs'), _at(tables, fault.path)
+        programs, named = tables.get('programs'), at(tables, fault.path)
         like = nearest(named if isinstance(named, str) else name, programs if isinstance(programs, dict) else ())
         return 'Did you mean `%s`?' % like if like else None
     return None
 
 
-def _at(tables: object, path: tuple[str | int, ...]) -> object:
-    """What a scenario holds at a path, or None."""
-    for name in path:
-        try:
-            tables = tables[name]  # type: ignore[index]
-        except (KeyError, IndexError, TypeError):
-            return None
-    return tables
-
-
-def like_of_missing(tables: object, fault: ScenarioError) -> str | None:
-    """A key that isn't known and is like the one that is missing beside it."""
-    wanted = fault.may.split('`')[1] if '`' in fault.may else ''
-    table = _at(tables, fault.path)
-    if not isinstance(table, dict):
-        return None
-    return nearest(wanted, [it for it in table if it not in {**TOP, **MEDIUM, **LOSS, **MOTE}])
-
-
 def _of_missing(tables: dict[str, object], fault: ScenarioError) -> str | None:
     """What most likely stands for a key that is missing."""
-    wanted = fault.may.split('`')[1] if '`' in fault.may else ''
+    wanted = missing(fault)
     like = like_of_missing(tables, fault)
     if like:
         return 'It has `%s`: did you mean `%s`?' % (like, wanted)

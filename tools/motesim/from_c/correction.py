@@ -9,7 +9,9 @@ from typing import NamedTuple
 
 from motesim.from_c.expressions import NoCounterpart
 from motesim.from_c.scope import Scope
-from motesim.from_c.statements import Place, Statements
+from motesim.from_c.places import place_below
+from motesim.from_c.statements import Statements
+from motesim.from_c.structure import process_line, unclosed_block
 from motesim.notation.faults import ProgramError, find_fault, tokens_of
 
 MOST_LINES = 4
@@ -17,11 +19,23 @@ MOST_REASONS = 2
 
 
 class Correction(NamedTuple):
-    """Lines of a program (from 1) and what should stand there, or None if no line does; and the reasons."""
+    """Lines of a program (from 1) and what should be there, or None if no line is known; and the reasons.
+
+    above  a line that is to be inserted further up, and the number of the line below which it belongs
+    """
     first: int
     last: int
     line: str | None
     reasons: tuple[str, ...]
+    above: tuple[int, str] | None = None
+
+    def applied(self, text: str) -> str:
+        """A program's text with the correction."""
+        lines = text.split('\n')
+        lines[self.first - 1:self.last] = [] if self.line is None else [self.line]
+        if self.above:
+            lines.insert(self.above[0], self.above[1])
+        return '\n'.join(lines)
 
 
 def _spans(text: str, fault: ProgramError) -> Iterator[tuple[int, int]]:
@@ -40,44 +54,58 @@ def _spans(text: str, fault: ProgramError) -> Iterator[tuple[int, int]]:
         yield here - 1, here
 
 
-def _place(above: list[str]) -> Place:
-    """Where in a program the line below these is."""
-    words = [it.text for it in tokens_of('\n'.join(above))]
-    depth = words.count('{') - words.count('}')
-    return Place(is_head=depth == 1, is_top=depth == 0)
-
-
-def _corrected(lines: list[str], first: int, last: int, line: str) -> str:
-    return '\n'.join([*lines[:first - 1], line, *lines[last:]])
-
-
-def _rank(text: str, behind: int) -> int:
-    """2 if a text has no fault, 1 if its first one is behind a line, else 0."""
-    found = find_fault(text)
-    return 2 if found is None else int(found.token.line > behind)
+def _rank(text: str, made: Correction) -> int:
+    """2 if a text with a correction has no fault, 1 if its first one is further down, else 0."""
+    found = find_fault(made.applied(text))
+    return 2 if found is None else int(found.token.line > made.first + (made.above is not None))
 
 
 def _same(one: str, other: str) -> bool:
     return [it.text for it in tokens_of(one)] == [it.text for it in tokens_of(other)]
 
 
+def _readings(source: str, scope: Scope, above: list[str], lacks_brace: bool) -> Iterator[Statements]:
+    """The ways in which lines may be read."""
+    place = place_below(above)
+    for end in ('', '}') if '_end' in source.lower() else ('',):
+        yield Statements(source, scope, place, end)
+    if lacks_brace:
+        reader = Statements(source, scope, place)
+        reader.opens = True
+        yield reader
+
+
+def _structural(text: str) -> Correction | None:
+    """The line that repairs the order of the processes, or a block that isn't closed, if that is all."""
+    for line, written, reason in (process_line(text), unclosed_block(text)):
+        made = Correction(line, line, written, (reason,))
+        if line and _rank(text, made) == 2:
+            return made
+    return None
+
+
 def correction(text: str, fault: ProgramError) -> Correction | None:
     """The lines that repair a fault, or, without a line, what to do; None if nothing is known."""
     lines = text.split('\n')
     scope = Scope.of(text)
+    signs = [it.text for it in tokens_of(text)]
+    lacks_brace = signs.count('}') > signs.count('{')
+    whole = _structural(text)
+    if whole:
+        return whole
     advice = ''
     for first, last in _spans(text, fault):
         source = '\n'.join(lines[first - 1:last])
         found: list[tuple[int, Correction]] = []
-        for end in ('', '}') if '_end' in source.lower() else ('',):
-            reader = Statements(source, scope, _place(lines[:first - 1]), end)
+        for reader in _readings(source, scope, lines[:first - 1], lacks_brace):
             try:
                 written = reader.written()
             except NoCounterpart as said:
                 advice = advice or (str(said) if first <= fault.token.line <= last else '')
                 continue
-            rank = 0 if _same(source, written) else _rank(_corrected(lines, first, last, written), first)
-            found.append((rank, Correction(first, last, written, tuple(reader.writer.reasons[:MOST_REASONS]))))
+            above = (reader.place.head, ' '.join(reader.declares)) if reader.declares else None
+            made = Correction(first, last, written, tuple(reader.writer.reasons[:MOST_REASONS]), above)
+            found.append((0 if _same(source, written) else _rank(text, made), made))
         best = max(found, key=lambda it: it[0], default=None)
         if best and best[0]:
             return best[1]

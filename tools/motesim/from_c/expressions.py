@@ -6,6 +6,7 @@ parentheses that the notation wants. What has no counterpart is a `NoCounterpart
 from __future__ import annotations
 
 from dataclasses import dataclass, field
+from fractions import Fraction
 
 from motesim.from_c.scope import Scope, allowed
 from motesim.from_c.tokens import END, Token
@@ -22,9 +23,17 @@ TYPES = frozenset((
 QUALIFIERS = frozenset(('static', 'const', 'volatile', 'extern', 'register'))
 VALUES = {'true': '1', 'false': '0', 'null': '0', 'node_id': 'self', 'simmoteid': 'self', 'rtimer_now': 'now'}
 TESTS = ('is', 'fired', 'expired', 'gone', 'running', 'count')
-CALLS = {'etimer_expired': 'expired', 'ctimer_expired': 'expired', 'timer_expired': 'expired',
+CALLS = {'etimer_expired': 'expired', 'ctimer_expired': 'expired', 'timer_expired': 'expired', 'stimer_expired': 'expired',
          'process_is_running': 'running', 'pt_sem_count': 'count', 'sem_count': 'count'}
+# Calls that are a word here.
+WORDS_OF_CALLS = {
+    'clock_time': ('now', 'The moment is `now`.'), 'clock_seconds': ('now', 'The moment is `now`.'),
+    'rtimer_now': ('now', 'The moment is `now`.'),
+    'packetbuf_dataptr': ('data', 'A packet is one number, and `data` is that number.'),
+    'packetbuf_addr': ('from', 'The mote that sent a packet is `from`.'),
+}
 CLOCKS = ('clock_time', 'clock_seconds', 'rtimer_now')
+READ_ONLY = ('data', 'from', 'now', 'self')
 EVENTS = {'process_event_%s' % it: it for it in ('init', 'poll', 'exit', 'continue', 'msg', 'com', 'exited', 'timer')}
 EVENTS.update({'process_event_none': 'continue', 'tcpip_event': 'packet', 'packet_received': 'packet'})
 OWN_EVENTS = ('init', 'poll', 'exit', 'continue', 'msg', 'com', 'packet', 'exited', 'timer')
@@ -36,14 +45,20 @@ NO_BITS = ('There are no operators on bits: `(x % 256)` is the low byte, `(x / 2
 NO_ARRAYS = 'There are no arrays: a variable holds one number of 16 bits.'
 NO_FIELDS = 'A packet has no fields: it has one number, `data`. Two small ones make one, `((a * 256) + b)`.'
 NO_TEXTS = 'There are no texts: a program prints numbers, `print 1;`. The line of the report names the process anyway.'
-NO_REALS = 'Numbers are whole, 0 to 65,535: there is no point in them.'
+NO_REALS = ('Numbers are whole, 0 to 65,535. Count in smaller units, such as tenths: 15 for 1.5; `((x * 9) / 10)` is nine '
+            'tenths of x.')
 NO_CALLS = ('There are no functions: a `thread` without waits serves as one. It is run by `spawn`, and shares the '
             'variables of its process.')
 NO_CHANCE = ('There is no chance in a mote: each run is the same. A generator of its own serves, with a seed that differs '
              'by mote, `dice = (self * 7919);`: then `dice = ((dice * 25173) + 13849);` and `((dice / 256) % 10)`, or '
              '`(dice < 6554)`, which is so 1 time in 10.')
-TOO_LARGE = 'Numbers have 16 bits, 0 to 65,535: a larger one is counted in parts, as thousands in a second variable.'
-TICKS = 'A timer is set in moments: there is no `CLOCK_SECOND`. Decide how many moments a second has, and write that.'
+TOO_LARGE = ('Numbers have 16 bits, 0 to 65,535: a timer is set to 65535 moments at most. Count larger ones in parts, such as '
+             'thousands in a second variable.')
+MOMENTS_OF_SECOND = 10
+TICKS = ('There is no `CLOCK_SECOND`: a timer is set in moments. Decide how many moments a second has; with %d it is the line '
+         'below.' % MOMENTS_OF_SECOND)
+NO_END = 'A `)` is missing.'
+ONE_TOO_MANY = 'One `)` is too many.'
 
 
 class NoCounterpart(Exception):
@@ -114,6 +129,24 @@ class Expressions:
             left = Node('binary', '==' if sign == '=' else WORDS.get(sign, sign), (left, right))
         return left
 
+    def why(self, reason: str) -> None:
+        """Notes why a line is written in another way."""
+
+    def close(self) -> None:
+        """A closing parenthesis, which may be missing at the end of a statement or before a block."""
+        if self.accept(')'):
+            return
+        if self.token.text not in (';', '{') and self.token.kind != 'end':
+            raise NoCounterpart
+        self.why(NO_END)
+
+    def skip_types(self) -> None:
+        """Types before a name, as in the parameters of a function."""
+        while self.token.text in TYPES | QUALIFIERS | {'struct'} and self.ahead(1).kind in ('name', 'sign'):
+            self.at += 1
+            if self.ahead(-1).text == 'struct':
+                self.at += 1
+
     def is_cast(self) -> bool:
         """Whether a type in parentheses is next."""
         at = 1
@@ -135,7 +168,7 @@ class Expressions:
         token = self.token
         if self.accept('('):
             inner = self.expression()
-            self.need(')')
+            self.close()
             return inner
         self.at += 1
         if token.kind in ('number', 'name', 'text', 'char', 'real'):
@@ -161,8 +194,10 @@ class Expressions:
         if self.accept(')'):
             return found
         while True:
+            self.skip_types()
             found.append(self.expression())
-            if self.need(',', ')') == ')':
+            if not self.accept(','):
+                self.close()
                 return found
 
 
@@ -229,15 +264,22 @@ class Writer:
             self.why('A truth value is a number: 1 is true, 0 is false.' if VALUES[lower].isdigit() else
                      'The number of the mote is `self`.' if VALUES[lower] == 'self' else 'The moment is `now`.')
             return VALUES[lower]
-        if lower == 'clock_second':
-            return self.refuse(TICKS)
-        if word in ('data', 'from', 'now', 'self') or self.scope.kinds.get(word) == 'variable':
+        if lower == 'clock_second' and word not in self.scope.kinds:
+            self.why(TICKS)
+            return str(MOMENTS_OF_SECOND)
+        kind = self.scope.kinds.get(word)
+        if word in READ_ONLY or kind == 'variable':
             return word
-        timer = self.scope.kinds.get(word) == 'timer'
-        if timer:
+        if kind == 'timer':
             self.why('A timer is no value: `fired(%s)` is true in the call with its event, and `expired(%s)` from then '
                      'on.' % (word, word))
             return '%s(%s)' % (self.of_timer, word)
+        if kind == 'semaphore':
+            self.why('A semaphore is no value: `count(%s)` is its count.' % word)
+            return 'count(%s)' % word
+        if kind == 'event' or word in OWN_EVENTS:
+            self.why('An event is no value: `is(%s)` is true in a call with it.' % word)
+            return 'is(%s)' % word
         found = self.scope.meant(word, 'variable')
         if found != word:
             self.why('Names have small letters: `%s`.' % found if found == lower else
@@ -263,15 +305,23 @@ class Writer:
 
     def call(self, node: Node) -> str:
         lower, parts = node.text.lower(), node.parts
-        if lower in CLOCKS:
-            self.why('The moment is `now`.')
-            return 'now'
+        if lower in WORDS_OF_CALLS:
+            word, reason = WORDS_OF_CALLS[lower]
+            self.why(reason)
+            return word
         if lower in ('random_rand', 'rand', 'random', 'rnd'):
             return self.refuse(NO_CHANCE)
         test = node.text if node.text in TESTS else CALLS.get(lower, '')
         if not test or len(parts) != 1:
             return self.refuse(NO_CALLS)
-        if test != node.text:
+        named = parts[0].text
+        if test in ('fired', 'expired') and (named in OWN_EVENTS or self.scope.kinds.get(named) == 'event'):
+            self.why('`%s` is about a timer; `is(%s)` is true in a call with the event `%s`.' % (test, named, named))
+            test = 'is'
+        elif test == 'is' and self.scope.kinds.get(named) == 'timer':
+            self.why('`is` is about an event; `fired(%s)` is true in a call with the event of this timer.' % named)
+            test = 'fired'
+        elif test != node.text:
             self.why('`%s` is `%s` here.' % (node.text, test))
         if test == 'is':
             return 'is(%s)' % self.event(parts[0])
@@ -302,12 +352,38 @@ class Writer:
         if sign == '&&' and self.is_timer_event(left) and right.kind == 'binary' and self.is_of_timer(*right.parts):
             self.why('`fired(..)` is both tests: the event is a timer\'s, and it is this timer.')
             return self.text(right)
+        if sign in ('*', '/') and 'real' in (left.kind, right.kind):
+            return self.scaled(sign, left, right)
         if sign in ('<<', '>>'):
             return self.shift(sign, left, right)
         if sign in ('&', '|', '^'):
             return self.mask(sign, left, right)
         assert sign in PLAIN
         return '(%s %s %s)' % (self.text(left), sign, self.text(right))
+
+    def scaled(self, sign: str, left: Node, right: Node) -> str:
+        """A product with a number that isn't whole, by a fraction."""
+        value, by = (left, right) if right.kind == 'real' else (right, left)
+        factor = Fraction(by.text.rstrip('fF'))
+        if value.kind == 'real' or not factor or sign == '/' and left.kind == 'real':
+            return self.refuse(NO_REALS)
+        factor = 1 / factor if sign == '/' else factor
+        if max(factor.numerator, factor.denominator) > MOST:
+            return self.refuse(NO_REALS)
+        text = self.text(value)
+        text = text if factor.numerator == 1 else '(%s * %d)' % (text, factor.numerator)
+        text = text if factor.denominator == 1 else '(%s / %d)' % (text, factor.denominator)
+        self.why('Numbers are whole: `%s %s` is `%s`, if the product is at most 65,535.' % (sign, by.text, text))
+        return text
+
+    def interval(self, node: Node) -> str:
+        """A time from now on, which may be written as the moment at which it ends."""
+        if node.kind == 'binary' and node.text == '+':
+            for one, other in (node.parts, node.parts[::-1]):
+                if one.text.lower() in CLOCKS or one == Node('name', 'now'):
+                    self.why('A timer is set to a time from now on.')
+                    return self.text(other)
+        return self.text(node)
 
     def is_of_timer(self, left: Node, right: Node) -> bool:
         """Whether `data == &t` is what is compared."""

@@ -12,6 +12,7 @@ from motesim.notation.keywords import RESERVED
 DECLARES = {'event': 'event', 'semaphore': 'semaphore', 'process': 'process', 'var': 'variable', 'etimer': 'timer',
             'ctimer': 'timer', 'thread': 'thread'}
 NAME = re.compile('[a-z][a-z0-9_]*')
+CODE = re.compile(r'^[ \t]*(?:code[ \t]+(\w+)|PROCESS_THREAD\s*\(\s*(\w+))', re.M)
 LONGEST = 16
 
 
@@ -29,8 +30,14 @@ def nearest(word: str, known: Iterable[str]) -> str | None:
 
 @dataclass
 class Scope:
-    """Names with their kinds: event, semaphore, process, variable, timer, thread."""
+    """Names with their kinds: event, semaphore, process, variable, timer, thread.
+
+    codes     the names of the codes, in their order
+    receiver  whether a process is named as the receiver
+    """
     kinds: dict[str, str] = field(default_factory=dict)
+    codes: tuple[str, ...] = ()
+    receiver: bool = False
 
     @classmethod
     def of(cls, text: str) -> Scope:
@@ -46,7 +53,8 @@ class Scope:
                 if word != 'process' or words[behind + 1] != ',':
                     break
                 behind += 2
-        return cls(kinds)
+        codes = tuple(found[1] or found[2].lower() for found in CODE.finditer(text))
+        return cls(kinds, codes, 'receiver' in words)
 
     def of_kind(self, kind: str) -> list[str]:
         """The names of a kind."""

@@ -252,7 +252,7 @@ KEY = r'(?:[A-Za-z0-9_-]+|"[^"\n]*"|\'[^\'\n]*\')'
 DOTTED = r'%s(?:\s*\.\s*%s)*' % (KEY, KEY)
 HEADER = re.compile(r'\s*(\[\[?)\s*(%s)\s*\]\]?' % DOTTED)
 ENTRY = re.compile(r'\s*(%s)\s*=' % DOTTED)
-VALUE = re.compile(r'["\']?\s*=\s*("(?:[^"\\]|\\.)*"|\'[^\']*\'|[^\s,}#\'"]+)')
+VALUE = re.compile(r'["\']?\s*=\s*("(?:[^"\\]|\\.)*"|\'[^\']*\'|\[[^][]*\]|[^\s,}#\'"]+)')
 LONG_QUOTES = ("'''", '"""')
 OPENED = re.compile('|'.join([*LONG_QUOTES, r'"(?:[^"\\]|\\.)*"', "'[^']*'", '#']))
 

@@ -1,0 +1,281 @@
+"""Lines of a scenario as they should be: the repair of its first fault, if the line makes sense in another way.
+
+`repair(text, fault)` tries what people write who know other formats, and returns the first change with which the fault
+is gone, or is further down. A change of a program's text is made by motesim.from_c.
+"""
+from __future__ import annotations
+
+import re
+from collections.abc import Callable, Iterator
+from fractions import Fraction
+from typing import NamedTuple
+
+from motesim.explain import synonyms
+from motesim.scenario.faults import LOSS, MEDIUM, MOTE, TOP, Place, Rule, ScenarioError, find_fault, place_of
+from motesim.toml import NoToml, read_toml
+
+# A longer text isn't read again for each attempt.
+LONGEST = 200_000
+MOST_ATTEMPTS = 24
+QUOTES = re.compile('[\u2018\u2019\u201a\u201b\u201c\u201d\u201e\u201f\u00ab\u00bb\u00b4`]')
+DIGITS = str.maketrans('OoIl', '0011')
+
+OF_QUOTES = 'These are quotes of another kind, as word processors make them: write plain ones, `"` or `\'`.'
+OF_COMMENT = 'In a scenario, a comment begins with `#`; `//` begins one in a program.'
+OF_UNIT = 'Times are whole numbers of moments, and distances whole numbers: without a unit.'
+WHOLE = 'Places, times and distances are whole numbers, without a point and without quotes.'
+
+
+class Repair(NamedTuple):
+    """A hint, and the lines that should be there; the lines (from 1) that they replace. With none, these are left out."""
+    hint: str
+    first: int
+    last: int
+    lines: tuple[str, ...]
+
+    def head(self) -> str:
+        """The words above the lines."""
+        which = 'line %d' % self.first if self.first == self.last else 'lines %d to %d' % (self.first, self.last)
+        return 'Write, as %s:' % which if self.lines else 'Leave %s out.' % which
+
+
+class Form(NamedTuple):
+    """A form of a line that is no TOML, what is written instead, and why."""
+    form: re.Pattern[str]
+    instead: str | Callable[[re.Match[str]], str]
+    hint: str
+
+
+def _form(form: str, instead: str | Callable[[re.Match[str]], str], hint: str) -> Form:
+    return Form(re.compile(form), instead, hint)
+
+
+FORMS = [
+    Form(QUOTES, '"', OF_QUOTES),
+    _form(r'^(\s*)//', r'\1#', OF_COMMENT), _form(r'^(\s*)/\*(.*?)\*/\s*$', r'\1#\2', OF_COMMENT),
+    _form(r'^(\s*)(?:--|;|%)', r'\1#', OF_COMMENT), _form(r'\s+//', '  #', OF_COMMENT),
+    _form(r'\s*[;,]\s*$', '', 'A line ends without a `;` or a comma.'),
+    _form(r'''(["']?)\b([A-Za-z_][\w-]*)\1\s*:(?!\w*//)\s*''', r'\2 = ', 'A key and its value have `=` between them: `end = 5`.'),
+    _form(r'==|:=', '=', 'A key and its value have one `=` between them.'),
+    _form(r'^(\s*[A-Za-z_][\w-]*)\s+(-?[0-9]+|"[^"]*"|true|false)\s*$', r'\1 = \2',
+          'A key and its value have `=` between them: `end = 5`.'),
+    _form(r'(?<=[=\s])(True|TRUE|yes|on|False|FALSE|no|off)\b', lambda it: 'true' if it[1][0].lower() in 'ty' or it[1] == 'on'
+          else 'false', 'The truth values are `true` and `false`, in small letters and without quotes.'),
+    _form(r'(?<![\w.])([0-9]+)(?:\.[0-9]+)?\s*(?:s|ms|us|sec|secs|seconds?|min|m|cm|km|h|ticks?|moments?)\b', r'\1', OF_UNIT),
+    _form(r'(?<![\w.])([0-9][0-9OoIl]*|[OoIl][0-9OoIl]*[0-9])(?![\w.])', lambda it: it[0].translate(DIGITS),
+          'A letter is in the number.'),
+    _form(r'(?<=[0-9]),(?=[0-9]{3}\b)', '', 'A number has no commas in it.'),
+    _form(r'(?<=[=\s,\[])0+(?=[0-9])', '', 'A number has no zeros in front.'),
+    _form(r'=\s*([A-Za-z_][\w./-]*)', r'= "\1"', 'Texts are in quotes: `program = "p"`.'),
+    _form(r'''^(\s*[\w-]+\s*=\s*)(["'])([^"']*)$''', r'\1\2\3\2', 'The quote that ends the text is missing.'),
+    _form(r'''^(\s*[\w-]+\s*=\s*)(["'])\s*$''', r'\1\2\2\2', 'A program of several lines is between three quotes, `\'\'\'`.'),
+    _form(r'\\', r'\\\\', 'Between `"""` a backslash begins an escape: write two, or put the program between `\'\'\'`.'),
+    _form(r'^\s*\[?\[?\s*([a-z]+)s?\s*\]?\]?\s*$', lambda it: '[[%s]]' % it[1] if it[1] in ('mote', 'loss') else '[%s]' % it[1],
+          'A table is named in brackets, `[medium]`; each mote and each loss is a table of its own, named in two: `[[mote]]`, '
+          '`[[loss]]`.'),
+]
+COMMA = 'Between the tables of an array there are commas.'
+
+
+def _attempts_at_toml(rows: list[str], fault: ScenarioError) -> Iterator[Repair]:
+    """Changes of a text that is no TOML."""
+    assert fault.line
+    here = fault.line[0]
+    for number in (here, here - 1):
+        if not 0 < number <= len(rows):
+            continue
+        row = rows[number - 1]
+        if number < here:
+            if row.rstrip().endswith('}'):
+                yield Repair(COMMA, number, number, (row.rstrip() + ',',))
+            continue
+        for it in FORMS:
+            written = it.form.sub(it.instead, row)
+            if written != row:
+                yield Repair(it.hint, number, number, (written,))
+        for key in (*MOTE, *LOSS, *MEDIUM):
+            found = re.match(r'\s*(\w+)(?=\s*=)', row)
+            if found and 'overwrite' in fault.may and found[1] != key:
+                hint = 'The key `%s` is twice in this table: was `%s` meant?' % (found[1], key)
+                yield Repair(hint, number, number, (row.replace(found[1], key, 1),))
+
+
+def _fraction(value: object) -> Fraction | None:
+    """A number between 0 and 1."""
+    if isinstance(value, float) and 0 < value <= 1:
+        return Fraction(value).limit_denominator(10_000)
+    return None
+
+
+def _whole(name: str, value: object) -> tuple[str, str] | None:
+    """A value of another kind as a whole number, with the reason."""
+    chance = _fraction(value)
+    if name == 'every' and chance:
+        every = max(1, round(1 / chance))
+        return str(every), 'A loss has no probability: with `every = %d`, each %s packet is lost.' % (every, ordinal(every))
+    if isinstance(value, float) and abs(value) < 1e9:
+        return str(round(value)), WHOLE
+    if isinstance(value, str) and re.fullmatch(r'\s*-?[0-9]+\s*', value):
+        return str(int(value)), WHOLE
+    if isinstance(value, list) and value and type(value[0]) is int:
+        return str(value[0]), 'Each loss is of one link: write a table `[[loss]]` for each of them.' if name in LOSS else WHOLE
+    return None
+
+
+def ordinal(number: int) -> str:
+    """The words `2nd`, `3rd`, `4th`."""
+    ending = 'th' if number % 100 in (11, 12, 13) else {1: 'st', 2: 'nd', 3: 'rd'}.get(number % 10, 'th')
+    return '%d%s' % (number, ending)
+
+
+def _rule(fault: ScenarioError) -> Rule | None:
+    """What the key that is at fault holds."""
+    name = str(fault.path[-1]) if fault.path else ''
+    tables = {'medium': MEDIUM, 'loss': LOSS, 'mote': MOTE}
+    return tables.get(str(fault.path[0]), TOP).get(name) if len(fault.path) > 1 else TOP.get(name)
+
+
+def _replaced(row: str, place: Place, value: str) -> str:
+    return row[:place.column] + value + row[place.column + place.length:]
+
+
+def _attempts_at_value(text: str, rows: list[str], tables: object, fault: ScenarioError) -> Iterator[Repair]:
+    """Changes of a value: of another kind, out of range, or one that names nothing."""
+    place, value = fault.place(text), synonyms.at(tables, fault.path)
+    row, number, name = rows[place.line - 1], place.line, str(fault.path[-1])
+    header = re.fullmatch(r'\s*\[\[?\s*(\w+)\s*\]\]?\s*(#.*)?', row)
+    if header:
+        yield from _attempts_at_header(header[1], number)
+        return
+    rule = _rule(fault)
+    found = _whole(name, value)
+    if found and rule and rule.kind is int:
+        yield Repair(found[1], number, number, (_replaced(row, place, found[0]),))
+    if name == 'collide':
+        truth = 'true' if str(value).lower() in ('1', 'true', 'yes', 'on') else 'false'
+        hint = 'The truth values are `true` and `false`, in small letters and without quotes.'
+        yield Repair(hint, number, number, (_replaced(row, place, truth),))
+    if type(value) is int and rule and rule.kind is int:
+        least = 1 if name in ('base', 'per', 'every') else rule.least
+        nearest = min(max(value, least), rule.most)
+        hint = '`%s` is at %s %s' % (name, 'most' if value > nearest else 'least', '{:,}'.format(nearest))
+        more = ', in moments: a moment may be as long as you like.' if name == 'end' else '.'
+        yield Repair(hint + more, number, number, (_replaced(row, place, str(nearest)),))
+    if fault.told == 'medium fault 4' and type(value) is int:
+        count = len(synonyms.at(tables, ('mote',)) or ())  # type: ignore[arg-type]
+        hint = 'Motes are numbered from 0, in the order of the file: here 0 to %d.' % (count - 1)
+        for other in (value - 1, *range(count)):
+            if 0 <= other < count:
+                yield Repair(hint, number, number, (_replaced(row, place, str(other)),))
+
+
+def _attempts_at_header(name: str, number: int) -> Iterator[Repair]:
+    """A table whose name has one bracket too few or too many."""
+    if name in ('mote', 'loss'):
+        hint = 'Each mote and each loss is a table of its own, named in two brackets: `[[%s]]`.' % name
+        yield Repair(hint, number, number, ('[[%s]]' % name,))
+    else:
+        yield Repair('The table `%s` is there once, so it is named in single brackets.' % name, number, number, ('[%s]' % name,))
+
+
+def _attempts_at_missing(text: str, rows: list[str], tables: object, fault: ScenarioError) -> Iterator[Repair]:
+    """A key that is missing, and one that most likely is it."""
+    wanted, like = synonyms.missing(fault), synonyms.like_of_missing(tables, fault)
+    if not like:
+        return
+    table, place = synonyms.at(tables, fault.path), place_of(text, (*fault.path, like))
+    row, number, value = rows[place.line - 1], place.line, synonyms.at(tables, (*fault.path, like))
+    if place.length != len(like) or row[place.column:place.column + place.length] != like:
+        return
+    hint = 'It has `%s`: write `%s`.' % (like, wanted)
+    if isinstance(value, list) and len(value) == 2 and wanted in ('x', 'y') and isinstance(table, dict):
+        pairs = ['%s = %s' % it for it in zip('xy', value) if it[0] not in table]
+        yield Repair('A mote has its place in two keys, `x` and `y`.', number, number, tuple(pairs))
+    whole = _whole(wanted, value)
+    if whole:
+        at = VALUE_BEHIND.match(row, place.column + place.length)
+        if at:
+            written = row[:place.column] + wanted + row[place.column + place.length:at.start(1)] + whole[0] + row[at.end(1):]
+            yield Repair('%s %s' % (hint, whole[1]), number, number, (written,))
+    yield Repair(hint, number, number, (_replaced(row, place, wanted),))
+
+
+VALUE_BEHIND = re.compile(r'''["']?\s*=\s*("[^"]*"|'[^']*'|\[[^\]]*\]|[^\s,}#]+)''')
+
+
+def _attempts_at_key(text: str, rows: list[str], tables: object, fault: ScenarioError) -> Iterator[Repair]:
+    """A key that isn't known: another is meant, or it is left out."""
+    name, place = str(fault.path[-1]), fault.place(text)
+    row, number = rows[place.line - 1], place.line
+    if fault.path[0] == 'programs':
+        return
+    if name in ('collide', 'queue') and synonyms.at(tables, ('version',)) == 1:
+        at = place_of(text, ('version',))
+        hint = '`%s` belongs to version 2: begin the scenario with `version = 2`, or leave `%s` out.' % (name, name)
+        yield Repair(hint, at.line, at.line, (re.sub(r'=\s*1', '= 2', rows[at.line - 1]),))
+    table = str(fault.path[0]) if len(fault.path) > 1 else ''
+    known = {'medium': [*MEDIUM, 'collide'], 'loss': [*LOSS], 'mote': [*MOTE]}.get(table, [*TOP, 'queue'])
+    like = synonyms.meant(name, known)
+    if like:
+        header = re.fullmatch(r'\s*\[\[?\s*\w+\s*\]\]?\s*', row)
+        line = ('[[%s]]' if like in ('mote', 'loss') else '[%s]') % like if header else row.replace(name, like, 1)
+        yield Repair('Did you mean `%s`?' % like, number, number, (line,))
+    if re.fullmatch(r'\s*%s\s*=.*' % re.escape(name), row) and (name not in synonyms.CHANCE):
+        reason = synonyms.LEFT_OUT.get(name, 'There is no key `%s` in this table.' % name)
+        yield Repair(reason, number, number, ())
+
+
+def _attempts_at_name(text: str, rows: list[str], tables: object, fault: ScenarioError) -> Iterator[Repair]:
+    """A program that isn't there."""
+    programs = synonyms.at(tables, ('programs',))
+    names = list(programs) if isinstance(programs, dict) else []
+    value = synonyms.at(tables, fault.path)
+    named = value if isinstance(value, str) else str(fault.path[-1])
+    like = synonyms.nearest(named, names) or (names[0] if len(names) == 1 else None)
+    place = fault.place(text)
+    row, number = rows[place.line - 1], place.line
+    if isinstance(value, str) and like:
+        yield Repair('Did you mean `%s`?' % like, number, number, (_replaced(row, place, '"%s"' % like),))
+    elif fault.path[0] == 'queue' and names:
+        hint = 'A key of `queue` is the name of a program: %s.' % ', '.join('`%s`' % it for it in names)
+        yield Repair(hint, number, number, (row.replace(named, like or names[0], 1),))
+
+
+def _attempts(text: str, fault: ScenarioError) -> Iterator[Repair]:
+    rows = text.split('\n')
+    if fault.told == 'scenario fault 1':
+        yield from _attempts_at_toml(rows, fault)
+        return
+    try:
+        tables: object = read_toml(text)
+    except NoToml:
+        return
+    kinds = {'scenario fault 2': _attempts_at_missing, 'scenario fault 3': _attempts_at_key, 'scenario fault 6': _attempts_at_name}
+    yield from kinds.get(fault.told, _attempts_at_value)(text, rows, tables, fault)
+
+
+def _is_better(fault: ScenarioError, with_it: ScenarioError | None, last: int) -> bool:
+    """Whether the fault is gone, or further down."""
+    if with_it is None:
+        return True
+    if with_it.told == 'scenario fault 1' and with_it.line:
+        return fault.told == 'scenario fault 1' and with_it.line[0] > last
+    return (with_it.told, with_it.path) != (fault.told, fault.path)
+
+
+def repair(text: str, fault: ScenarioError) -> Repair | None:
+    """The lines that repair a fault of a scenario, or None if none are known."""
+    is_toml = fault.told != 'scenario fault 1'
+    if len(text) > LONGEST or fault.program or (not fault.path and not fault.lacks if is_toml else not fault.line):
+        return None
+    rows = text.split('\n')
+    best: Repair | None = None
+    for number, it in enumerate(_attempts(text, fault)):
+        if number == MOST_ATTEMPTS:
+            break
+        with_it = find_fault('\n'.join([*rows[:it.first - 1], *it.lines, *rows[it.last:]]).encode('utf-8', 'replace'))
+        if with_it is None:
+            return it
+        if best is None and _is_better(fault, with_it, it.last):
+            best = it
+    return best

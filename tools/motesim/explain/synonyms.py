@@ -1,0 +1,61 @@
+"""Keys that people write who know other formats, and the keys of a scenario that they mean."""
+from __future__ import annotations
+
+import difflib
+from collections.abc import Iterable
+
+from motesim.scenario.faults import LOSS, MEDIUM, MOTE, TOP, ScenarioError
+
+# Of each key the names that mean it in other tools.
+SYNONYMS = {
+    'end': ('duration', 'time', 'until', 'length', 'stop', 'runtime', 'simtime', 'sim_time', 'simulation_time', 'seconds', 'horizon'),
+    'range': ('radius', 'distance', 'tx_range', 'transmission_range', 'reach'),
+    'base': ('delay', 'latency'), 'per': ('speed',),
+    'every': ('probability', 'prob', 'p', 'rate', 'loss_rate', 'ratio', 'period', 'k', 'chance'),
+    'from': ('source', 'src', 'sender'), 'to': ('dest', 'destination', 'dst', 'receiver'),
+    'x': ('pos', 'position', 'location', 'coordinates', 'xy'), 'y': ('pos', 'position', 'location', 'coordinates', 'xy'),
+    'program': ('type', 'firmware', 'code', 'app', 'application'), 'programs': ('code', 'sources', 'firmware', 'apps'),
+    'mote': ('node', 'nodes', 'sensor', 'sensors', 'device', 'devices'), 'loss': ('link', 'links', 'error', 'errors'),
+    'medium': ('radio', 'channel', 'network', 'net'),
+}
+# Keys that wish for chance, which the medium doesn't have.
+CHANCE = ('probability', 'prob', 'p', 'rate', 'loss_rate', 'random', 'seed', 'noise', 'per_link', 'chance')
+_NUMBERED = 'Motes have no `%s`: they are numbered from 0, in the order of the file.'
+LEFT_OUT = {name: _NUMBERED % name for name in ('id', 'name', 'number', 'node_id', 'address')}
+LEFT_OUT['z'] = 'Motes are in a plane: a place has only `x` and `y`.'
+
+
+def at(tables: object, path: tuple[str | int, ...]) -> object:
+    """What a scenario holds at a path, or None."""
+    for name in path:
+        try:
+            tables = tables[name]  # type: ignore[index]
+        except (KeyError, IndexError, TypeError):
+            return None
+    return tables
+
+
+def nearest(word: str, known: Iterable[str]) -> str | None:
+    """The known word that this one is most like, if one is near."""
+    found = difflib.get_close_matches(word.lower(), list(known), 1, 0.6)
+    return found[0] if found and found[0] != word else None
+
+
+def meant(name: str, known: Iterable[str]) -> str | None:
+    """The key that an unknown one most likely means."""
+    names = list(known)
+    return nearest(name, names) or next((it for it in names if name.lower() in SYNONYMS.get(it, ())), None)
+
+
+def missing(fault: ScenarioError) -> str:
+    """The key that a table lacks."""
+    return fault.may.split('`')[1] if '`' in fault.may else ''
+
+
+def like_of_missing(tables: object, fault: ScenarioError) -> str | None:
+    """A key that isn't known, and most likely means the one that is missing next to it."""
+    wanted, table = missing(fault), at(tables, fault.path)
+    if not isinstance(table, dict):
+        return None
+    others = [it for it in table if it not in {**TOP, **MEDIUM, **LOSS, **MOTE}]
+    return nearest(wanted, others) or next((it for it in others if it.lower() in SYNONYMS.get(wanted, ())), None)

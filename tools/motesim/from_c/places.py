@@ -1,0 +1,72 @@
+"""Where in a program a line is: what may be declared there, and in which loop it is."""
+from __future__ import annotations
+
+import re
+from typing import NamedTuple
+
+from motesim.notation.faults import tokens_of
+
+NAME = r'[a-z][a-z0-9_]*'
+ENDS = [
+    (re.compile(r'\((%s) (?:<|!=) (%s|[0-9]+)\)' % (NAME, NAME)), r'\1 = \2'),
+    (re.compile(r'\((%s) <= ([0-9]+)\)' % NAME), r'\1 = (\2 + 1)'),
+    (re.compile(r'\((%s) (?:>) (%s|[0-9]+)\)' % (NAME, NAME)), r'\1 = \2'),
+    (re.compile(r'!(%s)' % NAME), r'\1 = 1'), (re.compile(r'\((%s) == 0\)' % NAME), r'\1 = 1'),
+    (re.compile('(%s)' % NAME), r'\1 = 0'),
+]
+
+
+class Place(NamedTuple):
+    """Where lines are.
+
+    is_head  whether declarations of a `code` may be there
+    is_top   whether those above `process` may
+    loop     the test of the innermost `while` around them, or nothing
+    code     the process whose code it is, or nothing
+    head     the line (from 1) below which a variable of this code may be declared, or 0
+    variables  those of this code
+    """
+    is_head: bool = False
+    is_top: bool = False
+    loop: str = ''
+    code: str = ''
+    head: int = 0
+    variables: frozenset[str] = frozenset()
+
+
+def place_below(above: list[str]) -> Place:
+    """Where the line below these is."""
+    tokens = tokens_of('\n'.join(above))
+    words = [it.text for it in tokens]
+    opened: list[str] = []
+    for at, word in enumerate(words):
+        if word == '{':
+            opened.append(_test_before(words, at))
+        elif word == '}' and opened:
+            opened.pop()
+    loop = next((it for it in reversed(opened) if it), '')
+    codes = [at for at, word in enumerate(words[:-2]) if word == 'code']
+    if not codes or not opened:
+        return Place(len(opened) == 1, not opened, loop)
+    declared = [at for at in range(codes[-1], len(words)) if words[at] == 'var']
+    head = tokens[declared[-1] if declared else codes[-1] + 2].line
+    names = frozenset(words[at + 1] for at in declared if at + 1 < len(words))
+    return Place(len(opened) == 1, False, loop, words[codes[-1] + 1], head, names)
+
+
+def _test_before(words: list[str], at: int) -> str:
+    """The test of the `while` whose block is opened at a place, or nothing."""
+    begin = max((it for it in range(at) if words[it] in ('{', '}', ';', 'while', 'if', 'else')), default=0)
+    if words[begin] != 'while':
+        return ''
+    text = ' '.join(words[begin + 1:at])
+    return text.replace('( ', '(').replace(' )', ')').replace('! ', '!')
+
+
+def ends_loop(test: str) -> str:
+    """An assignment that makes the test of a loop false, or nothing if none is known."""
+    for form, assigned in ENDS:
+        found = form.fullmatch(test)
+        if found and found[1] not in ('data', 'from', 'now', 'self'):
+            return found.expand(assigned)
+    return ''

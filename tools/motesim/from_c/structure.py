@@ -1,0 +1,55 @@
+"""Mistakes that are elsewhere than the fault: the line that names the processes, and a block that isn't closed.
+
+Each returns a line (from 1, or 0 if nothing is found), the line as it should be, and the reason.
+"""
+from __future__ import annotations
+
+import re
+
+from motesim.from_c.scope import Scope
+from motesim.notation.faults import tokens_of
+
+Repair = tuple[int, str, str]
+NOTHING: Repair = (0, '', '')
+PROCESSES = re.compile(r'\s*process\s+([a-z0-9_]+(?:\s*,\s*[a-z0-9_]+)*)\s*;\s*(//.*)?')
+
+
+def process_line(text: str) -> Repair:
+    """The line that names the processes, if it has not those of the codes, in their order."""
+    codes = Scope.of(text).codes
+    for number, line in enumerate(text.split('\n'), 1):
+        found = PROCESSES.fullmatch(line)
+        if found and codes:
+            names = tuple(re.split(r'\s*,\s*', found[1]))
+            if names == codes or len(set(codes)) != len(codes):
+                return NOTHING
+            reason = ('The `process` line names the processes in the order of their codes.' if set(names) == set(codes) else
+                      'The `process` line names each process that has a `code`, in the same order.')
+            return number, 'process %s;' % ', '.join(codes), reason
+    return NOTHING
+
+
+def unclosed_block(text: str) -> Repair:
+    """The line that opens a block and doesn't close it, by the columns at which lines begin."""
+    lines = text.split('\n')
+    opened: list[int] = []
+    for token in tokens_of(text):
+        indent = len(lines[token.line - 1]) - len(lines[token.line - 1].lstrip()) if token.text else 0
+        if token.text == '{':
+            opened.append(token.line)
+        elif token.text == '}' and opened:
+            line = opened.pop()
+            its = len(lines[line - 1]) - len(lines[line - 1].lstrip())
+            if token.line > line and token.column == indent < its:
+                return _closed(lines, line, token.line)
+    return NOTHING
+
+
+def _closed(lines: list[str], line: int, end: int) -> Repair:
+    """A block that began on a line, closed before the brace on another line."""
+    reason = 'The block that begins on line %d is not closed: its `}` is missing.' % line
+    inner = lines[line - 1].split('//')[0].rstrip()
+    if not inner.endswith('{'):
+        return line, inner.strip() + ' }', reason
+    last = next((it for it in range(end - 1, line, -1) if lines[it - 1].strip()), line)
+    return last, lines[last - 1].split('//')[0].strip() + ' }', reason
