@@ -69,23 +69,23 @@ PROGRAMS = [
 
 # What the scenario lacks at its top, with how it begins where that is shown, and more that is said of it.
 LACKS = [
-    ({'version = 1\n': ''}, '.. has no key `version`. Above the first table (line 2) there may stand:', 'version = 1',
-     'Here may stand: the key `version`: a whole number, 1 to 2'),
-    ({'end = 5\n': ''}, '.. has no key `end`. Above the first table (line 2) there may stand:', 'end = 100',
-     'Here may stand: the key `end`: a whole number, 0 to 1,000,000'),
+    ({'version = 1\n': ''}, '.. has no key `version`. Add above the first table (line 2):', 'version = 1',
+     'Allowed here: the key `version`: a whole number, 1 to 2'),
+    ({'end = 5\n': ''}, '.. has no key `end`. Add above the first table (line 2):', 'end = 100',
+     'Allowed here: the key `end`: a whole number, 0 to 1,000,000'),
     ({'end = 5\n': '', 'range = 10': 'range = 10\nend = 5'},
-     '.. has no key `end`. Above the first table (line 2) there may stand:', 'end = 100',
-     'Hint: The `end` that is there belongs to `[medium]`, as it stands below that name: move it up.'),
+     '.. has no key `end`. Add above the first table (line 2):', 'end = 100',
+     'Hint: The `end` that is there belongs to `[medium]`, since it is below that name: move it up.'),
     ({'[medium]\nrange = 10\nbase = 1\nper = 100\n': ''},
-     '.. has no table `[medium]`. At the end of the text, or above any other table, there may stand:', '[medium]',
+     '.. has no table `[medium]`. Add at the end of the text, or above any other table:', '[medium]',
      '`per`: a whole number, 1 to 1,000,000'),
     ({SCENARIO[SCENARIO.index('[programs]'):SCENARIO.index('[[mote]]')]: ''},
-     '.. has no table `[programs]`. At the end of the text, or above any other table, there may stand:', '[programs]',
+     '.. has no table `[programs]`. Add at the end of the text, or above any other table:', '[programs]',
      'a key for each program'),
     ({SCENARIO[SCENARIO.index('[[mote]]'):]: ''},
-     '.. has no table `[[mote]]`. Each mote is one; at the end of the text there may stand:', '[[mote]]',
+     '.. has no table `[[mote]]`. Each mote is one. Add at the end of the text:', '[[mote]]',
      '`y`: a whole number, -30,000 to 30,000'),
-    ({SCENARIO: ''}, '.. has no key `version`. There may stand:', 'version = 1',
+    ({SCENARIO: ''}, '.. has no key `version`. Add:', 'version = 1',
      'Hint: The text has no key and no table. examples/print_then_yield.toml is a small scenario'),
     ({'[medium]': '[medum]'}, '.., line 3:', '[medum]', 'Hint: It has `medum`: did you mean `medium`?'),
 ]
@@ -162,7 +162,7 @@ class Scenarios(unittest.TestCase):
                 lines = explain.explanation('s.toml', text.encode(), 'motesim: ' + told)
                 found = mark_of(lines)
                 self.assertEqual((found[0], found[1].strip()), (line, marked))
-                self.assertTrue(any(it.startswith('Here may stand: ') for it in lines))
+                self.assertTrue(any(it.startswith('Allowed here: ') for it in lines))
 
     def test_what_is_lacking_at_the_top_is_shown_and_nothing_is_marked(self):
         for changes, head, begin, more in LACKS:
@@ -269,7 +269,7 @@ class Cases(unittest.TestCase):
                         self.assertGreater(mark_of(lines)[0], 0)
                     rule = explain.rule_of(line.removeprefix('motesim: '))
                     self.assertIn(rule.split()[-1], ' '.join(lines[1:]).split())
-                    self.assertTrue(any(it.startswith('Here may stand: ') for it in lines))
+                    self.assertTrue(any(it.startswith('Allowed here: ') for it in lines))
         self.assertGreater(count, 80)
 
     def test_what_has_a_report_has_no_fault(self):

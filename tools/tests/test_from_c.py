@@ -6,7 +6,8 @@ from here import TOP
 from motesim.explain.advice import advice
 from motesim.from_c.correction import correction
 from motesim.from_c.scope import Scope
-from motesim.from_c.statements import Place, Statements
+from motesim.from_c.places import Place
+from motesim.from_c.statements import Statements
 from motesim.notation.faults import find_fault, tokens_of
 from motesim.scenario.scenario import Scenario
 

@@ -75,7 +75,7 @@ class Hints(unittest.TestCase):
         fault = find_fault(text)
         assert fault
         found = advice(text, fault)
-        return ' '.join([found.hint, *found.shown()]) if found else ''
+        return ' '.join([found.hint, *found.shown(text, None)]) if found else ''
 
     def test_a_program(self) -> None:
         for body, wanted in BODIES:

@@ -375,7 +375,7 @@ class Answering(unittest.TestCase):
         fault = self.run_text(NET.replace('print 1', 'print nothing'))['fault']
         self.assertEqual((fault['line'], fault['place']), ('motesim: program talk fault 3 line 8', [17, 10, 17]))
         self.assertTrue(any(line.startswith('UnknownName: ') for line in fault['words']))
-        self.assertTrue(any(line.startswith('Here may stand: ') for line in fault['words']))
+        self.assertTrue(any(line.startswith('Allowed here: ') for line in fault['words']))
         self.assertEqual(self.run_text('x = ')['fault']['line'], 'motesim: scenario fault 1')
 
     def test_the_pinned_run_is_kept_however_many_come(self):

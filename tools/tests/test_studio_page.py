@@ -186,7 +186,7 @@ class Page(unittest.TestCase):
         self.type_behind('print 1', '; prin 2')
         self.wait('!document.getElementById("fault").hidden')
         self.assertTrue(self.value('document.body.classList.contains("stale")'))
-        for words in ('motesim: program talk fault 3', 'line 18, which is line 8 of program talk', 'Here may stand:'):
+        for words in ('motesim: program talk fault 3', 'line 18, which is line 8 of program talk', 'Allowed here:'):
             self.assertIn(words, self.shown('fault'))
         self.assertEqual(self.lines(0), lines)
         if has_editor(CODEMIRROR):

@@ -22,19 +22,34 @@ class Advice(NamedTuple):
     last: int = 0
     above: tuple[int, str] | None = None
 
-    def head(self) -> str:
-        """The words above the line."""
-        which = 'line %d' % self.first if self.first == self.last else 'lines %d to %d' % (self.first, self.last)
-        return 'Leave %s of the program out.' % which if not self.line else 'Write, as %s of the program:' % which
-
-    def shown(self) -> list[str]:
-        """The lines below the hint."""
-        if self.line is None and self.above:
-            return ['Insert below line %d of the program:' % self.above[0], '  ' + self.above[1].strip()]
+    def shown(self, source: str, offset: int | None) -> list[str]:
+        """The lines below the hint. They are numbered as in the scenario, if it has the program's lines from an offset on."""
         if self.line is None:
-            return []
-        lines = [self.head()] + (['  ' + self.line] if self.line else [])
-        return lines + (['and insert below line %d of the program:' % self.above[0], '  ' + self.above[1]] if self.above else [])
+            return ['Insert %s:' % _below(self.above[0], offset), _indented(source, *self.above)] if self.above else []
+        which = _which(self.first, self.last, offset)
+        if not self.line:
+            return ['Leave %s out.' % which]
+        lines = ['Write, as %s:' % which, _indented(source, self.first, self.line)]
+        return lines + (['and insert %s:' % _below(self.above[0], offset), _indented(source, *self.above)] if self.above else [])
+
+
+def _which(first: int, last: int, offset: int | None) -> str:
+    """Lines by their numbers."""
+    begin, end = first + (offset or 0), last + (offset or 0)
+    which = 'line %d' % begin if first == last else 'lines %d to %d' % (begin, end)
+    return which + (' of the program' if offset is None else '')
+
+
+def _below(line: int, offset: int | None) -> str:
+    return 'below ' + _which(line, line, offset)
+
+
+def _indented(source: str, number: int, line: str) -> str:
+    """A line that begins in the same column as a line of the program, or behind that if it opens a block."""
+    there = source.split('\n')[number - 1]
+    indent = len(there) - len(there.lstrip(' '))
+    opens = there.rstrip().endswith('{') and not line.rstrip().endswith('{') and line.startswith(('var ', 'etimer ', '  '))
+    return '  ' + ' ' * (indent + 2 * opens) + line.strip()
 
 
 def advice(source: str, fault: ProgramError) -> Advice | None:

@@ -1,10 +1,10 @@
 """Explains why a scenario has no report: tools/explain FILE
 
-Runs the program on the scenario. Where it reports a fault, this shows that line, the line of the scenario or of the
-program's text with a mark under the word, the rule in plain words, what may stand there, and, where it is known, a hint
-on what was meant. Where the scenario has a report, this warns of what is legal and surely not meant. Ends with status 0
-where the scenario has a report, 1 where a fault is explained, and 2 where the file can't be read or the program isn't
-built (the environment variable MOTESIM names another one).
+Runs the program on the scenario. If it reports a fault, this shows that line, the line of the scenario or of the
+program's text with a mark under the word, the rule in plain words, what is allowed there, and, if it is known, a hint on
+what was meant, with the line as it should be. If the scenario has a report, this warns of what is legal and hardly meant.
+Ends with status 0 if the scenario has a report, 1 if a fault is explained, and 2 if the file can't be read or the program
+isn't built (the environment variable MOTESIM names another one).
 """
 from __future__ import annotations
 
@@ -13,7 +13,7 @@ import textwrap
 from typing import Any
 
 from motesim.explain import hints, missing, synonyms
-from motesim.explain.advice import Advice, advice
+from motesim.explain.advice import advice
 from motesim.explain.repair import Repair, repair
 from motesim.notation import faults as program_faults
 from motesim.scenario import encodings
@@ -57,13 +57,13 @@ def shown_place(name: str, text: str, place: Place) -> list[str]:
 
 
 def program_line(text: str, program: str, token: program_faults.Token) -> str:
-    """The line of a program's text on which a token stands."""
+    """The line of a program's text that has a token."""
     source: str = tables_of(text)['programs'][program]
     return source.split('\n')[token.line - 1].rstrip('\r')
 
 
 def place_of_token(text: str, program: str, token: program_faults.Token) -> Place | None:
-    """Where a token of a program's text stands in the scenario, if its line is found there."""
+    """The place of a token of a program's text in the scenario, if its line is found there."""
     line, rows = program_line(text, program, token), text.split('\n')
     inner = line.strip()
     begin = scenario_faults.place_of(text, ('programs', program)).line + token.line - 1
@@ -72,6 +72,19 @@ def place_of_token(text: str, program: str, token: program_faults.Token) -> Plac
         if inner and inner in ''.join(rows[row - 1:row]):
             before = len(line) - len(line.lstrip())
             return Place(row, rows[row - 1].index(inner) + token.column - before, len(token.text))
+    offset = offset_of(text, program)
+    return None if inner or offset is None else Place(token.line + offset, token.column, 1)
+
+
+def offset_of(text: str, program: str) -> int | None:
+    """The line of a scenario above the first one of a program's text, if that has lines of its own there."""
+    source: list[str] = tables_of(text)['programs'][program].split('\n')
+    rows, at = text.split('\n'), scenario_faults.place_of(text, ('programs', program)).line
+    for offset in (at, at - 1) if len(source) > 2 else ():
+        its = rows[offset:offset + len(source) - 1]
+        # (the first and the last may have the quotes too)
+        if [it.rstrip('\r') for it in its[1:]] == [it.rstrip('\r') for it in source[1:-1]] and source[0].strip() in its[0]:
+            return offset
     return None
 
 
@@ -109,15 +122,12 @@ def wrapped(text: str) -> list[str]:
 def of_program(name: str, text: str, program: str, its: program_faults.ProgramError) -> list[str]:
     """The words on a fault in a program's text."""
     title, rule = program_faults.RULES[its.kind]
-    end = 'The text ends here. ' if its.token.kind == 'end' else ''
+    rule = 'The text ends here, which can\'t follow the words before it.' if its.token.kind == 'end' and its.kind == 2 else rule
     lines = shown_program(name, text, program, its.token)
-    lines += wrapped('%s: %s%s' % (title, end, rule)) + wrapped('Here may stand: %s' % ', '.join(its.may))
-    return lines + advised(advice(tables_of(text)['programs'][program], its))
-
-
-def advised(found: Advice | None) -> list[str]:
-    """Advice on a program's fault, with the line as it should be."""
-    return hinted(found.hint) + found.shown() if found else []
+    lines += wrapped('%s: %s' % (title, rule)) + wrapped('Allowed here: %s' % ', '.join(its.may))
+    source: str = tables_of(text)['programs'][program]
+    found = advice(source, its)
+    return lines + (hinted(found.hint) + found.shown(source, offset_of(text, program)) if found else [])
 
 
 def repaired(found: Repair) -> list[str]:
@@ -161,9 +171,9 @@ def explanation(name: str, data: bytes, line: str) -> list[str]:
     encoding = encodings.encoding_of(data) if fault.line else None
     if encoding:
         return (wrapped(encodings.shown(name, encoding)) + wrapped(rule_of(what))
-                + wrapped('Here may stand: text in UTF-8') + hinted(encodings.hint(name, encoding)))
+                + wrapped('Allowed here: text in UTF-8') + hinted(encodings.hint(name, encoding)))
     may = missing.may_stand(fault.lacks) if fault.lacks else fault.may
-    lines = where_told(name, text, fault) + wrapped(rule_of(what)) + wrapped('Here may stand: %s' % may)
+    lines = where_told(name, text, fault) + wrapped(rule_of(what)) + wrapped('Allowed here: %s' % may)
     found = None if is_report(data) else repair(text, fault)
     if found:
         return lines + repaired(found)

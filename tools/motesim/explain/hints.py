@@ -1,8 +1,8 @@
 """Hints on faults: what the writer most likely meant, and how it is written here.
 
 `of_program(text, fault)` and `of_scenario(tables, fault, text)` give one sentence, or None where nothing better is
-known than the rule. They go by the word that can't stand and the words before it; whether a hint is right, the next
-run shows.
+known than the rule. They go by the word that is not allowed and the words before it. The next run shows whether a hint is
+right.
 """
 from __future__ import annotations
 
@@ -15,14 +15,14 @@ from motesim.notation.parentheses import written
 from motesim.notation.faults import OPERATORS, STATEMENTS, ProgramError, Token, tokens_of
 from motesim.scenario.faults import LONG_QUOTES, LOSS, MEDIUM, MOTE, TOP, ScenarioError, last_outside
 
-# What people write who know other languages, and what stands for it here.
+# What people write who know other languages, and what is written instead.
 WISHES = {
     'for': 'There is no `for`: write `i = 0; while (i < n) { .. i = (i + 1); }`.',
     'do': 'There is no `do`: a `while` tests before each turn.',
     'switch': 'There is no `switch`: write an `if` in the `else` block of another.',
     'elif': 'There is no `elif`: put the next `if` into the `else` block, `else { if .. { .. } }`.',
     'elseif': 'There is no `elseif`: put the next `if` into the `else` block, `else { if .. { .. } }`.',
-    'then': 'There is no `then`: the block stands right after the test, `if (x == 1) { .. }`.',
+    'then': 'There is no `then`: the block follows the test at once, `if (x == 1) { .. }`.',
     'return': 'There is no `return`: `exit;` ends the process or the thread.',
     'break': 'There is no `break`: let the test of the `while` become false.',
     'int': 'A variable has 16 bits and no type: `var x = 0;`, at the head of its `code`.',
@@ -56,11 +56,11 @@ WISHES.update({word: WISHES['random'] for word in ('rand', 'rnd')})
 NO_TOML = {
     "']'": 'A table is named in brackets, `[medium]`; of motes and losses each is a table in two, `[[mote]]`.',
     "']]'": 'Each mote and each loss is a table of its own, named in two brackets: `[[mote]]`, `[[loss]]`.',
-    "'='": 'A key and its value stand on a line: `end = 5`.',
-    'newline': 'Each key and its value stand on a line of their own.',
-    'twice': 'A table stands once; only motes and losses are many, and each of them is a table `[[mote]]`, `[[loss]]`.',
-    'overwrite': 'A key stands once in its table.',
-    '': 'Texts stand in quotes, programs of several lines in three: p = """ .. """.',
+    "'='": 'A key and its value are on one line: `end = 5`.',
+    'newline': 'Each key and its value have a line of their own.',
+    'twice': 'A table is there once; only motes and losses are many, and each of them is a table `[[mote]]`, `[[loss]]`.',
+    'overwrite': 'A key is only once in its table.',
+    '': 'Texts are in quotes, programs of several lines in three: p = """ .. """.',
 }
 QUOTES = '\u2018\u2019\u201a\u201b\u201c\u201d\u201e\u201f\u00ab\u00bb\u00b4`'
 OF_QUOTES = 'These are quotes of another kind, as text programs make them: plain ones are wanted, `"` or `\'`.'
@@ -136,7 +136,7 @@ def _of_unexpected(before: list[Token], here: Token, behind: Token, may: list[st
     last = before[-1] if before else None
     word = here.text
     if last and last.text == 'else' and word == 'if':
-        return 'A block stands after `else`: put the `if` into it, `else { if .. { .. } }`.'
+        return 'A block follows `else`: put the `if` into it, `else { if .. { .. } }`.'
     if word in ('+', '-') and behind.text == word or last and last.text == word and word in ('+', '-'):
         return 'There is no `%s%s`: write `x = (x %s 1);`.' % (word, word, word)
     if word in OPERATORS and behind.text == '=' and '`=`' in may:
@@ -152,13 +152,13 @@ def _of_unexpected(before: list[Token], here: Token, behind: Token, may: list[st
     if word == ',' and '`;`' in may:
         return 'A packet, an event and a print have one number. Two small ones make one: `((a * 256) + b)`.'
     if 'a new name' in may and here.kind == 'keyword':
-        return '`%s` is a word of the notation; another name, such as `my_%s`, may stand here.' % (word, word)
+        return '`%s` is a word of the notation: another name is needed here, such as `my_%s`.' % (word, word)
     if word == ';' and may == ['`=`']:
         return 'A variable begins with a number: `var x = 0;`.'
     if word == 'timer' and '`etimer`' in may:
         return 'There are two kinds: an `etimer` posts an event to its process, a `ctimer` has a block that it calls.'
     if word == 'to' and '`;`' in may:
-        return 'A packet goes to all who hear it: for whom it is may stand in its value, as `send ((1 * 256) + x);`.'
+        return 'A packet goes to all who hear it: its value may say for whom it is, as `send ((1 * 256) + x);`.'
     if word == 'var':
         return 'Variables are declared at the head of `code`, before its timers, threads and handlers.'
     if word in ('event', 'semaphore'):
@@ -166,7 +166,7 @@ def _of_unexpected(before: list[Token], here: Token, behind: Token, may: list[st
     if word == 'else':
         return 'An `else` follows the block of an `if` at once: `if .. { .. } else { .. }`.'
     if word == 'thread' or word in ('etimer', 'ctimer'):
-        return 'In a `code` stand variables, then `etimer`s, `ctimer`s, threads, `onpoll`, `onexit`, and the body.'
+        return 'A `code` has variables, then `etimer`s, `ctimer`s, threads, `onpoll`, `onexit`, and the body, in this order.'
     if '`;`' in may and last and here.line > last.line:
         return 'A statement ends with `;`: one is missing after `%s` on line %d.' % (last.text, last.line)
     if word in WISHES:
@@ -175,8 +175,10 @@ def _of_unexpected(before: list[Token], here: Token, behind: Token, may: list[st
         words = [it.strip('`') for it in may if it.startswith('`')]
         like = nearest(word, words)
         return 'Did you mean `%s`?' % like if like else None
-    if here.kind == 'end':
+    if here.kind == 'end' and '`}`' in may:
         return 'A `}` may be missing: each block that was opened is closed.'
+    if here.kind == 'end' and '`code`' in may:
+        return 'Each process of the `process` line has its code: `code a { body { .. } }`.'
     return None
 
 
@@ -188,12 +190,12 @@ def _of_operator(tokens: list[Token], at: int, may: list[str]) -> str | None:
         return 'Each operator and its two values have parentheses of their own: `%s`.' % shown
     if word in OPERATORS and ('`;`' in may or '`{`' in may or '`into`' in may):
         shown = written(tokens, at) or '(a %s b)' % word
-        return 'Two values with `%s` between them stand in parentheses: `%s`.' % (word, shown)
+        return 'Two values with `%s` between them are in parentheses: `%s`.' % (word, shown)
     return None
 
 
 def _of_unknown(before: list[Token], here: Token, may: list[str]) -> str | None:
-    """A name that stands for nothing: one that was misspelt, or a wish."""
+    """A name that nothing has: one that was misspelt, or a wish."""
     begins = not before or before[-1].text in ('{', '}', ';')
     if here.text in WISHES:
         return WISHES[here.text]
@@ -242,7 +244,7 @@ def of_scenario(tables: dict[str, object] | None, fault: ScenarioError, text: st
 
 
 def _of_missing(tables: dict[str, object], fault: ScenarioError) -> str | None:
-    """What most likely stands for a key that is missing."""
+    """What most likely is meant by a key that is missing."""
     wanted = missing(fault)
     like = like_of_missing(tables, fault)
     if like:
@@ -253,7 +255,7 @@ def _of_missing(tables: dict[str, object], fault: ScenarioError) -> str | None:
         return 'The text has no key and no table. examples/print_then_yield.toml is a small scenario to begin with.'
     behind = next((name for name, table in tables.items() if isinstance(table, dict) and wanted in table), None)
     if not fault.path and behind:
-        return 'The `%s` that is there belongs to `[%s]`, as it stands below that name: move it up.' % (wanted, behind)
+        return 'The `%s` that is there belongs to `[%s]`, since it is below that name: move it up.' % (wanted, behind)
     return None
 
 
@@ -272,7 +274,7 @@ def _of_key(path: tuple[str | int, ...], name: str, tables: dict[str, object] | 
     if like:
         return 'Did you mean `%s`?' % like
     if len(path) == 1 and name in MEDIUM:
-        return '`%s` stands in the table `[medium]`.' % name
+        return '`%s` belongs to the table `[medium]`.' % name
     if len(path) > 1 and name in TOP:
-        return '`%s` stands at the top, before the first table.' % name
+        return '`%s` belongs to the top, above the first table.' % name
     return None

@@ -1,11 +1,11 @@
-"""What a scenario lacks at its top: how such a key or table is written, and where it may stand."""
+"""What a scenario lacks at its top: how such a key or table is written, and where."""
 from __future__ import annotations
 
 from typing import Any
 
 from motesim.scenario.faults import MEDIUM, MOTE, TOP, Rule, may_of
 
-# Of each key and table of the top a line or more that may stand for it.
+# Of each key and table of the top its lines.
 WRITTEN = {
     'version': ['version = 1'],
     'end': ['end = 100'],
@@ -30,16 +30,16 @@ def written(name: str, tables: dict[str, Any]) -> list[str]:
 
 
 def where(name: str, first_table: int | None) -> str:
-    """Where it may stand."""
+    """Where it is added."""
     if name == 'mote':
-        return 'Each mote is one; at the end of the text there may stand'
+        return 'Each mote is one. Add at the end of the text'
     if name in ('medium', 'programs'):
-        return 'At the end of the text, or above any other table, there may stand'
-    return 'Above the first table (line %d) there may stand' % first_table if first_table else 'There may stand'
+        return 'Add at the end of the text, or above any other table'
+    return 'Add above the first table (line %d)' % first_table if first_table else 'Add'
 
 
 def may_stand(name: str) -> str:
-    """What may stand, with its keys."""
+    """What is allowed, with its keys."""
     if name == 'programs':
         return 'the table `[programs]` with %s' % OF_PROGRAMS
     keys: dict[str, Rule] | None = {'medium': MEDIUM, 'mote': MOTE}.get(name)
@@ -50,7 +50,7 @@ def may_stand(name: str) -> str:
 
 
 def shown(file: str, name: str, tables: dict[str, Any], first_table: int | None) -> list[str]:
-    """That a file lacks a key or a table, where it may stand, and how it is written."""
+    """That a file lacks a key or a table, where it is added, and how it is written."""
     kind = 'table' if name in ('medium', 'programs', 'mote') else 'key'
     head = '%s has no %s `%s`. %s:' % (file, kind, head_of(name), where(name, first_table))
     return [head, *('  ' + line for line in written(name, tables))]

@@ -55,7 +55,7 @@ def _taken(found: list[Declared], here: Token) -> str:
     if first is None or any(it.token == here for it in found) is False:
         return 'A process is named once in `autostart`.'
     name = here.text[:15] + '2'
-    return '`%s` is %s %s already, declared on line %d: another name is needed here, such as `%s`.' % (
+    return '`%s` is %s %s already, declared on line %d of the program: another name is needed here, such as `%s`.' % (
         here.text, ARTICLES[first.kind], first.kind, first.token.line, name)
 
 
@@ -73,7 +73,7 @@ def of_name(text: str, fault: ProgramError) -> str | None:
     if own and own.kind == 'thread' == wanted:
         return _of_thread(own, here)
     if own and own.kind != wanted:
-        return '`%s` is %s %s, declared on line %d; here, %s %s is needed.' % (
+        return '`%s` is %s %s, declared on line %d of the program; here, %s %s is needed.' % (
             name, ARTICLES[own.kind], own.kind, own.token.line, ARTICLES.get(wanted, 'a'), wanted) if wanted else None
     other = next((it for it in its if it.code not in ('', code)), None)
     if other and wanted == other.kind and other.kind in HEAD:
@@ -102,7 +102,7 @@ def undeclared(text: str, fault: ProgramError) -> tuple[str, Correction | None] 
         line = lines[fault.token.line - 1]
         if not place.head:
             return ('Variables are declared at the head of `code`: `%s`.' % declared, None) if wanted == 'variable' else None
-        made = Correction(fault.token.line, fault.token.line, line, (hint,), (place.head, '  ' + declared))
+        made = Correction(fault.token.line, fault.token.line, line, (hint,), (place.head, declared))
         after = find_fault(made.applied(text))
         is_better = after is None or (after.token.line, after.token.column) > (fault.token.line + 1, fault.token.column)
         return hint, made if is_better else None

@@ -49,9 +49,11 @@ NO_REALS = ('Numbers are whole, 0 to 65,535. Count in smaller units, such as ten
             'tenths of x.')
 NO_CALLS = ('There are no functions: a `thread` without waits serves as one. It is run by `spawn`, and shares the '
             'variables of its process.')
-NO_CHANCE = ('There is no chance in a mote: each run is the same. A generator of its own serves, with a seed that differs '
-             'by mote, `dice = (self * 7919);`: then `dice = ((dice * 25173) + 13849);` and `((dice / 256) % 10)`, or '
-             '`(dice < 6554)`, which is so 1 time in 10.')
+# A generator of numbers that seem to come by chance: its variable, its step, and the number that it gives.
+DICE, STEP, DRAWN = 'dice', 'dice = ((dice * 25173) + 13849);', '(dice / 256)'
+NO_CHANCE = ('There is no chance in a mote: each run is the same. A generator of its own serves, as below, with a seed that '
+             'differs by mote: `dice = (self * 7919);` at the start of `body`. Then `((dice / 256) % 10)` is one of 0 to 9, and '
+             '`(dice < 6554)` is so 1 time in 10.')
 TOO_LARGE = ('Numbers have 16 bits, 0 to 65,535: a timer is set to 65535 moments at most. Count larger ones in parts, such as '
              'thousands in a second variable.')
 MOMENTS_OF_SECOND = 10
@@ -205,9 +207,11 @@ class Expressions:
 class Writer:
     """Writes expressions as the notation has them, and collects why they differ."""
     scope: Scope
-    # A timer that stands for a test: `fired` in a wait, else `expired`.
+    # What a timer means as a test: `fired` in a wait, else `expired`.
     of_timer: str = 'expired'
     reasons: list[str] = field(default_factory=list)
+    # Whether a number by chance is taken, for which the generator makes a step before.
+    draws: bool = False
 
     def why(self, reason: str) -> None:
         if reason not in self.reasons:
@@ -218,7 +222,7 @@ class Writer:
         if node.kind == 'number':
             return self.number(node.text)
         if node.kind == 'char':
-            self.why('There are no characters: a number stands for one, 65 for `A`.')
+            self.why('There are no characters: write the number, 65 for `A`.')
             return str(ord(node.text[1])) if len(node.text) == 3 else self.refuse(NO_TEXTS)
         if node.kind == 'name':
             return self.name(node.text)
@@ -310,7 +314,9 @@ class Writer:
             self.why(reason)
             return word
         if lower in ('random_rand', 'rand', 'random', 'rnd'):
-            return self.refuse(NO_CHANCE)
+            self.why(NO_CHANCE)
+            self.draws = True
+            return DRAWN
         test = node.text if node.text in TESTS else CALLS.get(lower, '')
         if not test or len(parts) != 1:
             return self.refuse(NO_CALLS)

@@ -25,6 +25,7 @@ class Place(NamedTuple):
     code     the process whose code it is, or nothing
     head     the line (from 1) below which a variable of this code may be declared, or 0
     variables  those of this code
+    last     the first word of the statement above them, or nothing
     """
     is_head: bool = False
     is_top: bool = False
@@ -32,6 +33,7 @@ class Place(NamedTuple):
     code: str = ''
     head: int = 0
     variables: frozenset[str] = frozenset()
+    last: str = ''
 
 
 def place_below(above: list[str]) -> Place:
@@ -47,11 +49,20 @@ def place_below(above: list[str]) -> Place:
     loop = next((it for it in reversed(opened) if it), '')
     codes = [at for at, word in enumerate(words[:-2]) if word == 'code']
     if not codes or not opened:
-        return Place(len(opened) == 1, not opened, loop)
+        return Place(len(opened) == 1, not opened, loop, last=_last(words))
     declared = [at for at in range(codes[-1], len(words)) if words[at] == 'var']
     head = tokens[declared[-1] if declared else codes[-1] + 2].line
     names = frozenset(words[at + 1] for at in declared if at + 1 < len(words))
-    return Place(len(opened) == 1, False, loop, words[codes[-1] + 1], head, names)
+    return Place(len(opened) == 1, False, loop, words[codes[-1] + 1], head, names, _last(words))
+
+
+def _last(words: list[str]) -> str:
+    """The first word of the statement with which a text ends."""
+    words = [it for it in words if it]
+    if words[-1:] != [';']:
+        return ''
+    begin = max((at for at, word in enumerate(words[:-1]) if word in (';', '{', '}')), default=-1)
+    return words[begin + 1]
 
 
 def _test_before(words: list[str], at: int) -> str:

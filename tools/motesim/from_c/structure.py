@@ -47,7 +47,7 @@ def unclosed_block(text: str) -> Repair:
 
 def _closed(lines: list[str], line: int, end: int) -> Repair:
     """A block that began on a line, closed before the brace on another line."""
-    reason = 'The block that begins on line %d is not closed: its `}` is missing.' % line
+    reason = 'A block is not closed: its `}` is missing.'
     inner = lines[line - 1].split('//')[0].rstrip()
     if not inner.endswith('{'):
         return line, inner.strip() + ' }', reason

@@ -11,7 +11,7 @@ from pathlib import Path
 from typing import Any, NamedTuple
 
 from motesim.faults import Fault
-from motesim.explain.hints import nearest
+from motesim.explain.synonyms import nearest
 from motesim.judge.judge import Broken, Judge
 from motesim.report import Report
 from motesim.runner.run import Answer, answer, read_file
@@ -67,7 +67,7 @@ def part_of(table: dict[str, Any], name: str, keys: set[str]) -> Part:
         if key not in keys:
             like = nearest(key, keys)
             more = ', as a scenario has' if key in TOP else '; did you mean %s?' % like if like else ''
-            raise Fault('%s has a key %s%s; there may stand: %s' % (name, key, more, ', '.join(sorted(keys))))
+            raise Fault('%s has a key %s%s; allowed are: %s' % (name, key, more, ', '.join(sorted(keys))))
         if type(value) is not KEYS[key]:
             raise Fault('%s of %s is not %s' % (key, name, WRITTEN[key]))
     sentences, replace = table.get('expect', []), table.get('replace', {})
@@ -209,5 +209,5 @@ def expect(scenario: Path, expectations: Path, is_quiet: bool = False) -> tuple[
                 print('\n          '.join(['broken  %s' % it.sentence, *it.more]))
         has_fault |= is_refused(told) and not part.replace
     if has_fault:
-        print('tools/explain %s shows where the fault is, and what may stand there' % scenario)
+        print('tools/explain %s shows where the error is, and what is allowed there' % scenario)
     return passed, failed

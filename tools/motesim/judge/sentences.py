@@ -12,7 +12,7 @@ from collections.abc import Callable
 from dataclasses import dataclass
 
 from motesim.faults import Fault
-from motesim.explain.hints import nearest
+from motesim.explain.synonyms import nearest
 from motesim.notation.keywords import SYSTEM
 from motesim.report import FIELDS, MOST_MOMENT, MOST_WORD
 from motesim.scenario import Scenario
@@ -70,7 +70,7 @@ class SentenceFault(Fault):
 
     def __init__(self, sentence: str, place: int, wanted: list[str]):
         self.sentence, self.place, self.wanted = sentence, place, wanted
-        may = textwrap.wrap('Here may stand: ' + ', '.join(wanted), WIDTH, break_on_hyphens=False)
+        may = textwrap.wrap('Allowed here: ' + ', '.join(wanted), WIDTH, break_on_hyphens=False)
         like = meant(sentence[place:], wanted)
         lines = ['a sentence that is not known', sentence, ' ' * place + '^', *may]
         lines += ['Did you mean: %s' % like] if like else []

@@ -1,4 +1,4 @@
-"""Faults of program texts: where the fault is, the rule in plain words, and what may stand there.
+"""Faults of program texts: where the fault is, the rule in plain words, and what is allowed there.
 
 `find_fault(text)` reads a program text by the grammar of docs/use/NOTATION.md and gives its first `ProgramError`, or
 None; motesim tells the same kind and line.
@@ -33,21 +33,20 @@ COUNTED = {
 
 # Of each kind its name in docs/use/NOTATION.md and its rule.
 RULES: dict[int, tuple[str, str]] = {
-    1: ('BadToken', 'A program is made of names, numbers, keywords and signs. A name begins with a letter, has small '
-        'letters, digits and `_`, and at most 16 of them; a number has no needless 0 in front.'),
-    2: ('Unexpected', 'No program goes on so from the words before this one.'),
+    1: ('BadToken', 'A program consists of names, numbers, keywords and signs. A name begins with a letter, and has at most '
+        '16 small letters, digits and `_`; a number has no unnecessary 0 in front.'),
+    2: ('Unexpected', 'This can\'t follow the words before it.'),
     3: ('UnknownName', 'Nothing has this name here. A name has to be declared before it is used; variables, timers '
         'and threads are known in their own code only.'),
-    4: ('NameTwice', 'This name is known here already. No name is declared twice, and no process stands twice in '
+    4: ('NameTwice', 'This name is known here already. No name is declared twice, and no process is named twice in '
         '`autostart`.'),
     5: ('NumberTooLarge', 'All numbers have 16 bits: none is above 65,535.'),
     6: ('WaitInSimpleBlock', 'The blocks of `ctimer`, `onpoll` and `onexit` are run to their end at once, so no '
         'statement in them may wait.'),
-    7: ('TooDeep', 'Blocks and expressions stand at most 32 deep in one another.'),
+    7: ('TooDeep', 'Blocks and expressions are nested at most 32 deep.'),
     8: ('TooMany', 'There is one too many of these.'),
     9: ('NoProcess', 'A program has at least one process.'),
-    10: ('BadTarget', 'This name is known, but stands for something else than this place takes; a thread never spawns '
-         'itself.'),
+    10: ('BadTarget', 'This name is known, but as something else than what is needed here; a thread never spawns itself.'),
     11: ('Memory', 'Memory ran out while the program was read. The text may be in order.'),
 }
 
@@ -76,7 +75,7 @@ class Token:
 
 @dataclass
 class ProgramError(Exception):
-    """The first fault of a program text: its kind, the token that can't stand, and what may stand there."""
+    """The first fault of a program text: its kind, the token that is not allowed, and what is allowed there."""
     kind: int
     token: Token
     may: list[str] = field(default_factory=list)
@@ -131,7 +130,7 @@ class _Reader:
         return self.tokens[self.at - 1].text
 
     def accept(self, *words: str) -> str:
-        """One of these words if it stands here."""
+        """One of these words, if it is the next."""
         if self.token.text in words and self.token.kind != 'end':
             return self.step()
         self.wanted += ['`%s`' % word for word in words]
@@ -173,7 +172,7 @@ class _Reader:
         return self.step()
 
     def known(self, kind: str) -> list[str]:
-        """What may stand where the name of something is taken: the names of this kind."""
+        """The names of a kind, as what is allowed."""
         found = [name for name, its in self.names.items() if its == kind and name != self.own_thread]
         return ['%s %s (%s)' % (ARTICLES[kind], kind, ', '.join(found) if found else 'none is declared here')]
 
@@ -193,7 +192,7 @@ class _Reader:
         return self.step()
 
     def other_words(self) -> list[str]:
-        """What else may stand here besides a name."""
+        """What else is allowed here besides a name."""
         return list(dict.fromkeys(self.wanted))
 
     def program(self) -> None:
@@ -229,7 +228,7 @@ class _Reader:
             if self.token.text in started:
                 left = [name for name in self.processes if name not in started]
                 shown = ', '.join(left) or 'there is none'
-                raise self.fault(4, ['a process that does not stand here yet (%s)' % shown])
+                raise self.fault(4, ['a process that is not named here yet (%s)' % shown])
             started.add(self.target('process'))
             if self.need(',', ';') == ';':
                 return
@@ -318,7 +317,7 @@ class _Reader:
         self.need(';')
 
     def rest_of(self, word: str) -> None:
-        """What stands behind the first word of a plain statement."""
+        """What follows the first word of a plain statement."""
         if word in ('print', 'send', 'yield_until', 'wait_until', 'wait_while'):
             self.expression()
         elif word == 'spawn':

@@ -50,7 +50,7 @@ class Key:
     words: str = ''
 
     def may(self, name: str) -> str:
-        """What may stand at the key."""
+        """What is allowed at the key."""
         if self.words:
             return '`%s`: %s' % (name, self.words)
         if self.kind is int:
@@ -94,9 +94,9 @@ def filled(text: str, parameters: Mapping[str, Value]) -> str:
 
 
 def shown(name: str, text: str, place: Place, rule: str, may: str) -> str:
-    """A fault as it is told: the line with a mark, the rule, and what may stand there."""
+    """A fault as it is told: the line with a mark, the rule, and what is allowed there."""
     rows = shown_place(name, text, place) + wrapped(rule)
-    return '\n'.join(rows + (wrapped('Here may stand: %s' % may) if may else []))
+    return '\n'.join(rows + (wrapped('Allowed here: %s' % may) if may else []))
 
 
 class Tables:
@@ -118,7 +118,7 @@ class Tables:
 
     def _no_toml(self, fault: NoToml) -> NoReturn:
         place = Place(fault.line, fault.column, 1)
-        raise PlanFault(shown(self.shown_as, self.text, place, 'A plan is a TOML document, and this text is none.',
+        raise PlanFault(shown(self.shown_as, self.text, place, 'A plan is a TOML document, and this text is not.',
                               'TOML (Python says: %s)' % fault.said))
 
     def fault(self, path: Path, rule: str, may: str = '', is_value: bool = True) -> PlanFault:

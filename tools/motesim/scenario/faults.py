@@ -1,4 +1,4 @@
-"""Faults of scenarios: where the fault is, the rule in plain words, and what may stand there.
+"""Faults of scenarios: where the fault is, the rule in plain words, and what is allowed there.
 
 `find_fault(bytes)` looks through a scenario by the rules of docs/use/SCENARIO.md, in their order, and gives the first
 `ScenarioError`, or None; motesim tells the same line. `place_of(text, path)` finds a table or a key in the text.
@@ -22,20 +22,20 @@ Path = tuple[str | int, ...]
 RULES: dict[str, str] = {
     'read fault': 'The scenario could not be read: the file is not there, is a folder, or reading it failed.',
     'scenario too long': 'A scenario has at most 1,048,576 bytes.',
-    'scenario is not UTF-8': 'A scenario is a text in UTF-8, and these bytes are none.',
-    'scenario fault 1': 'A scenario is a TOML document, and this text is none.',
+    'scenario is not UTF-8': 'A scenario is a text in UTF-8, and these bytes are not.',
+    'scenario fault 1': 'A scenario is a TOML document, and this text is not.',
     'scenario fault 2': 'A table lacks a key that it needs.',
-    'scenario fault 3': 'A table has a key that it does not know, or the name of a program has another form.',
-    'scenario fault 4': 'A key holds a value of another kind than it takes.',
+    'scenario fault 3': 'A table has an unknown key, or the name of a program is not of its form.',
+    'scenario fault 4': 'A key has a value of the wrong kind.',
     'scenario fault 5': 'A number, or the count of motes, programs or losses, is out of range.',
     'scenario fault 6': 'A mote, or a key of `queue`, names a program that the scenario does not have.',
-    'program': 'The text of this program is none. docs/use/NOTATION.md has the notation.',
-    'medium fault 2': 'The least delay, `base`, is at least 1: nothing is heard at the moment at which it is sent.',
+    'program': 'The text of this program has an error. docs/use/NOTATION.md has the notation.',
+    'medium fault 2': 'The least delay, `base`, is at least 1: nothing is heard in the moment in which it is sent.',
     'medium fault 3': '`per` is at least 1, as the squared distance is divided by it.',
     'medium fault 4': 'A loss is between two different motes that are there, has an `every` from 1 on, and there is '
                       'at most one for two motes in one direction.',
     'run fault 5': 'The thread of a worker could not be started or run. The scenario may be in order.',
-    'run fault 6': 'A worker stopped for another, which told no fault. The scenario may be in order.',
+    'run fault 6': 'A worker stopped because of another, which reported no fault. The scenario may be in order.',
     'write fault': 'The report could not be written. The scenario may be in order.',
     'out of memory': 'There was not enough memory. The scenario may be in order.',
 }
@@ -43,7 +43,7 @@ RULES: dict[str, str] = {
 
 @dataclass
 class ScenarioError(Exception):
-    """The first fault of a scenario: its line as motesim tells it, where it is, and what may stand there.
+    """The first fault of a scenario: its line as motesim tells it, where it is, and what is allowed there.
 
     path  the table or the key; of a missing key its table
     line  in its place the line and the column, where the text is no TOML or no text
@@ -94,7 +94,7 @@ MOST_PROGRAMS = 100
 
 
 def may_of(name: str, key: Rule) -> str:
-    """What may stand at a key."""
+    """What is allowed at a key."""
     if key.kind is int:
         least = 1 if name in ('base', 'per', 'every') else key.least
         return '`%s`: a whole number, %s to %s' % (name, '{:,}'.format(least), '{:,}'.format(key.most))

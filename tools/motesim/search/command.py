@@ -120,7 +120,7 @@ def asked_of(words: argparse.Namespace) -> Asked:
     kinds = tuple(it.strip() for it in words.faults.split(','))
     unknown = next((it for it in kinds if it not in KINDS), None)
     if unknown is not None:
-        raise Fault('there is no kind of fault %s; there may stand: %s' % (unknown, ', '.join(KINDS)))
+        raise Fault('there is no kind of fault %s; allowed are: %s' % (unknown, ', '.join(KINDS)))
     numbers, given = values_asked(words.set)
     for kind, names, what in (('values', list(numbers), 'range=8..12'),
                               ('parameters', list(given), 'period=10,20, of a plan')):
@@ -251,7 +251,7 @@ def status_of(words: argparse.Namespace) -> int:
     if words.jobs < 1 or words.at_most < 0 or words.random < 0 or words.seconds <= 0 or words.bytes < 1:
         raise Fault('--jobs, --seconds and --bytes are more than 0, and --at-most and --random 0 or more')
     if words.expectations and words.expect:
-        raise Fault('the expectations stand in a file or in --expect, and not in both')
+        raise Fault('the expectations are in a file or in --expect, not in both')
     if words.studies:
         return checked(words.studies, words.jobs)
     if words.scenario is None:

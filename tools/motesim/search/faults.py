@@ -111,7 +111,7 @@ def effect_of(words: str, motes: int) -> tuple[str | int, ...]:
     name, *rest = words.split() or ['']
     wanted = PARTS_OF.get(name)
     if wanted is None:
-        raise Fault('there is no fault `%s`; there may stand: %s' % (words, ', '.join(
+        raise Fault('there is no fault `%s`; allowed are: %s' % (words, ', '.join(
             ' '.join([it, parts]).strip() for it, parts in PARTS_OF.items())))
     found: list[str | int] = [name]
     for part, word in zip(wanted.split(), rest):
@@ -271,7 +271,7 @@ def faults_of(base: Base, asked: Asked) -> list[FaultyPart]:
     """The faults of the kinds that are wanted."""
     unknown = next((kind for kind in asked.kinds if kind not in KINDS), None)
     if unknown is not None:
-        raise Fault('there is no kind of fault %s; there may stand: %s' % (unknown, ', '.join(KINDS)))
+        raise Fault('there is no kind of fault %s; allowed are: %s' % (unknown, ', '.join(KINDS)))
     found = [fault for kind in KINDS if kind in asked.kinds for fault in MAKERS[kind](base, asked)]
     by_effect = {fault.effect: fault for fault in reversed(found)}
     return [fault for fault in found if by_effect[fault.effect] is fault]

@@ -46,7 +46,7 @@ def studies_of(path: Path) -> tuple[Path, list[dict[str, Any]]]:
     for number, study in enumerate(studies, 1):
         for key, value in study.items():
             if type(value) is not KEYS.get(key):
-                raise Fault('study %d of %s: `%s` can\'t stand there; there may stand: %s' % (
+                raise Fault('study %d of %s: `%s` is not allowed there; allowed are: %s' % (
                     number, path, key, ', '.join(KEYS)))
         if 'expect' not in study or ('breaks' in study) == ('counts' in study):
             raise Fault('study %d of %s lacks `expect`, or doesn\'t have one of `breaks` and `counts`' % (number, path))

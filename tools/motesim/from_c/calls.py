@@ -1,0 +1,163 @@
+"""Macros and calls of Contiki and of C's library, as the notation writes them."""
+from __future__ import annotations
+
+import re
+
+from motesim.from_c.expressions import MOMENTS_OF_SECOND, TICKS, NoCounterpart, Node
+from motesim.from_c.lines import Lines
+from motesim.from_c.scope import allowed
+
+# Calls without a value, each with its statement, and which arguments of which kind that has.
+ARGUMENT = re.compile(r'(expression|interval|seconds|process|timer|thread|semaphore|event)([0-9])')
+CALLS = {
+    'process_yield': 'yield', 'process_wait_event': 'yield', 'process_pause': 'pause', 'process_exit()': 'exit',
+    'process_wait_event_until': 'yield_until expression0', 'process_yield_until': 'yield_until expression0',
+    'process_wait_until': 'wait_until expression0', 'process_wait_while': 'wait_while expression0',
+    'pt_yield': 'yield', 'pt_exit': 'exit', 'pt_restart': 'restart', 'pt_wait_until': 'wait_until expression1',
+    'pt_yield_until': 'yield_until expression1', 'pt_wait_while': 'wait_while expression1',
+    'pt_spawn': 'spawn thread2', 'process_pt_spawn': 'spawn thread1', 'pt_wait_thread': 'spawn thread1',
+    'pt_sem_wait': 'acquire semaphore1', 'pt_sem_signal': 'signal semaphore1',
+    'etimer_set': 'set timer0 expression1', 'etimer_reset': 'reset timer0', 'etimer_restart': 'restart_timer timer0',
+    'etimer_stop': 'stop timer0', 'ctimer_set': 'set timer0 expression1', 'ctimer_reset': 'reset timer0',
+    'ctimer_restart': 'restart_timer timer0', 'ctimer_stop': 'stop timer0', 'timer_set': 'set timer0 expression1',
+    'timer_reset': 'reset timer0', 'timer_restart': 'restart_timer timer0',
+    'rtimer_set': 'set timer0 interval1', 'stimer_set': 'set timer0 seconds1', 'stimer_reset': 'reset timer0',
+    'stimer_restart': 'restart_timer timer0',
+    'process_post': 'post process0 event1 expression2', 'process_post_synch': 'synch process0 event1 expression2',
+    'process_broadcast': 'broadcast event1 expression2', 'process_poll': 'poll process0',
+    'process_start': 'start process0', 'process_exit': 'kill process0',
+}
+BROADCAST = 'A packet is one number, and goes to all who hear it: `send x;`. There is no buffer to fill first.'
+
+
+class Calls(Lines):
+    """Reads macros and calls."""
+
+    def of_open(self) -> str:
+        """A connection that is opened: the process that gets its packets."""
+        self.expression()
+        self.end('')
+        if self.scope.receiver or not self.place.is_top or not self.scope.codes:
+            raise NoCounterpart('No connection is opened. The process that gets packets is named once, by `receiver P;` above '
+                                'the first `code`; `send x;` sends, and a packet is the event `packet`.')
+        self.why('No connection is opened: the process that gets packets is named by `receiver`, and waits by `yield_until '
+                 'is(packet);`.')
+        return 'receiver %s;' % self.scope.codes[0]
+
+    def of_packet(self, word: str) -> str:
+        """A buffer that is filled, or sent: the filling sends."""
+        call = self.expression()
+        self.why(BROADCAST)
+        if word != 'packetbuf_copyfrom' and self.place.last == 'send':
+            self.accept(';')
+            return ''
+        if word != 'packetbuf_copyfrom' or not call.parts:
+            raise NoCounterpart(BROADCAST)
+        value = call.parts[0].parts[0] if call.parts[0].kind == 'unary' else call.parts[0]
+        if value.kind != 'name' or self.scope.kinds.get(value.text) != 'variable':
+            raise NoCounterpart(BROADCAST)
+        return self.end('send ' + value.text)
+
+    def printed(self, word: str) -> str:
+        """A print, or one for each value of a `printf`."""
+        if word == 'print' and self.token.kind == 'text' and self.ahead(1).text != ',':
+            return self.of_text(self.token.text)
+        if word == 'print' and self.token.text != '(':
+            values = [self.expression()]
+            while self.accept(','):
+                values.append(self.expression())
+        elif self.token.text == '(' and self.ahead(1).kind == 'text' or word != 'print':
+            self.need('(')
+            shown = self.token.text
+            values = [it for it in self.arguments() if it.kind != 'text']
+            if not values:
+                self.at -= 1
+                return self.of_text(shown)
+            self.why('A program prints numbers, one in a line.')
+        else:
+            values = [self.expression()]
+            while self.accept(','):
+                values.append(self.expression())
+        values = [it for it in values if it.kind != 'text']
+        text = ' '.join('print %s;' % self.writer.text(it) for it in values)
+        return self.end(text.removesuffix(';'))
+
+    def of_text(self, shown: str) -> str:
+        """A text that is printed: a number, with the text as a comment."""
+        self.at += 1
+        self.why('There are no texts: a program prints numbers, and the line of the report names the process anyway.')
+        self.comments.append('// ' + shown.strip('"').replace('\\n', '').strip())
+        return self.end('print 1')
+
+    def macro(self) -> str:
+        """A macro or a call of Contiki."""
+        call = self.postfix(self.primary())
+        name = call.text.lower()
+        if name in ('process_begin', 'pt_begin', 'process_end', 'pt_end'):
+            self.accept(';')
+            self.why('The braces of `body` are `PROCESS_BEGIN` and `PROCESS_END`.' if 'process' in name else
+                     'The braces of a `thread` are `PT_BEGIN` and `PT_END`.')
+            if name.endswith('end'):
+                return self.end_of_process
+            return 'body {' if self.place.is_head and name == 'process_begin' else ''
+        if name in ('process', 'process_name'):
+            self.accept(';')
+            self.why('Processes are named by one line, `process a, b;`.')
+            return self.of_processes(call.parts[0].text)
+        if name == 'autostart_processes':
+            self.accept(';')
+            self.why('The processes that start at boot are named by `autostart a, b;`.')
+            return 'autostart %s;' % ', '.join(self.of_process(
+                (it.parts[0] if it.kind == 'unary' else it).text) for it in call.parts)
+        if name in ('process_thread', 'pt_thread'):
+            self.why('A process is a `code NAME { .. }` with a `body`; a protothread is a `thread NAME { .. }`.')
+            if self.accept(';'):
+                return ''
+            self.accept('{')
+            head = 'code' if name == 'process_thread' else 'thread'
+            inner = call.parts[0].text
+            return '%s %s {' % (head, self.of_process(inner) if head == 'code' else allowed(inner))
+        if name in ('process_pollhandler', 'process_exithandler'):
+            self.accept(';')
+            head, called = 'onpoll' if 'poll' in name else 'onexit', call.parts[0].text if call.parts else 'it'
+            self.why('The handler is a block of the `code`, below its timers and threads: put what `%s` does into it.' % called)
+            return head + ' { }'
+        return self.end(self.of_call(call))
+
+    def of_process(self, name: str) -> str:
+        """The name of a process, which in Contiki often ends with `_process`."""
+        short = allowed(name.lower().removesuffix('_process'))
+        return short if short in self.scope.codes else self.scope.meant(allowed(name), 'process')
+
+    def of_processes(self, name: str) -> str:
+        """The line that names the processes: all that have a code, if this one has."""
+        if self.scope.kinds.get(self.of_process(name)) == 'process':
+            return ''
+        if self.of_process(name) in self.scope.codes:
+            return 'process %s;' % ', '.join(self.scope.codes)
+        return 'process %s;' % allowed(name)
+
+    def of_call(self, call: Node) -> str:
+        """The statement that means a call."""
+        name = call.text.lower()
+        form = CALLS.get(name + '()' if not call.parts else name) or CALLS[name]
+        if name == 'process_post' and call.parts and call.parts[0].text.lower() == 'process_broadcast':
+            form = CALLS['process_broadcast']
+        self.why('`%s` is `%s` here.' % (call.text, form.split()[0]))
+        self.writer.of_timer = 'fired' if form.startswith('yield_until') else 'expired'
+
+        def argument(found: re.Match[str]) -> str:
+            place = int(found[2])
+            if place >= len(call.parts):
+                raise NoCounterpart
+            part = call.parts[place]
+            if found[1] == 'expression':
+                return self.writer.text(part)
+            if found[1] == 'interval':
+                return self.writer.interval(part)
+            if found[1] == 'seconds':
+                self.why(TICKS)
+                return '(%d * %s)' % (MOMENTS_OF_SECOND, self.writer.text(part))
+            return self.writer.event(part) if found[1] == 'event' else self.writer.of_kind(part, found[1])
+
+        return ARGUMENT.sub(argument, form)

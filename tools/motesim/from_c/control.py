@@ -1,0 +1,188 @@
+"""The control flow of C, as the notation has it: blocks, tests and loops."""
+from __future__ import annotations
+
+from motesim.from_c.expressions import ONE_TOO_MANY, QUALIFIERS, TYPES, NoCounterpart
+from motesim.from_c.lines import Lines
+from motesim.from_c.places import ends_loop
+from motesim.from_c.scope import allowed
+from motesim.from_c.tokens import Token
+from motesim.notation.faults import STATEMENTS
+
+NO_SWITCH = ('There is no `switch`: each `case` is a test of its own, `if (%s == %s) { .. } else { if (%s == %s) { .. } }`.')
+NO_BREAK = 'There is no `break`: let the test of the `while` become false.'
+
+
+class Control(Lines):
+    """Reads blocks, tests and loops."""
+
+    def closing(self) -> str:
+        """A brace that closes what was opened above these lines, with an `else` behind it."""
+        if not self.accept('}'):
+            return self.other() if self.token.text == 'else' else ''
+        if self.token.text == 'while' and self.place.loop:
+            return self.test_behind()
+        return '} ' + self.other() if self.token.text == 'else' else '}'
+
+    def test_behind(self) -> str:
+        """The test behind a block whose `while` is above it."""
+        self.at += 1
+        self.condition()
+        if not self.accept(';'):
+            raise NoCounterpart
+        self.why('There is no `do`: the test of a `while` is before its block, and `}` ends it.')
+        return '}'
+
+    def other(self) -> str:
+        """An `else` with what follows."""
+        if not self.accept('else'):
+            return ''
+        if self.token.text != 'if':
+            return 'else ' + self.body()
+        inner = self.statement()
+        self.why('A block follows `else`, so the next `if` goes into it%s.' % (
+            ', and one more `}` closes it' if self.is_cut else ''))
+        return 'else { %s' % inner if self.is_cut else 'else { %s }' % inner
+
+    def body(self) -> str:
+        """A block; one statement without braces is put into some."""
+        if self.token.kind == 'end' and self.opens:
+            self.why('A block always has its braces: the one that opens it is missing.')
+            self.is_cut = True
+            return '{'
+        if self.token.kind == 'end':
+            raise NoCounterpart
+        if self.token.text == ';' and self.ahead(1).text == '{' and self.accept(';'):
+            self.why('The block follows the test at once, without a `;`.')
+        if not self.accept('{'):
+            self.why('A block always has its braces.')
+            return '{ %s }' % self.statement()
+        found: list[str] = []
+        while not self.accept('}'):
+            if self.token.kind == 'end':
+                self.is_cut = True
+                return ' '.join(['{', *found])
+            found.append(self.statement())
+        return ' '.join(['{', *found, '}'])
+
+    def condition(self) -> str:
+        """The test of an `if` or a `while`, up to its block."""
+        begin, inner = self.at, None
+        if self.accept('('):
+            inner = self.expression()
+            # (an operator behind the parenthesis continues the test; a name or a brace begins the block)
+            self.close()
+            if self.token.text in ('||', '&&', '==', '!=', '<', '<=', '>', '>=', '+', '-', '/', '%', 'and', 'or'):
+                self.at, inner = begin, None
+        text = self.writer.text(inner or self.expression())
+        while self.accept(')'):
+            self.why(ONE_TOO_MANY)
+        if self.accept('then', ':'):
+            self.why('The block follows the test at once.')
+        return text
+
+    def of_switch(self) -> str:
+        self.at += 1
+        tested = self.condition()
+        case = next((self.ahead(at + 1).text for at in range(12) if self.ahead(at).text == 'case'), '1')
+        raise NoCounterpart(NO_SWITCH % (tested, case, tested, '2' if case == '1' else '..'))
+
+    def of_case(self) -> str:
+        self.at += 1
+        case, found = self.token.text, []
+        self.at += 1
+        self.accept(':')
+        while self.token.kind != 'end' and self.token.text not in ('break', 'case', '}'):
+            found.append(self.statement())
+        block = ' '.join(found) or '..'
+        raise NoCounterpart('There is no `switch`: each `case` is a test of its own, `if (x == %s) { %s }`, with the value that '
+                            'is tested for `x`.' % (case, block))
+
+    def of_break(self) -> str:
+        """A `break`, by what makes the test of the loop false."""
+        assigned = ends_loop(self.place.loop)
+        if not assigned:
+            raise NoCounterpart(NO_BREAK if not self.place.loop else NO_BREAK + ' Instead of `while %s`, write `while (done == '
+                                '0)`, and here `done = 1;`, with `var done = 0;` at the head of the `code`.' % self.place.loop)
+        self.at += 1
+        self.why('%s Here, `%s;` does it; what follows in the block still runs once.' % (NO_BREAK, assigned))
+        return self.end(assigned)
+
+    def choice_or_loop(self, word: str) -> str:
+        if word == 'while' and self.is_empty_loop():
+            test = self.condition()
+            self.accept(';')
+            self.why('A loop without a block would run forever: `wait_while` lets other events in while it waits.')
+            return 'wait_while %s;' % test
+        test, outside = self.condition(), self.place
+        self.place = outside._replace(loop=test, is_head=False) if word == 'while' else outside
+        text = '%s %s %s' % (word, test, self.body())
+        self.place = outside
+        if word == 'if' and self.token.text == 'else' and not self.is_cut:
+            text += ' ' + self.other()
+        return text
+
+    def is_empty_loop(self) -> bool:
+        """Whether a semicolon ends the loop behind its test."""
+        at = depth = 0
+        while self.ahead(at).kind != 'end' and (depth or self.ahead(at).text not in (';', '{')):
+            depth += (self.ahead(at).text == '(') - (self.ahead(at).text == ')')
+            at += 1
+        is_alone = self.ahead(at).text == ';' and self.ahead(at + 1).text != '{' and self.ahead(at - 1).text == ')'
+        return is_alone and all(self.ahead(it).text not in STATEMENTS for it in range(at))
+
+    def for_loop(self) -> str:
+        """A `for`, by a `while`; if its block goes on below these lines, so does the last step."""
+        self.at += 2
+        first = '' if self.accept(';') else self.first_of_loop()
+        test = '1' if self.token.text == ';' else self.writer.text(self.expression())
+        self.need(';')
+        step = ''
+        if not self.accept(')'):
+            step = self.step_of_loop()
+            self.need(')')
+        body = self.body()
+        self.why('There is no `for`: a `while` with the first step above it%s.' % (
+            ', and `%s` at the end of its block' % step if step and self.is_cut else ''))
+        if step and not self.is_cut:
+            body = '%s %s }' % (body.removesuffix('}').rstrip(), step)
+        return ('%s while %s %s' % (first, test, body)).strip()
+
+    def first_of_loop(self) -> str:
+        """The first step of a `for`, which may declare its variable."""
+        if self.token.text in TYPES | QUALIFIERS:
+            self.skip_types()
+            name = allowed(self.token.text)
+            if self.place.head and name not in self.place.variables:
+                self.declares.append('var %s = 0;' % name)
+                self.scope.kinds[name] = 'variable'
+        return self.assignment()
+
+    def step_of_loop(self) -> str:
+        word, behind = self.token.text, self.ahead(1).text
+        if word in ('++', '--'):
+            self.at += 2
+            return self.stepped(behind, word) + ';'
+        if behind in ('++', '--'):
+            self.at += 2
+            return self.stepped(word, behind) + ';'
+        self.tokens.insert(next(at for at in range(self.at, len(self.tokens)) if self.tokens[at].text == ')'),
+                           Token('sign', ';'))
+        return self.assignment()
+
+    def do_loop(self) -> str:
+        self.at += 1
+        body = self.body()
+        if self.is_cut:
+            raise NoCounterpart('There is no `do`: a `while` tests before each turn. Put its first turn above it.')
+        self.need('while')
+        test = self.condition()
+        self.why('There is no `do`: a `while` tests before each turn, so the first turn is above it.')
+        self.end('')
+        return '%s while %s %s' % (body.removeprefix('{').removesuffix('}').strip(), test, body)
+
+    def of_return(self) -> str:
+        self.at += 1
+        if self.token.text not in (';', '}', ''):
+            self.expression()
+        self.why('There is no `return`: `exit;` ends the process or the thread.')
+        return self.end('exit')

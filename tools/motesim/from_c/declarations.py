@@ -1,0 +1,205 @@
+"""Declarations of C and Contiki, as the notation writes them."""
+from __future__ import annotations
+
+import re
+
+from motesim.from_c.expressions import NO_ARRAYS, NO_FIELDS, QUALIFIERS, TYPES, NoCounterpart, number_of
+from motesim.from_c.lines import Lines
+from motesim.from_c.scope import allowed
+
+# The order of declarations, in a `code` and above it.
+ORDER = ('event', 'semaphore', 'process', 'autostart', 'receiver', 'var', 'etimer', 'ctimer', 'thread')
+CALLBACK = ('There are no functions. What a callback timer calls is its own block: `ctimer c { .. }` at the head of '
+            '`code`; other steps go into a `thread`, which is run by `spawn`.')
+MOST_MEMBERS = 8
+NO_PLACE = 'Variables are declared at the head of `code`, before its timers, threads and `body`: `var %s = 0;`.'
+
+
+class Declarations(Lines):
+    """Reads declarations."""
+
+    def in_order(self, found: list[str]) -> list[str]:
+        """Declarations in the order in which they have to be."""
+        words = [it.split(' ', 1)[0] for it in found]
+        if not (self.place.is_head or self.place.is_top) or any(it not in ORDER for it in words):
+            return found
+        ordered = [it for _, it in sorted(zip(words, found), key=lambda it: ORDER.index(it[0]))]
+        if ordered != found:
+            self.why('Declarations are in this order: `%s`.' % '`, `'.join(
+                ORDER[:5] if self.place.is_top else (*ORDER[5:], 'onpoll', 'onexit', 'body')))
+        return ordered
+
+    def directive(self, line: str) -> str:
+        """A line for the preprocessor."""
+        defined = re.fullmatch(r'#\s*define\s+([A-Za-z_]\w*)\s+\(?\s*(-?\w+)\s*\)?\s*', line)
+        if not defined:
+            self.why('There is nothing to include, and no preprocessor: the notation is all there.')
+            return ''
+        value = number_of(defined[2])
+        if value is None:
+            raise NoCounterpart('There are no constants: a variable that nothing assigns serves, `var period = 40;`.')
+        self.why('There are no constants: a variable that nothing assigns serves.')
+        return self.declared(defined[1].lower(), str(value % 65_536))
+
+    def declared(self, name: str, value: str) -> str:
+        if self.place.is_top:
+            self.why('Variables belong to one process: `var %s = %s;` is at the head of its `code`.' % (allowed(name), value))
+            return ''
+        if not self.place.is_head:
+            return self.declared_above(name, value)
+        return 'var %s = %s;' % (self.new_name(name), value)
+
+    def declared_above(self, name: str, value: str) -> str:
+        """A variable that is declared among statements."""
+        if not self.place.head:
+            raise NoCounterpart(NO_PLACE % allowed(name))
+        self.why('Variables are declared at the head of `code`, before its timers, threads and `body`.')
+        found = self.new_name(name)
+        if found not in self.place.variables:
+            self.declares.append('var %s = 0;' % found)
+        return '%s = %s;' % (found, value)
+
+    def declaration(self) -> str:
+        words = []
+        while self.token.text in TYPES | QUALIFIERS or self.token.text in ('struct', 'var', '*'):
+            words.append(self.token.text)
+            self.at += 1
+        kind = self.token.text
+        if 'struct' in words and kind in ('etimer', 'ctimer', 'timer', 'stimer', 'rtimer', 'pt_sem', 'pt'):
+            return self.of_struct(kind)
+        if 'struct' in words:
+            raise NoCounterpart(NO_FIELDS)
+        if self.ahead(1).text == '(':
+            return self.of_function()
+        if 'process_event_t' in words:
+            return self.of_names('event', '%s')
+        if words != ['var']:
+            self.why('A variable has 16 bits and no type.')
+        return self.variables()
+
+    def variables(self) -> str:
+        """Variables with what they begin with."""
+        found = []
+        while True:
+            name = self.token.text
+            self.at += 1
+            if self.token.text == '[':
+                return self.of_array(name)
+            if self.accept('='):
+                value = self.beginning()
+            else:
+                self.why('A variable begins with a number.')
+                value = '0'
+            found.append(self.declared(name, value))
+            if not self.accept(','):
+                break
+            self.why('Each variable has a line of its own.')
+        self.end('')
+        return ' '.join(found)
+
+    def of_array(self, name: str) -> str:
+        """An array, by a variable for each of its members if they are few."""
+        self.need('[')
+        count = number_of(self.token.text) or 0
+        self.at += 1
+        if self.accept(']') != ']' or not 0 < count <= MOST_MEMBERS or self.token.text not in (';', ''):
+            raise NoCounterpart(NO_ARRAYS)
+        self.why(NO_ARRAYS)
+        return ' '.join([self.declared(name, '0'), *(self.declared('%s%d' % (name, it), '0') for it in range(1, count))])
+
+    def of_function(self) -> str:
+        """A function: a thread, without parameters."""
+        name = allowed(self.token.text)
+        self.at += 2
+        while self.token.kind != 'end' and not self.accept(')'):
+            self.at += 1
+        if not self.place.is_head or not self.accept('{') or self.token.kind != 'end':
+            raise NoCounterpart(CALLBACK)
+        self.why('There are no functions: a `thread` serves as one, without parameters, and `spawn %s;` runs it. What a '
+                 'callback timer calls is its own block, `ctimer c { .. }`.' % name)
+        return 'thread %s {' % name
+
+    def beginning(self) -> str:
+        """The number with which a variable begins."""
+        node = self.expression()
+        if node.kind == 'unary' and node.text == '-' and node.parts[0].kind == 'number':
+            self.why('There are no numbers below 0: values have 16 bits, and 65535 is one less than 0.')
+            return str(-(number_of(node.parts[0].text) or 0) % 65_536)
+        value = self.writer.text(node)
+        if not value.isdecimal() and not self.place.is_head and not self.place.is_top:
+            return value
+        if not value.isdecimal():
+            raise NoCounterpart('A variable begins with a number: begin with 0, and assign at the start of `body`.')
+        return value
+
+    def of_struct(self, kind: str) -> str:
+        self.at += 1
+        if kind == 'pt_sem':
+            self.why('A semaphore is declared above `process`, with its count.')
+            return self.of_names('semaphore', '%s = 0')
+        if kind == 'pt':
+            raise NoCounterpart('A protothread needs no structure: `thread NAME { .. }` declares it, `spawn NAME;` runs '
+                                'it.')
+        if kind == 'ctimer':
+            return self.of_callback()
+        if kind == 'rtimer':
+            raise NoCounterpart('There are no real-time timers: an event timer, `etimer %s;`, posts an event when it is due, '
+                                'and a callback timer, `ctimer %s { .. }`, runs its block.' % ((self.token.text,) * 2))
+        self.why('An event timer is declared by `etimer`.')
+        return self.of_names('etimer', '%s')
+
+    def of_callback(self) -> str:
+        """A callback timer without its block."""
+        name = self.new_name(self.token.text)
+        self.at += 1
+        self.end('')
+        self.why('A callback timer has a block, which runs when the timer is due: `ctimer %s { .. }`.' % name)
+        return 'ctimer %s { %s}' % (name, 'poll %s; ' % self.place.code if self.place.code else '')
+
+    def of_names(self, word: str, form: str) -> str:
+        """Names with commas between them, each declared by a line of its own."""
+        found = []
+        while True:
+            found.append('%s %s;' % (word, form % self.new_name(self.token.text)))
+            self.at += 1
+            if not self.accept(','):
+                break
+        self.end('')
+        return ' '.join(found)
+
+    def kept(self) -> str:
+        """A declaration of the notation, as it is: up to its semicolon, or its brace."""
+        words = [self.ahead(at).text for at in range(3)]
+        if words[0] in ('etimer', 'event') and words[2] == ',' and self.accept(words[0]):
+            self.why('Each name is declared on its own.')
+            return self.of_names(words[0], '%s')
+        if words[0] == 'ctimer' and words[2] == ';' and self.accept('ctimer'):
+            return self.of_callback()
+        if words[0] == 'receiver' and words[2] == ',':
+            self.at += 3
+            self.why('One process receives packets: it may `post` them to others.')
+            while self.token.kind != 'end' and not self.accept(';'):
+                self.at += 1
+            return 'receiver %s;' % words[1]
+        if words[0] == 'semaphore' and words[2] == ';':
+            self.at += 3
+            self.why('A semaphore begins with its count.')
+            return 'semaphore %s = 0;' % words[1]
+        found = []
+        while self.token.kind != 'end':
+            if self.token.text == '(' and words[0] in ('thread', 'code', 'onpoll', 'onexit', 'body'):
+                self.why('`%s` has no parameters.' % words[0])
+                while self.token.kind != 'end' and not self.accept(')'):
+                    self.at += 1
+                continue
+            found.append(self.token.text)
+            self.at += 1
+            if found[-1] in (';', '{'):
+                break
+        else:
+            found.append(';')
+            self.why('A declaration ends with `;`.')
+        if words[0] == 'code' and found[-1] == '{':
+            self.place = self.place._replace(is_head=True, is_top=False, code=words[1])
+        text = ' '.join(found)
+        return text.replace(' ,', ',').replace(' ;', ';')

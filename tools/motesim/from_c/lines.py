@@ -1,0 +1,76 @@
+"""Lines of C and Contiki: what all their statements share."""
+from __future__ import annotations
+
+from motesim.from_c.expressions import ONE_TOO_MANY, READ_ONLY, Expressions, NoCounterpart, Node, Writer
+from motesim.from_c.places import Place
+from motesim.from_c.scope import Scope, allowed
+from motesim.from_c.tokens import tokens_of
+
+
+class Lines(Expressions):
+    """Reads lines, and collects what they are in the notation."""
+
+    def __init__(self, text: str, scope: Scope, place: Place = Place(), end: str = ''):
+        """`end` is written for `PROCESS_END`: nothing, or a brace if `PROCESS_BEGIN` became one."""
+        super().__init__([it for it in tokens_of(text) if it.kind != 'comment'], scope)
+        self.comments = [it.text for it in tokens_of(text) if it.kind == 'comment']
+        self.place, self.writer = place, Writer(scope)
+        # Whether a block continues below these lines, and whether a header without its brace opens one.
+        self.is_cut = self.opens = False
+        self.end_of_process = end
+        # Declarations that belong to the head of the code.
+        self.declares: list[str] = []
+
+    def why(self, reason: str) -> None:
+        self.writer.why(reason)
+
+    def end(self, statement: str) -> str:
+        """A statement with its semicolon."""
+        while self.accept(')'):
+            self.why(ONE_TOO_MANY)
+        if not self.accept(';'):
+            if self.token.kind not in ('end',) and self.token.text != '}':
+                raise NoCounterpart
+            last = self.ahead(-1).text if self.at else ''
+            self.why('A statement ends with `;`: one is missing after `%s`.' % last if last else 'A statement ends with `;`.')
+        return statement + ';'
+
+    def value(self) -> str:
+        return self.writer.text(self.expression())
+
+    def stepped(self, name: str, sign: str) -> str:
+        """A variable that is one more, or one less."""
+        found = self.variable(name)
+        self.why('There is no `%s`.' % sign)
+        return '%s = (%s %s 1)' % (found, found, sign[0])
+
+    def variable(self, name: str) -> str:
+        """A variable that is assigned."""
+        if name in READ_ONLY:
+            raise NoCounterpart('`%s` can only be read. Assign to a variable of your own, such as `x = %s;`, which is declared '
+                                'by `var x = 0;` at the head of the `code`.' % (name, name))
+        if self.scope.kinds.get(name) == 'semaphore':
+            raise NoCounterpart('A semaphore is no variable: `signal %s;` adds one to its count, and `acquire %s;` waits '
+                                'until it is above 0 and takes one.' % (name, name))
+        return self.writer.text(Node('name', name))
+
+    def target(self) -> Node:
+        """A name, with `&` or without, that isn't called."""
+        self.accept('&')
+        return self.primary()
+
+    def new_name(self, name: str) -> str:
+        """A name that is declared."""
+        found = allowed(name)
+        if found != name.lower():
+            self.why('`%s` is a word of the notation, so the name is another.' % name if found.startswith('my_') else
+                     'A name has at most 16 characters.')
+        return found
+
+    def statement(self) -> str:
+        """A statement."""
+        raise NotImplementedError
+
+    def assignment(self) -> str:
+        """An assignment."""
+        raise NotImplementedError
