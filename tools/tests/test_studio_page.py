@@ -247,6 +247,41 @@ class Page(unittest.TestCase):
         self.assertEqual(self.value('m.differs.first.at'), 20)
         self.assertEqual(self.value('text'), NET)
 
+    def test_separators_change_the_width_of_the_text_and_the_height_of_the_lanes(self):
+        self.open()
+        sizes = '["write", "panes", "more"].map(id => document.getElementById(id).getBoundingClientRect()).map(' \
+                'it => [it.width, it.height])'
+        before = self.value(sizes)
+        for name, x, y in ('split-text', 150, 0), ('split-more', 0, -60):
+            left, top = self.value('(({x, y, width, height}) => [x + width / 2, y + height / 2])('
+                                   'document.getElementById("%s").getBoundingClientRect())' % name)
+            self.browser.drag(left, top, left + x, top + y)
+        after = self.value(sizes)
+        for grown in (after[0][0] - before[0][0], before[1][0] - after[1][0]):
+            self.assertAlmostEqual(grown, 150, delta=4)
+        for grown in (after[2][1] - before[2][1], before[1][1] - after[1][1]):
+            self.assertAlmostEqual(grown, 60, delta=4)
+        self.assertEqual(self.value('[pane.canvas.clientWidth, pane.width]'), [int(after[1][0])] * 2)
+        self.value('document.getElementById("split-text").focus()')
+        self.browser.key('ArrowRight', number=39)
+        self.assertAlmostEqual(self.value(sizes)[0][0], after[0][0] + 12, delta=4)
+
+    def test_the_comment_of_a_scenario_is_its_guide(self):
+        self.open()
+        self.assertEqual(self.value('document.querySelector("#guide pre.comment").textContent'),
+                         'Two motes hear each other, and one stands apart.')
+
+    def test_a_run_with_a_fault_leaves_no_difference(self):
+        """Back at the text nothing has changed, so nothing is marked as changed."""
+        self.open()
+        self.value('document.getElementById("faults-search").click()')
+        self.wait('m.faults.found')
+        self.value('document.querySelector("#faults-found td button").click()')
+        self.wait('m.differs.first && document.getElementById("notice").innerText.includes("run with a fault")')
+        self.value('document.querySelector("#notice button").click()')
+        self.wait('m.studio.judged === m.studio.number && !m.differs.first')
+        self.assertIn('The same report as that of the run before', self.shown('change'))
+
     def test_what_is_hardly_meant_is_warned_of(self):
         self.open()
         self.assertIn('Warning: the timer `beat` is never set.', self.shown('warnings'))

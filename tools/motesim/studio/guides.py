@@ -1,7 +1,8 @@
-"""What to look at in an example and what to try: from the comment above it and from docs/use/EXAMPLES.md."""
+"""The guide of a scenario: what to look at and what to try, from its comment and from docs/use/EXAMPLES.md."""
 from __future__ import annotations
 
 import re
+from itertools import takewhile
 from pathlib import Path
 from typing import Any
 
@@ -11,13 +12,20 @@ PAGE = TOP / 'docs/use/EXAMPLES.md'
 LINK = re.compile(r'\[([^]]*)\]\([^)]*\)')
 
 
+def head_of(text: str) -> list[str]:
+    """The lines of the comment at the head of a scenario."""
+    return [row.lstrip('#') for row in takewhile(lambda it: it.startswith('#'), text.split('\n'))]
+
+
+def comment(text: str) -> list[dict[str, Any]]:
+    """The guide of a scenario that is no example: the comment at its head, as it is written."""
+    rows = [row.removeprefix(' ').rstrip() for row in head_of(text)]
+    return [{'kind': 'comment', 'text': '\n'.join(rows)}] if rows else []
+
+
 def comment_of(text: str) -> list[str]:
     """The paragraphs of the comment at the head of a scenario."""
-    rows = []
-    for row in text.split('\n'):
-        if not row.startswith('#'):
-            break
-        rows.append(row.lstrip('#').strip())
+    rows = [row.strip() for row in head_of(text)]
     return [it for it in re.split(r'\s*(?=Look at:)|\n\n', ' '.join(rows).strip()) if it]
 
 
@@ -65,13 +73,13 @@ def blocks(rows: list[str]) -> list[dict[str, Any]]:
 
 
 def shows(page: str, name: str) -> str:
-    """What the table of small examples says of one."""
+    """What an example shows, from the table of small examples."""
     found = re.search(r'^\| `%s` \| (.*?) \|$' % re.escape(name), page, re.M)
     return found[1] if found else ''
 
 
 def guide(name: str, text: str, page: Path = PAGE) -> list[dict[str, Any]]:
-    """What stands beside an example."""
+    """The guide of an example."""
     try:
         source = page.read_text(encoding='utf-8')
     except OSError:
@@ -87,7 +95,7 @@ def guide(name: str, text: str, page: Path = PAGE) -> list[dict[str, Any]]:
 
 
 def title(name: str, page: Path = PAGE) -> str:
-    """One line on an example, for the list."""
+    """A line about an example, for the list."""
     try:
         source = page.read_text(encoding='utf-8')
     except OSError:

@@ -87,11 +87,12 @@ class Session:
         """A document for the page, with its guide and the changes that its expectations name."""
         expected = self.desk.expectations(it.where, it.name) if it.stamp else None
         return as_json({'document': it._asdict(), 'may_save': self.desk.may_save(it._asdict()),
-                     'guide': guides.guide(it.name, it.text) if it.where == 'example' or self.is_example(it) else [],
+                     'guide': guides.guide(it.name, it.text) if self.is_example(it) else guides.comment(it.text),
                      'changes': answers.changes_of(expected), 'expects': expected[0] if expected else None})
 
     def is_example(self, it: Document) -> bool:
-        return self.desk.folder == self.desk.examples and it.name in self.desk.names('example')
+        here = it.where == 'example' or self.desk.folder == self.desk.examples
+        return here and it.name in self.desk.names('example')
 
     def begin(self, asked: dict[str, Any]) -> Answered:
         """What the page shows when it opens."""

@@ -1,26 +1,12 @@
 // Warnings, the sentences that hold or don't, and the sums of a run.
-import {chooseLine, chooseMote} from '../../timeline/page/details.js';
 import {byId, element, makeButton, table} from '../../timeline/page/dom.js';
-import {SMALL_LANE} from '../../timeline/page/layout.js';
 import {showSeries} from '../../timeline/page/plots.js';
 import {panes} from '../../timeline/page/stage.js';
 import {count} from '../../timeline/page/words.js';
+import {chooseRow} from './rows.js';
 import {reactions} from './running.js';
 import {studio} from './state.js';
 import {labelTab, showTab} from './tabs.js';
-
-/** Selects a row of the report: a line of a trace, a mote by its head, or the send of a packet. */
-function chooseRow(row) {
-  const pane = panes[0], {run} = pane, found = run.atRow(row);
-  if (!found) return;
-  if (found.packet !== undefined) {
-    if (run.sendLine[found.packet] >= 0) chooseLine(pane, run.sendLine[found.packet], true);
-    return;
-  }
-  if (found.line < 0) return chooseMote(pane, found.mote, true);
-  if (pane.lane < SMALL_LANE) pane.zoomLanes(20 / pane.lane);
-  chooseLine(pane, found.line, true);
-}
 
 /** Shows warnings about what is legal but probably not meant. A click leads to its place. */
 function showWarnings(warnings) {

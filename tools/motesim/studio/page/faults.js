@@ -149,7 +149,7 @@ async function showText(text, words) {
   say('shown', words, [['Back to the text', () => {
     unpin();
     runNow();
-  }], ['Take it over into the text', () => {
+  }], ['Replace my text with it', () => {
     unsay('shown');
     unpin();
     studio.editor.replace(studio.editor.text, text);

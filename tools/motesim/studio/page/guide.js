@@ -38,10 +38,13 @@ export function showGuide({document: {name}, guide, changes}) {
   const box = byId('guide'), kinds = {look: 'Look at', task: 'Try'};
   const parts = [element('h2', name)];
   const looks = guide.filter(it => it.kind === 'look' || it.kind === 'task');
-  if (!guide.length) {
+  if (guide.every(it => it.kind === 'comment')) {
     parts.push(marked('p', 'The run follows the text while you type. The effect of your last change is shown above ' +
       'the lanes. On the map, drag a mote, or click a line between two. Under Steps you go through the run event by ' +
       'event.'));
+  }
+  for (const it of guide.filter(one => one.kind === 'comment')) {
+    parts.push(Object.assign(element('pre', it.text), {className: 'comment'}));
   }
   if (changes.length) {
     parts.push(element('h3', 'Changes with one click'));
@@ -56,7 +59,7 @@ export function showGuide({document: {name}, guide, changes}) {
     parts.push(element('h3', 'More changes'));
     for (const change of changes.slice(3)) parts.push(tryItem(change));
   }
-  const rest = guide.filter(it => !looks.includes(it));
+  const rest = guide.filter(it => !looks.includes(it) && it.kind !== 'comment');
   if (rest.length) parts.push(element('h3', 'The protocol'));
   for (const it of rest) {
     parts.push(it.kind === 'code' ? element('pre', '', [element('code', it.text)]) : marked('p', it.text));

@@ -8,7 +8,6 @@ import {listen, showInstead, showRuns, whole} from '../../timeline/page/main.js'
 import {setNow} from '../../timeline/page/play.js';
 import {collect} from '../../timeline/page/search.js';
 import {page, panes} from '../../timeline/page/stage.js';
-import {count} from '../../timeline/page/words.js';
 import {Lost, Refused, ask, attempt} from './link.js';
 import {say, showState, unsay} from './notices.js';
 import {studio} from './state.js';
@@ -45,8 +44,8 @@ export async function runNow(other) {
   noFault();
   showRun(run, answer);
   if (changedAt && changedAt === studio.changedAt) noteLatency(performance.now() - changedAt);
-  showState('good', `${count(run.rows, 'line')} of report`);
-  await judge(answer.number);
+  showState('good', 'up to date');
+  await judge(answer.number, isOther);
 }
 
 /** Keeps the last times from a key to the lanes. */
@@ -82,12 +81,13 @@ function showRun(run, answer) {
 }
 
 /** Asks for the results of a run, and for its differences from the run before. */
-async function judge(number) {
+async function judge(number, isOther) {
   const {where, name} = studio.document, against = studio.pinned || studio.before;
   const results = await attempt(() => ask('judge', {number, against, is_pinned: Boolean(studio.pinned), where, name,
     saved: studio.saved}));
   if (!results || results.gone || number !== studio.number) return;
-  studio.before = number;
+  // (the text's own runs are compared with one another)
+  if (!isOther) studio.before = number;
   for (const react of reactions.judged) react(results, against);
   studio.judged = number;
 }

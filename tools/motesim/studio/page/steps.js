@@ -115,13 +115,14 @@ export function beginSteps() {
     placeholder: 'mote 3 prints'});
   stop.addEventListener('keydown', event => { if (event.key === 'Enter') runToStop(event.shiftKey ? -1 : 1); });
   const label = Object.assign(element('label', 'Stop when'), {htmlFor: 'stop-at'});
+  const stops = element('span', '', [label, stop, button('‹', 'Back to the stop before', () => runToStop(-1)),
+    button('On ›', 'On to the next stop', () => runToStop(1))]);
+  stops.className = 'pair';
   bar.append(button('« moment', 'The moment before', () => stepMoment(-1)),
     button('‹ event', 'The line before', () => stepLine(-1)), button('event ›', 'The next line', () => stepLine(1)),
     button('moment »', 'The next moment', () => stepMoment(1)),
     button('‹ call', 'The start of the call before', () => stepCall(-1)),
-    button('call ›', 'The start of the next call', () => stepCall(1)), of, label, stop,
-    button('‹', 'Back to the stop before', () => runToStop(-1)),
-    button('On ›', 'On to the next stop', () => runToStop(1)),
+    button('call ›', 'The start of the next call', () => stepCall(1)), of, stops,
     Object.assign(element('output'), {id: 'stopped'}));
   box.append(bar, Object.assign(element('p'), {id: 'step-at'}), Object.assign(element('div'), {id: 'cards'}));
   const note = Object.assign(element('p', 'Variables, waits, timers and the queue come from a replay of the mote, ' +

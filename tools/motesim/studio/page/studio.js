@@ -1,7 +1,7 @@
 // The studio: the text is run when no key was pressed for a while, and its run is shown.
 import {byId} from '../../timeline/page/dom.js';
 import {readColours} from '../../timeline/page/forms.js';
-import {room} from '../../timeline/page/main.js';
+import {refit, room} from '../../timeline/page/main.js';
 import {chosen, page} from '../../timeline/page/stage.js';
 import {beginChecks} from './checks.js';
 import {beginDifferences, differs} from './difference.js';
@@ -14,6 +14,7 @@ import {beginLog} from './log.js';
 import {beginMotes, ground} from './motes.js';
 import {showState} from './notices.js';
 import {pin, runNow} from './running.js';
+import {beginSplits} from './split.js';
 import {isDirty, studio} from './state.js';
 import {states} from './states.js';
 import {beginSteps, steps} from './steps.js';
@@ -79,6 +80,10 @@ async function beginStudio() {
   beginChecks();
   beginMotes();
   beginButtons();
+  beginSplits(() => {
+    refit();
+    studio.editor.refresh();
+  });
   watchChosen();
   connection.back = () => runNow();
   const began = await ask('begin', {});

@@ -4,6 +4,7 @@ import {byId, element, lineButton} from '../../timeline/page/dom.js';
 import {panes} from '../../timeline/page/stage.js';
 import {sayWhy, showChain, source} from '../../timeline/page/why.js';
 import {Lost, Refused, ask} from './link.js';
+import {chooseRow} from './rows.js';
 import {studio} from './state.js';
 import {showTab} from './tabs.js';
 
@@ -38,16 +39,14 @@ async function answerWhy() {
     showChain(pane, hops, answer.about || (answer.holds ? '' : 'The sentence does not hold.'));
     return chooseLine(pane, Math.max(0, hops[0].line), true);
   }
-  const items = answer.motes.flatMap(({mote, misses}) => misses.map(it => missButton(pane, mote, it)));
+  const items = answer.motes.flatMap(({mote, misses}) => misses.map(it => missButton(mote, it)));
   sayWhy(`${answer.about}. What came near:`, items);
 }
 
-/** Something that came near, as a button if a line of a trace shows it. */
-function missButton(pane, mote, {words, line: row}) {
-  const found = row ? pane.run.atRow(row) : null, text = `mote ${mote}: ${words}`;
-  const isInTrace = found && found.packet === undefined && found.line >= 0;
-  if (!isInTrace) return element('span', row ? `${text} (line ${row})` : text);
-  return lineButton(`line ${row}`, text, '', false, () => chooseLine(pane, found.line, true));
+/** Something that came near, as a button if a row of the report shows it. */
+function missButton(mote, {words, line: row}) {
+  const text = `mote ${mote}: ${words}`;
+  return row ? lineButton(`line ${row}`, text, '', false, () => chooseRow(row)) : element('span', text);
 }
 
 /** Lets the server find causes from now on. */

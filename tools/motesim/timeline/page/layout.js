@@ -124,6 +124,8 @@ export class Layout {
     const top = this.laneTop(mote), bottom = top + this.lane;
     if (top < AXIS + 4) this.top -= AXIS + 40 - top;
     else if (bottom > this.height - 4) this.top += bottom - this.height + 40;
+    // (no half of the first head)
+    if (this.top > 0 && this.top < HEAD && bottom + this.top < this.height) this.top = 0;
     this.keep();
   }
 

@@ -203,6 +203,12 @@ function listenTo(pane) {
   canvas.addEventListener('pointercancel', () => { held = null; });
 }
 
+/** Fits everything to the window, and draws it. */
+export function refit() {
+  resize();
+  drawAll();
+}
+
 /** Reacts to mouse, keys and buttons. */
 export function listen() {
   document.addEventListener('keydown', onKey);
@@ -221,10 +227,6 @@ export function listen() {
     setNow(Number(event.target.value) || 0);
     followNow();
   });
-  const refit = () => {
-    resize();
-    drawAll();
-  };
   new ResizeObserver(refit).observe(document.querySelector('main'));
   window.addEventListener('resize', refit);
   window.matchMedia('(prefers-color-scheme: dark)').addEventListener('change', recolour);
