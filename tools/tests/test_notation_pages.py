@@ -1,0 +1,104 @@
+"""The pages on the notation: what their tables call an error is one, and what they call right is."""
+import re
+import unittest
+
+from here import TOP
+from motesim.notation.faults import find_fault
+from motesim.notation.grammar import RESERVED
+
+PROGRAM = """event e;
+semaphore s = 0;
+process p, q;
+autostart p, q;
+receiver p;
+code p {
+  var x = 0;
+  var y = 0;
+  etimer t;
+  thread f {
+    y = (y + 1);
+  }
+  body {
+    %s
+  }
+}
+code q { body { } }
+"""
+PAGES = ('NOTATION.md', 'QUICK.md')
+# What the letters of a table mean in a program: an expression, and names.
+LETTERS = {'e': '(x + 1)', 'E': 'e', 'P': 'q', 'T': 't', 'S': 's', 'THREAD': 'f', 'a': 'x', 'b': 'y'}
+
+
+def page(name: str) -> str:
+    return (TOP / 'docs/use' / name).read_text()
+
+
+def cells(text: str, head: str) -> list[list[str]]:
+    """The rows of the tables with this head."""
+    found = []
+    for table in re.findall(r'^%s\n\|---\|---\|\n((?:\|.*\n)*)' % re.escape(head), text, re.M):
+        found += [re.split(r'(?<!\\)\|', row)[1:-1] for row in table.splitlines()]
+    return found
+
+
+def programs(cell: str) -> list[str]:
+    """The lines of programs in a cell."""
+    return [it.replace('\\|', '|') for it in re.findall('`([^`]*[;}])`', cell)]
+
+
+def in_words(form: str) -> str:
+    """A form of a table as a program has it."""
+    return re.sub(r'\b[A-Za-z_]+\b', lambda it: LETTERS.get(it[0], it[0]), form)
+
+
+class Tables(unittest.TestCase):
+    def test_what_is_not_so_is_refused_and_what_is_written_instead_is_right(self) -> None:
+        for name in PAGES:
+            rows = cells(page(name), '| Not | But |')
+            self.assertGreater(len(rows), 6)
+            for wrong, right in rows:
+                for line in programs(wrong):
+                    with self.subTest(wrong=line):
+                        self.assertIsNotNone(find_fault(PROGRAM % line))
+                self.assertTrue(programs(right), right)
+                for line in programs(right):
+                    with self.subTest(right=line):
+                        self.assertIsNone(find_fault(PROGRAM % line))
+
+    def test_the_statements_and_expressions_of_the_quick_reference(self) -> None:
+        statements = [it for row in cells(page('QUICK.md'), '| Statement | What it does |') for it in programs(row[0])]
+        self.assertEqual(len(statements), 25)
+        for form in statements:
+            with self.subTest(form):
+                self.assertIsNone(find_fault(PROGRAM % in_words(form)))
+        for row in cells(page('QUICK.md'), '| Expression | Value |'):
+            for form in re.findall('`([^`]*)`', row[0]):
+                with self.subTest(form):
+                    self.assertIsNone(find_fault(PROGRAM % ('x = %s;' % in_words(form))))
+
+    def test_which_events_are_posted(self) -> None:
+        for event in ('msg', 'com', 'continue', 'packet', 'exit', 'e'):
+            for form in ('post q %s 1;', 'synch q %s 1;', 'broadcast %s 1;', 'x = is(%s);'):
+                with self.subTest(form % event):
+                    refused = event == 'exit' and form.startswith('broadcast')
+                    self.assertEqual(find_fault(PROGRAM % (form % event)) is not None, refused)
+        for event in ('init', 'poll', 'timer', 'exited'):
+            self.assertIsNotNone(find_fault(PROGRAM % ('post q %s 1;' % event)))
+            self.assertIsNone(find_fault(PROGRAM % ('x = is(%s);' % event)))
+
+    def test_the_order_of_declarations(self) -> None:
+        lines = PROGRAM.split('\n')
+        for number in (0, 1, 2, 3, 6, 7):
+            swapped = lines[:number] + [lines[number + 1], lines[number]] + lines[number + 2:]
+            with self.subTest(lines[number]):
+                is_free = {lines[number].split()[0]} == {lines[number + 1].split()[0]}
+                self.assertEqual(find_fault('\n'.join(swapped) % '') is None, is_free)
+
+    def test_the_reserved_words(self) -> None:
+        listed = re.search(r'no name may be one of them: `([^`]*)`', page('NOTATION.md'))
+        assert listed
+        self.assertEqual(set(listed[1].split()), RESERVED)
+
+
+if __name__ == '__main__':
+    unittest.main()
