@@ -11,6 +11,7 @@ from pathlib import Path
 from unittest import mock
 
 from here import TOP
+from motesim.commands import explain as command
 from motesim.explain import explanation as explain
 from motesim.explain import missing
 from motesim.notation import faults as program_faults
@@ -305,7 +306,7 @@ class Command(unittest.TestCase):
                 with mock.patch.dict(os.environ, MOTESIM=str(program)), contextlib.redirect_stdout(said):
                     with mock.patch.object(sys, 'argv', ['explain', str(scenario)]):
                         with self.assertRaises(SystemExit) as end:
-                            explain.main()
+                            command.main()
                 self.assertEqual(end.exception.code, status)
                 self.assertTrue(said.getvalue().startswith(begin), said.getvalue())
 

@@ -8,6 +8,7 @@ from pathlib import Path
 from unittest import mock
 
 from here import TOP
+from motesim.commands import explain as command
 from motesim.explain import explanation as explain
 from motesim.explain import hints
 from motesim.explain.advice import advice
@@ -180,7 +181,7 @@ class Warnings(unittest.TestCase):
             path = Path(folder) / 'a.toml'
             path.write_text(text, encoding='utf-8')
             with mock.patch.object(sys, 'argv', ['explain', str(path)]), self.assertRaises(SystemExit) as ended:
-                explain.main()
+                command.main()
         self.assertEqual(ended.exception.code, 0)
         self.assertIn('Warning: no process starts at boot', said.getvalue())
         self.assertIn('line 1 of program source', said.getvalue())

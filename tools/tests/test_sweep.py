@@ -1,4 +1,6 @@
 """Sweeps: what is measured, what the rows say, what is run again, faults, Ctrl-C, and a Dask cluster."""
+from __future__ import annotations
+
 import csv
 import gc
 import os
@@ -9,11 +11,14 @@ import sys
 import tempfile
 import time
 import unittest
+from collections.abc import Callable, Iterator
 from pathlib import Path
+from types import SimpleNamespace
+from typing import Any, cast
 from unittest import mock
 
 from here import TOOLS
-from motesim.experiments import packages
+from motesim.experiments import packages, runs
 from motesim.faults import Fault
 from motesim.experiments.measures import Bench, Cell, MeasureFault, read_measure
 from motesim.experiments.one_run import run_job
@@ -430,6 +435,98 @@ class DaskTest(Bed):
             cluster.stdin.close()
             cluster.wait(60)
             cluster.stdout.close()
+
+
+class Future:
+    """A task of a cluster that does it when its result is asked for."""
+
+    def __init__(self, work: Callable[[list[runs.Job]], list[runs.Result]], jobs: list[runs.Job]) -> None:
+        self.work, self.jobs = work, jobs
+
+    def result(self) -> list[runs.Result]:
+        return self.work(self.jobs)
+
+
+class Cluster:
+    """A stand-in for Dask's package, its client and a cluster of so many workers, which may do nothing."""
+
+    def __init__(self, workers: int, is_busy: bool = False) -> None:
+        self.workers, self.is_busy = workers, is_busy
+        self.tasks: list[Future] = []
+        self.cancelled: list[Future] = []
+        self.is_closed = False
+
+    def Client(self, address: str, timeout: float) -> Cluster:
+        return self
+
+    def wait_for_workers(self, count: int, timeout: float) -> None:
+        if self.workers < count:
+            raise TimeoutError
+
+    def upload_file(self, path: str) -> None:
+        pass
+
+    def scheduler_info(self) -> dict[str, dict[str, None]]:
+        return {'workers': {str(it): None for it in range(self.workers)}}
+
+    def submit(self, work: Callable[[list[runs.Job]], list[runs.Result]], jobs: list[runs.Job], pure: bool) -> Future:
+        self.tasks.append(Future(work, jobs))
+        return self.tasks[-1]
+
+    def wait(self, futures: list[Future], timeout: float, return_when: str) -> SimpleNamespace:
+        if self.is_busy:
+            os.kill(os.getpid(), signal.SIGINT)
+            raise TimeoutError
+        return SimpleNamespace(done={futures[0]})
+
+    def cancel(self, futures: list[Future]) -> None:
+        self.cancelled += futures
+
+    def close(self) -> None:
+        self.is_closed = True
+
+
+class JobsAhead(unittest.TestCase):
+    """How many jobs a sweep makes before they are run."""
+
+    def jobs(self, count: int) -> Iterator[runs.Job]:
+        for place in range(count):
+            self.made += 1
+            yield runs.Job(place, (), (), cast(Any, None))
+
+    def setUp(self) -> None:
+        self.made = 0
+        done = mock.patch.object(runs, 'run_job', lambda job: runs.Result(job.place, {}, '', '', ''))
+        done.start()
+        self.addCleanup(done.stop)
+
+    def by(self, cluster: Cluster, count: int) -> Iterator[runs.Result]:
+        with mock.patch.object(packages, 'load', return_value=cluster):
+            yield from runs.run_by_dask(self.jobs(count), count, 'tcp://there')
+
+    def test_processes_here_are_given_jobs_as_they_begin(self) -> None:
+        results = runs.run_here(self.jobs(10_000), 2, 60)
+        next(results)
+        self.assertLess(self.made, 500)
+        results.close()
+
+    def test_a_cluster_is_given_few_jobs_ahead_and_many_runs_in_a_task(self) -> None:
+        cluster = Cluster(2)
+        results = self.by(cluster, 10_000)
+        next(results)
+        self.assertLess(self.made, 500)
+        places = [0, *(result.place for result in results)]
+        self.assertEqual((sorted(places), len(cluster.tasks), cluster.is_closed), (list(range(10_000)), 200, True))
+
+    def test_ctrl_c_ends_a_sweep_whose_cluster_does_nothing(self) -> None:
+        cluster = Cluster(1, is_busy=True)
+        with self.assertRaises(runs.Stopped):
+            list(self.by(cluster, 100))
+        self.assertEqual((len(cluster.cancelled), cluster.is_closed), (runs.TASKS_AHEAD, True))
+
+    def test_a_cluster_without_workers_is_reported(self) -> None:
+        with self.assertRaisesRegex(runs.Fault, 'has no workers'):
+            list(self.by(Cluster(0), 5))
 
 
 if __name__ == '__main__':

@@ -1,20 +1,19 @@
-"""Says which sentences hold of a scenario's report: tools/expect SCENARIO [EXPECTATIONS]
+"""Checks which sentences hold for a run of a scenario: tools/expect SCENARIO [EXPECTATIONS]
 
-The expectations are a TOML file; where none is named, NAME.expect.toml beside the scenario NAME.toml. It holds
+The expectations are a TOML file; if none is named, NAME.expect.toml next to the scenario NAME.toml. It contains
 sentences:
 
     expect = ["mote 6 prints flood 1 by 60", "no mote halts", "every mote but 0 receives at least 3"]
 
-The program is run on the scenario. Each sentence has a line that says whether it holds, and, where it doesn't, the
-first line of the report that breaks it. docs/use/EXPECTATIONS.md has all forms of sentences. Ends with a line
-`N passed, M failed`, and with status 0 where all hold, 1 where one is broken, and 2 where nothing could be said: a
-sentence or a file that can't be read, or a program that isn't built (the environment variable MOTESIM names another).
+The scenario is run. Each sentence gets a line that says whether it holds, and, if it doesn't, the first line of the
+report that breaks it. docs/use/EXPECTATIONS.md has all forms of sentences. The last line is `N passed, M failed`. Ends
+with status 0 if all sentences hold, 1 if one is broken, and 2 if there is no result: a sentence or a file can't be
+read, or the program isn't built (the environment variable MOTESIM names another one).
 """
 from __future__ import annotations
 
 from pathlib import Path
 
-from motesim.judge.expectations import beside, expect
 from motesim.faults import Fault, command
 from motesim.words import words_of
 
@@ -23,8 +22,9 @@ from motesim.words import words_of
 def main() -> int:
     words = words_of(__doc__)
     words.add_argument('scenario', metavar='SCENARIO', help='a scenario, NAME.toml')
-    words.add_argument('expectations', nargs='?', metavar='EXPECTATIONS', help='else NAME.expect.toml beside it')
+    words.add_argument('expectations', nargs='?', metavar='EXPECTATIONS', help='else NAME.expect.toml next to it')
     asked = words.parse_args()
+    from motesim.judge.expectations import beside, expect
     scenario = Path(asked.scenario)
     expectations = Path(asked.expectations) if asked.expectations else beside(scenario)
     if not asked.expectations and scenario.exists() and not expectations.exists():

@@ -2,64 +2,16 @@
 
   tools/scenario net.plan.toml -o net.toml
   tools/scenario net.plan.toml --set period=20 --set seed=3 | ./run
-  tools/scenario --from net.toml -o net.plan.toml            the other way: a plan, with files beside it
+  tools/scenario --from net.toml -o net.plan.toml            the other way: a plan, with files next to it
 
-Without -o the scenario goes to standard output. The same plan, files and parameters give the same bytes anywhere.
-docs/use/EXPERIMENTS.md has all that a plan may say. Ends with status 0, or with 2 where the plan, or a file beside it,
-has a fault, whose place is shown.
+Without -o the scenario is written to standard output. The same plan, files and parameters always make the same bytes.
+docs/use/EXPERIMENTS.md describes plans. Ends with status 0, or with 2 if the plan, or a file next to it, has an error,
+whose place is shown.
 """
 from __future__ import annotations
 
-import sys
-from collections.abc import Sequence
-from pathlib import Path
-
-from motesim.scenario import faults as scenario_faults
-from motesim.faults import Fault, command
-from motesim.files import write_whole
-from motesim.output import beside
-from motesim.plan.from_scenario import write_plan
-from motesim.plan.plan import Plan
-from motesim.plan.tables import Value, value_of_text
-from motesim.runner.run import read_file
-from motesim.scenario import Scenario
+from motesim.faults import command
 from motesim.words import words_of
-
-
-def given_of(words: Sequence[str]) -> dict[str, Value]:
-    """The parameters of words as `period=20`."""
-    given: dict[str, Value] = {}
-    for word in words:
-        name, sign, value = word.partition('=')
-        if not sign or not name:
-            raise Fault('--set takes NAME=VALUE, and not %r' % word)
-        given[name] = value_of_text(value)
-    return given
-
-
-def checked(text: str) -> str:
-    """The text; where motesim would refuse it, a fault."""
-    fault = scenario_faults.find_fault(text.encode())
-    if fault:
-        place = fault.place(text)
-        raise Fault('the plan has no fault, but the scenario that it makes has: %s, line %d\n  %s' % (
-            fault.told, place.line, text.split('\n')[place.line - 1]))
-    return text
-
-
-def write_from(source: str, output: str | None) -> int:
-    """Writes the plan of a scenario."""
-    data = read_file(source)
-    fault = scenario_faults.find_fault(data)
-    if fault:
-        raise Fault('%s has a fault: motesim: %s (tools/explain says more)' % (source, fault.told))
-    name = 'net' if source == '-' else Path(source).stem
-    plan = Path(output) if output else beside(source, name + '.plan.toml')
-    if plan.suffix != '.toml':
-        raise Fault('%s: the name of a plan ends in .toml' % plan)
-    for path in write_plan(Scenario.parse(data), source, plan):
-        print(path)
-    return 0
 
 
 @command('scenario')
@@ -67,20 +19,12 @@ def main() -> int:
     words = words_of(__doc__)
     words.add_argument('plan', metavar='PLAN', nargs='?', help='a plan, a TOML file')
     words.add_argument('--from', dest='source', metavar='SCENARIO', help='write a plan that makes this scenario')
-    words.add_argument('--set', action='append', default=[], metavar='NAME=VALUE', help='another value of a parameter')
-    words.add_argument('-o', dest='output', metavar='FILE', help='the scenario to write, else standard output; with --from the plan')
+    words.add_argument('--set', action='append', default=[], metavar='NAME=VALUE',
+                       help='change the value of a parameter')
+    words.add_argument('-o', dest='output', metavar='FILE',
+                       help='the scenario to write, else standard output; with --from the plan')
     asked = words.parse_args()
     if (asked.plan is None) == (asked.source is None) or asked.source and asked.set:
         words.error('name a PLAN, or a scenario with --from')
-    if asked.source:
-        return write_from(asked.source, asked.output)
-    text = checked(Plan.read(asked.plan).scenario(given_of(asked.set)))
-    if not asked.output:
-        sys.stdout.write(text)
-        return 0
-    try:
-        write_whole(asked.output, [text.encode('utf-8')])
-    except OSError as fault:
-        raise Fault('%s: %s' % (asked.output, fault.strerror)) from None
-    print(asked.output)
-    return 0
+    from motesim.plan.written import status_of
+    return status_of(asked)

@@ -1,26 +1,17 @@
-"""Says whether two reports are the same, and else where they part first: tools/compare A B [--rows N] [--html FILE]
-
-A and B are files with reports, or with scenarios, which are run. The first difference is the one at the least
-moment, not the one on the least line. It is shown with the mote, the moment, the line of each side, and the last
-packets and events of that mote before. Of two scenarios it says in what they differ. Then come the first collision
-that only one of the two has, and how many lines differ, by mote and by kind. `--html FILE` writes a page with both
-timelines above one another.
-
-Ends with status 0 where the reports are the same, 1 where they differ, and 2 where one can't be read.
-"""
+"""Where two reports diverge first, and how many of their lines differ. tools/compare is the command."""
 from __future__ import annotations
 
+import argparse
 from collections import Counter
 from collections.abc import Iterator, Sequence
 from typing import Any, NamedTuple
 
 from motesim.comparison import scenarios as scenario_differences
 from motesim.comparison.columns import MEDIUM, Both
-from motesim.faults import Fault, command
+from motesim.faults import Fault
 from motesim.report import FIELDS, KINDS, Line, Packet, Report
 from motesim.runner.run import Run, read_run
 from motesim.timeline.html import write_page
-from motesim.words import words_of
 
 LETTERS = 'AB'
 PACKETS_BEFORE, EVENTS_BEFORE = 3, 4
@@ -296,14 +287,8 @@ def write_html(path: str, a: Run, b: Run, first: Difference | None) -> None:
     write_page(path, '%s and %s' % (a.name, b.name), [a, b], first.at if first else None, mote)
 
 
-@command('compare')
-def main() -> int:
-    words = words_of(__doc__)
-    words.add_argument('a', metavar='A', help='a report, or a scenario')
-    words.add_argument('b', metavar='B', help='another')
-    words.add_argument('--rows', type=int, default=20, metavar='N', help='at most so many motes in the table (20)')
-    words.add_argument('--html', metavar='FILE', help='write both timelines to this page, which opens where they part')
-    asked = words.parse_args()
+def status_of(asked: argparse.Namespace) -> int:
+    """Does what tools/compare is asked for."""
     if asked.a == asked.b == '-':
         raise Fault('A and B can\'t both be standard input: one of them is a file')
     a, b = read_run(asked.a), read_run(asked.b)
@@ -312,4 +297,3 @@ def main() -> int:
         write_html(asked.html, a, b, first)
     print('\n'.join(lines))
     return 0 if is_same else 1
-

@@ -1,22 +1,4 @@
-"""Shows a measure of a sweep: tools/plot RESULTS --measure NAME --against NAME
-
-  tools/plot net.csv --measure ratio --against period                        a table: medians with quartiles
-  tools/plot net.csv --measure ratio --against period --show mean            means with confidence intervals
-  tools/plot net.csv --measure ratio --against motes --by period --show mean --threshold 0.9 -o ratio.pdf
-  tools/plot net.csv --measure delay --against sent                          a measure on either axis
-  tools/plot net.csv --measure delay --by period --show cdf -o delay.svg
-  tools/plot a.csv --compare b.csv --measure ratio --against period          run by run, both with the same parameters
-  tools/plot net.csv --plan net.plan.toml                                    what the plan's `plot` says
-
-RESULTS is what tools/sweep wrote. Each point stands for the runs that differ in the other parameters, as the seed.
---show says what is shown of them: median (with quartiles), mean (with an interval by --interval t or bootstrap), points
-(all runs), cdf (which part of the runs has at most so much) or heat (a map of --against and --by). --where seed=3 takes
-only some of the runs. A picture is SVG, PDF or PNG, as its name says, and the table behind it is put beside it, as
-NAME.table.csv. Pictures need matplotlib (on Debian: apt-get install python3-matplotlib); without it there is a table,
-and a line that says so. docs/use/EXPERIMENTS.md shows all of it at work.
-
-Ends with status 0, with 1 where there is a table in place of a picture, or with 2 where there is nothing to show.
-"""
+"""Shows the measures of a sweep in tables and pictures. tools/plot is the command."""
 from __future__ import annotations
 
 import argparse
@@ -26,16 +8,16 @@ from pathlib import Path
 
 from motesim.analysis import drawing, text
 from motesim.analysis.drawing import FORMATS
-from motesim.analysis.estimates import MEANS, quartiles as quartiles
+from motesim.analysis.estimates import MEANS
+from motesim.analysis.estimates import quartiles as quartiles
 from motesim.analysis.paired import differences, pairs_of
 from motesim.analysis.points import SHOWS, Wish, measures_of, order, parameters_of, shown_of
 from motesim.experiments import packages
 from motesim.experiments.results import Row, cell, read_results
-from motesim.faults import Fault, command
+from motesim.faults import Fault
 from motesim.plan.plan import Plan
 from motesim.plan.tables import Tables, needed, optional
 from motesim.summary.counts import table
-from motesim.words import words_of
 
 PLOT = {'file': needed(str), 'measure': needed(str), 'against': optional(str, ''), 'by': optional(str, ''),
         'title': optional(str, ''), 'x': optional(str, ''), 'y': optional(str, ''), 'log': optional(bool, False),
@@ -167,34 +149,8 @@ def sides_of(asked: argparse.Namespace, rows: list[Row]) -> tuple[list[Row], lis
     return one, other, ('%s %s' % (name, sides[0]), '%s %s' % (name, sides[1])), [it for it in parameters if it != name]
 
 
-def arguments() -> argparse.Namespace:
-    words = words_of(__doc__)
-    words.add_argument('results', metavar='RESULTS', help='a file that tools/sweep wrote')
-    words.add_argument('--measure', metavar='NAME', help='what is shown')
-    words.add_argument('--against', metavar='NAME', help='the parameter, or the measure, from left to right')
-    words.add_argument('--by', metavar='NAME', help='a parameter with a line for each value')
-    words.add_argument('--show', choices=SHOWS, default='median', help='what is shown of the runs; else their median')
-    words.add_argument('--interval', choices=tuple(MEANS), default='t', help='how intervals of means are found; else t')
-    words.add_argument('--confidence', type=int, default=95, metavar='PERCENT', help='of the intervals; else 95')
-    words.add_argument('--threshold', metavar='VALUE', help='say where each mean crosses this value')
-    words.add_argument('--over', metavar='NAMES', help='with a measure to the right: the runs of a point differ in these '
-                       'parameters; else the seed')
-    words.add_argument('--compare', metavar='RESULTS', help='the other side of a comparison, run by run')
-    words.add_argument('--pair', metavar='NAME=ONE,OTHER', help='compare two values of a parameter, run by run')
-    words.add_argument('--where', action='append', default=[], metavar='NAME=VALUE', help='only runs with this value')
-    words.add_argument('--title', help='the words above the picture')
-    words.add_argument('--log', action='store_true', help='a step to the right doubles the parameter')
-    words.add_argument('--plan', metavar='PLAN', help="show what this plan's `plot` says")
-    words.add_argument('-o', dest='output', metavar='FILE', help='the picture, NAME.svg, NAME.pdf or NAME.png')
-    asked = words.parse_args()
-    if not 50 <= asked.confidence <= 99:
-        words.error('--confidence is 50 to 99')
-    return asked
-
-
-@command('plot')
-def main() -> int:
-    asked = arguments()
+def status_of(asked: argparse.Namespace) -> int:
+    """Does what tools/plot is asked for."""
     wanted = wishes(asked)
     if any(wish.file for wish in wanted):
         packages.hand_on('plot', 'matplotlib', sys.argv)

@@ -5,7 +5,8 @@ import signal
 import tempfile
 import threading
 import zipfile
-from collections.abc import Iterable, Iterator, Sequence
+from collections.abc import Iterable, Iterator
+from itertools import islice
 from pathlib import Path
 from types import FrameType
 from typing import Any
@@ -17,6 +18,8 @@ from motesim.runner.batch import run_each
 
 PACKAGE = Path(__file__).resolve().parents[1]
 DASK_SECONDS = 10
+# Seconds between two looks at Ctrl-C while a cluster works, and how many tasks each of its workers has at a time.
+DASK_TICK, TASKS_AHEAD = 1, 4
 # The most runs of a task of Dask.
 MOST_IN_TASK = 50
 # A job has a time for the run, and one for the measures. After so many times its time, and some seconds more, its process
@@ -80,14 +83,19 @@ def run_jobs(jobs: list[Job]) -> list[Result]:
     return [run_job(job) for job in jobs]
 
 
-def in_lists(jobs: Sequence[Job], length: int) -> list[list[Job]]:
-    return [list(jobs[begin:begin + length]) for begin in range(0, len(jobs), length)]
+def in_lists(jobs: Iterable[Job], length: int) -> Iterator[list[Job]]:
+    """The jobs in lists of this length, of which each is made when it is needed."""
+    left = iter(jobs)
+    while some := list(islice(left, length)):
+        yield some
 
 
-def run_by_dask(jobs: Sequence[Job], address: str) -> Iterator[Result]:
-    """The results of the jobs, as they come, by the workers of a Dask cluster."""
+def run_by_dask(jobs: Iterable[Job], count: int, address: str) -> Iterator[Result]:
+    """The results of so many jobs, as they come, by the workers of a Dask cluster.
+
+    No more jobs are made than the cluster has to do next. Ctrl-C ends it within a second, whatever the cluster does.
+    """
     distributed: Any = packages.load('distributed')
-    stop = threading.Event()
     try:
         client: Any = distributed.Client(address, timeout=DASK_SECONDS)
     except (OSError, TimeoutError, ValueError) as fault:
@@ -97,18 +105,33 @@ def run_by_dask(jobs: Sequence[Job], address: str) -> Iterator[Result]:
             client.wait_for_workers(1, timeout=DASK_SECONDS)
         except TimeoutError:
             raise Fault('the Dask scheduler at %s has no workers' % address) from None
-        with Break(stop), tempfile.TemporaryDirectory() as folder:
+        with Break() as stop, tempfile.TemporaryDirectory() as folder:
             client.upload_file(str(packed(Path(folder))))
             workers = max(1, len(client.scheduler_info()['workers']))
-            futures = client.map(run_jobs, in_lists(jobs, max(1, min(MOST_IN_TASK, len(jobs) // (8 * workers)))), pure=False)
-            for future in distributed.as_completed(futures):
-                yield from future.result()
-                if stop.is_set():
-                    client.cancel(futures)
-                    raise Stopped
+            lists = in_lists(jobs, max(1, min(MOST_IN_TASK, count // (8 * workers))))
+            yield from _results(distributed, client, lists, TASKS_AHEAD * workers, stop)
     except (Fault, Stopped):
         raise
     except Exception as fault:
         raise Fault('the Dask cluster at %s: %s: %s' % (address, type(fault).__name__, fault)) from None
     finally:
         client.close()
+
+
+def _results(distributed: Any, client: Any, lists: Iterator[list[Job]], ahead: int, stop: Break) -> Iterator[Result]:
+    """The results of all lists, of which the cluster has so many at a time."""
+    going: list[Any] = []
+    while True:
+        going += [client.submit(run_jobs, jobs, pure=False) for jobs in islice(lists, ahead - len(going))]
+        if not going:
+            return
+        try:
+            done = distributed.wait(going, timeout=DASK_TICK, return_when='FIRST_COMPLETED').done
+        except TimeoutError:
+            done = set()
+        for future in done:
+            going.remove(future)
+            yield from future.result()
+        if stop.is_asked:
+            client.cancel(going)
+            raise Stopped

@@ -1,31 +1,9 @@
-"""Runs a plan with many values of its parameters, and measures each run: tools/sweep PLAN
-
-  tools/sweep net.plan.toml --vary period=10,20,40 --vary seed=1..30 --measure sent --measure ratio -o net.csv
-
-A row for each combination goes into net.csv (CSV, or SQLite where the name ends in .sqlite), with what made it.
-Started again, it runs only what is missing. Ctrl-C keeps what is finished. A run with a fault is a row with the fault.
-What the plan's table `sweep` says needs no words here; --plot draws what its `plot` says.
-
-Values are 10,20,40 or 1..30 or 0..100..25 (in steps of 25). Measures are
-  sent, ratio, collided, ..     the columns of tools/summary, of the net; `sent of mote 3`
-  flow most: print sink         the columns of tools/summary --flow, of the net
-  holds: no mote halts          1 where a sentence of tools/expect holds, else 0
-  moment: every mote prints flood 1
-                                the first moment at which all of them have
-  last:, count:, motes:         the last moment, how many lines, how many motes
-  delay: mote 0 sends 1 -> every mote but 0 prints flood 1
-                                from one moment to the other
-  python: measures.py:energy    a function of a file of yours, beside the plan, which is given the run
-and `name = MEASURE` names its column.
-
-docs/use/EXPERIMENTS.md shows a sweep from its beginning to a plot. Ends with status 0, with 1 where a row has a fault,
-with 2 where nothing could be done, and with 130 after Ctrl-C.
-"""
+"""Runs a plan with many parameters, and keeps the measures. tools/sweep is the command."""
 from __future__ import annotations
 
+import argparse
 import contextlib
 import hashlib
-import os
 import subprocess
 import sys
 from collections.abc import Iterator, Mapping, Sequence
@@ -33,18 +11,17 @@ from pathlib import Path
 from typing import Any
 
 from motesim.experiments import packages
-from motesim.faults import INTERRUPTED, Fault, command
+from motesim.faults import INTERRUPTED, Fault
 from motesim.experiments.one_run import DIGITS, Job, Result, Work, program_digest
 from motesim.output import beside
 from motesim.plan.plan import Plan
 from motesim.plan.tables import Value, text_of_value, value_of_text
 from motesim.experiments.results import CsvFile, Row, SqliteFile, open_results, text_of
 from motesim.runner.run import TOP, program_path
-from motesim.experiments.asked import MOST_BYTES, MOST_SECONDS, Sweep, columns_of, known_names, sources_of, sweep_of
+from motesim.experiments.asked import Sweep, columns_of, known_names, sources_of, sweep_of
 from motesim.experiments.progress import Progress
 from motesim.experiments.runs import Stopped, run_by_dask, run_here
 from motesim.runner.versions import kit_version, program_version
-from motesim.words import words_of
 
 RowKey = tuple[str, ...]
 
@@ -126,7 +103,7 @@ class Sweeper:
         jobs = self.jobs(missing)
         progress = Progress(len(missing))
         if address and missing:
-            results = run_by_dask(list(jobs), address)
+            results = run_by_dask(jobs, len(missing), address)
         else:
             results = run_here(jobs, min(processes, len(missing)) or 1, self.sweep.seconds)
         try:
@@ -163,24 +140,8 @@ def said(sweeper: Sweeper, ran: int) -> int:
     return 1 if faults else 0
 
 
-@command('sweep')
-def main() -> int:
-    words = words_of(__doc__)
-    words.add_argument('plan', metavar='PLAN', help='a plan, a TOML file')
-    words.add_argument('--vary', action='append', default=[], metavar='NAME=VALUES', help='values of a parameter')
-    words.add_argument('--measure', action='append', default=[], metavar='MEASURE', help='what is measured of a run')
-    words.add_argument('-o', dest='output', metavar='FILE', help='the results; else NAME.csv, next to NAME.plan.toml')
-    words.add_argument('--jobs', type=int, default=os.cpu_count() or 1, metavar='N', help='how many runs at a time')
-    words.add_argument('--seconds', type=float, metavar='N', help='the limit of a run; else 60, or what the plan says')
-    words.add_argument('--bytes', type=int, default=MOST_BYTES, metavar='N',
-                       help='how long a report may be; else 200,000,000')
-    words.add_argument('--dask', metavar='ADDRESS', help='give the runs to the Dask scheduler there')
-    words.add_argument('--renew', action='store_true', help='run anew what another plan, program or measure made')
-    words.add_argument('--retry', action='store_true', help='run anew what has a fault')
-    words.add_argument('--plot', action='store_true', help="draw what the plan's `plot` says")
-    asked = words.parse_args()
-    if asked.jobs < 1 or asked.seconds is not None and not 0 < asked.seconds <= MOST_SECONDS:
-        words.error('--jobs is 1 or more, and --seconds more than 0')
+def status_of(asked: argparse.Namespace) -> int:
+    """Does what tools/sweep is asked for."""
     if asked.dask:
         packages.hand_on('sweep', 'distributed', sys.argv)
         packages.load('distributed')

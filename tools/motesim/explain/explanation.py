@@ -1,11 +1,4 @@
-"""Explains why a scenario has no report: tools/explain FILE
-
-Runs the program on the scenario. If it reports a fault, this shows that line, the line of the scenario or of the
-program's text with a mark under the word, the rule in plain words, what is allowed there, and, if it is known, a hint on
-what was meant, with the line as it should be. If the scenario has a report, this warns of what is legal and hardly meant.
-Ends with status 0 if the scenario has a report, 1 if a fault is explained, and 2 if the file can't be read or the program
-isn't built (the environment variable MOTESIM names another one).
-"""
+"""Explains why a scenario has no report, and warns of what is legal in one that has. tools/explain is the command."""
 from __future__ import annotations
 
 import re
@@ -18,14 +11,12 @@ from motesim.explain.repair import Repair, repair
 from motesim.notation import faults as program_faults
 from motesim.scenario import encodings
 from motesim.scenario import faults as scenario_faults
-from motesim.faults import command
 from motesim.explain.lint import Warned, warnings
 from motesim.report import Report
 from motesim.runner.run import Answer, answer, is_report, read_file
 from motesim.scenario import Scenario
 from motesim.scenario.faults import Place, ScenarioError
 from motesim.toml import NoToml, read_toml
-from motesim.words import words_of
 
 WIDTH = 112
 # (what a terminal would take for a command)
@@ -209,11 +200,8 @@ def all_warnings(name: str, data: bytes, report: bytes) -> list[str]:
     return lines
 
 
-@command('explain')
-def main() -> int:
-    words = words_of(__doc__)
-    words.add_argument('file', metavar='FILE', help='a scenario; - is standard input')
-    name = words.parse_args().file
+def explain(name: str) -> int:
+    """Prints what tools/explain says of a file; returns the status."""
     data = read_file(name)
     got = answer(data)
     line = told(got)
@@ -222,4 +210,3 @@ def main() -> int:
         return 0
     print('\n'.join([line, *explanation(name, data, line)]))
     return 1
-

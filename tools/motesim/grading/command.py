@@ -1,21 +1,4 @@
-"""Grades a folder of solutions: tools/grade FOLDER EXPECTATIONS [--net NET]
-
-  tools/grade answers task.expect.toml                                 each solution in the net of its own
-  tools/grade answers task.expect.toml --net task.toml                 its program alone, in your net
-  tools/grade answers task.expect.toml --net task.toml --net hidden.toml
-  tools/grade answers task.expect.toml --net task.plan.toml --vary seed=1..5
-
-A solution is a scenario NAME.toml, or with --net also a program NAME.mote. With --net only the text of the program
-named by --program is taken from it (or its only one), so that nobody gains by changing the net; a sentence holds if it
-holds in all nets. Each entry of the folder has a row, whatever it is, and none stops the others: each run has limits
-(--seconds, --memory, --report), and several run at once (--jobs).
-
-Tables `[[change]]` of EXPECTATIONS are not tried: they replace texts of one solution. -o writes marks into a file:
-NAME.csv for a spreadsheet, NAME.toml, or NAME.html, a page that links each first failed sentence to its timeline.
---why NAME shows what breaks the sentences in one solution.
-
-Ends with status 0, or with 2 if the sentences or the nets can't be read.
-"""
+"""Grades a folder of solutions by expectations. tools/grade is the command."""
 from __future__ import annotations
 
 import argparse
@@ -24,18 +7,16 @@ import sys
 from collections.abc import Sequence
 from pathlib import Path
 
-from motesim.faults import Fault, command
+from motesim.faults import Fault
 from motesim.grading import page, tables
 from motesim.grading.entries import Entry, entries_of, shown
 from motesim.grading.marking import Marks, Task
 from motesim.grading.nets import nets_of
 from motesim.judge.expectations import parts_of, read_all, text_of
 from motesim.judge.sentences import Names, names_of
-from motesim.runner import FOREIGN, Limits, program_path, run_each
-from motesim.words import words_of
+from motesim.runner import Limits, program_path, run_each
 
 MEGABYTE = 1 << 20
-FORMATS = ('.csv', '.toml', '.html')
 # Seconds that a solution may take beside its runs, for reading and judging reports.
 SPARE = 60
 
@@ -98,35 +79,8 @@ def pictures_of(path: Path) -> Path:
     return path.with_name(path.stem + '_runs')
 
 
-def arguments() -> argparse.Namespace:
-    words = words_of(__doc__)
-    words.add_argument('folder', metavar='FOLDER', type=Path, help='a folder with solutions')
-    words.add_argument('expectations', metavar='EXPECTATIONS', type=Path, help='a file of sentences, NAME.expect.toml')
-    words.add_argument('--net', action='append', default=[], metavar='NET', type=Path,
-                       help='run the programs in this net, a scenario or a plan; several may be named')
-    words.add_argument('--vary', action='append', default=[], metavar='NAME=VALUES', help='parameters of a plan')
-    words.add_argument('--program', metavar='NAME', help='the program that solutions have, if a net has several')
-    words.add_argument('--seconds', type=float, default=FOREIGN.seconds, help='the limit of a run; else 20')
-    words.add_argument('--memory', type=int, default=FOREIGN.memory // MEGABYTE, metavar='MEGABYTES',
-                       help='the limit of a run; else 1024')
-    words.add_argument('--report', type=int, default=16, metavar='MEGABYTES', help='how long a report may be; else 16')
-    words.add_argument('--jobs', type=int, metavar='N', help='how many run at once; else as many as processors')
-    words.add_argument('-o', dest='output', action='append', default=[], metavar='FILE', type=Path,
-                       help='write the marks: NAME.csv, NAME.toml or NAME.html')
-    words.add_argument('--csv', action='store_true', help='print the marks for a spreadsheet')
-    words.add_argument('--why', metavar='NAME', help='what breaks the sentences in one solution')
-    asked = words.parse_args()
-    if asked.seconds <= 0 or asked.memory < 1 or asked.report < 1 or (asked.jobs or 1) < 1:
-        words.error('limits and --jobs are greater than 0')
-    for path in asked.output:
-        if path.suffix not in FORMATS:
-            words.error('%s: a file of marks ends in .csv, .toml or .html' % path)
-    return asked
-
-
-@command('grade')
-def main() -> int:
-    asked = arguments()
+def status_of(asked: argparse.Namespace) -> int:
+    """Does what tools/grade is asked for."""
     program_path()
     pages = [path for path in asked.output if path.suffix == '.html']
     pictures = pictures_of(pages[0]) if pages else None

@@ -1,28 +1,4 @@
-"""Finds the faults that break what is expected of a scenario: tools/search SCENARIO [EXPECTATIONS]
-
-  tools/search examples/flooding.toml --faults links,motes --at-most 2
-
-All single faults are tried, then all pairs, up to --at-most. Each minimal set of faults that breaks an expectation is
-written as a scenario with its expectations, into the folder NAME.search or that of -o. The expectations are sentences
-of tools/expect; where no file is named, NAME.expect.toml beside the scenario NAME.toml.
-
-Kinds of faults, for --faults:
-  links        a link loses everything, in one direction
-  both-ways    a link loses everything, in both directions
-  every        a link loses each k-th packet (--every 2,3)
-  packets      a link loses a single packet
-  motes        a mote is silent: nobody hears what it sends
-  deaths       a mote fails at a moment (--moments 40,80)
-  late         a mote starts late (--moments 40,80)
-  collisions   packets that arrive together are lost
-  queues       the event queues are shorter (--queues 8,4,2,1)
-  values       range, base or per have other values (--set range=8..12)
-  places       a mote is at another place (--step 5)
-  parameters   of a plan, parameters have other values (--set period=10,20)
-
-docs/use/SEARCH.md begins with a protocol that looks right, and says what the result of a search means. Ends with status
-0 where all expectations hold in every run, 1 where one is broken, 2 where nothing could be said, and 130 after Ctrl-C.
-"""
+"""Searches for sets of faults that break expectations, and shows them. tools/search is the command."""
 from __future__ import annotations
 
 import argparse
@@ -34,7 +10,7 @@ from pathlib import Path
 from motesim.experiments import packages
 from motesim.experiments.asked import values_of
 from motesim.experiments.runs import Break
-from motesim.faults import INTERRUPTED, Fault, command
+from motesim.faults import INTERRUPTED, Fault
 from motesim.judge.expectations import beside, parts_of, read_all, text_of
 from motesim.judge.sentences import Names, Refused, Sentence, names_of
 from motesim.plan.plan import Plan
@@ -53,45 +29,8 @@ from motesim.search.shrink import Shrinking, case_of
 from motesim.search.shrink_command import sizes, write_result
 from motesim.search.study import check_studies
 from motesim.toml import NoToml, read_toml
-from motesim.words import words_of
 
 STATE = 'tried.txt'
-
-
-def arguments() -> argparse.ArgumentParser:
-    words = words_of(__doc__)
-    words.add_argument('scenario', nargs='?', metavar='SCENARIO', help='a scenario, NAME.toml, or a plan')
-    words.add_argument('expectations', nargs='?', metavar='EXPECTATIONS', help='else NAME.expect.toml beside it')
-    words.add_argument('--expect', action='append', default=[], metavar='SENTENCE',
-                       help='an expectation, in place of those of a file')
-    words.add_argument('--faults', default='links,motes', metavar='KINDS', help='which faults; else links,motes')
-    words.add_argument('--at-most', type=int, default=1, metavar='K', help='how many faults at once; else 1')
-    words.add_argument('--every', default='2', metavar='NUMBERS', help='of `every`: which packets are lost')
-    words.add_argument('--moments', metavar='NUMBERS', help='of `deaths` and `late`: when')
-    words.add_argument('--queues', default='8,4,2,1', metavar='NUMBERS', help='of `queues`: the lengths')
-    words.add_argument('--set', action='append', default=[], metavar='NAME=VALUES', help='of `values`')
-    words.add_argument('--step', type=int, default=0, metavar='N', help='of `places`: how far, else a quarter of range')
-    words.add_argument('--random', type=int, default=0, metavar='N', help='then N larger sets, drawn at random')
-    words.add_argument('--seed', type=int, default=1, metavar='S', help='what they are drawn with; else 1')
-    words.add_argument('--most-runs', type=int, metavar='N', help='end after so many runs')
-    words.add_argument('--most-seconds', type=float, metavar='N', help='end after so many seconds')
-    words.add_argument('--seconds', type=float, default=Limits().seconds, metavar='N',
-                       help='the limit of a run; else 10')
-    words.add_argument('--bytes', type=int, default=Limits().report, metavar='N',
-                       help='how long a report may be; else 16,000,000')
-    words.add_argument('--jobs', type=int, default=os.cpu_count() or 1, metavar='N', help='how many runs at a time')
-    words.add_argument('--dask', metavar='ADDRESS', help='give the runs to the Dask scheduler there')
-    words.add_argument('-o', dest='output', metavar='FOLDER', help='where files go; else NAME.search')
-    words.add_argument('--csv', metavar='FILE', help='write a table of what was found')
-    words.add_argument('--json', metavar='FILE', help='write all that was found, for another program; - for the output')
-    words.add_argument('--all', action='store_true', help='show all that was found, and not ten for each expectation')
-    words.add_argument('--shrink', action='store_true',
-                       help='make the first counter-example of each broken expectation as small as it gets')
-    words.add_argument('--progress', action='store_true', help='say how far it is in lines of JSON, on standard error')
-    words.add_argument('--studies', nargs='+', metavar='FILE',
-                       help='check that the searches of these files come out as they say')
-    words.add_argument('--resume', action='store_true', help='go on where the same search was stopped')
-    return words
 
 
 def numbers_of_words(words: str, name: str, least: int) -> tuple[int, ...]:
@@ -239,11 +178,6 @@ def checked(files: list[str], processes: int) -> int:
     passed, failed = (sum(column) for column in zip(*counts))
     print('%d passed, %d failed' % (passed, failed))
     return 1 if failed else 0
-
-
-@command('search')
-def main() -> int:
-    return status_of(arguments().parse_args())
 
 
 def status_of(words: argparse.Namespace) -> int:

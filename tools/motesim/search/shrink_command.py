@@ -1,23 +1,11 @@
-"""Makes a scenario that fails an expectation as small as it gets: tools/shrink SCENARIO [EXPECTATION]
-
-  tools/shrink flooding.search/flooding_silent_0.toml "mote 6 prints flood 1"
-
-Motes, losses, processes, statements, timers and constants are removed or made smaller, one step at a time, as long as
-the expectation is still broken in the same way; each step is checked by a run. A scenario may break an expectation for
-another reason once it is small. With --fault the expectation has to hold without the fault, and to be broken with it;
---keep names sentences that have to go on holding. Where motes get other numbers, sentences and faults follow. Where none is given, it is the first one of NAME.expect.toml, beside the scenario NAME.toml, that
-is broken.
-
-The result goes to NAME.small.toml, with its expectation beside it. It is one-minimal: no single step more is possible.
-docs/use/SEARCH.md shows it at work. Ends with status 0, with 2 where nothing could be made smaller, as where the
-scenario keeps the expectation, and with 130 after Ctrl-C, which writes what was reached.
-"""
+"""Makes a failing scenario as small as it gets, and writes it. tools/shrink is the command."""
 from __future__ import annotations
 
+import argparse
 from pathlib import Path
 
 from motesim.experiments.runs import Break
-from motesim.faults import INTERRUPTED, Fault, command
+from motesim.faults import INTERRUPTED, Fault
 from motesim.judge.expectations import beside, parts_of, read_all, text_of
 from motesim.judge.judge import Judge
 from motesim.judge.sentences import names_of
@@ -31,7 +19,6 @@ from motesim.search.net import net_of
 from motesim.search.one_program import Limits, OneProgram
 from motesim.search.shrink import Shrinking, case_of
 from motesim.search.smaller import statements_in
-from motesim.words import words_of
 
 
 def first_broken(base: Base, path: Path, program: OneProgram) -> str:
@@ -66,19 +53,8 @@ def write_result(shrinking: Shrinking, name: str, path: Path) -> None:
     write_whole(beside(path), 'expect = [\n%s]\n' % rows)
 
 
-@command('shrink')
-def main() -> int:
-    words = words_of(__doc__)
-    words.add_argument('scenario', metavar='SCENARIO', help='a scenario, NAME.toml')
-    words.add_argument('expectation', nargs='?', metavar='EXPECTATION', help='a sentence of tools/expect')
-    words.add_argument('-o', dest='output', metavar='FILE', help='the result; else NAME.small.toml')
-    words.add_argument('--keep', action='append', default=[], metavar='SENTENCE',
-                       help='what has to go on holding, so that what matters stays')
-    words.add_argument('--fault', action='append', default=[], metavar='FAULT',
-                       help='a fault that has to break it, as `lose 0 1 1`: without it the expectation has to hold')
-    words.add_argument('--steps', action='store_true', help='show each step')
-    words.add_argument('--seconds', type=float, default=Limits().seconds, metavar='N', help='the limit of a run')
-    asked = words.parse_args()
+def status_of(asked: argparse.Namespace) -> int:
+    """Does what tools/shrink is asked for."""
     path = Path(asked.scenario)
     base = Base(text_of(path), asked.scenario)
     program = OneProgram(str(program_path().resolve()), Limits(asked.seconds))

@@ -1,8 +1,4 @@
-"""Opens a page in which a protocol is written, run and seen at once: tools/studio [FILE.toml]
-
-The page is served on this machine alone. Without FILE it opens the first of the examples. Ctrl-C ends it.
-docs/use/STUDIO.md says what one can do there.
-"""
+"""Serves the studio until it is stopped. tools/studio is the command."""
 from __future__ import annotations
 
 import argparse
@@ -16,14 +12,13 @@ import webbrowser
 from collections.abc import Iterator
 from pathlib import Path
 
-from motesim.faults import Fault, command, in_words
+from motesim.faults import Fault, in_words
 from motesim.judge.expectations import text_of
 from motesim.runner.programs import program_path
 from motesim.studio.desk import Desk
 from motesim.studio.runs import Limits, Runs
 from motesim.studio.server import Server
 from motesim.studio.session import Session
-from motesim.words import words_of
 
 NO_EDITOR = "The editor isn't installed (Debian's package libjs-codemirror): the page has a plain text area instead."
 
@@ -56,13 +51,6 @@ def opened(address: str, wanted: bool) -> Iterator[None]:
         yield
 
 
-def positive(word: str) -> int:
-    number = int(word)
-    if number < 1:
-        raise argparse.ArgumentTypeError('%s is not at least 1' % word)
-    return number
-
-
 def serve(server: Server, is_open: bool) -> None:
     """Serves until Ctrl-C, which it leaves to its caller."""
     # (a terminal that is closed, and a polite request to end, end it as Ctrl-C does)
@@ -75,21 +63,8 @@ def serve(server: Server, is_open: bool) -> None:
         server.serve_forever(poll_interval=0.2)
 
 
-@command('studio')
-def main() -> int:
-    words = words_of(__doc__, 'tools/studio')
-    words.add_argument('file', nargs='?', metavar='FILE.toml', help='a scenario; where it is not there, a new one')
-    words.add_argument('--against', metavar='OTHER.toml',
-                       help='begin at the first difference from the run of this scenario')
-    words.add_argument('--no-open', action='store_true', help='print the address, and open no browser')
-    usual = Limits()
-    words.add_argument('--seconds', type=positive, default=usual.seconds, metavar='N',
-                       help='how long a run may take (%(default)s)')
-    words.add_argument('--memory', type=positive, default=usual.memory, metavar='N',
-                       help='how many megabytes of memory a run may take (%(default)s)')
-    words.add_argument('--report', type=positive, default=usual.output, metavar='N',
-                       help='how many megabytes of report a run may write (%(default)s)')
-    asked = words.parse_args()
+def status_of(asked: argparse.Namespace) -> int:
+    """Does what tools/studio is asked for."""
     # (the studio goes on for hours, other commands end soon)
     gc.enable()
     program_path()

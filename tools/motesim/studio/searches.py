@@ -22,8 +22,8 @@ from motesim.search.faults import KINDS
 from motesim.studio.runs import MEGABYTE, Limits
 
 TOOLS = Path(__file__).resolve().parent.parent.parent
-SEARCH = 'from motesim.search.command import main; main()'
-SHRINK = 'from motesim.search.shrink_command import main; main()'
+SEARCH = 'from motesim.commands.search import main; main()'
+SHRINK = 'from motesim.commands.shrink import main; main()'
 # (two kinds take values, which the page doesn't ask for)
 OF_PAGE = [kind for kind in KINDS if kind not in ('values', 'parameters')]
 MOST_FAULTS, NAME = 3, 'scenario.toml'

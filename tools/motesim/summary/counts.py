@@ -1,44 +1,4 @@
-"""Counts what a report tells, by mote, for the net, and by link: tools/summary REPORT [--scenario FILE]
-
-REPORT is a file with a report, or with a scenario, which is run; `-` is standard input. `--scenario FILE` names the
-scenario of a report: then links that carried nothing are shown too.
-
-Of a mote and of the net
-  sent      packets that it sent
-  copies    copies of packets that were on their way to it. What became of them:
-  received    it received them
-  lost        the medium lost them
-  ring        eight packets were waiting already
-  collided    they came together with others
-  halted      they came when it had halted
-  late        they would have come after the end
-  ratio     received of all copies that were not late
-  posted    events that its queue took
-  taken     events that reached a process; one for all processes counts at each
-  dropped   events whose process wasn't there
-  refused   events that found the queue full
-  prints    lines that it printed
-  halt      the moment at which it halted; of the net how many motes did
-Of a link
-  delay     after how many moments a packet arrives
-
-`--flow "print sink"` shows flows from end to end in place of these: each line `print sink V` is a delivery of the message
-V, which began with the first packet of that value, at the mote that sent it. `--flow "print source -> print sink"` has
-messages begin with a print. Of an origin, and of the net
-  sent      messages that began there
-  delivered those that came to another mote at least once, and ratio, their part
-  reached   to how many motes a message came, on average
-  copies    deliveries in all; duplicates are those to a mote that had the message already
-  hops      least hops to the motes reached, on average, where the scenario is known
-  least, middle, most   moments from a message's beginning to its first delivery at a mote
-
-`--by N` shows in place of these what happens in each N moments: docs/use/TOOLS.md has its columns.
-
-`--motes` and `--links` show one of the tables alone. `--csv` is for a spreadsheet: the table of motes with the net, or
-with `--links` that of links. `--json` has all of it, for programs.
-
-Ends with status 0, or with 2 where the report can't be read.
-"""
+"""Totals of a report by mote, for the net and by link. tools/summary is the command."""
 from __future__ import annotations
 
 import argparse
@@ -51,7 +11,7 @@ from itertools import repeat
 from operator import add, mul
 from typing import Any
 
-from motesim.faults import Fault, command
+from motesim.faults import Fault
 from motesim.summary.flows import NAMES as FLOW_NAMES
 from motesim.summary.flows import NAMES_BY, flow_rows, flow_rows_by, silent
 from motesim.report import KINDS, LOST, MOST_MOMENT, OUTCOMES, Report
@@ -60,7 +20,6 @@ from motesim.scenario import Scenario
 from motesim.why.series import NAMES as SERIES_NAMES
 from motesim.why.series import Series
 from motesim.why.source import read_traces, traces_of
-from motesim.words import words_of
 
 # A row of a table by its columns: numbers, names, or None where there is no value.
 Row = dict[str, Any]
@@ -227,23 +186,8 @@ def show_flow_series(asked: argparse.Namespace) -> int:
     return 0
 
 
-@command('summary')
-def main() -> int:
-    words = words_of(__doc__)
-    words.add_argument('report', metavar='REPORT', help='a report, or a scenario; - is standard input')
-    words.add_argument('--scenario', metavar='FILE', help="the report's scenario")
-    form = words.add_mutually_exclusive_group()
-    form.add_argument('--csv', action='store_true', help='for a spreadsheet')
-    form.add_argument('--json', action='store_true', help='for programs')
-    part = words.add_mutually_exclusive_group()
-    part.add_argument('--motes', action='store_true', help='the motes and the net alone')
-    part.add_argument('--links', action='store_true', help='the links alone')
-    part.add_argument('--flow', metavar='WORDS', help='flows from end to end, as "print sink"')
-    words.add_argument('--by', metavar='N', type=int,
-                       help='what happens in each N moments; with --flow, the messages that began in them')
-    asked = words.parse_args()
-    if asked.by is not None and (asked.motes or asked.links):
-        words.error('--by is for the whole net: it does not go with --motes or --links')
+def status_of(asked: argparse.Namespace) -> int:
+    """Does what tools/summary is asked for."""
     if asked.by is not None:
         return show_flow_series(asked) if asked.flow is not None else show_series(asked)
     run = read_run(asked.report, asked.scenario)
@@ -265,4 +209,3 @@ def main() -> int:
         if not asked.motes:
             print('\n'.join(table(links, of_links)) if links else 'no link carried anything')
     return 0
-

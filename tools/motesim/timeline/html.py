@@ -19,14 +19,11 @@ from collections.abc import Iterable, Sequence
 from pathlib import Path
 from typing import Any
 
-from motesim.faults import command
 from motesim.files import write_whole
-from motesim.output import beside
-from motesim.runner.run import Run, read_run
+from motesim.runner.run import Run
 from motesim.timeline.bundle import bundle
 from motesim.timeline.columns import data_of
 from motesim.why.pages import causes_of
-from motesim.words import words_of
 
 PAGE = Path(__file__).resolve().parent / 'page'
 # A place of the template that is filled.
@@ -73,21 +70,3 @@ def write_page(path: str | Path, title: str, runs: Sequence[Run], start: int | N
     """
     # (of a name that isn't UTF-8, other bytes are escaped)
     write_whole(path, (part.encode('utf-8', 'backslashreplace') for part in page_of(title, runs, start, mote)))
-
-
-@command('timeline')
-def main() -> int:
-    words = words_of('Makes an HTML page of a run: a map of the motes, and a lane for each over time.\n'
-                     'FILE holds a scenario, which is run, or a report.', 'timeline')
-    words.add_argument('file', metavar='FILE',
-                       help='a scenario or a report; - is standard input')
-    words.add_argument('--scenario', metavar='FILE', help='the scenario of a report: it has the places of the motes')
-    words.add_argument('-o', dest='page', metavar='PAGE',
-                       help='the page to write; else NAME.html, next to FILE')
-    words.add_argument('--title', help='the title of the page; else the name of the file')
-    asked = words.parse_args()
-    name = 'run' if asked.file == '-' else Path(asked.file).stem
-    page = asked.page or str(beside(asked.file, name + '.html'))
-    write_page(page, asked.title or name, [read_run(asked.file, asked.scenario)])
-    print(page)
-    return 0

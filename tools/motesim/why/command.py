@@ -5,7 +5,7 @@ import argparse
 import json
 import sys
 
-from motesim.faults import Fault, command
+from motesim.faults import Fault
 from motesim.runner.run import read_file
 from motesim.why.chain import Hop, as_json, chain, path_of, rows
 from motesim.why.diverge import diverged
@@ -21,12 +21,7 @@ from motesim.why.state import rows as state_rows
 from motesim.why.watch import Unwatched, read_watch, replayed, watch
 from motesim.why.watch import as_json as values_as_json
 from motesim.why.watch import rows as value_rows
-from motesim.words import words_of
 
-ABOUT = '''Says why a line of a report is there: the chain of its causes, back to the start of a mote.
-
-QUESTION is a sentence, as "mote 24 prints flood 2", or a line of the report: its number, as 24:977 or 977, or its mote
-and text, as "24:64 print flood 1".'''
 
 
 def short(hops: list[Hop]) -> list[Hop]:
@@ -112,22 +107,8 @@ def show_why(source: Source, asked: argparse.Namespace) -> int:
     return 0
 
 
-@command('why')
-def main() -> int:
-    words = words_of(ABOUT, 'why')
-    words.add_argument('file', metavar='FILE', help='a scenario, or a report; - is standard input')
-    words.add_argument('question', metavar='QUESTION', nargs='?', help='a sentence, or a line of the report')
-    words.add_argument('--scenario', metavar='FILE', help="the report's scenario")
-    words.add_argument('--other', metavar='FILE', help='a second run: shows where it leaves the chain of the first')
-    words.add_argument('--other-scenario', metavar='FILE', help='the scenario of a second report')
-    words.add_argument('--watch', metavar='WORD', nargs='+',
-                       help='shows the values of variables over time: --watch mote 3 newest, distance')
-    words.add_argument('--replay', action='store_true', help='takes the values from the replay, without added prints')
-    words.add_argument('--state', metavar='WORD', nargs='+',
-                       help='shows the state of a mote: --state mote 3 at 46, or after a line: --state 3:114')
-    words.add_argument('--json', action='store_true', help='for programs')
-    words.add_argument('--short', action='store_true', help='only the hops that took time')
-    asked = words.parse_args()
+def status_of(asked: argparse.Namespace) -> int:
+    """Does what tools/why is asked for."""
     if asked.json and asked.other is not None:
         raise Fault('--json and --other do not go together')
     given = [it for it in (asked.question, asked.watch, asked.state) if it is not None]

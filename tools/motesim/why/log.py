@@ -1,6 +1,7 @@
 """Shows the lines of all motes in one chronological log: docs/use/WHY.md."""
 from __future__ import annotations
 
+import argparse
 import json
 import re
 import sys
@@ -9,18 +10,13 @@ from collections import Counter
 from collections.abc import Iterator, Sequence
 from typing import NamedTuple
 
-from motesim.faults import Fault, command
+from motesim.faults import Fault
 from motesim.judge.judge import Span
 from motesim.judge.sentences import Copies, Does, Packets
 from motesim.report import FIELDS, MOST_MOMENT
 from motesim.why.question import Asker, within
 from motesim.why.source import At, Source, Traces, read_traces, traces_of
-from motesim.words import words_of
 
-ABOUT = '''Shows the lines of all motes in one chronological log.
-
-A line shows the moment, the mote, the line of the report, and what happened. SENTENCE, as "motes 3 to 7 print flood 2",
-leaves the lines that it is about; without one, all lines are shown that the options leave.'''
 # How many bytes are written at a time.
 PIECE = 1 << 20
 
@@ -263,25 +259,8 @@ def kinds_of(text: str | None) -> tuple[str, ...]:
     return kinds
 
 
-@command('log')
-def main() -> int:
-    words = words_of(ABOUT, 'log')
-    words.add_argument('file', metavar='FILE', help='a scenario, or a report; - is standard input')
-    words.add_argument('sentence', metavar='SENTENCE', nargs='?', help='leaves the lines that this sentence is about')
-    words.add_argument('--scenario', metavar='FILE', help="the report's scenario, if there is a sentence")
-    words.add_argument('--mote', metavar='LIST', help='leaves the lines of these motes, as 3,5-7')
-    words.add_argument('--kind', metavar='LIST', help='leaves the lines of these kinds, as send,recv')
-    words.add_argument('--process', metavar='NAME', help='leaves the lines that name this process')
-    words.add_argument('--value', metavar='N', type=int, help='leaves the lines with this value or word')
-    words.add_argument('--from', dest='first', metavar='MOMENT', type=int, default=0, help='leaves out what is earlier')
-    words.add_argument('--to', dest='last', metavar='MOMENT', type=int, help='leaves out what is later')
-    words.add_argument('--last-lines', metavar='N', type=int, help='shows only the last N lines')
-    words.add_argument('--first-lines', metavar='N', type=int, help='shows only the first N lines')
-    form = words.add_mutually_exclusive_group()
-    form.add_argument('--counts', action='store_true', help='shows how many lines there are, by mote and kind')
-    form.add_argument('--csv', action='store_true', help='for a spreadsheet')
-    form.add_argument('--json', action='store_true', help='for programs: an object for each line')
-    asked = words.parse_args()
+def status_of(asked: argparse.Namespace) -> int:
+    """Does what tools/log is asked for."""
     kinds = kinds_of(asked.kind)
     data, scenario = read_traces(asked.file, asked.scenario)
     traces = traces_of(asked.file, data)
@@ -307,4 +286,4 @@ def main() -> int:
     return 0
 
 
-__all__ = ['At', 'Filter', 'Log', 'filtered', 'main', 'of_sentence', 'sums']
+__all__ = ['At', 'Filter', 'Log', 'filtered', 'of_sentence', 'status_of', 'sums']

@@ -1,0 +1,27 @@
+"""Compares two reports, and shows where they diverge first: tools/compare A B [--rows N] [--html FILE]
+
+A and B are reports, or scenarios, which are run. The first difference is the one at the earliest moment, not the one
+on the first line. It is shown with the mote, the moment, the line of each side, and the last packets and events of
+that mote before it. Differences between two scenarios are listed too. Then come the first collision that only one of
+the two has, and how many lines differ, by mote and by kind. `--html FILE` writes a page with one timeline above the
+other.
+
+Ends with status 0 if the reports are the same, 1 if they differ, and 2 if one can't be read.
+"""
+from __future__ import annotations
+
+from motesim.faults import command
+from motesim.words import words_of
+
+
+@command('compare')
+def main() -> int:
+    words = words_of(__doc__)
+    words.add_argument('a', metavar='A', help='a report, or a scenario')
+    words.add_argument('b', metavar='B', help='another')
+    words.add_argument('--rows', type=int, default=20, metavar='N', help='how many motes the table has at most (20)')
+    words.add_argument('--html', metavar='FILE',
+                       help='write both timelines to this page, which opens at the first difference')
+    asked = words.parse_args()
+    from motesim.comparison.reports import status_of
+    return status_of(asked)

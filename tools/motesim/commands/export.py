@@ -1,0 +1,39 @@
+"""Writes a run for other programs, or a scenario as C: tools/export REPORT --to vcd|pcapng|perfetto|csv
+
+  tools/export net.toml --to vcd        net.vcd: waveforms of processes, event queues and radio (GTKWave)
+  tools/export net.toml --to pcapng     net.pcapng: packets and their copies (Wireshark)
+  tools/export net.toml --to perfetto   net.perfetto.json: a trace (ui.perfetto.dev)
+  tools/export net.toml --to csv        net.lines.csv, net.packets.csv, net.copies.csv (pandas, R)
+  tools/export net.toml --form contiki -o net_c         a folder of C files for a Contiki 2.x tree
+  tools/export net.toml --form contiki -o net_c --host  with a simulator in C that runs them here
+
+REPORT is a report, or a scenario, which is run. A moment counts as a millisecond. docs/use/EXPORTS.md describes the
+formats and how to open the files; docs/use/CONTIKI.md is about the C files. Ends with status 0, or with 2 if a file
+can't be read or written.
+"""
+from __future__ import annotations
+
+from motesim.faults import command
+from motesim.words import words_of
+
+# The forms of a run: those of motesim.export.command.
+FORMS = ('vcd', 'pcapng', 'perfetto', 'csv')
+
+
+@command('export')
+def main() -> int:
+    words = words_of(__doc__)
+    words.add_argument('report', metavar='REPORT', help='a report, or a scenario; - is standard input')
+    forms = words.add_mutually_exclusive_group(required=True)
+    forms.add_argument('--to', choices=FORMS, help='the form of a run')
+    forms.add_argument('--form', choices=['contiki'], help='the form of a scenario: C files for Contiki 2.x')
+    words.add_argument('-o', dest='output', metavar='FILE',
+                       help='the file to write: for CSV the beginning of the names, for C the folder; else named '
+                       'after REPORT')
+    words.add_argument('--host', action='store_true',
+                       help='with --form contiki: add a simulator in C that runs the files')
+    asked = words.parse_args()
+    if asked.host and not asked.form:
+        words.error('--host is for --form contiki')
+    from motesim.export.command import status_of
+    return status_of(asked)

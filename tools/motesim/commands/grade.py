@@ -1,0 +1,62 @@
+"""Grades a folder of solutions: tools/grade FOLDER EXPECTATIONS [--net NET]
+
+  tools/grade answers task.expect.toml                                 each solution in its own net
+  tools/grade answers task.expect.toml --net task.toml                 only its program, in your net
+  tools/grade answers task.expect.toml --net task.toml --net hidden.toml
+  tools/grade answers task.expect.toml --net task.plan.toml --vary seed=1..5
+
+A solution is a scenario NAME.toml, or with --net also a program NAME.mote. With --net only the text of the program
+that --program names (or the only one) is taken from it, so nobody gains by changing the net; a sentence holds if it
+holds in all nets. Each entry of the folder has a row, whatever it is, and none stops the others: each run has limits
+(--seconds, --memory, --report), and several run at once (--jobs).
+
+Tables `[[change]]` of EXPECTATIONS are not tried: they replace texts of one solution. -o writes the marks to a file:
+NAME.csv for a spreadsheet, NAME.toml, or NAME.html, a page that links each first failed sentence to its timeline.
+--why NAME shows what breaks the sentences in one solution.
+
+Ends with status 0, or with 2 if the sentences or the nets can't be read.
+"""
+from __future__ import annotations
+
+import argparse
+from pathlib import Path
+
+from motesim.faults import command
+from motesim.words import words_of
+
+FORMATS = ('.csv', '.toml', '.html')
+# The limits of a run: those of motesim.runner for scenarios of other people.
+SECONDS, MEGABYTES = 20.0, 1024
+
+
+def arguments() -> argparse.Namespace:
+    words = words_of(__doc__)
+    words.add_argument('folder', metavar='FOLDER', type=Path, help='a folder with solutions')
+    words.add_argument('expectations', metavar='EXPECTATIONS', type=Path, help='a file of sentences, NAME.expect.toml')
+    words.add_argument('--net', action='append', default=[], metavar='NET', type=Path,
+                       help='run the programs in this net, a scenario or a plan; several may be named')
+    words.add_argument('--vary', action='append', default=[], metavar='NAME=VALUES', help='parameters of a plan')
+    words.add_argument('--program', metavar='NAME', help='the program that solutions have, if a net has several')
+    words.add_argument('--seconds', type=float, default=SECONDS, help='the limit of a run; else 20')
+    words.add_argument('--memory', type=int, default=MEGABYTES, metavar='MEGABYTES',
+                       help='the limit of a run; else 1024')
+    words.add_argument('--report', type=int, default=16, metavar='MEGABYTES', help='how long a report may be; else 16')
+    words.add_argument('--jobs', type=int, metavar='N', help='how many run at once; else as many as processors')
+    words.add_argument('-o', dest='output', action='append', default=[], metavar='FILE', type=Path,
+                       help='write the marks: NAME.csv, NAME.toml or NAME.html')
+    words.add_argument('--csv', action='store_true', help='print the marks for a spreadsheet')
+    words.add_argument('--why', metavar='NAME', help='what breaks the sentences in one solution')
+    asked = words.parse_args()
+    if asked.seconds <= 0 or asked.memory < 1 or asked.report < 1 or (asked.jobs or 1) < 1:
+        words.error('limits and --jobs are greater than 0')
+    for path in asked.output:
+        if path.suffix not in FORMATS:
+            words.error('%s: a file of marks ends in .csv, .toml or .html' % path)
+    return asked
+
+
+@command('grade')
+def main() -> int:
+    asked = arguments()
+    from motesim.grading.command import status_of
+    return status_of(asked)

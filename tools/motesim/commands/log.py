@@ -1,0 +1,31 @@
+"""Shows the lines of all motes in one chronological log.
+
+A line shows the moment, the mote, the line of the report, and what happened. SENTENCE, such as "motes 3 to 7 print
+flood 2", selects the lines that it is about. Without it and without options all lines are shown."""
+from __future__ import annotations
+
+from motesim.faults import command
+from motesim.words import words_of
+
+
+@command('log')
+def main() -> int:
+    words = words_of(__doc__, 'log')
+    words.add_argument('file', metavar='FILE', help='a scenario, or a report; - is standard input')
+    words.add_argument('sentence', metavar='SENTENCE', nargs='?', help='shows the lines that this sentence is about')
+    words.add_argument('--scenario', metavar='FILE', help="the report's scenario, if there is a sentence")
+    words.add_argument('--mote', metavar='LIST', help='shows the lines of these motes, as 3,5-7')
+    words.add_argument('--kind', metavar='LIST', help='shows the lines of these kinds, as send,recv')
+    words.add_argument('--process', metavar='NAME', help='shows the lines that name this process')
+    words.add_argument('--value', metavar='N', type=int, help='shows the lines with this value or word')
+    words.add_argument('--from', dest='first', metavar='MOMENT', type=int, default=0, help='leaves out earlier lines')
+    words.add_argument('--to', dest='last', metavar='MOMENT', type=int, help='leaves out later lines')
+    words.add_argument('--last-lines', metavar='N', type=int, help='shows only the last N lines')
+    words.add_argument('--first-lines', metavar='N', type=int, help='shows only the first N lines')
+    form = words.add_mutually_exclusive_group()
+    form.add_argument('--counts', action='store_true', help='shows how many lines there are, by mote and kind')
+    form.add_argument('--csv', action='store_true', help='for a spreadsheet')
+    form.add_argument('--json', action='store_true', help='for programs: an object for each line')
+    asked = words.parse_args()
+    from motesim.why.log import status_of
+    return status_of(asked)

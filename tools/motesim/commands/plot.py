@@ -1,0 +1,61 @@
+"""Shows a measure of a sweep: tools/plot RESULTS --measure NAME --against NAME
+
+  tools/plot net.csv --measure ratio --against period                        a table: medians with quartiles
+  tools/plot net.csv --measure ratio --against period --show mean            means with confidence intervals
+  tools/plot net.csv --measure ratio --against motes --by period --show mean --threshold 0.9 -o ratio.pdf
+  tools/plot net.csv --measure delay --against sent                          a measure on either axis
+  tools/plot net.csv --measure delay --by period --show cdf -o delay.svg
+  tools/plot a.csv --compare b.csv --measure ratio --against period          run by run, both with the same parameters
+  tools/plot net.csv --plan net.plan.toml                                    what the plan's `plot` describes
+
+RESULTS is what tools/sweep wrote. Each point represents the runs that differ in the other parameters, such as the
+seed. --show selects what is shown of them: median (with quartiles), mean (with an interval by --interval t or
+bootstrap), points (all runs), cdf (which part of the runs has at most so much) or heat (a map of --against and --by).
+--where seed=3 selects some of the runs. A picture is SVG, PDF or PNG, by its name, and the table behind it is written
+next to it, as NAME.table.csv. Pictures need matplotlib (on Debian: apt-get install python3-matplotlib); without it
+there is a table, and a line that says so. docs/use/EXPERIMENTS.md shows all of it at work.
+
+Ends with status 0, with 1 if there is a table instead of a picture, or with 2 if there is nothing to show.
+"""
+from __future__ import annotations
+
+import argparse
+
+from motesim.faults import command
+from motesim.words import words_of
+
+# What can be shown of the runs, and how intervals are found, as motesim.analysis names them.
+SHOWS, MEANS = ('median', 'mean', 'points', 'cdf', 'heat'), ('t', 'bootstrap')
+
+
+def arguments() -> argparse.Namespace:
+    words = words_of(__doc__)
+    words.add_argument('results', metavar='RESULTS', help='a file that tools/sweep wrote')
+    words.add_argument('--measure', metavar='NAME', help='what is shown')
+    words.add_argument('--against', metavar='NAME', help='the parameter, or the measure, from left to right')
+    words.add_argument('--by', metavar='NAME', help='a parameter with a line for each value')
+    words.add_argument('--show', choices=SHOWS, default='median', help='what is shown of the runs (median)')
+    words.add_argument('--interval', choices=MEANS, default='t', help='how intervals of means are found (t)')
+    words.add_argument('--confidence', type=int, default=95, metavar='PERCENT', help='of the intervals (95)')
+    words.add_argument('--threshold', metavar='VALUE', help='report where each mean crosses this value')
+    words.add_argument('--over', metavar='NAMES',
+                       help='if --against names a measure: the parameters in which the runs of a point differ (seed)')
+    words.add_argument('--compare', metavar='RESULTS', help='the other side of a comparison, run by run')
+    words.add_argument('--pair', metavar='NAME=ONE,OTHER', help='compare two values of a parameter, run by run')
+    words.add_argument('--where', action='append', default=[], metavar='NAME=VALUE', help='only runs with this value')
+    words.add_argument('--title', help='the title of the picture')
+    words.add_argument('--log', action='store_true',
+                       help='a logarithmic axis: each step to the right doubles the parameter')
+    words.add_argument('--plan', metavar='PLAN', help="show what this plan's `plot` describes")
+    words.add_argument('-o', dest='output', metavar='FILE', help='the picture, NAME.svg, NAME.pdf or NAME.png')
+    asked = words.parse_args()
+    if not 50 <= asked.confidence <= 99:
+        words.error('--confidence is 50 to 99')
+    return asked
+
+
+@command('plot')
+def main() -> int:
+    asked = arguments()
+    from motesim.experiments.plot import status_of
+    return status_of(asked)

@@ -1,0 +1,82 @@
+"""Finds faults that break what is expected of a scenario: tools/search SCENARIO [EXPECTATIONS]
+
+  tools/search examples/flooding.toml --faults links,motes --at-most 2
+
+All single faults are tried, then all pairs, up to --at-most. Each minimal set of faults that breaks an expectation is
+written as a scenario with its expectations, into the folder NAME.search or that of -o. The expectations are sentences
+of tools/expect; if no file is named, those of NAME.expect.toml next to the scenario NAME.toml.
+
+Kinds of faults, for --faults:
+  links        a link loses everything, in one direction
+  both-ways    a link loses everything, in both directions
+  every        a link loses each k-th packet (--every 2,3)
+  packets      a link loses a single packet
+  motes        a mote is silent: nobody hears what it sends
+  deaths       a mote fails at a moment (--moments 40,80)
+  late         a mote starts late (--moments 40,80)
+  collisions   packets that arrive together are lost
+  queues       the event queues are shorter (--queues 8,4,2,1)
+  values       range, base or per have other values (--set range=8..12)
+  places       a mote is at another place (--step 5)
+  parameters   of a plan, parameters have other values (--set period=10,20)
+
+docs/use/SEARCH.md begins with a protocol that looks right, and explains what the result of a search means. Ends with
+status 0 if all expectations hold in every run, 1 if one is broken, 2 if there is no result, and 130 after Ctrl-C.
+"""
+from __future__ import annotations
+
+import argparse
+import os
+
+from motesim.faults import command
+from motesim.words import words_of
+
+# The limits of a run: those of motesim.search.one_program.
+SECONDS, BYTES = 10.0, 16_000_000
+
+
+def arguments() -> argparse.ArgumentParser:
+    words = words_of(__doc__)
+    words.add_argument('scenario', nargs='?', metavar='SCENARIO', help='a scenario, NAME.toml, or a plan')
+    words.add_argument('expectations', nargs='?', metavar='EXPECTATIONS', help='else NAME.expect.toml beside it')
+    words.add_argument('--expect', action='append', default=[], metavar='SENTENCE',
+                       help='an expectation, instead of those of a file')
+    words.add_argument('--faults', default='links,motes', metavar='KINDS', help='which faults (links,motes)')
+    words.add_argument('--at-most', type=int, default=1, metavar='K', help='how many faults at once (1)')
+    words.add_argument('--every', default='2', metavar='NUMBERS', help='for `every`: which packets are lost')
+    words.add_argument('--moments', metavar='NUMBERS', help='for `deaths` and `late`: when')
+    words.add_argument('--queues', default='8,4,2,1', metavar='NUMBERS', help='for `queues`: the lengths')
+    words.add_argument('--set', action='append', default=[], metavar='NAME=VALUES',
+                       help='for `values` and `parameters`')
+    words.add_argument('--step', type=int, default=0, metavar='N',
+                       help='for `places`: how far, else a quarter of the range')
+    words.add_argument('--random', type=int, default=0, metavar='N',
+                       help='afterwards try N larger sets, drawn at random')
+    words.add_argument('--seed', type=int, default=1, metavar='S', help='the seed with which they are drawn (1)')
+    words.add_argument('--most-runs', type=int, metavar='N', help='end after so many runs')
+    words.add_argument('--most-seconds', type=float, metavar='N', help='end after so many seconds')
+    words.add_argument('--seconds', type=float, default=SECONDS, metavar='N',
+                       help='the limit of a run (10)')
+    words.add_argument('--bytes', type=int, default=BYTES, metavar='N',
+                       help='how long a report may be (16,000,000)')
+    words.add_argument('--jobs', type=int, default=os.cpu_count() or 1, metavar='N', help='how many runs at a time')
+    words.add_argument('--dask', metavar='ADDRESS', help='give the runs to the Dask scheduler there')
+    words.add_argument('-o', dest='output', metavar='FOLDER', help='where files are written, else NAME.search')
+    words.add_argument('--csv', metavar='FILE', help='write a table of what was found')
+    words.add_argument('--json', metavar='FILE',
+                       help='write all that was found, for another program; - is standard output')
+    words.add_argument('--all', action='store_true', help='show all that was found, not only ten for each expectation')
+    words.add_argument('--shrink', action='store_true',
+                       help='make the first counter-example of each broken expectation as small as possible')
+    words.add_argument('--progress', action='store_true', help='report progress in lines of JSON, on standard error')
+    words.add_argument('--studies', nargs='+', metavar='FILE',
+                       help='check that the searches of these files have the results that they state')
+    words.add_argument('--resume', action='store_true', help='continue where the same search was stopped')
+    return words
+
+
+@command('search')
+def main() -> int:
+    asked = arguments().parse_args()
+    from motesim.search.command import status_of
+    return status_of(asked)

@@ -1,0 +1,39 @@
+"""Opens a page in which a protocol is written, run and seen at once: tools/studio [FILE.toml]
+
+The page is served on this machine only. Without FILE it opens the first of the examples. Ctrl-C ends it.
+docs/use/STUDIO.md describes the page.
+"""
+from __future__ import annotations
+
+import argparse
+
+from motesim.faults import command
+from motesim.words import words_of
+
+# The limits of a run: those of motesim.studio.runs.
+SECONDS, MEMORY, REPORT = 10, 1024, 16
+
+
+def positive(word: str) -> int:
+    number = int(word)
+    if number < 1:
+        raise argparse.ArgumentTypeError('%s is not at least 1' % word)
+    return number
+
+
+@command('studio')
+def main() -> int:
+    words = words_of(__doc__, 'tools/studio')
+    words.add_argument('file', nargs='?', metavar='FILE.toml', help='a scenario; if it does not exist, a new one')
+    words.add_argument('--against', metavar='OTHER.toml',
+                       help='begin at the first difference from the run of this scenario')
+    words.add_argument('--no-open', action='store_true', help='print the address, and open no browser')
+    words.add_argument('--seconds', type=positive, default=SECONDS, metavar='N',
+                       help='how long a run may take (%(default)s)')
+    words.add_argument('--memory', type=positive, default=MEMORY, metavar='N',
+                       help='how many megabytes of memory a run may use (%(default)s)')
+    words.add_argument('--report', type=positive, default=REPORT, metavar='N',
+                       help='how many megabytes of report a run may write (%(default)s)')
+    asked = words.parse_args()
+    from motesim.studio.command import status_of
+    return status_of(asked)

@@ -1,0 +1,66 @@
+"""Counts what happened in a run, by mote, for the net, and by link: tools/summary REPORT [--scenario FILE]
+
+REPORT is a report, or a scenario, which is run; `-` is standard input. `--scenario FILE` names the scenario of a
+report: then links that carried nothing are shown too.
+
+For a mote and for the net
+  sent      packets that it sent
+  copies    copies of packets that were on their way to it, of which
+  received    it received so many
+  lost        the medium lost so many
+  ring        so many found eight packets waiting
+  collided    so many arrived together with others
+  halted      so many arrived after it had halted
+  late        so many would have arrived after the end
+  ratio     received copies, of all that were not late
+  posted    events that its queue accepted
+  taken     events that reached a process; one for all processes counts once for each
+  dropped   events whose process wasn't running
+  refused   events that found the queue full
+  prints    lines that it printed
+  halt      the moment at which it halted; for the net, how many motes halted
+For a link
+  delay     the moments that a packet needs to arrive
+
+`--flow "print sink"` shows flows from end to end instead: each line `print sink V` is a delivery of the message V,
+which began with the first packet of that value, at the mote that sent it. In `--flow "print source -> print sink"`
+messages begin with a print. For an origin, and for the net
+  sent      messages that began there
+  delivered those that arrived at another mote at least once, and ratio, their part
+  reached   how many motes a message reached, on average
+  copies    deliveries in all; duplicates are those to a mote that had the message already
+  hops      least hops to the motes reached, on average, if the scenario is known
+  least, middle, most   moments from a message's beginning to its first delivery at a mote
+
+`--by N` shows instead what happens in each N moments: docs/use/TOOLS.md describes its columns.
+
+`--motes` and `--links` show only one of the tables. `--csv` is for a spreadsheet: the table of motes with the net, or
+with `--links` that of links. `--json` has all of it, for programs.
+
+Ends with status 0, or with 2 if the report can't be read.
+"""
+from __future__ import annotations
+
+from motesim.faults import command
+from motesim.words import words_of
+
+
+@command('summary')
+def main() -> int:
+    words = words_of(__doc__)
+    words.add_argument('report', metavar='REPORT', help='a report, or a scenario; - is standard input')
+    words.add_argument('--scenario', metavar='FILE', help="the report's scenario")
+    form = words.add_mutually_exclusive_group()
+    form.add_argument('--csv', action='store_true', help='for a spreadsheet')
+    form.add_argument('--json', action='store_true', help='for programs')
+    part = words.add_mutually_exclusive_group()
+    part.add_argument('--motes', action='store_true', help='only the motes and the net')
+    part.add_argument('--links', action='store_true', help='only the links')
+    part.add_argument('--flow', metavar='WORDS', help='flows from end to end, as "print sink"')
+    words.add_argument('--by', metavar='N', type=int,
+                       help='what happens in each N moments; with --flow, the messages that began in them')
+    asked = words.parse_args()
+    if asked.by is not None and (asked.motes or asked.links):
+        words.error('--by is for the whole net: it does not go with --motes or --links')
+    from motesim.summary.counts import status_of
+    return status_of(asked)

@@ -1,0 +1,28 @@
+"""Makes an HTML page of a run: a map of the motes, and a lane over time for each.
+FILE is a scenario, which is run, or a report."""
+from __future__ import annotations
+
+from pathlib import Path
+
+from motesim.faults import command
+from motesim.words import words_of
+
+
+@command('timeline')
+def main() -> int:
+    words = words_of(__doc__, 'timeline')
+    words.add_argument('file', metavar='FILE',
+                       help='a scenario or a report; - is standard input')
+    words.add_argument('--scenario', metavar='FILE', help='the scenario of a report: it has the places of the motes')
+    words.add_argument('-o', dest='page', metavar='PAGE',
+                       help='the page to write; else NAME.html, next to FILE')
+    words.add_argument('--title', help='the title of the page; else the name of the file')
+    asked = words.parse_args()
+    from motesim.output import beside
+    from motesim.runner.run import read_run
+    from motesim.timeline.html import write_page
+    name = 'run' if asked.file == '-' else Path(asked.file).stem
+    page = asked.page or str(beside(asked.file, name + '.html'))
+    write_page(page, asked.title or name, [read_run(asked.file, asked.scenario)])
+    print(page)
+    return 0

@@ -1,0 +1,28 @@
+"""Explains why a line of a report is there: the chain of its causes, back to the start of a mote.
+
+QUESTION is a sentence, such as "mote 24 prints flood 2", or a line of the report: its number, such as 24:977 or 977,
+or its mote and text, such as "24:64 print flood 1"."""
+from __future__ import annotations
+
+from motesim.faults import command
+from motesim.words import words_of
+
+
+@command('why')
+def main() -> int:
+    words = words_of(__doc__, 'why')
+    words.add_argument('file', metavar='FILE', help='a scenario, or a report; - is standard input')
+    words.add_argument('question', metavar='QUESTION', nargs='?', help='a sentence, or a line of the report')
+    words.add_argument('--scenario', metavar='FILE', help="the report's scenario")
+    words.add_argument('--other', metavar='FILE', help='a second run: shows where it leaves the chain of the first')
+    words.add_argument('--other-scenario', metavar='FILE', help='the scenario of a second report')
+    words.add_argument('--watch', metavar='WORD', nargs='+',
+                       help='shows the values of variables over time: --watch mote 3 newest, distance')
+    words.add_argument('--replay', action='store_true', help='takes the values from the replay, without added prints')
+    words.add_argument('--state', metavar='WORD', nargs='+',
+                       help='shows the state of a mote: --state mote 3 at 46, or after a line: --state 3:114')
+    words.add_argument('--json', action='store_true', help='for programs')
+    words.add_argument('--short', action='store_true', help='only the hops that took time')
+    asked = words.parse_args()
+    from motesim.why.command import status_of
+    return status_of(asked)

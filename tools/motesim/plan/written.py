@@ -1,0 +1,69 @@
+"""Scenarios that plans make, and plans of scenarios, as files. tools/scenario is the command."""
+from __future__ import annotations
+
+import argparse
+import sys
+from collections.abc import Sequence
+from pathlib import Path
+
+from motesim.scenario import faults as scenario_faults
+from motesim.faults import Fault
+from motesim.files import write_whole
+from motesim.output import beside
+from motesim.plan.from_scenario import write_plan
+from motesim.plan.plan import Plan
+from motesim.plan.tables import Value, value_of_text
+from motesim.runner.run import read_file
+from motesim.scenario import Scenario
+
+
+def given_of(words: Sequence[str]) -> dict[str, Value]:
+    """The parameters of words as `period=20`."""
+    given: dict[str, Value] = {}
+    for word in words:
+        name, sign, value = word.partition('=')
+        if not sign or not name:
+            raise Fault('--set takes NAME=VALUE, and not %r' % word)
+        given[name] = value_of_text(value)
+    return given
+
+
+def checked(text: str) -> str:
+    """The text; where motesim would refuse it, a fault."""
+    fault = scenario_faults.find_fault(text.encode())
+    if fault:
+        place = fault.place(text)
+        raise Fault('the plan has no fault, but the scenario that it makes has: %s, line %d\n  %s' % (
+            fault.told, place.line, text.split('\n')[place.line - 1]))
+    return text
+
+
+def write_from(source: str, output: str | None) -> int:
+    """Writes the plan of a scenario."""
+    data = read_file(source)
+    fault = scenario_faults.find_fault(data)
+    if fault:
+        raise Fault('%s has a fault: motesim: %s (tools/explain says more)' % (source, fault.told))
+    name = 'net' if source == '-' else Path(source).stem
+    plan = Path(output) if output else beside(source, name + '.plan.toml')
+    if plan.suffix != '.toml':
+        raise Fault('%s: the name of a plan ends in .toml' % plan)
+    for path in write_plan(Scenario.parse(data), source, plan):
+        print(path)
+    return 0
+
+
+def status_of(asked: argparse.Namespace) -> int:
+    """Does what tools/scenario is asked for."""
+    if asked.source:
+        return write_from(asked.source, asked.output)
+    text = checked(Plan.read(asked.plan).scenario(given_of(asked.set)))
+    if not asked.output:
+        sys.stdout.write(text)
+        return 0
+    try:
+        write_whole(asked.output, [text.encode('utf-8')])
+    except OSError as fault:
+        raise Fault('%s: %s' % (asked.output, fault.strerror)) from None
+    print(asked.output)
+    return 0

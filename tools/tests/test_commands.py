@@ -1,0 +1,52 @@
+"""The thin modules of the commands: that they start at once, and that their defaults are those of the libraries."""
+import re
+import subprocess
+import sys
+import unittest
+
+from here import TOOLS
+from motesim.analysis.estimates import MEANS
+from motesim.analysis.points import SHOWS
+from motesim.commands import export, grade, plot, search, shrink, studio, sweep
+from motesim.experiments import asked
+from motesim.export.command import ENDS
+from motesim.runner import FOREIGN
+from motesim.search import one_program
+from motesim.studio import runs
+
+COMMANDS = sorted(path.stem for path in (TOOLS / 'motesim/commands').glob('[a-z]*.py'))
+# What only the work needs: reports, the judge, processes, numbers.
+HEAVY = 'motesim.report', 'motesim.judge', 'motesim.runner', 'motesim.scenario', 'subprocess', 'multiprocessing', 'tomllib'
+
+
+class Commands(unittest.TestCase):
+    def test_each_has_a_script(self) -> None:
+        for name in COMMANDS:
+            script = (TOOLS / name).read_text()
+            self.assertIn('from motesim.commands.%s import main' % name, script)
+        self.assertGreater(len(COMMANDS), 14)
+
+    def test_help_imports_nothing_that_only_the_work_needs(self) -> None:
+        for name in COMMANDS:
+            with self.subTest(name):
+                source = ('import sys; sys.path.insert(0, %r); sys.argv = [%r, "--help"]\n'
+                          'from motesim.commands.%s import main\n'
+                          'try: main()\n'
+                          'finally: print("imported", *sys.modules)') % (str(TOOLS), name, name)
+                done = subprocess.run([sys.executable, '-B', '-I', '-S', '-c', source], capture_output=True, text=True)
+                self.assertEqual((done.returncode, done.stderr), (0, ''))
+                self.assertTrue(done.stdout.startswith('usage: '), done.stdout)
+                imported = re.split(r'\nimported ', done.stdout)[1].split()
+                self.assertFalse(set(HEAVY) & set(imported), name)
+
+    def test_defaults_are_those_of_the_libraries(self) -> None:
+        usual = one_program.Limits()
+        self.assertEqual((search.SECONDS, search.BYTES, shrink.SECONDS), (usual.seconds, usual.report, usual.seconds))
+        self.assertEqual((grade.SECONDS, grade.MEGABYTES << 20), (FOREIGN.seconds, FOREIGN.memory))
+        self.assertEqual((studio.SECONDS, studio.MEMORY, studio.REPORT), runs.Limits())
+        self.assertEqual((sweep.MOST_BYTES, sweep.MOST_SECONDS), (asked.MOST_BYTES, asked.MOST_SECONDS))
+        self.assertEqual((plot.SHOWS, plot.MEANS, export.FORMS), (SHOWS, tuple(MEANS), tuple(ENDS)))
+
+
+if __name__ == '__main__':
+    unittest.main()
