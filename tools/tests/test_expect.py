@@ -11,9 +11,11 @@ from unittest import mock
 
 from here import TOOLS
 from motesim.commands import expect as command
+from motesim.judge import expectations
 from motesim.judge.expectations import expect, parts_of
 from motesim.judge.judge import Judge
 from motesim.report import Report
+from motesim.runner import LimitMet, Limits
 from motesim.scenario import Scenario
 from motesim.judge.sentences import Count, Names, Refused, SentenceFault, names_of, read_sentence
 
@@ -267,6 +269,12 @@ class Files(unittest.TestCase):
     def test_all_hold(self):
         said = self.said('expect = ["mote 0 sends twice"]', str(self.expected))
         self.assertEqual(said, ('holds   mote 0 sends twice\n1 passed, 0 failed\n', '', 0))
+
+    def test_a_run_that_meets_a_limit_is_told_of_the_scenario(self):
+        with mock.patch.object(expectations, 'answer', side_effect=LimitMet('report', Limits())):
+            out, err, code = self.said('expect = ["no mote halts"]')
+        self.assertEqual((out, code), ('', 2))
+        self.assertEqual(err, 'expect: %s: the run was ended: the report is longer than 1,073,741,824 bytes\n' % self.scenario)
 
     def test_a_change_is_refused_as_expected(self):
         text = """expect = ["mote 0 sends"]

@@ -5,6 +5,7 @@ import os
 import re
 import sys
 import tempfile
+import time
 import tomllib
 import unittest
 from pathlib import Path
@@ -250,6 +251,21 @@ class Pages(unittest.TestCase):
             line = 'program' if line.startswith('program ') else line
             self.assertIn(line, scenario_faults.RULES)
         self.assertEqual(len(lines), len(scenario_faults.RULES))
+
+
+class Deep(unittest.TestCase):
+    def test_texts_that_are_nested_deeply_are_explained_within_seconds(self) -> None:
+        for count in (100, 500, 20_000):
+            for body in ('n = %s1%s;' % ('(' * count, ' + 1)' * count), 'n = %sn + 1;' % ('!' * count), 'while 1 {' * count,
+                         'if (n == 1) ' * count + 'n++;', '{' * count, 'n = f(' * count, 'n = n ? 1 : ' * count + '0;'):
+                text = SCENARIO.replace('{ body { print 1; } }', '{ var n = 0; body { ' + body)
+                assert text != SCENARIO
+                fault = scenario_faults.find_fault(text.encode())
+                assert fault
+                with self.subTest('%s, %d' % (body[:20], count)):
+                    before = time.monotonic()
+                    self.assertTrue(explain.explanation('s', text.encode(), 'motesim: ' + fault.told))
+                    self.assertLess(time.monotonic() - before, 30)
 
 
 class Cases(unittest.TestCase):

@@ -19,7 +19,9 @@ from motesim.grading.nets import nets_of, program_of
 from motesim.grading.page import page_of
 from motesim.grading.tables import cell
 from motesim.faults import Fault
+from motesim.runner import program_path
 from motesim.scenario import Scenario
+from skips import need_program
 from stub import write_stub
 
 # A net of so many motes. The stub has mote n print P at moment P * (n + 1), P being the program's first `print`.
@@ -246,6 +248,18 @@ class Forms(Folder):
         self.assertIsNotNone(link)
         self.assertIn('&lt;script&gt;.toml', (self.top / link[1]).read_text())
         self.assertNotIn('<script>', page)
+
+    def test_a_refused_solution_is_shown_how_its_error_is_put_right(self) -> None:
+        need_program(self)
+        self.stub = program_path()
+        self.hand_in('ben.mote', (PROGRAM % 3).replace('print', 'prnt', 1))
+        self.hand_in('cem.toml', net(PROGRAM % 3).replace('end = ', 'end: ', 1))
+        words = '--net', 'task.toml'
+        self.assertIn('--why ben.mote shows where its error is', self.grade(*words))
+        self.assertIn('Did you mean `print`?', self.grade(*words, '--why', 'ben'))
+        self.assertIn('Write, as line 2:\n  end = ', self.grade(*words, '--why', 'cem'))
+        self.grade(*words, '-o', 'marks.html')
+        self.assertIn('Write, as line 2:', (self.top / 'marks.html').read_text())
 
     def test_a_page_is_escaped(self) -> None:
         marks = Marks('<b>', (Mark('"a" & <i>', False, ('<net>',), ('<why>',)),))

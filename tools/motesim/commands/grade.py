@@ -12,7 +12,7 @@ holds in all nets. Each entry of the folder has a row, whatever it is, and none 
 
 Tables `[[change]]` of EXPECTATIONS are not tried: they replace texts of one solution. -o writes the marks to a file:
 NAME.csv for a spreadsheet, NAME.toml, or NAME.html, a page that links each first failed sentence to its timeline.
---why NAME shows what breaks the sentences in one solution.
+--why NAME shows what breaks the sentences in one solution, and where the error of a refused one is.
 
 Ends with status 0, or with 2 if the sentences or the nets can't be read.
 """

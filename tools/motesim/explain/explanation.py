@@ -111,14 +111,25 @@ def wrapped(text: str) -> list[str]:
 
 
 def of_program(name: str, text: str, program: str, its: program_faults.ProgramError) -> list[str]:
-    """The words on a fault in a program's text."""
+    """The words on a fault in a program's text, with its place."""
+    source: str = tables_of(text)['programs'][program]
+    return shown_program(name, text, program, its.token) + rule_and_advice(source, its, offset_of(text, program))
+
+
+def of_program_file(name: str, source: str, its: program_faults.ProgramError) -> list[str]:
+    """The words on a fault in a file that has a program, and nothing else."""
+    line = source.split('\n')[its.token.line - 1].rstrip('\r')
+    where = '%s, line %d:' % (name, its.token.line)
+    return [where, *marked(line, its.token.column, len(its.token.text)), *rule_and_advice(source, its, 0)]
+
+
+def rule_and_advice(source: str, its: program_faults.ProgramError, offset: int | None) -> list[str]:
+    """The rule that a program breaks, what is allowed, and what was most likely meant."""
     title, rule = program_faults.RULES[its.kind]
     rule = 'The text ends here, which can\'t follow the words before it.' if its.token.kind == 'end' and its.kind == 2 else rule
-    lines = shown_program(name, text, program, its.token)
-    lines += wrapped('%s: %s' % (title, rule)) + wrapped('Allowed here: %s' % ', '.join(its.may))
-    source: str = tables_of(text)['programs'][program]
+    lines = wrapped('%s: %s' % (title, rule)) + wrapped('Allowed here: %s' % ', '.join(its.may))
     found = advice(source, its)
-    return lines + (hinted(found.hint) + found.shown(source, offset_of(text, program)) if found else [])
+    return lines + (hinted(found.hint) + found.shown(source, offset) if found else [])
 
 
 def repaired(found: Repair) -> list[str]:

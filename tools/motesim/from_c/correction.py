@@ -16,6 +16,8 @@ from motesim.notation.faults import ProgramError, find_fault, tokens_of
 
 MOST_LINES = 4
 MOST_REASONS = 2
+# In a longer text or on longer lines, nobody is helped by a line.
+LONGEST_TEXT, LONGEST_LINES = 200_000, 2_000
 
 
 class Correction(NamedTuple):
@@ -86,6 +88,8 @@ def _structural(text: str) -> Correction | None:
 
 def correction(text: str, fault: ProgramError) -> Correction | None:
     """The lines that repair a fault, or, without a line, what to do; None if nothing is known."""
+    if len(text) > LONGEST_TEXT:
+        return None
     lines = text.split('\n')
     scope = Scope.of(text)
     signs = [it.text for it in tokens_of(text)]
@@ -96,6 +100,8 @@ def correction(text: str, fault: ProgramError) -> Correction | None:
     advice = ''
     for first, last in _spans(text, fault):
         source = '\n'.join(lines[first - 1:last])
+        if len(source) > LONGEST_LINES:
+            continue
         found: list[tuple[int, Correction]] = []
         for reader in _readings(source, scope, lines[:first - 1], lacks_brace):
             try:

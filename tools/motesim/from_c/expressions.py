@@ -10,6 +10,7 @@ from fractions import Fraction
 
 from motesim.from_c.scope import Scope, allowed
 from motesim.from_c.tokens import END, Token
+from motesim.notation.faults import MOST_LEVELS
 
 # The operators, those that bind least first.
 LEVELS = (('||', 'or'), ('&&', 'and'), ('|',), ('^',), ('&',), ('==', '!=', '='), ('<', '<=', '>', '>='), ('<<', '>>'),
@@ -91,6 +92,7 @@ class Expressions:
 
     def __init__(self, tokens: list[Token], scope: Scope):
         self.tokens, self.scope, self.at = tokens, scope, 0
+        self.depth = 0
 
     @property
     def token(self) -> Token:
@@ -157,6 +159,15 @@ class Expressions:
         return at > 1 and self.token.text == '(' and self.ahead(at).text == ')'
 
     def unary(self) -> Node:
+        """A value with its signs. What is nested deeper than the notation allows isn't read."""
+        self.depth += 1
+        if self.depth > MOST_LEVELS:
+            raise NoCounterpart
+        node = self.one_unary()
+        self.depth -= 1
+        return node
+
+    def one_unary(self) -> Node:
         if self.is_cast():
             while not self.accept(')'):
                 self.at += 1

@@ -17,6 +17,7 @@ class Lines(Expressions):
         self.place, self.writer = place, Writer(scope)
         # Whether a block continues below these lines, and whether a header without its brace opens one.
         self.is_cut = self.opens = False
+        self.nested = 0
         self.end_of_process = end
         # Declarations that belong to the head of the code.
         self.declares: list[str] = []

@@ -41,11 +41,15 @@ def place_below(above: list[str]) -> Place:
     tokens = tokens_of('\n'.join(above))
     words = [it.text for it in tokens]
     opened: list[str] = []
+    # (where the statement begins whose block may be opened next)
+    begin = 0
     for at, word in enumerate(words):
         if word == '{':
-            opened.append(_test_before(words, at))
+            opened.append(_test(words[begin:at]))
         elif word == '}' and opened:
             opened.pop()
+        if word in ('{', '}', ';'):
+            begin = at + 1
     loop = next((it for it in reversed(opened) if it), '')
     codes = [at for at, word in enumerate(words[:-2]) if word == 'code']
     if not codes or not opened:
@@ -65,12 +69,11 @@ def _last(words: list[str]) -> str:
     return words[begin + 1]
 
 
-def _test_before(words: list[str], at: int) -> str:
-    """The test of the `while` whose block is opened at a place, or nothing."""
-    begin = max((it for it in range(at) if words[it] in ('{', '}', ';', 'while', 'if', 'else')), default=0)
-    if words[begin] != 'while':
+def _test(words: list[str]) -> str:
+    """The test of a `while`, or nothing if it is another statement."""
+    if words[:1] != ['while']:
         return ''
-    text = ' '.join(words[begin + 1:at])
+    text = ' '.join(words[1:])
     return text.replace('( ', '(').replace(' )', ')').replace('! ', '!')
 
 

@@ -15,7 +15,7 @@ from motesim.from_c.expressions import (
 )
 from motesim.from_c.scope import allowed, nearest
 from motesim.from_c.tokens import Token
-from motesim.notation.faults import STATEMENTS
+from motesim.notation.faults import MOST_LEVELS, STATEMENTS
 
 PRINTS = ('printf', 'print', 'println', 'puts', 'putchar', 'log_info', 'log_dbg', 'log_warn', 'log_err')
 SENDS = ('send_packet', 'sendpacket', 'radio_send', 'send_value')
@@ -74,7 +74,11 @@ class Statements(Declarations, Calls, Control):
         """A statement, with a step of the generator before it if it takes a number by chance."""
         word, outside = self.token.text, self.writer.draws
         self.writer.draws = False
+        self.nested += 1
+        if self.nested > MOST_LEVELS:
+            raise NoCounterpart
         text = self.one_statement()
+        self.nested -= 1
         if self.writer.draws:
             if word in ('while', 'for', 'do') or not self.place.head:
                 raise NoCounterpart(NO_CHANCE)

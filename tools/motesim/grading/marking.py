@@ -6,21 +6,26 @@ from dataclasses import dataclass, replace
 from pathlib import Path
 from typing import NamedTuple
 
+from motesim.explain.explanation import explanation, of_program_file
 from motesim.faults import Fault
 from motesim.grading.entries import Entry, data_of
 from motesim.grading.nets import Net, program_of
 from motesim.judge.expectations import REFUSED, Part, known_of, more_of, read_all, refused, same_report
 from motesim.judge.judge import Broken, Judge
 from motesim.judge.sentences import lacking
+from motesim.notation.faults import find_fault as find_program_fault
 from motesim.report import Report
 from motesim.runner import LimitMet, Limits, Runner
 from motesim.runner.run import Run
 from motesim.scenario import Scenario
+from motesim.scenario.faults import find_fault
 from motesim.timeline.html import write_page
 
 # Reports longer than this have no timeline.
 MOST_SHOWN = 4_000_000
 LONGEST_WHY = 300
+# Of an error so many lines are shown.
+MOST_LINES = 40
 
 
 class Mark(NamedTuple):
@@ -36,12 +41,14 @@ class Marks:
     """A solution: its name, a mark for each sentence, or why there are none, and what it lacks.
 
     picture  the page with the timeline of its first failed sentence, in the folder of pictures
+    fix      of a refused scenario or program, the place of its error and how it is put right
     """
     name: str
     marks: tuple[Mark, ...] = ()
     why: str = ''
     lacks: tuple[str, ...] = ()
     picture: str = ''
+    fix: tuple[str, ...] = ()
 
     @property
     def held(self) -> int:
@@ -65,6 +72,7 @@ class InNet(NamedTuple):
     why: str
     run: Run | None
     broken: list[Broken | None]
+    is_refused: bool = False
 
 
 @dataclass(frozen=True)
@@ -82,6 +90,7 @@ class Task:
             return Marks(entry.name, why=entry.why)
         if entry.path.suffix == '.mote' and not self.nets:
             return Marks(entry.name, why='a program without a net: --net names one to run it in')
+        data = b''
         try:
             data = data_of(entry)
             if not self.nets:
@@ -94,8 +103,10 @@ class Task:
         except LimitMet as fault:
             return Marks(entry.name, why='the run was ended: %s' % fault)
         except Fault as fault:
-            return Marks(entry.name, why=str(fault).split('\n', 1)[0])
+            return Marks(entry.name, why=str(fault).split('\n', 1)[0], fix=fix_of(entry, data))
         marks = self.together(entry.name, found)
+        if any(its.is_refused for _, its in found):
+            return replace(marks, fix=fix_of(entry, data))
         return replace(marks, picture=self.picture(number, marks, found))
 
     def in_net(self, text: str) -> InNet:
@@ -109,7 +120,7 @@ class Task:
             told = refused(part, sentences, got)
             why = '' if all(it.holds for it in told) and told else next(it.more[0] for it in told) if told else REFUSED
             held = iter([Mark(it.sentence, it.holds) for it in told])
-            return InNet(self.spread(held, lacks), lacks, why, None, [None] * len(lacks))
+            return InNet(self.spread(held, lacks), lacks, why, None, [None] * len(lacks), True)
         scenario = known or Scenario.parse(text)
         report = Report.parse(got.report)
         judge = Judge(report, scenario)
@@ -155,6 +166,18 @@ class Task:
         write_page(self.pictures / name, '%s: %s' % (marks.name, marks.marks[place].sentence), [its.run._replace(name=marks.name)],
                    start, mote)
         return name
+
+
+def fix_of(entry: Entry, data: bytes) -> tuple[str, ...]:
+    """The place of the error of a solution, and how it is put right, as tools/explain shows them."""
+    if entry.path.suffix == '.mote':
+        source = data.decode('utf-8', 'replace')
+        error = find_program_fault(source) if source else None
+        lines = of_program_file(entry.name, source, error) if error else []
+    else:
+        fault = find_fault(data) if data else None
+        lines = explanation(entry.name, data, 'motesim: ' + fault.told) if fault else []
+    return tuple(line[:LONGEST_WHY] for line in lines[:MOST_LINES])
 
 
 def where(report: Report, row: int) -> tuple[int | None, int | None]:

@@ -38,7 +38,7 @@ def _first_failed(marks: Marks, folder: str) -> str:
     """The first sentence that fails, linked to the run that shows it, and why it fails."""
     place = marks.first_failed
     if marks.why or place is None:
-        return escape(marks.why)
+        return escape(marks.why) + ('<pre>%s</pre>' % escape('\n'.join(marks.fix)) if marks.fix else '')
     mark = marks.marks[place]
     words = '%d. %s' % (place + 1, mark.sentence)
     link = '<a href="%s/%s">%s</a>' % (quote(folder), quote(marks.picture), escape(words)) if marks.picture \

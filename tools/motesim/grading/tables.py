@@ -35,6 +35,12 @@ def below(marked: Sequence[Marks], sentences: Sequence[str]) -> list[str]:
                                    len(marked), sentence) for number, sentence in enumerate(sentences, 1)]
 
 
+def pointer(marked: Sequence[Marks]) -> list[str]:
+    """What shows the errors of refused solutions."""
+    refused = [it.name for it in marked if it.fix]
+    return ['', '--why %s shows where its error is, and how to put it right' % refused[0]] if refused else []
+
+
 def cell(text: str) -> str:
     """A text that no spreadsheet runs: one that begins as a formula has an apostrophe in front."""
     return "'" + text if text.startswith(OF_FORMULA) else text
@@ -75,7 +81,7 @@ def toml_of(marked: Sequence[Marks], sentences: Sequence[str], expectations: str
 
 def why(marks: Marks) -> list[str]:
     """What breaks the sentences in one solution."""
-    lines = [marks.why] if marks.why else []
+    lines = [*([marks.why] if marks.why else []), *marks.fix]
     for it in marks.marks:
         lines.append(('holds   ' if it.holds else 'broken  ') + it.sentence)
         nets = ['in %s' % ', '.join(it.nets)] if it.nets else []

@@ -84,12 +84,13 @@ class ProgramError(Exception):
 def tokens_of(text: str) -> list[Token]:
     """The tokens of a text, and its end."""
     found: list[Token] = []
-    at, line = 0, 1
+    at, line, begin = 0, 1, 0
     while True:
         blank = BLANK.match(text, at)
         behind = blank.end() if blank else at
-        line += text.count('\n', at, behind)
-        begin = text.rfind('\n', 0, behind) + 1
+        lines = text.count('\n', at, behind)
+        if lines:
+            line, begin = line + lines, text.rfind('\n', at, behind) + 1
         if behind == len(text):
             return found + [Token('', line, behind - begin)]
         matched = TOKEN.match(text, behind)
