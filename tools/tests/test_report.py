@@ -1,5 +1,6 @@
 """What the reader makes of reports and scenarios, and what it says of texts that are none."""
 import os
+import random
 import stat
 import tempfile
 import unittest
@@ -9,6 +10,7 @@ from unittest import mock
 from here import TOP
 from motesim.faults import Fault
 from motesim.report import Copy, Packet, Report, ReportFault
+from motesim.report import report as report_module
 from motesim.runner.run import ProgramFault, check_scenario, read_run
 from motesim.scenario import Scenario, ScenarioFault
 
@@ -96,6 +98,37 @@ class Reports(unittest.TestCase):
         with self.assertRaises(ReportFault) as raised:
             Report.parse(text)
         return raised.exception.row, str(raised.exception)
+
+    def test_outcomes_are_those_that_the_lines_say(self) -> None:
+        """Runs of many motes, with losses, collisions, full rings and halted motes, looked at mote by mote."""
+        chance = random.Random(7)
+        for turn in range(40):
+            motes, left = chance.randrange(2, 9), chance.randrange(3)
+            lines: list[list[str]] = [[] for _ in range(motes)]
+            rows, wanted, silent = [], {}, []
+            for number in range(12):
+                sender = chance.randrange(motes)
+                copies = []
+                for to in range(motes):
+                    if to == sender:
+                        continue
+                    what = chance.choice(['received', 'received', 'lost', 'full', 'collided', 'silent'])
+                    wanted[number, to] = what
+                    copies.append('%d@%s' % (to, 'lost' if what == 'lost' else number + 1 + to))
+                    if what == 'silent':
+                        silent.append((number + 1 + to, number, to))
+                    elif what != 'lost':
+                        kind = {'received': 'recv %d %d 5', 'full': 'lost %d %d', 'collided': 'collide %d %d'}[what]
+                        lines[to].append('%d %s' % (number, kind % (sender, number)))
+                rows.append('%d %d %d 5 %s' % (number, sender, number, ' '.join(copies)))
+            for place, (_, number, to) in enumerate(sorted(silent)):
+                wanted[number, to] = 'halted' if place < len(silent) - left else 'left'
+            text = ''.join('mote %d p\n%s' % (mote, ''.join(it + '\n' for it in its)) for mote, its in enumerate(lines))
+            text += 'medium\n%s\nleft %d\n' % ('\n'.join(rows), left)
+            with mock.patch.object(report_module, 'MANY', chance.choice([0, 1 << 30])), \
+                    mock.patch.object(report_module, 'MOTES_AT_ONCE', chance.choice([1, 3, 100])):
+                found = {(it.packet.number, it.copy.to): it.what for it in Report.parse(text).outcomes()}
+            self.assertEqual(found, wanted, text)
 
     def test_a_changed_line_has_its_fault(self):
         for row, line, expected in [

@@ -13,6 +13,7 @@ from pathlib import Path
 from here import TOOLS
 from motesim.faults import Fault
 from motesim.runner import Cache, LimitMet, Limits, NoReport, ProgramFault, Runner, Stopped, run_each
+from motesim.runner.batch import each_part
 
 
 def is_alive(number):
@@ -288,6 +289,36 @@ class Batches(Room):
         finally:
             done.set()
             other.join()
+
+
+
+class Parts(unittest.TestCase):
+    """A piece of work in parts."""
+
+    def test_parts_come_in_order_from_other_processes_only_if_they_are_much(self) -> None:
+        for is_much in False, True:
+            found = list(each_part(lambda it: (it, os.getpid()), range(40), is_much))
+            self.assertEqual([it for it, _ in found], list(range(40)))
+            self.assertEqual(os.getpid() in {process for _, process in found}, not is_much or (os.cpu_count() or 1) < 2)
+
+    def test_with_threads_this_process_works(self) -> None:
+        end = threading.Event()
+        thread = threading.Thread(target=end.wait)
+        thread.start()
+        try:
+            self.assertEqual({process for process in each_part(lambda it: os.getpid(), range(9), True)}, {os.getpid()})
+        finally:
+            end.set()
+            thread.join()
+
+    def test_a_part_that_fails_is_a_fault(self) -> None:
+        def work(it: int) -> int:
+            if it == 7:
+                raise Fault('it is seven')
+            return it
+        for is_much in False, True:
+            with self.assertRaisesRegex(Fault, 'it is seven'):
+                list(each_part(work, range(9), is_much))
 
 
 if __name__ == '__main__':

@@ -160,10 +160,10 @@ class PieceReader:
             its_numbers = type(numbers)(compress(numbers, mask))
             moments[code], of[KINDS[code]] = self.fields(KINDS[code], list(compress(rows, mask)), its_numbers)
         following: Callable[[Iterator[int]], int] = next
-        at = array('I', map(following, map(moments.__getitem__, codes)))
+        at = list(map(following, map(moments.__getitem__, codes)))
         counts = [part.count(b'\n') for part in parts]
         _check_order(spans, counts, at, codes)
-        return Lines(counts, at, codes, of, self.names)
+        return Lines(counts, array('I', at), codes, of, self.names)
 
     def without_digits(self, text: bytes) -> bytes:
         """The text, in which names have no digits."""
@@ -218,12 +218,12 @@ class PieceReader:
                        array('I', to), array('Q', arrival))
 
 
-def _check_order(spans: list[Span], counts: list[int], at: array[int], codes: bytes) -> None:
+def _check_order(spans: list[Span], counts: list[int], at: list[int], codes: bytes) -> None:
     """Checks that moments don't fall in a trace, and that nothing follows `halt`."""
     begin = 0
     for span, count in zip(spans, counts):
         end = begin + count
-        inside = at[begin:end].tolist()
+        inside = at[begin:end]
         if inside != sorted(inside):
             raise Bad('rising moments')
         halted = codes.find(HALT, begin, end)

@@ -9,7 +9,7 @@ from __future__ import annotations
 
 from bisect import bisect_right
 from collections.abc import Callable, Iterable, Iterator, Sequence
-from functools import cached_property
+from functools import cached_property, partial
 from itertools import compress, count, repeat
 from operator import add, mul
 from typing import NamedTuple, overload
@@ -17,6 +17,7 @@ from typing import NamedTuple, overload
 from motesim.report import fast, strict
 from motesim.report.columns import KINDS, LOST, Log, MoteLines, Trace
 from motesim.report.lines import Copy, Line, Packet
+from motesim.runner.batch import each_part
 
 
 class Mote:
@@ -51,6 +52,8 @@ class Outcome(NamedTuple):
 
 OUTCOMES = ('received', 'lost', 'full', 'collided', 'halted', 'left')
 _LOST, _HALTED, _LEFT = (OUTCOMES.index(it) for it in ('lost', 'halted', 'left'))
+# From how many copies on several processes look for their outcomes, and at how many motes each looks at once.
+MANY, MOTES_AT_ONCE = 200_000, 256
 _BECAME = {'recv': 'received', 'lost': 'full', 'collide': 'collided'}
 
 
@@ -146,11 +149,9 @@ class Report:
         """
         log, motes = self.log, len(self.motes)
         packets = list(log.of_copies(list(_keys(log.sender, log.number, motes))))
-        coming: list[list[int]] = [[] for _ in self.motes]
-        for to, packet in zip(log.to, packets):
-            coming[to].append(packet)
-        by_mote: list[Iterator[int]] = [map(became.get, its, repeat(_LEFT))
-                                        for its, became in zip(coming, self._became())]
+        groups = [range(first, min(first + MOTES_AT_ONCE, motes)) for first in range(0, motes, MOTES_AT_ONCE)]
+        work = partial(self._fates_at, packets)
+        by_mote = [iter(its) for part in each_part(work, groups, is_much=len(packets) >= MANY) for its in part]
         following: Callable[[Iterator[int]], int] = next
         found = bytearray(map(following, map(by_mote.__getitem__, log.to)))
         for index in compress(count(), map(LOST.__eq__, log.arrival)):
@@ -161,16 +162,23 @@ class Report:
             found[index] = _HALTED
         return found
 
-    def _became(self) -> Iterator[dict[int, int]]:
-        """What the lines of each mote say of the packets that came to it, by their keys."""
-        fields = {kind: self.trace.of[kind] for kind in _BECAME}
-        keys = {kind: list(_keys(its['sender'], its['number'], len(self.motes))) for kind, its in fields.items()}
-        for mote in self.motes:
-            found: dict[int, int] = {}
-            for kind, fate in _BECAME.items():
-                its = keys[kind][self.trace.place(mote.number, kind)]
-                found.update(zip(its, repeat(OUTCOMES.index(fate))))
-            yield found
+    def _fates_at(self, packets: list[int], motes: range) -> list[bytes]:
+        """What the lines of each of these motes say of the copies that came to it, in the order of the log."""
+        coming: list[list[int]] = [[] for _ in motes]
+        wanted = bytes(map(motes.__contains__, range(len(self.motes))))
+        is_one = map(wanted.__getitem__, self.log.to)
+        for to, packet in compress(zip(self.log.to, packets), is_one):
+            coming[to - motes.start].append(packet)
+        return [bytes(map(self._became(mote).get, its, repeat(_LEFT))) for mote, its in zip(motes, coming)]
+
+    def _became(self, mote: int) -> dict[int, int]:
+        """What a mote's lines say of the packets that came to it, by the keys of the packets."""
+        found: dict[int, int] = {}
+        for kind, fate in _BECAME.items():
+            place, fields = self.trace.place(mote, kind), self.trace.of[kind]
+            keys = _keys(fields['sender'][place], fields['number'][place], len(self.motes))
+            found.update(zip(keys, repeat(OUTCOMES.index(fate))))
+        return found
 
 
 def _keys(senders: Iterable[int], numbers: Iterable[int], motes: int) -> Iterator[int]:

@@ -254,10 +254,11 @@ def run_each(work: Callable[[Item], Result], items: Iterable[Item], *, workers: 
 def each_part(work: Callable[[Item], Result], parts: Iterable[Item], is_much: bool) -> Iterator[Result]:
     """The result of each part of a piece of work, in order; if it is much, several processes work.
 
-    The processes share what this one has in memory. Raises a `Fault` if one of them fails.
+    The processes are copies of this one, so they share what it has in memory; with threads there can't be any. Raises a
+    `Fault` if one of them fails.
     """
     workers = min(MOST_SHARING, os.cpu_count() or 1)
-    if not is_much or workers < 2 or _is_worker():
+    if not is_much or workers < 2 or threading.active_count() > 1 or _is_worker():
         yield from map(work, parts)
         return
     for done in run_each(work, parts, workers=workers, ordered=True):
