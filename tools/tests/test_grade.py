@@ -1,6 +1,7 @@
 """Marks for a folder of solutions: hostile folders, the teacher's nets, limits, and the forms of marks."""
 import csv
 import io
+import json
 import os
 import re
 import socket
@@ -246,7 +247,12 @@ class Forms(Folder):
         page = (self.top / 'marks.html').read_text()
         link = re.search(r'<a href="(marks_runs/[0-9]+\.html)">1\. every mote prints a 3</a>', page)
         self.assertIsNotNone(link)
-        self.assertIn('&lt;script&gt;.toml', (self.top / link[1]).read_text())
+        picture = (self.top / link[1]).read_text()
+        self.assertIn('&lt;script&gt;.toml', picture)
+        note = json.loads(re.search('id="data" type="application/json">(.*)</script>', picture)[1])['note']
+        # (the stub is no kernel, so nothing more is known of what came near)
+        self.assertEqual((note['title'], note['why'], note['mote'], note['at']), (
+            'every mote prints a 3', 'mote 0 has 0 such lines; wanted: at least 1', 0, 60))
         self.assertNotIn('<script>', page)
 
     def test_a_refused_solution_is_shown_how_its_error_is_put_right(self) -> None:

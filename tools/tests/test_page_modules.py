@@ -25,6 +25,7 @@ from motesim.why.source import At, Source, Traces
 
 PAGES = [TOOLS / 'motesim/timeline/page', TOOLS / 'motesim/studio/page']
 TESTS = sorted((TOOLS / 'tests/page').glob('*.test.js'))
+CASES = 'ring_overflows', 'nine_copies_collide', 'runaway_beside_another', 'copy_past_the_end'
 # Lines whose chains are compared: mote and place in its trace.
 CHAINS = [(0, 12), (0, 9), (0, 17), (0, 15), (1, 7), (1, 4)]
 
@@ -63,7 +64,8 @@ class Bundles(unittest.TestCase):
     def test_modules_come_after_those_that_they_import_and_each_once(self) -> None:
         log = 'export const log = [];\n'
         part = "import {log} from './log.js';\nlog.push('%s');\nexport const %s = 1;\n"
-        main = "import {a} from './a.js';\nimport {b} from './b.js';\nimport {log} from './log.js';\nconsole.log(log.join(), a + b);\n"
+        main = "import {a} from './a.js';\nimport {b} from './b.js';\nimport {log} from './log.js';\n" \
+               'console.log(log.join(), a + b);\n'
         self.assertEqual(self.printed(log=log, a=part % ('a', 'a'), b=part % ('b', 'b'), main=main), 'a,b 2\n')
 
     def test_names_of_a_module_are_its_own(self) -> None:
@@ -76,16 +78,18 @@ class Bundles(unittest.TestCase):
         self.assertEqual(self.printed(one=one, main=main), 'undefined\n')
 
     def test_all_forms_of_exports(self) -> None:
-        forms = "export const [A, B] = [1, 2];\nexport const c = 3;\nexport class D {}\nexport async function e() {}\n" \
-                'export function f() {}\n'
-        main = "import {\n  A, B, c,\n  D, e, f} from './forms.js';\nconsole.log(A, B, c, [D, e, f].map(it => it.name).join());\n"
+        forms = 'export const [A, B] = [1, 2];\nexport const c = 3;\nexport class D {}\n' \
+                'export async function e() {}\nexport function f() {}\n'
+        main = "import {\n  A, B, c,\n  D, e, f} from './forms.js';\n" \
+               'console.log(A, B, c, [D, e, f].map(it => it.name).join());\n'
         self.assertEqual(self.printed(forms=forms, main=main), '1 2 3 D,e,f\n')
 
     def test_what_can_not_be_joined_is_refused(self) -> None:
         imports = "import {a} from './a.js';\n"
         self.assertEqual(self.refused(a=imports.replace('./a', './main'), main=imports),
                          'modules import one another: main.js, a.js')
-        self.assertEqual(self.refused(a='const a = 1;\n', main=imports), 'main.js imports a, which a.js does not export')
+        self.assertEqual(self.refused(a='const a = 1;\n', main=imports),
+                         'main.js imports a, which a.js does not export')
         self.assertIn('is not there', self.refused(main="import {b} from './nowhere.js';\n"))
         for form in 'export default 1;', 'export let a = 1;', "import './a.js';", "import * as a from './a.js';":
             self.assertEqual(self.refused(a='export const a = 1;\n', main=form + '\n'),
@@ -111,10 +115,8 @@ def given() -> dict[str, Any]:
     scenario = test_summary.SCENARIO.replace('talker = ""', 'talker = "%s"' % program)
     scenario = scenario.replace('hearer = ""', 'hearer = "%s"' % program)
     sums = Run('sums', Report.parse(test_summary.REPORT), Scenario.parse(scenario))
-    cases = {name: test_timeline.case(name) for name in ('ring_overflows', 'nine_copies_collide', 'runaway_beside_another',
-                                                         'copy_past_the_end')}
-    runs = {'small_network': test_timeline.small_network(), 'small': small, 'many': many, 'silent': silent, 'sums': sums,
-            **cases}
+    runs = {'small_network': test_timeline.small_network(), 'small': small, 'many': many, 'silent': silent,
+            'sums': sums, **{name: test_timeline.case(name) for name in CASES}}
     source = Source('small', test_why.REPORT.encode(), small.scenario)
     chains = [{'row': source.traces.row(At(*where)),
                'because': ['mote %d: %s' % (hop.where.mote, hop.because) for hop in chain(source, At(*where))]}

@@ -19,6 +19,7 @@ from motesim.runner.run import Run
 from motesim.scenario import Scenario
 from motesim.timeline.columns import data_of
 from motesim.timeline.html import page_of, write_page
+from motesim.timeline.note import Line, Note
 
 CONTROL = 2
 SHIFT = 8
@@ -349,6 +350,24 @@ class Pages(unittest.TestCase):
         self.assertEqual(self.selected(), '10 recv 0 2 30')
         self.assertAlmostEqual(self.value('pane.moment(pane.gutter)'), 4, places=6)
         self.assertFalse(self.value('document.querySelector("aside").offsetHeight'))
+
+    def test_a_note_leads_to_its_line(self):
+        note = Note('mote 1 sends 41', 'mote 1 has 0 such lines', (Line('nothing'), Line('19 send 1 40', 38)))
+        self.open(small_network(), note=note)
+        self.assertEqual(self.selected(), '19 send 1 40')
+        self.assertTrue(self.value('pane.x(19) > pane.gutter && pane.x(19) < pane.canvas.clientWidth'))
+        said = self.value('document.getElementById("note").innerText')
+        for words in 'Broken: mote 1 sends 41', 'mote 1 has 0 such lines', 'nothing', 'line 38':
+            self.assertIn(words, said)
+        self.key('Escape', number=27)
+        self.value('document.querySelector("#note button").click()')
+        self.assertEqual(self.selected(), '19 send 1 40')
+
+    def test_a_note_without_a_line_leads_to_the_last_one_before_its_moment(self):
+        self.open(small_network(), note=Note('mote 0 prints 3', 'mote 0 has 0 such lines', (), 9, 0))
+        self.assertEqual(self.selected(), '8 leave sender')
+        self.open(small_network(), note=Note('this fails', ''))
+        self.assertIsNone(self.selected())
 
     def test_a_line_outside_of_the_moments_is_shown(self):
         self.open(small_network(), fragment='#from=0&to=5&line=38')

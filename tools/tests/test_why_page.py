@@ -9,10 +9,13 @@ import skips
 import test_summary
 import test_why
 from browser import Browser
+from motesim.judge.judge import Judge
+from motesim.judge.sentences import names_of, read_sentence
 from motesim.report import Report
 from motesim.runner.run import Run, answer
 from motesim.scenario import Scenario
 from motesim.timeline.html import write_page
+from motesim.timeline.note import Line, Note, note_of
 from motesim.why.chain import chain
 from motesim.why.pages import Causes, causes_of
 from motesim.why.series import Series
@@ -33,6 +36,28 @@ class Data(unittest.TestCase):
 
     def test_a_run_without_its_scenario_has_none(self) -> None:
         self.assertIn('Without its scenario', causes_of(small_run()._replace(scenario=None))['none'])
+
+
+class Notes(unittest.TestCase):
+    """What a page shows of sentences that don't hold."""
+
+    def note(self, sentence: str) -> Note:
+        run = small_run()
+        assert run.scenario
+        return note_of(run, sentence, Judge(run.report, run.scenario).broken(read_sentence(sentence, names_of(run.scenario))))
+
+    def test_the_line_that_breaks_a_sentence(self) -> None:
+        note = self.note('mote 1 prints h at most 0 times')
+        self.assertEqual(note.lines, (Line('7 print h 8', 28),))
+
+    def test_what_came_near_a_line_that_is_missing(self) -> None:
+        note = self.note('mote 1 prints h 9')
+        self.assertEqual(note.why, 'mote 1 has 0 such lines; wanted: at least 1. What came near:')
+        self.assertIn(Line('mote 1: it prints 1 value: 8 at 7', 28), note.lines)
+        self.assertEqual(note.mote, 1)
+
+    def test_a_sentence_that_no_line_shows(self) -> None:
+        self.assertEqual(note_of(small_run(), 'the report', None, ('line 3: x',)).lines, (Line('line 3: x'),))
 
 
 class Pages(unittest.TestCase):
@@ -100,6 +125,14 @@ class Pages(unittest.TestCase):
         texts = [it.text for it in svg.iter('{http://www.w3.org/2000/svg}text')]
         self.assertIn('recv 0 0 8  (3 on the way)', texts)
         self.assertEqual([it for it in texts if it and it.startswith('mote ')][:2], ['mote 0', 'mote 1'])
+
+    def test_the_style_of_the_chart_is_its_own(self) -> None:
+        self.open(small_run(), '#line=28')
+        weight = "getComputedStyle(document.getElementById('about')).fontWeight"
+        before = self.script(weight)
+        self.ask()
+        self.assertEqual(self.script("getComputedStyle(document.querySelector('.chart .name')).fontWeight"), '700')
+        self.assertEqual(self.script(weight), before)
 
     def test_a_run_without_its_scenario_says_so(self) -> None:
         self.open(small_run()._replace(scenario=None), '#line=28')

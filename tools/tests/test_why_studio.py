@@ -72,6 +72,7 @@ class Page(unittest.TestCase):
         self.addCleanup(room.cleanup)
         file = Path(room.name, 'flooding.toml')
         file.write_text((TOP / 'examples/flooding.toml').read_text())
+        file.with_suffix('.expect.toml').write_text('expect = ["mote 0 prints flood 1"]\n')
         self.server = Server(Session(Desk(file), Runs(Limits())), CODEMIRROR)
         threading.Thread(target=self.server.serve_forever, kwargs={'poll_interval': 0.05}, daemon=True).start()
         self.addCleanup(self.stop)
@@ -110,6 +111,14 @@ class Page(unittest.TestCase):
         self.wait('why', 'the medium lost it, as it loses one packet in 2 from 0 to 1')
         self.browser.run("[...document.querySelectorAll('#why-chain button')][0].click()")
         self.assertEqual(self.browser.run('motesim.chosen().mote'), 1)
+
+    def test_a_line_that_an_expectation_misses(self) -> None:
+        """No line breaks it, so a click shows what came near."""
+        self.tab('checks')
+        self.wait('checks', 'mote 0 prints flood 1')
+        self.browser.run("document.querySelector('#checks .broken button').click()")
+        self.wait('why', 'it never prints anything by flood')
+        self.assertEqual(self.browser.run("document.getElementById('why-asked').value"), 'mote 0 prints flood 1')
 
     def test_steps_and_values(self) -> None:
         """Mote 3 takes message 1 at 49, in line 113; the step after it changes `newest`, which line 114 prints."""

@@ -20,6 +20,7 @@ from motesim.runner.run import Run
 from motesim.scenario import Scenario
 from motesim.scenario.faults import find_fault
 from motesim.timeline.html import write_page
+from motesim.timeline.note import note_of
 
 # Reports longer than this have no timeline.
 MOST_SHOWN = 4_000_000
@@ -160,11 +161,11 @@ class Task:
         its = next((its for _, its in found if not its.marks[place].holds), None)
         if its is None or its.run is None:
             return ''
-        broken = its.broken[place] if place < len(its.broken) else None
-        start, mote = where(its.run.report, broken.row) if broken and broken.row else (None, None)
+        mark = its.marks[place]
+        note = note_of(its.run, mark.sentence, its.broken[place] if place < len(its.broken) else None, mark.more)
         name = '%04d.html' % number
-        write_page(self.pictures / name, '%s: %s' % (marks.name, marks.marks[place].sentence), [its.run._replace(name=marks.name)],
-                   start, mote)
+        write_page(self.pictures / name, '%s: %s' % (marks.name, mark.sentence), [its.run._replace(name=marks.name)],
+                   note=note)
         return name
 
 
@@ -178,14 +179,3 @@ def fix_of(entry: Entry, data: bytes) -> tuple[str, ...]:
         fault = find_fault(data) if data else None
         lines = explanation(entry.name, data, 'motesim: ' + fault.told) if fault else []
     return tuple(line[:LONGEST_WHY] for line in lines[:MOST_LINES])
-
-
-def where(report: Report, row: int) -> tuple[int | None, int | None]:
-    """The moment and the mote of a row of a report."""
-    for mote in report.motes:
-        if mote.row < row <= mote.row + len(mote.lines):
-            return mote.lines[row - mote.row - 1].at, mote.number
-    place = row - report.medium_row - 1
-    if 0 <= place < len(report.medium):
-        return report.medium[place].at, report.medium[place].sender
-    return None, None

@@ -148,7 +148,7 @@ def part_for(text: str, saved: str, parts: list[expectations.Part]) -> expectati
 
 
 def checks(done: Finished, saved: str, expected: tuple[str, str] | None) -> dict[str, Any] | None:
-    """Which of the scenario's expectations hold: for each sentence a mark, with the row of the report that breaks it."""
+    """Which expectations hold: for each sentence a mark, with the row of the report that breaks it."""
     if expected is None:
         return None
     name, source = expected

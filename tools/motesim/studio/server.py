@@ -47,7 +47,8 @@ def has_editor(codemirror: Path | None) -> bool:
 @functools.cache
 def modules() -> dict[str, bytes]:
     """The modules of the page by their addresses, which are their paths in the package."""
-    return {str(path.relative_to(FOLDER)): text.encode('utf-8') for path, text in modules_of(PAGE / 'studio.js').items()}
+    found = modules_of(PAGE / 'studio.js')
+    return {path.relative_to(FOLDER).as_posix(): text.encode('utf-8') for path, text in found.items()}
 
 
 @functools.cache
@@ -141,7 +142,8 @@ class Server(ThreadingHTTPServer):
     """The studio's server. A browser opens its `address`."""
     daemon_threads = True
 
-    def __init__(self, session: Session, codemirror: Path | None = CODEMIRROR, port: int = 0, token: str | None = None):
+    def __init__(self, session: Session, codemirror: Path | None = CODEMIRROR, port: int = 0,
+                 token: str | None = None):
         self.session = session
         self.token = token or secrets.token_urlsafe(24)
         self.codemirror = codemirror if has_editor(codemirror) else None

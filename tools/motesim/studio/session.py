@@ -128,7 +128,8 @@ class Session:
                 stamp = self.desk.save_new(it, name)
                 name = name if name.endswith('.toml') else name + '.toml'
                 return as_json({'stamp': stamp, 'name': name, 'where': 'folder'})
-            return as_json({'stamp': self.desk.save(it, asked.get('over') is True), 'name': it['name'], 'where': 'folder'})
+            stamp = self.desk.save(it, asked.get('over') is True)
+            return as_json({'stamp': stamp, 'name': it['name'], 'where': 'folder'})
         except Changed as fault:
             return as_json({'changed': str(fault)})
 

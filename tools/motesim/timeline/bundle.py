@@ -2,15 +2,15 @@
 
     bundle(Path('page/open.js'))
 
-Each module becomes a function that returns its exports, and is called once, after the modules that it imports. So names
-of one module are unknown in the others, as in a browser that loads them. Of JavaScript's forms a module may use these,
-each at the beginning of a line:
+Each module becomes a function that returns its exports. It is called once, after the modules that it imports. So the
+names of a module are unknown in the others, as in a browser that loads them. A module may use these forms, each at the
+beginning of a line:
 
     import {name, other as mine} from './file.js';
     export const NAME = ..      export const [NAME, NAME] = ..
     export function name ..     export async function name ..     export class Name ..
 
-No module may import, over others, itself. A `let` isn't exported: those who import it would keep its first value.
+Modules may not import one another in a circle, nor export a `let`, since importers would keep its first value.
 """
 from __future__ import annotations
 
@@ -51,11 +51,13 @@ def modules_of(entry: Path) -> dict[Path, str]:
         if path in found:
             return
         if path in going:
-            raise BundleFault('modules import one another: %s' % ', '.join(it.name for it in going[going.index(path):]))
+            circle = ', '.join(it.name for it in going[going.index(path):])
+            raise BundleFault('modules import one another: %s' % circle)
         try:
             text = path.read_text('utf-8')
         except FileNotFoundError:
-            raise BundleFault('%s imports %s, which is not there' % (going[-1].name if going else 'the page', path)) from None
+            importer = going[-1].name if going else 'the page'
+            raise BundleFault('%s imports %s, which is not there' % (importer, path)) from None
         going.append(path)
         for _, file in imports_of(text):
             add((path.parent / file).resolve())

@@ -23,6 +23,7 @@ from motesim.files import write_whole
 from motesim.runner.run import Run
 from motesim.timeline.bundle import bundle
 from motesim.timeline.columns import data_of
+from motesim.timeline.note import Note
 from motesim.why.pages import causes_of
 
 PAGE = Path(__file__).resolve().parent / 'page'
@@ -40,8 +41,10 @@ def _escaped(text: str) -> str:
     return text.replace('&', '&amp;').replace('<', '&lt;').replace('>', '&gt;')
 
 
-def page_of(title: str, runs: Sequence[Run], start: int | None = None, mote: int | None = None) -> Iterable[str]:
-    """The parts of the page's text. It opens on the whole run, or around the moment `start` with `mote` in view."""
+def page_of(title: str, runs: Sequence[Run], start: int | None = None, mote: int | None = None,
+            note: Note | None = None) -> Iterable[str]:
+    """The parts of the page's text. It opens on the whole run, or around the moment `start` with `mote` in view, or at
+    the line of its note."""
     table: list[dict[str, Any]] = []
     packed: list[str] = []
     for run in runs:
@@ -49,7 +52,8 @@ def page_of(title: str, runs: Sequence[Run], start: int | None = None, mote: int
         of_run['why'] = causes_of(run)
         table.append(of_run)
         packed.append(base64.b64encode(columns).decode('ascii'))
-    data = json.dumps({'title': title, 'start': start, 'mote': mote, 'runs': table}, separators=(',', ':'))
+    data = json.dumps({'title': title, 'start': start, 'mote': mote, 'note': note.as_json() if note else None,
+                       'runs': table}, separators=(',', ':'))
     fill = {
         'TITLE': [_escaped(title)], 'STYLE': [(PAGE / 'page.css').read_text('utf-8')],
         'DATA': [data.replace('<', '\\u003c')], 'SCRIPT': [script()],
@@ -63,10 +67,12 @@ def page_of(title: str, runs: Sequence[Run], start: int | None = None, mote: int
 
 
 def write_page(path: str | Path, title: str, runs: Sequence[Run], start: int | None = None,
-    mote: int | None = None) -> None:
+               mote: int | None = None, note: Note | None = None) -> None:
     """Writes the page of one run or of several above one another, which share their time axis.
 
-    With `start` the page opens around that moment, which is marked, and with `mote` that mote's lane is in view.
+    With `start` the page opens around that moment, which is marked, and with `mote` that mote's lane is in view. With
+    `note` it shows a sentence that doesn't hold, and opens at the line that the note is about.
     """
     # (of a name that isn't UTF-8, other bytes are escaped)
-    write_whole(path, (part.encode('utf-8', 'backslashreplace') for part in page_of(title, runs, start, mote)))
+    write_whole(path, (part.encode('utf-8', 'backslashreplace')
+                       for part in page_of(title, runs, start, mote, note)))

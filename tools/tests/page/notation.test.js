@@ -26,7 +26,8 @@ class Stream {
 
 /** Pairs of a token and its colour. */
 function tokens(text, quote = "'''") {
-  const token = notationTokens(given.words), stream = new Stream(text), state = {quote, before: '', depth: 0}, found = [];
+  const token = notationTokens(given.words), stream = new Stream(text), found = [];
+  const state = {quote, before: '', depth: 0};
   while (!stream.eol() && stream.peek() !== (quote.length === 1 ? quote : '')) {
     const from = stream.at, colour = token(stream, state);
     if (colour) found.push([text.slice(from, stream.at), colour]);

@@ -36,8 +36,8 @@ test('numbers have their nouns', () => assert.deepEqual(
   ['0 packets', '1 copy', '2 copies', '1,234 lines']));
 
 test('a difference is one sentence', () => {
-  const other = 'the run before', of = difference => differenceInWords({same: false, first: null, motes: [], ...difference},
-    other);
+  const of = difference =>
+    differenceInWords({same: false, first: null, motes: [], ...difference}, 'the run before');
   assert.equal(of({same: true}), 'The same report as that of the run before.');
   assert.equal(of({first: {at: 30, mote: 2, inMedium: false}}),
     'The first difference from the run before is at moment 30, in the trace of mote 2.');

@@ -1,12 +1,13 @@
 // Warnings, the sentences that hold or don't, and the sums of a run.
 import {byId, element, makeButton, table} from '../../timeline/page/dom.js';
 import {showSeries} from '../../timeline/page/plots.js';
+import {chooseRow} from '../../timeline/page/rows.js';
 import {panes} from '../../timeline/page/stage.js';
 import {count} from '../../timeline/page/words.js';
-import {chooseRow} from './rows.js';
 import {reactions} from './running.js';
 import {studio} from './state.js';
 import {labelTab, showTab} from './tabs.js';
+import {askQuestion} from './whys.js';
 
 /** Shows warnings about what is legal but probably not meant. A click leads to its place. */
 function showWarnings(warnings) {
@@ -44,12 +45,17 @@ function checkItem(it) {
   const inside = element('div');
   if (it.row) {
     const button = makeButton(it.sentence, () => {
-      chooseRow(it.row);
+      chooseRow(panes[0], it.row);
       showTab('chosen');
     });
     button.title = 'Show the line that breaks it';
     inside.append(button);
-  } else inside.append(element('span', it.sentence));
+  } else if (it.holds) inside.append(element('span', it.sentence));
+  else {
+    const button = makeButton(it.sentence, () => askQuestion(it.sentence));
+    button.title = 'Show what came near';
+    inside.append(button);
+  }
   if (!it.holds) inside.append(Object.assign(element('span', it.more.join('\n')), {className: 'why'}));
   const item = element('li', '', [sign, inside]);
   item.className = it.holds ? 'holds' : 'broken';

@@ -1,10 +1,10 @@
 // The tab *Why*: questions about the run, which the server answers.
 import {chooseLine} from '../../timeline/page/details.js';
 import {byId, element, lineButton} from '../../timeline/page/dom.js';
+import {chooseRow} from '../../timeline/page/rows.js';
 import {panes} from '../../timeline/page/stage.js';
 import {sayWhy, showChain, source} from '../../timeline/page/why.js';
 import {Lost, Refused, ask} from './link.js';
-import {chooseRow} from './rows.js';
 import {studio} from './state.js';
 import {showTab} from './tabs.js';
 
@@ -20,6 +20,13 @@ async function askedChain(run, line) {
   showTab('why');
   if (answer.said) throw new Error(answer.said);
   return {hops: hopsOf(answer), about: ''};
+}
+
+/** Asks a question in the tab *Why*. */
+export function askQuestion(text) {
+  byId('why-asked').value = text;
+  showTab('why');
+  return answerWhy();
 }
 
 /** Answers the question with a chain, or with what came near. */
@@ -46,7 +53,7 @@ async function answerWhy() {
 /** Something that came near, as a button if a row of the report shows it. */
 function missButton(mote, {words, line: row}) {
   const text = `mote ${mote}: ${words}`;
-  return row ? lineButton(`line ${row}`, text, '', false, () => chooseRow(row)) : element('span', text);
+  return row ? lineButton(`line ${row}`, text, '', false, () => chooseRow(panes[0], row)) : element('span', text);
 }
 
 /** Lets the server find causes from now on. */

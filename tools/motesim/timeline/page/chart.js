@@ -4,6 +4,13 @@
 import {pathOf} from './causes.js';
 
 const SVG = 'http' + '://www.w3.org/2000/svg';
+// (on a page, the style of an SVG is that of the whole page, unless it names its own element)
+const STYLE = [
+  ['.life', 'stroke:#b8bec7;fill:none'], ['.work', 'stroke:#1b1f24;stroke-width:2.4;fill:none'],
+  ['.wait', 'stroke:#9a6200;stroke-width:2;stroke-dasharray:2 4;fill:none'],
+  ['.packet', 'stroke:#d9480f;stroke-width:2;fill:none'], ['.head', 'fill:#d9480f'], ['circle', 'fill:#d9480f'],
+  ['text', 'fill:#1b1f24'], ['.name', 'font-weight:bold'], ['.moment', 'fill:#5a6470'],
+].map(([selector, rules]) => `svg.why ${selector}{${rules}}`).join('');
 const CHART = {column: 190, row: 24, top: 46, left: 74, most: 400};
 
 const ESCAPES = {'&': '&amp;', '<': '&lt;', '>': '&gt;', '"': '&quot;'};
@@ -45,12 +52,9 @@ export function chartOf(run, hops) {
   });
   text(CHART.left, y(shown.length) + 18, pathOf(hops) +
     (hops.length > shown.length ? ` The first ${hops.length - shown.length} hops are not shown.` : ''));
-  return `<svg xmlns="${SVG}" width="${width}" height="${height}" ` +
+  return `<svg xmlns="${SVG}" class="why" width="${width}" height="${height}" ` +
     `viewBox="0 0 ${width} ${height}" font-family="system-ui, 'DejaVu Sans', sans-serif" font-size="12">` +
     `<title>${escapeXml(`Why mote ${hops[0].mote} writes ${hops[0].at} ${hops[0].words}: ${run.name}`)}</title>` +
-    '<style>.life{stroke:#b8bec7;fill:none}.work{stroke:#1b1f24;stroke-width:2.4;fill:none}' +
-    '.wait{stroke:#9a6200;stroke-width:2;stroke-dasharray:2 4;fill:none}' +
-    '.packet{stroke:#d9480f;stroke-width:2;fill:none}.head,circle{fill:#d9480f}' +
-    'text{fill:#1b1f24}.name{font-weight:bold}.moment{fill:#5a6470}</style>' +
+    `<style>${STYLE}</style>` +
     `<rect width="${width}" height="${height}" fill="#ffffff"/>${parts.join('')}</svg>`;
 }

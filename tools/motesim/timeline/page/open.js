@@ -1,7 +1,7 @@
 // Opens the page of tools/timeline on the runs that it holds.
 import {Run, lowerBound, unpacked} from './data.js';
 import {chooseLine, chooseMote} from './details.js';
-import {byId} from './dom.js';
+import {byId, element, lineButton, list} from './dom.js';
 import {drawAll} from './draw.js';
 import {readColours} from './forms.js';
 import {breathe, indexRun} from './index.js';
@@ -9,22 +9,47 @@ import {AXIS, FULL_LANE} from './layout.js';
 import {listen, resize, showRuns, whole} from './main.js';
 import {setNow} from './play.js';
 import {offerSeries} from './plots.js';
-import {page, panes} from './stage.js';
+import {chooseRow} from './rows.js';
+import {chosen, page, panes, play} from './stage.js';
 import {showTime, time} from './time.js';
 
-/** Shows the whole run, or the moments around the one that the page was made for. */
-function openAt(said) {
+/** Shows the moments around one, with the lanes of a mote in view. */
+function showAround(moment, mote) {
+  showTime(Math.max(0, moment - 15), Math.min(time.end, moment + 45));
+  setNow(moment);
+  if (mote === null) return;
+  for (const pane of panes) {
+    if (mote >= pane.order.length) continue;
+    if (pane.lane < FULL_LANE) pane.zoomLanes(FULL_LANE * 1.2 / pane.lane);
+    pane.reveal(mote);
+  }
+}
+
+/** Shows what the page was made for: its note, or a moment, or the whole run. */
+function openAt({start, mote, note}) {
   whole();
-  if (said.start === null) return;
-  showTime(Math.max(0, said.start - 15), Math.min(time.end, said.start + 45));
-  setNow(said.start);
-  if (said.mote !== null) {
-    for (const pane of panes) {
-      if (said.mote >= pane.order.length) continue;
-      if (pane.lane < FULL_LANE) pane.zoomLanes(FULL_LANE * 1.2 / pane.lane);
-      pane.reveal(said.mote);
-    }
-    chooseAt(said);
+  if (note) return openAtNote(note);
+  if (start === null) return;
+  showAround(start, mote);
+  if (mote !== null) chooseAt(start, mote);
+}
+
+/** Shows a note, and its first line that the report has; else the last line of the mote before one was missing. */
+function openAtNote(note) {
+  const box = byId('note'), [pane] = panes;
+  box.hidden = false;
+  box.append(element('h2', `Broken: ${note.title}`), ...(note.why ? [element('p', note.why)] : []),
+    list('ul', note.lines.map(({text, row}) => !row ? element('span', text) :
+      lineButton(`line ${row}`, text, '', false, () => chooseRow(pane, row)))));
+  const first = note.lines.find(it => it.row);
+  if (first) {
+    chooseRow(pane, first.row);
+    showAround(play.now, chosen.pane ? chosen.mote : null);
+  } else if (note.mote !== null) {
+    const {run} = pane, begin = run.traceStart[note.mote];
+    const end = lowerBound(run.at, note.at + 1, begin, run.traceStart[note.mote + 1]);
+    if (end > begin) chooseLine(pane, end - 1, false); else chooseMote(pane, note.mote, false);
+    showAround(end > begin ? play.now : note.at, note.mote);
   }
 }
 
@@ -51,8 +76,8 @@ function openAsAddressed() {
   }
 }
 
-/** Selects the first line of the mote from the start on, in the first run that has one. */
-function chooseAt({start, mote}) {
+/** Selects the first line of a mote at a moment, in the first run that has one. */
+function chooseAt(start, mote) {
   for (const pane of panes) {
     const {at, traceStart} = pane.run;
     if (mote >= pane.order.length) continue;
@@ -62,9 +87,9 @@ function chooseAt({start, mote}) {
 }
 
 async function open() {
-  const said = JSON.parse(byId('data').textContent), runs = [], begin = performance.now();
+  const data = JSON.parse(byId('data').textContent), runs = [], begin = performance.now();
   readColours();
-  for (const [number, table] of said.runs.entries()) {
+  for (const [number, table] of data.runs.entries()) {
     const packed = byId(`run${number}`), run = new Run(table, await unpacked(packed.textContent));
     packed.textContent = '';
     await breathe();
@@ -73,7 +98,7 @@ async function open() {
   }
   showRuns(runs);
   offerSeries();
-  openAt(said);
+  openAt(data);
   openAsAddressed();
   listen();
   Object.assign(page, {opened: performance.now() - begin, ready: true});

@@ -1,0 +1,71 @@
+"""The note of a page that shows why a sentence doesn't hold: the line that breaks it, or those that came near.
+
+    write_page('ben.html', 'ben', [run], note=note_of(run, 'mote 6 prints wave 3', broken))
+"""
+from __future__ import annotations
+
+from typing import Any, NamedTuple
+
+from motesim.faults import Fault
+from motesim.judge.judge import Broken
+from motesim.runner.run import Run
+from motesim.why.miss import last_of, misses
+from motesim.why.pages import source_of
+from motesim.why.question import Asked, Asker, Missing
+from motesim.why.source import Source
+
+MOST_LINES = 8
+
+
+class Line(NamedTuple):
+    """A line of a note, with the row of the report that it is about, or 0."""
+    text: str
+    row: int = 0
+
+
+class Note(NamedTuple):
+    """A sentence that doesn't hold, why, and its lines. The page opens at the first line that has a row, or at
+    the last line of a mote up to the moment `at`."""
+    title: str
+    why: str
+    lines: tuple[Line, ...] = ()
+    at: int = 0
+    mote: int | None = None
+
+    def as_json(self) -> dict[str, Any]:
+        return {**self._asdict(), 'lines': [it._asdict() for it in self.lines]}
+
+
+def note_of(run: Run, sentence: str, broken: Broken | None, more: tuple[str, ...] = ()) -> Note:
+    """The note for a sentence. `more` says why it doesn't hold if no `broken` does."""
+    if broken is None:
+        return Note(sentence, '', tuple(map(Line, more)))
+    source = source_of(run)
+    if broken.row:
+        return Note(sentence, broken.why, (Line(_text(source, broken.row), broken.row),))
+    try:
+        asker = Asker(source)
+        found = asker.about(sentence)
+    except Fault:
+        return Note(sentence, broken.why)
+    if isinstance(found, Asked):
+        row = source.traces.row(found.where)
+        return Note(sentence, found.remark or broken.why, (Line(_text(source, row), row),))
+    lines = _near(asker, found)
+    return Note(sentence, '%s. What came near:' % found.remark if lines else found.remark, lines,
+                last_of(found.span, source), found.motes[0])
+
+
+def _near(asker: Asker, missing: Missing) -> tuple[Line, ...]:
+    """What came near a missing line. A report that no kernel writes has nothing near."""
+    try:
+        lines = [Line('mote %d: %s' % (mote, it.words), it.row) for mote, its in misses(asker, missing) for it in its]
+    except Fault:
+        return ()
+    return tuple(lines[:MOST_LINES])
+
+
+def _text(source: Source, row: int) -> str:
+    """A row of the report."""
+    where = source.traces.at_row(row)
+    return source.traces.text(where) if where else source.traces.medium_line(row) or ''
