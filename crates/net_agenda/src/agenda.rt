@@ -1,6 +1,6 @@
 //! The pending events of a net, in a bucket for each moment.
 
-ghost use Rattle.std.specs.Prelude.{◌≡◌, ◌≤◌, length, take, List, [], ◌∷◌, map, OnOk, IfOk, MatchOption};
+ghost use Rattle.std.specs.Prelude.{◌≡◌, ◌≤◌, ◌+◌, length, take, List, [], ◌∷◌, map, OnOk, IfOk, MatchOption};
 ghost use Rattle.std.specs.List.{filter_map};
 ghost use Rattle.radio_medium.specs.Medium.{copy_of};
 ghost use Rattle.window_laws.specs.Agenda.{Item, Wake, Packet, IsLeast, packets, wake_items};
@@ -19,6 +19,13 @@ pub struct Agenda {
     alloc: Global,
     pub buckets: BTreeMap<u64, Bucket>,
     lists: Lists,
+}
+
+/// The sum of two counts of copies. If it overflows, there are more copies than any memory holds.
+fn plus(one: u64, other: u64) -> Result<u64, AllocError>
+    ensures { IfOk result (λ sum. sum ≡ one + other) }
+{
+    one.checked_add(other).ok_or(AllocError)
 }
 
 impl Agenda {
@@ -185,16 +192,6 @@ impl Agenda {
         taken
     }
 
-    /// Takes out all pending events of a mote at a moment, and returns the mote's packets, in order.
-    pub fn take_due(&mut self, moment: u64, mote: u16) -> Result<Vec<Arrival>, AllocError>
-        ensures copies { IfOk result (λ arrivals. AreDue moment mote self.old.buckets arrivals.items) }
-        ensures rest { TakesDue moment mote self.old.buckets self.new.buckets }
-    {
-        let mut arrivals = Vec::new(self.alloc);
-        self.take_due_into(moment, mote, &mut arrivals)?;
-        Ok(arrivals)
-    }
-
     /// The moment and the mote of the first pending event.
     pub fn first(&self) -> Option<(u64, u16)>
         ensures first { result ≡ first_key self.now.buckets }
@@ -210,16 +207,20 @@ impl Agenda {
         }
     }
 
-    /// How many copies are on their way.
+    /// How many copies are on their way. This allocates nothing.
+    ///
+    /// # Errors
+    /// Only for a number above `u64::MAX`, for which no memory has room.
     pub fn left(self) -> Result<u64, AllocError>
         ensures { (items : List Item) → Holds self.buckets items → IfOk result (λ left. left ≡ length (packets items)) }
     {
-        let mut left = Vec::with_capacity(self.alloc, self.buckets.len())?;
         let mut buckets = self.buckets;
-        while let Some((_, mut bucket)) = buckets.pop_first() {
-            bucket.drop_wakes();
-            left.append(&mut bucket.coming)?;
+        // The map is asked for its length since it then says that its keys rise, which the proof needs.
+        let _length = buckets.len();
+        let mut left = 0;
+        while let Some((_, bucket)) = buckets.pop_first() {
+            left = plus(left, bucket.copies())?;
         }
-        Ok(left.len() as u64)
+        Ok(left)
     }
 }

@@ -11,4 +11,4 @@ pub use agenda::Agenda;
 pub use bucket::{Bucket, Coming};
 pub use mote::new_mote;
 pub use spread::Lists;
-pub use traces::add_lines;
+pub use traces::{add_lines, extend_trace};

@@ -1,6 +1,6 @@
 //! The traces of the motes of a net.
 
-ghost use Rattle.std.specs.Prelude.{◌≡◌, ◌<◌, length, OnOk};
+ghost use Rattle.std.specs.Prelude.{◌≡◌, ◌<◌, ◌++◌, length, OnOk};
 ghost use Rattle.net_agenda.specs.Traces.{AddsLines};
 
 use process_kernel::Line;
@@ -26,7 +26,22 @@ fn make_room(trace: &mut Vec<Line>, more: usize) -> Result<(), AllocError>
     Ok(())
 }
 
+/// Moves lines to the end of a trace.
+///
+/// # Errors
+/// Out of memory only.
+pub fn extend_trace(trace: &mut Vec<Line>, lines: &mut Vec<Line>) -> Result<(), AllocError>
+    ensures { OnOk result (trace.new.items ≡ trace.old.items ++ lines.old.items) }
+{
+    make_room(trace, lines.len())?;
+    trace.append(lines)?;
+    Ok(())
+}
+
 /// Moves lines to the end of the trace of the mote with this number.
+///
+/// # Errors
+/// Out of memory only.
 pub fn add_lines(
     traces: &mut Vec<Vec<Line>>,
     number: u16,
@@ -35,8 +50,5 @@ pub fn add_lines(
     requires { number < length traces.old.items }
     ensures { OnOk result (AddsLines number lines.old.items traces.old.items traces.new.items) }
 {
-    let trace = &mut traces[usize::from(number)];
-    make_room(trace, lines.len())?;
-    trace.append(lines)?;
-    Ok(())
+    extend_trace(&mut traces[usize::from(number)], lines)
 }

@@ -5,7 +5,7 @@ use Rattle.net_agenda.proofs.Items.{items_among}
 use Rattle.net_agenda.proofs.agenda.Agenda.left.Given as goal
 
 abbrev pub invariant-loop-bucket : goal.invariant-loop-bucket
-invariant-loop-bucket l = (items : List Item) → Holds l.fn.self.buckets items → length l.left.items + length (packets (items_among l.buckets.entries)) ≡ length (packets items)
+invariant-loop-bucket l = (items : List Item) → Holds l.fn.self.buckets items → l.left + length (packets (items_among l.buckets.entries)) ≡ length (packets items)
 
 abbrev pub decreases-loop-bucket : goal.decreases-loop-bucket
 decreases-loop-bucket l = length l.buckets.entries
