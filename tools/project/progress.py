@@ -1,4 +1,4 @@
-"""Lines on standard error that tell how far a long command is: on a terminal one line that is renewed."""
+"""Lines on standard error that show how far a long command is: on a terminal one line that is renewed."""
 from __future__ import annotations
 
 import os
@@ -11,11 +11,10 @@ RENEW = '\r\x1b[K'
 
 
 def fitted(text: str, names: Sequence[str], width: int) -> str:
-    """The text with as many of the names behind it as fit, whole, and how many more there are; no text is cut either,
-    but for one that is too long by itself."""
+    """The text, with as many of the names after it as fit whole, and the number of the others."""
     for shown in range(len(names), 0, -1):
-        more = len(names) - shown
-        line = '%s (now %s%s)' % (text, ', '.join(names[:shown]), ' and %d more' % more if more else '')
+        more = ' and %d more' % (len(names) - shown) if shown < len(names) else ''
+        line = '%s (now %s%s)' % (text, ', '.join(names[:shown]), more)
         if len(line) <= width:
             return line
     return text if len(text) <= width else text[:max(0, width - 2)] + '..'
@@ -33,15 +32,15 @@ class Line:
             print(RENEW * self.is_terminal + text, end=end, file=self.stream, flush=True)
 
     def say(self, text: str) -> None:
-        """A line that stays."""
+        """Prints a line that stays."""
         self.print('%s: %s' % (self.name, text), '\n')
 
-    def renew(self, text: str, names: Sequence[str]) -> None:
-        """The line that is renewed, on a terminal."""
+    def renew(self, text: str, names: Sequence[str] = ()) -> None:
+        """Prints the line that is renewed, on a terminal."""
         if self.is_terminal:
             self.print(fitted('%s: %s' % (self.name, text), names, shutil.get_terminal_size().columns - 1), '')
 
     def end(self) -> None:
-        """The line that is renewed goes."""
+        """Removes the line that is renewed."""
         if self.is_terminal:
             self.print('', '')

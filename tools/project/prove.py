@@ -9,12 +9,14 @@ proved. ./test is the gate, which proves everything from nothing, and tests it.
 from __future__ import annotations
 
 import os
+import re
 import signal
 import sys
 import threading
 import time
 from collections.abc import Sequence
 from concurrent.futures import FIRST_COMPLETED, Future, ThreadPoolExecutor, wait
+from pathlib import Path
 from typing import NoReturn
 
 from motesim.faults import Fault, command
@@ -22,53 +24,69 @@ from motesim.runner.programs import proved_program
 from motesim.words import words_of
 from project import kit
 from project.compile import clear_others
-from project.estimate import Estimate, Log, chains, minutes, whole
+from project.pace import Estimate, chains, pace_before
 from project.progress import Line
-from project.shares import minutes_from_nothing, shares
 from project.tree import PROGRAM, TOP
 
 NAME = PROGRAM.name
 
 
+def minutes(seconds: float) -> str:
+    return '%d minutes' % round(seconds / 60) if seconds >= 90 else 'a minute'
+
+
+class Log:
+    """Keeps the prover's output about a crate, and finds in it the share of the crate that is checked."""
+
+    def __init__(self, crate: kit.Crate, shares: dict[str, float]):
+        self.name, self.shares, self.path = crate.name, shares, Path(crate.folder) / 'out/build.log'
+        self.path.parent.mkdir(exist_ok=True)
+        self.file = open(self.path, 'w', encoding='utf-8')
+        shares[crate.name] = 0
+
+    def write(self, text: str) -> int:
+        self.file.write(text)
+        counted = re.search(r'(\d+) of (\d+)( functions checked|$)', text.rstrip('\n'))
+        if counted and int(counted[2]):
+            self.shares[self.name] = 0.9 * int(counted[1]) / int(counted[2])
+        return len(text)
+
+    def flush(self) -> None:
+        self.file.flush()
+
+
 class Progress:
-    """Says how far a proof is."""
+    """Shows how far a proof is: renews the line on a terminal, or says a line each minute, until the proof ends."""
 
     def __init__(self, estimate: Estimate, line: Line):
         self.estimate, self.line, self.ended = estimate, line, threading.Event()
+        self.logs: dict[str, Log] = {}
         self.renewing = threading.Thread(target=self.renew, daemon=True)
 
-    def announce(self, built: int) -> None:
-        estimate = self.estimate
-        proved = ' (%d are proved already)' % built if built else ''
-        here = '%d processors' % estimate.processors if estimate.processors > 1 else 'one processor'
-        number = len(estimate.crates)
-        self.line.say('proving %d crate%s%s: about %s on the %s here; interrupt it at any time, ./prove resumes' % (
-            number, 's' * (number > 1), proved, minutes(estimate.left()), here))
-        self.renewing.start()
+    def state(self) -> str:
+        elapsed = time.monotonic() - self.estimate.began
+        done = sum(it == 1 for it in self.estimate.shares.values())
+        left = ', about %s left' % minutes(self.estimate.left()) if done < len(self.estimate.crates) else ''
+        return '%d of %d proved, %d:%02d so far%s' % (done, len(self.estimate.crates), elapsed // 60, elapsed % 60, left)
 
     def renew(self) -> None:
-        """Renews the line on a terminal, or says a line each minute, until the proof ends."""
         while not self.ended.wait(1 if self.line.is_terminal else 60):
+            names = [it for it, share in list(self.estimate.shares.items()) if share < 1]
             if self.line.is_terminal:
-                self.line.renew(self.estimate.state(), self.estimate.at_work())
+                self.line.renew(self.state(), names)
             else:
-                self.line.say('%s (now %s)' % (self.estimate.state(), ', '.join(self.estimate.at_work())))
+                self.line.say('%s (now %s)' % (self.state(), ', '.join(names)))
 
-    def end(self) -> None:
-        self.ended.set()
-        self.renewing.join()
-        self.line.end()
-
-    def ends(self, crate: kit.Crate, is_proved: bool) -> None:
+    def ends(self, name: str, is_proved: bool) -> None:
+        """Reports that the proof of a crate has ended."""
+        self.logs[name].flush()
         if is_proved:
-            self.estimate.done.append(crate.name)
+            self.estimate.shares[name] = 1
             if not self.line.is_terminal:
-                self.line.say('%s is proved: %s' % (crate.name, self.estimate.state()))
-            return
-        log = self.estimate.logs[crate.name]
-        log.flush()
-        self.line.say('%s is not proved (%s):' % (crate.name, log.path))
-        self.line.print(log.path.read_text('utf-8', 'replace'), '')
+                self.line.say('%s is proved: %s' % (name, self.state()))
+        else:
+            self.line.say('%s is not proved (%s):' % (name, self.logs[name].path))
+            self.line.print(self.logs[name].path.read_text('utf-8', 'replace'), '')
 
 
 def make(crate: kit.Crate, jobs: int, began: float) -> bool:
@@ -81,7 +99,7 @@ def make(crate: kit.Crate, jobs: int, began: float) -> bool:
         return False
     os.remove('%s/%s.o' % (crate.folder, new))
     new = '%s/%s' % (crate.folder, new)
-    # (what is edited while this proof goes on is newer than what it built)
+    # (a source that is edited during this proof is newer than what it built)
     os.utime(new, (began, began))
     os.replace(new, '%s/out/%s' % (crate.folder, crate.name))
     return True
@@ -93,10 +111,8 @@ def work(crate: kit.Crate, jobs: int, gives_way: bool, log: Log, began: float) -
         crate.out = log  # type: ignore[assignment]
         return make(crate, jobs, began)
     except SystemExit:
-        # (the kit stops so, and says why on standard error)
+        # (the kit ends so, and says why on standard error)
         return False
-    finally:
-        log.flush()
 
 
 def jobs_of(crate: kit.Crate, ready: Sequence[kit.Crate], running: Sequence[kit.Crate],
@@ -124,24 +140,17 @@ def prove(crates: Sequence[kit.Crate], built: Sequence[kit.Crate], progress: Pro
                 if len(running) >= estimate.processors or (running and need > room):
                     continue
                 jobs, gives_way = jobs_of(crate, ready[at:], [it for it, _ in running.values()], estimate)
-                # (a job more takes some six tenths of the memory of the first)
+                # (each further job needs some six tenths of the memory of the first)
                 jobs = max(1, min(jobs, 8, 1 + int((room / need - 1) / 0.6)))
                 left.remove(crate)
-                log = estimate.logs[crate.name] = Log(crate.folder)
+                log = progress.logs[crate.name] = Log(crate, estimate.shares)
                 running[pool.submit(work, crate, jobs, gives_way, log, date)] = crate, need * (1 + 0.6 * (jobs - 1))
             for ended in wait(running, return_when=FIRST_COMPLETED).done:
                 crate, _ = running.pop(ended)
                 is_well = is_well and ended.result()
                 proved.add(crate.name)
-                progress.ends(crate, ended.result())
+                progress.ends(crate.name, ended.result())
     return is_well
-
-
-def pace_of(crates: Sequence[kit.Crate], processors: int) -> float:
-    """How long a second of what was measured of the crates takes in a proof of all of them."""
-    measured = minutes_from_nothing(processors)
-    of_crates = whole(crates, shares([it.name for it in crates]), processors)
-    return measured * 60 / of_crates if measured and of_crates else 1
 
 
 def stop(line: Line, number: int) -> NoReturn:
@@ -171,11 +180,15 @@ def main() -> int:
     built = [it for it in crates if not it.is_program and it.is_built()]
     left = [it for it in crates if it not in built]
     processors = kit.processors()
-    estimate = Estimate(left, shares([it.name for it in left]), processors, pace_of(crates, processors))
-    progress = Progress(estimate, line)
-    progress.announce(len(built))
+    progress = Progress(Estimate(left, processors, pace_before(crates, processors)), line)
+    line.say('proving %d crate%s%s: about %s on the %s here; interrupt it at any time, ./prove resumes' % (
+        len(left), 's' * (len(left) > 1), ' (%d are proved already)' % len(built) if built else '',
+        minutes(progress.estimate.left()), '%d processors' % processors if processors > 1 else 'one processor'))
+    progress.renewing.start()
     is_well = prove(left, built, progress)
-    progress.end()
+    progress.ended.set()
+    progress.renewing.join()
+    line.end()
     for it in held:
         os.close(it)
     if not is_well:

@@ -1,6 +1,6 @@
-"""A headless Chromium for tests of pages, driven through its remote debugging port, by the standard library alone.
+"""A headless Chromium for tests of pages, driven by the DevTools protocol over a WebSocket (python3-websocket).
 
-    browser, why = Browser.start()      # None where no browser is installed or it doesn't start, and why
+    browser, why = Browser.start()      # None if no browser is installed or it doesn't start, and why
     with browser:
         browser.open(path)
         browser.run('1 + 1')
@@ -8,17 +8,21 @@
 from __future__ import annotations
 
 import base64
+import contextlib
 import json
 import os
 import shutil
-import socket
-import struct
 import subprocess
 import tempfile
 import time
 import urllib.request
 from pathlib import Path
 from typing import Any
+
+try:
+    import websocket
+except ImportError:
+    websocket = None
 
 NAMES = ['chromium', 'chromium-browser', 'google-chrome', 'google-chrome-stable', 'chrome']
 START_SECONDS = 60
@@ -29,68 +33,8 @@ class BrowserFault(Exception):
     """The browser doesn't start, doesn't answer, or the page has a fault."""
 
 
-class WebSocket:
-    """As much of RFC 6455 as it takes to talk with a browser on this machine."""
-
-    def __init__(self, address: str):
-        host, _, path = address.removeprefix('ws://').partition('/')
-        name, _, port = host.partition(':')
-        self.socket = socket.create_connection((name, int(port)), timeout=CALL_SECONDS)
-        key = base64.b64encode(os.urandom(16)).decode('ascii')
-        self.socket.sendall(('GET /%s HTTP/1.1\r\nHost: %s\r\nUpgrade: websocket\r\nConnection: Upgrade\r\n'
-                             'Sec-WebSocket-Key: %s\r\nSec-WebSocket-Version: 13\r\n\r\n' % (path, host,
-                                 key)).encode('ascii'))
-        self.rest = b''
-        while b'\r\n\r\n' not in self.rest:
-            self.rest += self.receive()
-        head, _, self.rest = self.rest.partition(b'\r\n\r\n')
-        if b' 101 ' not in head.split(b'\r\n')[0]:
-            raise BrowserFault('the browser refuses a websocket')
-
-    def receive(self) -> bytes:
-        got = self.socket.recv(1 << 16)
-        if not got:
-            raise BrowserFault('the browser is gone')
-        return got
-
-    def take(self, length: int) -> bytes:
-        while len(self.rest) < length:
-            self.rest += self.receive()
-        got, self.rest = self.rest[:length], self.rest[length:]
-        return got
-
-    def send(self, text: str, kind: int = 1) -> None:
-        data, mask = text.encode('utf-8'), os.urandom(4)
-        if len(data) < 126:
-            head = struct.pack('!BB', 0x80 | kind, 0x80 | len(data))
-        elif len(data) < 65536:
-            head = struct.pack('!BBH', 0x80 | kind, 0x80 | 126, len(data))
-        else:
-            head = struct.pack('!BBQ', 0x80 | kind, 0x80 | 127, len(data))
-        self.socket.sendall(head + mask + bytes(byte ^ mask[i % 4] for i, byte in enumerate(data)))
-
-    def get(self) -> str:
-        """The next text."""
-        whole = b''
-        while True:
-            first, second = self.take(2)
-            length = second & 127
-            if length == 126:
-                length, = struct.unpack('!H', self.take(2))
-            elif length == 127:
-                length, = struct.unpack('!Q', self.take(8))
-            data = self.take(length)
-            if first & 15 == 9:
-                self.send(data.decode('utf-8'), 10)
-            elif first & 15 == 8:
-                raise BrowserFault('the browser ends the talk')
-            elif first & 15 in (0, 1):
-                whole += data
-                if first & 128:
-                    return whole.decode('utf-8')
-
-    def close(self) -> None:
-        self.socket.close()
+# What ends a talk with the browser.
+FAULTS: tuple[type[Exception], ...] = (OSError, BrowserFault, ValueError, *([websocket.WebSocketException] if websocket else []))
 
 
 class Browser:
@@ -98,38 +42,38 @@ class Browser:
 
     def __init__(self, program: str):
         self.room = tempfile.mkdtemp(prefix='motesim-browser-')
-        words = [program, '--headless=new', '--no-sandbox', '--disable-gpu', '--disable-dev-shm-usage',
-            '--no-first-run',
+        words = [program, '--headless=new', '--no-sandbox', '--disable-gpu', '--disable-dev-shm-usage', '--no-first-run',
                  '--disable-extensions', '--disable-background-networking', '--remote-debugging-port=0',
                  '--remote-allow-origins=*', '--window-size=1280,800', '--user-data-dir=' + self.room, 'about:blank']
         self.process = subprocess.Popen(words, stdin=subprocess.DEVNULL, stdout=subprocess.DEVNULL,
-            stderr=subprocess.DEVNULL,
-                                        start_new_session=True)
-        self.socket: WebSocket | None = None
+                                        stderr=subprocess.DEVNULL, start_new_session=True)
+        self.socket: Any = None
         self.number = 0
         self.faults: list[str] = []
         try:
-            self.socket = WebSocket(self.page_address())
+            self.socket = websocket.create_connection(self.page_address(), timeout=CALL_SECONDS, suppress_origin=True)
             for name in ('Page.enable', 'Runtime.enable'):
                 self.call(name)
-        except (OSError, BrowserFault, ValueError):
+        except FAULTS:
             self.close()
             raise
 
     @classmethod
     def start(cls) -> tuple[Browser | None, str]:
         """A browser, or None and why there is none."""
+        if websocket is None:
+            return None, 'on Debian `apt-get install python3-websocket` installs what drives one'
         named = os.environ.get('MOTESIM_BROWSER')
         found = [named] if named else [path for path in map(shutil.which, NAMES) if path]
         if not found:
-            return None, 'no Chromium is installed'
+            return None, 'no Chromium is installed: on Debian `apt-get install chromium` installs it'
         try:
             return cls(found[0]), ''
-        except (OSError, BrowserFault, ValueError) as fault:
+        except FAULTS as fault:
             return None, '%s doesn\'t start: %s' % (found[0], fault)
 
     def page_address(self) -> str:
-        """Where the page is to be reached, once the browser has said so."""
+        """The address of the page, once the browser has written it."""
         until, file = time.monotonic() + START_SECONDS, Path(self.room, 'DevToolsActivePort')
         while time.monotonic() < until:
             if self.process.poll() is not None:
@@ -139,26 +83,27 @@ class Browser:
                 with urllib.request.urlopen('http://127.0.0.1:%d/json' % port, timeout=5) as answer:
                     pages = [page for page in json.load(answer) if page['type'] == 'page']
                 if pages:
-                    return pages[0]['webSocketDebuggerUrl']
+                    return str(pages[0]['webSocketDebuggerUrl'])
             except (OSError, IndexError, ValueError):
                 pass
             time.sleep(0.1)
-        raise BrowserFault('it says no port within %d seconds' % START_SECONDS)
+        raise BrowserFault('it writes no port within %d seconds' % START_SECONDS)
 
-    def call(self, name: str, **words: Any) -> dict:
-        """Calls the browser, and waits for the answer; faults that the page told meanwhile are kept."""
+    def call(self, name: str, **words: Any) -> dict[str, Any]:
+        """Calls the browser, and waits for the answer; errors of the page meanwhile are kept."""
         self.number += 1
         self.socket.send(json.dumps({'id': self.number, 'method': name, 'params': words}))
         until = time.monotonic() + CALL_SECONDS
         while time.monotonic() < until:
-            said = json.loads(self.socket.get())
+            said = json.loads(self.socket.recv())
             if said.get('method') == 'Runtime.exceptionThrown':
                 details = said['params']['exceptionDetails']
                 self.faults.append(details.get('exception', {}).get('description') or details['text'])
             if said.get('id') == self.number:
                 if 'error' in said:
                     raise BrowserFault('%s: %s' % (name, said['error']['message']))
-                return said['result']
+                result: dict[str, Any] = said['result']
+                return result
         raise BrowserFault('no answer to %s' % name)
 
     def run(self, script: str) -> Any:
@@ -170,12 +115,11 @@ class Browser:
         return done['result'].get('value')
 
     def size(self, width: int, height: int, dots: float = 1) -> None:
-        self.call('Emulation.setDeviceMetricsOverride', width=width, height=height, deviceScaleFactor=dots,
-            mobile=False)
+        self.call('Emulation.setDeviceMetricsOverride', width=width, height=height, deviceScaleFactor=dots, mobile=False)
 
     def dark(self, is_dark: bool) -> None:
-        self.call('Emulation.setEmulatedMedia', features=[{'name': 'prefers-color-scheme',
-            'value': 'dark' if is_dark else 'light'}])
+        scheme = {'name': 'prefers-color-scheme', 'value': 'dark' if is_dark else 'light'}
+        self.call('Emulation.setEmulatedMedia', features=[scheme])
 
     def open(self, path: Path, fragment: str = '') -> None:
         """Opens a page, and waits until it is ready."""
@@ -198,8 +142,7 @@ class Browser:
         while not self.run('Boolean(%s)' % script):
             if time.monotonic() > until:
                 shown = self.run('document.body && document.body.innerText.slice(0, 300)')
-                raise BrowserFault('the page is not ready: %s %s' % (shown,
-                                                                     self.faults))
+                raise BrowserFault('the page is not ready: %s %s' % (shown, self.faults))
             time.sleep(0.05)
 
     def settle(self) -> None:
@@ -223,8 +166,7 @@ class Browser:
 
     def key(self, key: str, code: str = '', number: int = 0, text: str | None = None) -> None:
         text = key if text is None and len(key) == 1 else text or ''
-        self.call('Input.dispatchKeyEvent', type='keyDown', key=key, code=code, windowsVirtualKeyCode=number,
-            text=text)
+        self.call('Input.dispatchKeyEvent', type='keyDown', key=key, code=code, windowsVirtualKeyCode=number, text=text)
         self.call('Input.dispatchKeyEvent', type='keyUp', key=key, code=code, windowsVirtualKeyCode=number)
         self.settle()
 
@@ -241,10 +183,8 @@ class Browser:
         """Ends the browser that was started here, and removes its profile."""
         try:
             if self.socket:
-                try:
+                with contextlib.suppress(*FAULTS):
                     self.call('Browser.close')
-                except (OSError, BrowserFault, ValueError):
-                    pass
                 self.socket.close()
             self.process.terminate()
             try:

@@ -1,31 +1,38 @@
-"""What gate_times tells of processes and of a run."""
-import os
+"""What gate_times notes of processes and of a run."""
+from __future__ import annotations
+
+import contextlib
+import io
+import json
 import subprocess
+import sys
 import tempfile
 import unittest
 from pathlib import Path
+from typing import Any
+from unittest import mock
 
 import here  # (it puts tools/ on the path)
-from project import gate_times
+from project import gate_times, pace
 
-RUN = {
-    'date': '2026-01-02', 'cores': 4, 'seconds': 600, 'processor seconds': 1800, 'unit': 12, 'lines': [1000, 20, 3],
-    'crates': {'low': {'proof': 10.4, 'tests': 0, 'wrong bodies': 30}, 'high': {'proof': 20, 'tests': 5, 'wrong bodies': 0}},
-    'bodies': {'low': 2, 'high': 0}}
+RUN: dict[str, Any] = {
+    'date': '2026-01-02', 'cores': 4, 'seconds': 600, 'processor seconds': 1800, 'lines': [1000, 20, 3],
+    'crates': {'low': {'proof': 10.4, 'tests': 0, 'mutants': 30}, 'high': {'proof': 20, 'tests': 5, 'mutants': 0}},
+    'mutants': {'low': 2, 'high': 0}}
 
 
 class Tasks(unittest.TestCase):
-    def test_a_process_is_told_by_its_words_and_its_folder(self):
+    def test_a_process_is_told_by_its_words_and_its_folder(self) -> None:
         words = ['/kit/bin/rattle', 'check', '--crate-name', 'low', 'src/lib.rt']
         self.assertEqual(gate_times.task_of(words, '/tree/crates/low'), ('low', 'proof'))
         self.assertEqual(gate_times.task_of([*words, '--test'], '/tree/crates/low'), ('low', 'tests'))
-        self.assertEqual(gate_times.task_of(words, '/tmp/rt-edit-x1'), ('low', 'wrong bodies'))
+        self.assertEqual(gate_times.task_of(words, '/tmp/rt-edit-x1'), ('low', 'mutants'))
 
-    def test_other_processes_are_none(self):
+    def test_other_processes_are_none(self) -> None:
         for words in (['/kit/bin/rattle', 'fmt', '--check'], ['rt', 'check', '--crate-name', 'low'], ['rattle'], []):
             self.assertIsNone(gate_times.task_of(words, '/tree'))
 
-    def test_time_is_that_of_the_process_and_of_its_children(self):
+    def test_time_is_that_of_the_process_and_of_its_children(self) -> None:
         with tempfile.TemporaryDirectory() as room:
             Path(room, 'check').write_text('(i=0; while [ $i -lt 400000 ]; do i=$((i+1)); done)\n(sleep 1)\n')
             used = gate_times.children_seconds()
@@ -38,19 +45,32 @@ class Tasks(unittest.TestCase):
 
 
 class Tables(unittest.TestCase):
-    def test_a_row_for_each_crate_and_their_sum(self):
+    def test_a_row_for_each_crate_and_their_sum(self) -> None:
         self.assertEqual(gate_times.table(RUN).split('\n')[2:], [
             '| `low` | 10 |  | 30 (2) |', '| `high` | 20 | 5 |  |', '| all | 30 | 5 | 30 (2) |', ''])
 
-    def test_a_line_for_the_landing(self):
-        self.assertEqual(gate_times.landing(RUN), '| 2026-01-02 | 2 | 1,000, 20, 3 | 10 | 4 | 30 | 12.0 | 150 |')
-        self.assertEqual(gate_times.landing({**RUN, 'unit': None}), '| 2026-01-02 | 2 | 1,000, 20, 3 | 10 | 4 | 30 | ? | ? |')
+    WITH_UNIT = {**RUN, 'crates': {**RUN['crates'], 'delivery_laws': {'proof': 18.0, 'tests': 0, 'mutants': 0}}}
 
-    def test_the_measure_is_told_alone_and_among_the_others(self):
-        told = '10 minutes on 4 cores, 30 processor minutes: 150 times those of delivery_laws, which takes 12.0 processor seconds here'
-        self.assertEqual(gate_times.summary(RUN), told)
-        run = {**RUN, 'crates': {**RUN['crates'], 'delivery_laws': {'proof': 18.0, 'tests': 0, 'wrong bodies': 0}}}
-        self.assertEqual(gate_times.summary(run), told + ', and 100 times those in the run itself, 18.0')
+    def test_a_line_for_the_landing(self) -> None:
+        self.assertEqual(gate_times.landing(RUN), '| 2026-01-02 | 2 | 1,000, 20, 3 | 10 | 4 | 30 | ? | ? |')
+        self.assertEqual(gate_times.landing(self.WITH_UNIT), '| 2026-01-02 | 3 | 1,000, 20, 3 | 10 | 4 | 30 | 18.0 | 100 |')
+
+    def test_the_unit_is_that_of_the_run_itself(self) -> None:
+        self.assertEqual(gate_times.summary(self.WITH_UNIT), '10 minutes on 4 cores, 30 processor minutes: 100 units of '
+                         '18.0 s, the proof of delivery_laws')
+
+    def test_the_table_stands_between_its_marks(self) -> None:
+        with tempfile.TemporaryDirectory() as room:
+            page, kept = Path(room, 'GATE.md'), Path(room, 'kept.json')
+            page.write_text('before\n%s\nold\n%s\nafter\n' % (gate_times.BEGIN, gate_times.END))
+            kept.write_text(json.dumps(self.WITH_UNIT))
+            with mock.patch.multiple(gate_times, PAGE=page, KEPT=kept), mock.patch.object(pace, 'KEPT', Path(room, 'p.json')), \
+                    mock.patch.object(sys, 'argv', ['gate_times', '--write']), contextlib.redirect_stdout(io.StringIO()):
+                with self.assertRaises(SystemExit) as end:
+                    gate_times.main()
+                self.assertEqual((end.exception.code, pace.kept()['proof']), (0, {'low': 10, 'high': 20, 'delivery_laws': 18}))
+            self.assertEqual(page.read_text(), 'before\n%s\n%s%s\nafter\n' % (
+                gate_times.BEGIN, gate_times.table(self.WITH_UNIT), gate_times.END))
 
 
 if __name__ == '__main__':

@@ -13,7 +13,7 @@ from pathlib import Path
 
 from here import TOP as TREE
 
-from project import estimate, kit, progress, prove, shares
+from project import kit, pace, progress, prove
 from unbuilt_tree import Tree, until
 
 
@@ -28,62 +28,59 @@ CRATES = [LOW, SIDE, MIDDLE, TOP]
 SECONDS = {'low': 100, 'side': 20, 'middle': 50, 'top': 30}
 
 
-class Clock:
-    """As if so many seconds had gone by."""
-    def __init__(self):
-        self.now = 1000.0
-
-    def monotonic(self):
-        return self.now
+def estimate(processors: int) -> pace.Estimate:
+    with unittest.mock.patch.object(pace, 'seconds_of', lambda names: {it: SECONDS[it] for it in names}):
+        return pace.Estimate(CRATES, processors)
 
 
 class Foretold(unittest.TestCase):
-    def test_a_chain_has_all_that_wait_for_a_crate(self):
-        self.assertEqual(estimate.chains(CRATES, SECONDS), {'low': 180, 'side': 50, 'middle': 80, 'top': 30})
+    def test_a_chain_has_all_that_wait_for_a_crate(self) -> None:
+        self.assertEqual(pace.chains(CRATES, SECONDS), {'low': 180, 'side': 50, 'middle': 80, 'top': 30})
 
-    def test_what_is_left_is_the_longest_chain_or_the_work(self):
-        self.assertEqual(estimate.Estimate(CRATES, SECONDS, 4).work(), 180)
-        self.assertEqual(estimate.Estimate(CRATES, SECONDS, 1).work(), 200)
+    def test_what_is_left_is_the_longest_chain_or_the_work(self) -> None:
+        self.assertEqual((estimate(4).work(), estimate(1).work()), (180, 200))
 
-    def test_a_crate_that_is_done_leaves_nothing(self):
-        it = estimate.Estimate(CRATES, SECONDS, 4)
-        it.done.append('low')
+    def test_a_crate_that_is_done_leaves_nothing(self) -> None:
+        it = estimate(4)
+        it.shares['low'] = 1
         self.assertEqual(it.work(), 80)
 
-    def test_a_build_from_nothing_takes_what_the_readme_says(self):
-        measured = shares.minutes_from_nothing(4)
-        seconds = shares.shares([it.name for it in CRATES])
-        pace = prove.pace_of(CRATES, 4)
-        self.assertAlmostEqual(estimate.Estimate(CRATES, seconds, 4, pace).left(), measured * 60, 0)
-        least, most = re.search(r'(\d+) to (\d+) minutes\s+on\s+four', (TREE / 'README.md').read_text('utf-8')).groups()
-        self.assertTrue(int(least) <= measured <= int(most))
+    def test_a_build_from_nothing_needs_what_the_readme_says(self) -> None:
+        measured = pace.minutes_from_nothing(4)
+        assert measured
+        self.assertAlmostEqual(pace.Estimate(CRATES, 4, pace.pace_before(CRATES, 4)).left(), measured * 60, 0)
+        numbers = re.search(r'(\d+) to (\d+) minutes\s+on\s+four', (TREE / 'README.md').read_text('utf-8'))
+        assert numbers
+        self.assertTrue(int(numbers[1]) <= measured <= int(numbers[2]))
 
-    def told(self, pace):
-        """What is told each ten seconds of a build that takes so many seconds for each of the shares."""
-        clock, told = Clock(), []
-        with unittest.mock.patch.object(estimate, 'time', clock):
-            it = estimate.Estimate([LOW], {'low': 1000}, 1)
-            it.logs['low'] = types.SimpleNamespace(share=0, began=clock.now, ended=None)
-            while it.logs['low'].share < 1:
-                told.append(it.left())
-                clock.now += 10
-                it.logs['low'].share = min(1, it.logs['low'].share + 10 / (1000 * pace))
-        return told
+    def test_it_follows_what_is_measured(self) -> None:
+        for rate in 0.5, 1, 2, 3:
+            it, said, began = estimate(4), [], 1000.0
+            it.began = began
+            for second in range(0, round(100 * rate), 10):
+                it.shares['low'] = second / (100 * rate)
+                with unittest.mock.patch.object(pace.time, 'monotonic', lambda: began + second):
+                    said.append(it.left())
+            self.assertLess(max(said), 180 * max(rate, 1) * 1.2)
+            left = (180 - 100 * it.shares['low']) * rate
+            self.assertAlmostEqual(said[-1] / left, 1, delta=0.4)
 
-    def test_it_follows_what_is_measured_and_never_leaps(self):
-        for pace in 0.5, 1, 2, 3:
-            told = self.told(pace)
-            for before, now in zip(told, told[1:]):
-                self.assertLess(now, before * 1.05)
-            self.assertLess(max(told), 1000 * 1.5 if pace <= 2 else 1000 * 2)
-            middle = len(told) // 2
-            self.assertAlmostEqual(told[middle] / (500 * pace), 1, delta=0.5)
+    def test_noted_seconds(self) -> None:
+        with tempfile.TemporaryDirectory() as room, unittest.mock.patch.object(pace, 'KEPT', Path(room) / 'kept.json'):
+            self.assertEqual((pace.kept(), pace.minutes_from_nothing(4)), ({}, None))
+            pace.keep({'low': 10.4, 'high': 20, 'none': 0})
+            self.assertEqual(pace.kept()['proof'], {'low': 10, 'high': 20})
+            self.assertEqual(pace.seconds_of(['low', 'high']), {'low': 10, 'high': 20})
+        with unittest.mock.patch.object(pace, 'kept', lambda: {'minutes from nothing': {'2': 40, '4': 25}}):
+            self.assertEqual([pace.minutes_from_nothing(it) for it in (1, 2, 4, 16)], [40, 40, 25, 25])
+        crates = ['delivery_laws', 'motesim', 'no_such_crate']
+        self.assertTrue(all(pace.seconds_of(crates)[it] > 0 for it in crates))
 
 
 class Jobs(unittest.TestCase):
     def asked(self, crate, ready, running, done=()):
-        it = estimate.Estimate(CRATES, SECONDS, 4)
-        it.done.extend(done)
+        it = estimate(4)
+        it.shares.update(dict.fromkeys(done, 1))
         return prove.jobs_of(crate, ready, running, it)
 
     def test_the_crate_that_all_wait_for_has_all_processors(self):
@@ -95,7 +92,7 @@ class Jobs(unittest.TestCase):
         self.assertEqual(self.asked(SIDE, [SIDE, MIDDLE], [LOW]), (1, True))
 
     def test_a_crate_that_is_nearly_proved_holds_up_no_longer_than_that(self):
-        it = estimate.Estimate(CRATES, SECONDS, 4)
+        it = estimate(4)
         with unittest.mock.patch.object(it, 'left_of', lambda it: {'low': 0, 'side': 60}.get(it.name, SECONDS[it.name])):
             self.assertEqual(prove.jobs_of(SIDE, [SIDE], [LOW], it), (4, False))
 
@@ -116,11 +113,12 @@ class Libraries(unittest.TestCase):
 class Logs(unittest.TestCase):
     def test_a_log_tells_how_much_is_checked(self):
         with tempfile.TemporaryDirectory() as room:
-            log = estimate.Log(room)
-            for line, share in [('anything', 0), ('so far: 1 of 4 functions checked\n', 0.25), ('checked low::f, 3 of 4\n', 0.75),
-                                ('axioms (2 of the 22 declared)\n', 0.75)]:
+            shares = {}
+            log = prove.Log(types.SimpleNamespace(name='low', folder=room), shares)
+            for line, share in [('anything', 0), ('so far: 1 of 4 functions checked\n', 0.225), ('checked low::f, 2 of 4\n', 0.45),
+                                ('axioms (2 of the 22 declared)\n', 0.45)]:
                 log.write(line)
-                self.assertEqual(log.share, share)
+                self.assertEqual(shares, {'low': share})
             log.file.close()
             self.assertEqual(log.path.read_text().count('\n'), 3)
 

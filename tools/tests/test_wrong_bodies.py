@@ -1,240 +1,297 @@
-"""Tests of how tools/dev/wrong_bodies reads source files and what a check says: python3 -B -m unittest discover tools/tests"""
-import contextlib
-import io
-import re
-import types
+"""How tools/dev/wrong_bodies reads sources and edits, what it makes of a check's lines, and what it tries again."""
+from __future__ import annotations
+
+import tempfile
 import unittest
-import unittest.mock
+from pathlib import Path
+from types import SimpleNamespace
+from typing import Any
+from unittest import mock
 
 import here  # (it puts tools/ on the path)
 from project import wrong_bodies
-from project.bodies.faults import is_of, own_faults
-from project.bodies.functions import Function, functions_in, names_in, owner_of
-from project.bodies.stated import calls_itself, cited_in, holes_for, is_one_of, left_open, proof_of, types_in
-from project.kit import is_refusal
+from project.mutants import checks, log
+from project.mutants.checks import ANSWER, CONTRACT, INVARIANT, LIMIT, Verdict, is_of, refused_in, verdict_of
+from project.mutants.edits import Edit, groups, read, texts_with
+from project.mutants.source import Function, functions_in, names_in, owner_of, types_in
+from project.mutants.stated import blamed, folder_of, is_one_of, open_proofs
 
 
-def rows(text):
-    """The tokens of a text as the kit lists them, for code as plain as that of these tests."""
-    lines = enumerate(text.split('\n'))
-    return [(number, word) for number, line in lines for word in re.findall(r"'?\w+|::|[^\w\s]", line)]
-
-
-def functions(text, path='src/queue.rt'):
-    return functions_in(path, rows(text))
+def functions(text: str, path: str = 'src/queue.rt') -> list[Function]:
+    return functions_in(path, text)
 
 
 class FunctionsOfAFile(unittest.TestCase):
-    def test_function_of_a_module(self):
-        self.assertEqual(functions('fn post(n: u8)\n{\n  n\n}'), [Function(2, 2, 'queue::post')])
+    def test_function_of_a_module(self) -> None:
+        self.assertEqual(functions('fn post(n: u8)\n    requires { n < 3 }\n{\n    n\n}'), [Function(3, 3, 'queue::post')])
 
-    def test_root_has_no_module(self):
-        self.assertEqual(functions('fn main() {\n  1\n}', 'src/main.rt'), [Function(1, 1, 'main')])
+    def test_root_has_no_module(self) -> None:
+        self.assertEqual(functions('fn main() {\n    1\n}', 'src/main.rt'), [Function(1, 1, 'main')])
 
-    def test_module_in_a_file(self):
-        self.assertEqual(functions('mod inner {\nfn one() {\n1\n}\n}')[0].path, 'queue::inner::one')
+    def test_signature_of_several_lines(self) -> None:
+        text = 'pub(crate) fn one<T>(\n    n: u8,\n) -> u8\nwhere\n    T: Copy,\n    ensures { result = n }\n{\n    n\n}\nfn two() {\n    2\n}'
+        self.assertEqual(functions(text), [Function(7, 7, 'queue::one'), Function(10, 10, 'queue::two')])
 
-    def test_method_stands_under_its_type(self):
-        text = "impl<'a, T: Copy> a::Queue<'a, T> {\nfn len(&self) -> u8 {\n1\n}\n}"
+    def test_body_in_one_line(self) -> None:
+        self.assertEqual(functions('pub fn one()\n    ensures { a }\n{}\nfn two() { 2 }'),
+                         [Function(2, 2, 'queue::one'), Function(3, 3, 'queue::two')])
+
+    def test_module_in_a_file(self) -> None:
+        self.assertEqual(functions('mod inner {\n    fn one() {\n        1\n    }\n}')[0].path, 'queue::inner::one')
+
+    def test_methods_belong_to_their_type(self) -> None:
+        text = "impl<'a, T: Copy> a::Queue<'a, T> {\n    pub fn len(&self) -> u8 {\n        1\n    }\n}"
         self.assertEqual(functions(text), [Function(2, 2, 'Queue::len')])
 
-    def test_method_of_a_trait(self):
-        text = 'impl<T> From<io::Error> for Fault<T> where T: Copy {\nfn from() {\n1\n}\n}'
-        self.assertEqual(functions(text), [Function(2, 2, 'FaultFromError::from')])
+    def test_methods_of_a_trait_have_both_names(self) -> None:
+        for head, owner in [
+            ('<T> From<io::Error> for Fault<T>', 'FaultFromError'), ("<'a, W: Work<Vec<u8>> + Drop> Future for Window<'_, W>",
+                                                                     'WindowFuture'),
+            ('<F: Fn(u8) -> u8, const N: usize> Read for Ring<F, N>', 'RingRead'), (' Work<u64> for AddTen', 'AddTenWorkU64'),
+            ("<R, G: Gate> Drop for Runner<'_, R, G>", 'Runner'), (' Queue<T>', 'Queue'),
+        ]:
+            self.assertEqual(owner_of(head), owner)
 
-    def test_method_of_a_trait_with_bounded_parameters(self):
-        text = "impl<'a, W: Work<Vec<u8>> + Drop, G: Gate> Future for Window<'_, W, G> {\nfn poll() {\n1\n}\n}"
-        self.assertEqual(functions(text), [Function(2, 2, 'WindowFuture::poll')])
+    def test_function_in_a_function_is_no_other(self) -> None:
+        self.assertEqual(functions('fn outer() {\n    fn inner() {\n        1\n    }\n}'), [Function(1, 3, 'queue::outer')])
 
-    def test_method_of_a_trait_that_is_bounded_by_calls(self):
-        text = 'impl<F: Fn(u8) -> u8, const N: usize, A = Global> Read for Ring<F, N, A> {\nfn read() {\n1\n}\n}'
-        self.assertEqual(functions(text), [Function(2, 2, 'RingRead::read')])
-
-    def test_drop_is_the_types_own(self):
-        text = "impl<R, G: Gate> Drop for Runner<'_, R, G> {\nfn drop(self) {\n1\n}\n}"
-        self.assertEqual(functions(text), [Function(2, 2, 'Runner::drop')])
-
-    def test_method_of_a_type_that_is_not_plain_is_a_guess(self):
-        heads = ['Rank for &u8', 'From<[u8; 2]> for Pair', 'Rank for Box<dyn Gate>']
-        owners = [('U8Rank', True), ('PairFromU8', True), ('BoxGateRank', True)]
-        self.assertEqual([owner_of(rows_words(head)) for head in heads], owners)
-
-    def test_function_in_a_function_is_no_other(self):
-        self.assertEqual(functions('fn outer() {\nfn inner() {\n1\n}\n}'), [Function(1, 3, 'queue::outer')])
-
-    def test_cycle(self):
-        self.assertEqual(functions('#[cycle(turns)]\nfn one() {\n1\n}\nfn two() {\n2\n}'),
+    def test_cycle(self) -> None:
+        self.assertEqual(functions('#[cycle(turns)]\nfn one() {\n    1\n}\nfn two() {\n    2\n}'),
                          [Function(2, 2, 'queue::one', 'turns'), Function(5, 5, 'queue::two')])
 
-    def test_braces_in_a_head(self):
-        self.assertEqual(functions('fn one(bytes: [u8; { 1 + 1 }]) {\n1\n}'), [Function(1, 1, 'queue::one')])
+    def test_function_without_a_body(self) -> None:
+        text = 'trait Gate {\n    fn start(&self) -> u8;\n}\nfn one() {\n    1\n}'
+        self.assertEqual(functions(text), [Function(4, 4, 'queue::one')])
 
-    def test_function_without_a_body(self):
-        self.assertEqual(functions('trait Gate {\nfn start(&self) -> u8;\n}\nfn one() {\n1\n}'), [Function(4, 4, 'queue::one')])
+    def test_names_without_paths_and_lifetimes(self) -> None:
+        self.assertEqual(names_in("From<'a, alloc::AllocError>"), ['From', 'AllocError'])
 
-    def test_names_without_paths_and_lifetimes(self):
-        self.assertEqual(names_in(rows_words("From<'a, alloc::AllocError>")), ['From', 'AllocError'])
-
-
-def rows_words(text):
-    return [word for _, word in rows(text)]
+    def test_types_of_a_file(self) -> None:
+        self.assertEqual(types_in('src/a/queue.rt', 'pub struct Queue<T> {\n}\nenum Fault {\n    Full,\n}'),
+                         {'Queue': ['a', 'queue'], 'Fault': ['a', 'queue']})
 
 
-class WhereAProofStands(unittest.TestCase):
-    TYPES = {'Queue': ['queue'], 'Fault': []}
+class OpenProofs(unittest.TestCase):
+    def test_a_method_belongs_to_the_module_of_its_type(self) -> None:
+        types: dict[str, list[str]] = {'Queue': ['queue'], 'Fault': []}
+        for path, cycle, folder in [
+            ('queue::inner::post', None, 'queue/inner/post'), ('Queue::post', None, 'queue/Queue/post'),
+            ('Fault::number', None, 'Fault/number'), ('Queue::post', 'turns', 'queue/Queue/+turns'),
+        ]:
+            self.assertEqual((folder_of(Function(1, 1, path, cycle), types) or [''])[0], folder)
+        self.assertIsNone(folder_of(Function(1, 1, 'QueueDisplay::fmt'), types))
 
-    def names(self, path, **more):
-        return proof_of(Function(1, 1, path, **more), self.TYPES)
-
-    def test_types_of_a_file(self):
-        text = 'pub struct Queue<T> {\n}\nenum Fault {\nFull,\n}'
-        self.assertEqual(types_in('src/a/queue.rt', rows(text)), {'Queue': ['a', 'queue'], 'Fault': ['a', 'queue']})
-
-    def test_function_of_a_module(self):
-        self.assertEqual(self.names('queue::inner::post'), ['queue', 'inner', 'post'])
-
-    def test_method_stands_under_the_module_of_its_type(self):
-        self.assertEqual(self.names('Queue::post'), ['queue', 'Queue', 'post'])
-        self.assertEqual(self.names('Fault::number'), ['Fault', 'number'])
-
-    def test_path_with_the_module_of_its_type(self):
+    def test_a_path_may_begin_with_modules(self) -> None:
         push = Function(1, 1, 'Inbox::push')
-        self.assertTrue(is_one_of(push, [Function(0, 0, 'inbox::Inbox::push')]) and is_one_of(push, [push]))
-        self.assertFalse(is_one_of(push, [Function(0, 0, 'inbox::Outbox::push'), Function(0, 0, 'Inbox::push_copy')]))
+        self.assertTrue(is_one_of(push, [Function(0, 0, 'inbox::Inbox::push')]))
+        self.assertFalse(is_one_of(push, [Function(0, 0, 'inbox::Outbox::push')]))
 
-    def calls_itself(self, text):
-        return [calls_itself(it, rows(text)) for it in functions(text)]
+    def test_all_but_the_judged_and_the_cited_are_left_open(self) -> None:
+        with tempfile.TemporaryDirectory() as room:
+            crate = crate_at(Path(room), {
+                'src/a.rt': 'fn one() {\n}\nfn two() {\n}\nfn three() {\n}\n#[cycle(c)]\nfn four() {\n}\n',
+                'proofs/B.antt': 'use Rattle.low.proofs.a.three.Answers.{lemma}\n'})
+            holes = open_proofs(crate, [Function(1, 1, 'a::one')])
+            self.assertEqual(sorted(holes), ['a/+c', 'a/two'])
+            self.assertIn('use Rattle.low.proofs.a.two.Statement as the_two\n', holes['a/two'])
+            self.assertIn('two_spec : {M : Type 1} → the_two.statement M\ntwo_spec = ?\n', holes['a/two'])
+            self.assertEqual(sorted(open_proofs(crate, [Function(7, 7, 'a::four', 'c')])), ['a/one', 'a/two'])
 
-    def test_function_that_calls_itself(self):
-        text = 'fn depth(n: u8) -> u8 {\n  depth(n - 1)\n}\nfn push(&mut self) {\n  self.items.push(1);\n  other::push(2)\n}'
-        self.assertEqual(self.calls_itself(text), [True, False])
+    def test_a_proof_that_a_check_makes_itself_is_put_back(self) -> None:
+        said = './proofs/a/two/Proof.antt: error[reserved-name]: x\n./proofs/b/Proof.antt: error: y\n'
+        self.assertEqual(blamed(said, {'a/two': ''}), {'a/two'})
 
-    def test_method_that_calls_itself(self):
-        text = 'impl Queue {\nfn len(&self) {\n  self.len()\n}\nfn take(&self) {\n  Queue::take(self)\n}\nfn pop(&self) {\n  self.items.pop()\n}\n}'
-        self.assertEqual(self.calls_itself(text), [True, True, False])
 
-    def test_cited_answers(self):
-        lines = ['use Rattle.c.proofs.a.f.Answers.{lemma}', 'use Rattle.c.proofs.a.g.Goals as goal', 'use Rattle.c.proofs.A.h.Invariants']
-        self.assertEqual(cited_in(lines), {'a.f', 'A.h'})
+def crate_at(room: Path, files: dict[str, str]) -> Any:
+    for name, text in files.items():
+        (room / name).parent.mkdir(parents=True, exist_ok=True)
+        (room / name).write_text(text)
+    return SimpleNamespace(name='low', folder=str(room), below=lambda: [])
 
-    def test_what_cannot_be_told(self):
-        self.assertIsNone(self.names('QueueDisplay::fmt'))
-        self.assertIsNone(self.names('queue::Gate::start'))
-        self.assertIsNone(self.names('Queue::post', is_guess=True))
 
-    TURNS = 'impl Queue {\n#[cycle(turns)]\nfn post(&self) {\n  self.take()\n}\n#[cycle(turns)]\nfn take(&self) {\n  self.post()\n}\nfn len(&self) {\n  1\n}\n}'
+class Edits(unittest.TestCase):
+    def setUp(self) -> None:
+        room = tempfile.TemporaryDirectory()
+        self.addCleanup(room.cleanup)
+        self.room = Path(room.name)
+        source = 'struct S {\n    a: u8,\n}\nfn one() {\n    1\n}\nfn two() {\n    2\n}\n'
+        self.crate = crate_at(self.room, {'src/lib.rt': source, 'proofs/x': '', 'm/a.edit': 'file: src/lib.rt\nold: 1\nnew: 5\n'})
+        patch = mock.patch('project.mutants.edits.read_edit', self.read_edit)
+        patch.start()
+        self.addCleanup(patch.stop)
 
-    def left_open(self, *judged):
-        return left_open(functions(self.TURNS), self.TYPES, judged, rows(self.TURNS))
+    def read_edit(self, file: str, folder: str) -> tuple[dict[str, str], None]:
+        rows = Path(file).read_text().splitlines()
+        text = Path(folder, 'src/lib.rt').read_text()
+        for old, new in zip(rows[1::2], rows[2::2]):
+            text = text.replace(old[5:], new[5:])
+        return {'src/lib.rt': text}, None
 
-    def test_functions_of_a_cycle_have_one_folder(self):
-        post, take, length = functions(self.TURNS)
-        both = {'queue.Queue.+turns': [['queue', 'Queue', 'post'], ['queue', 'Queue', 'take']]}
-        self.assertEqual(self.left_open(length), both)
-        self.assertEqual(self.left_open(), {**both, 'queue.Queue.len': [['queue', 'Queue', 'len']]})
+    def edit(self, *lines: str) -> Edit:
+        file = self.room / 'm/a.edit'
+        file.write_text('\n'.join(['file: src/lib.rt', *lines]))
+        return read(file, self.crate)
 
-    def test_a_cycle_with_a_judged_function_keeps_its_proof(self):
-        post, take, length = functions(self.TURNS)
-        self.assertEqual(self.left_open(post), {'queue.Queue.len': [['queue', 'Queue', 'len']]})
-        self.assertEqual(self.left_open(Function(1, 1, 'Other::start', cycle='turns')), {'queue.Queue.len': [['queue', 'Queue', 'len']]})
+    def test_an_edit_belongs_to_the_functions_whose_bodies_it_changes(self) -> None:
+        edit = self.edit('old:     1', 'new:     5', 'old:     2', 'new:     6')
+        self.assertEqual((edit.name, [it.path for it in edit.functions], edit.is_inside), ('low/a', ['one', 'two'], True))
+        self.assertIn('    5\n', texts_with([edit], self.room)['src/lib.rt'])
 
-    def test_file_of_open_proofs(self):
-        text = holes_for('c', [['a', 'one'], ['a', 'two']])
-        self.assertEqual(text.count('.Statement as the_'), 2)
-        self.assertIn('use Rattle.c.proofs.a.two.Statement as the_two\n', text)
-        self.assertIn('pub one_spec : {M : Type 1} → the_one.statement M\none_spec = ?\n', text)
+    def test_one_that_changes_more_may_name_its_function(self) -> None:
+        words = 'old:     a: u8,', 'new:     a: u8, b: u8,'
+        self.assertEqual(self.edit(*words).functions, [])
+        edit = self.edit(*words, 'refused: S::one')
+        self.assertEqual(([it.path for it in edit.functions], edit.is_inside), (['S::one'], False))
+
+    def test_one_check_judges_each_function_once(self) -> None:
+        one, two = self.edit('old:     1', 'new:     5'), self.edit('old:     2', 'new:     6')
+        other, whole = one._replace(name='low/b'), self.edit('old:     a: u8,', 'new:     a: u8, b: u8,')
+        self.assertEqual(groups([one, two, other, whole]), [[one, two], [other], [whole]])
+        in_cycle = [it._replace(functions=[it.functions[0]._replace(cycle='c')]) for it in (one, two)]
+        self.assertEqual(len(groups(in_cycle)), 2)
 
 
 class WhatACheckSays(unittest.TestCase):
-    def test_name_of_a_function(self):
+    def verdict(self, *lines: str, cycles: dict[str, str] | None = None) -> Verdict | None:
+        found = refused_in(lines, cycles or {})
+        return next((verdict_of(*it) for it in found.items()), None)
+
+    def test_name_of_a_function(self) -> None:
         self.assertTrue(is_of('event_queue::queue::EventQueue::post', 'EventQueue::post'))
         self.assertTrue(is_of('event_queue::queue::fn::EventQueue::post::map_err', 'EventQueue::post'))
         self.assertFalse(is_of('event_queue::queue::EventQueue::post_all', 'EventQueue::post'))
 
-    def test_open_goal_is_an_own_fault(self):
-        lines = ['fn c::queue::post: no proof: expected answers in ./proofs/queue/post/Answers.antt; `search` did not prove `returns`']
-        self.assertEqual(list(own_faults(lines, {})), ['c::queue::post'])
+    OPEN = 'fn c::q::post: no proof: expected answers in ./proofs/q/post/Answers.antt; `search` did not prove %s'
 
-    def test_refused_for_what_it_calls(self):
-        lines = ['fn c::queue::post: not proved: it calls c::queue::take, which is not proved']
-        self.assertEqual(own_faults(lines, {}), {})
+    def test_goals_of_a_contract(self) -> None:
+        found = self.verdict(self.OPEN % '`returns`, `loop-a-preserved`')
+        self.assertEqual(found, (CONTRACT, 'c::q::post', 'returns, loop-a-preserved'))
 
-    def test_error_in_its_own_proof(self):
-        error = 'proofs/queue/post/Answers.antt:4:2: error: the two sides differ'
-        self.assertEqual(own_faults([error, 'fn c::queue::post: not proved'], {}), {'c::queue::post': error})
+    def test_goals_of_an_invariant(self) -> None:
+        found = self.verdict(self.OPEN % '`loop-a-preserved`; it calls `c::q::take`, which is not proved')
+        self.assertEqual(found, (INVARIANT, 'c::q::post', 'loop-a-preserved'))
 
-    def test_error_in_the_proof_of_its_cycle(self):
-        error = 'proofs/queue/+turns/Answers.antt:4:2: error: the two sides differ'
-        said = 'fn c::queue::post: not proved: it calls c::queue::take'
-        self.assertEqual(own_faults([error, said], {'queue::post': 'turns'}), {'c::queue::post': error})
+    def test_notes_on_a_goal(self) -> None:
+        for said, noted in ('`search` gave up at one of its limits', 'search gave up'), (
+                'the facts known there allow values at which this goal is false', 'false'):
+            note = 'note: src/q.rt:2:1: it is not proved that it returns (`returns`); ' + said
+            self.assertEqual(self.verdict(note, self.OPEN % '`returns`, `other`'),
+                             (CONTRACT, 'c::q::post', 'returns (%s), other' % noted))
 
-    def test_error_in_the_proof_of_another(self):
-        lines = ['proofs/queue/take/Answers.antt:4:2: error: differs', 'fn c::queue::post: not proved: it calls c::queue::take']
-        self.assertEqual(own_faults(lines, {}), {})
+    def test_a_limit_of_the_prover(self) -> None:
+        self.assertEqual(self.verdict('fn c::q::post: could not tell'), (LIMIT, 'c::q::post', 'could not tell'))
 
-    def test_import_that_was_not_admitted(self):
-        lines = ['proofs/queue/post/Answers.antt:1:2: error: it was not admitted', 'fn c::queue::post: not proved: it calls c::queue::take']
-        self.assertEqual(own_faults(lines, {}), {})
+    def test_an_answer_that_no_longer_fits(self) -> None:
+        error = 'proofs/q/post/Answers.antt:4:2: error: the two sides differ'
+        self.assertEqual(self.verdict(error, 'fn c::q::post: not proved'), (ANSWER, 'c::q::post', error))
+        error = 'proofs/q/+turns/Answers.antt:4:2: error: it has no field `a`'
+        found = self.verdict(error, 'fn c::q::post: not proved: it calls c::q::take', cycles={'q::post': 'turns'})
+        self.assertEqual(found, (ANSWER, 'c::q::post', error))
 
-    def test_proof_that_names_what_is_gone(self):
-        lines = ['proofs/queue/post/Answers.antt:4:2: error: it has no field `take`', 'fn c::queue::post: not proved']
-        self.assertIn('only because a proof file names', own_faults(lines, {})['c::queue::post'])
-
-
-class AnswersOfTheKit(unittest.TestCase):
-    def told(self, answers, **names):
-        with unittest.mock.patch('project.kit.rt', lambda: types.SimpleNamespace(**names)):
-            return list(map(is_refusal, answers))
-
-    def test_truth_values(self):
-        self.assertEqual(self.told([True, False]), [True, False])
-
-    def test_names(self):
-        answers = ['refused', 'at a limit', 'proved']
-        self.assertEqual(self.told(answers, REFUSED='refused', AT_LIMIT='at a limit'), [True, True, False])
+    def test_refused_for_what_it_calls(self) -> None:
+        self.assertIsNone(self.verdict('fn c::q::post: not proved: it calls c::q::take, which is not proved'))
+        self.assertIsNone(self.verdict('proofs/q/take/Answers.antt:4:2: error: x', 'fn c::q::post: not proved: it calls c::q::take'))
+        self.assertIsNone(self.verdict('fn c::q::post: proved'))
 
 
-class Changed(unittest.TestCase):
-    def left(self, known):
-        """Of the wrong bodies a and b of a crate the names that are tried, where these are noted as refused."""
-        edits = [types.SimpleNamespace(name=name) for name in 'ab']
-        bodies = types.SimpleNamespace(crate=types.SimpleNamespace(name='low'), edits=edits)
-        with contextlib.ExitStack() as patched:
-            for at, name, made in [(wrong_bodies, 'digests', lambda of_crates: {}), (wrong_bodies.tried, 'refused', lambda names: known),
-                                   (wrong_bodies, 'Bodies', lambda crate, folders, names: names)]:
-                patched.enter_context(unittest.mock.patch.object(at, name, made))
-            self.said = patched.enter_context(contextlib.redirect_stdout(io.StringIO()))
-            return wrong_bodies.changed([bodies], ['gate-bodies'])
+class Trials(unittest.TestCase):
+    def trial(self, said: dict[str, str], *edits: Edit) -> tuple[str, dict[str, Verdict]]:
+        """What the control lacks and the verdicts, given what checks say: `control`, and by the text that they check."""
+        def checked(crate: Any, texts: dict[str, str], flags: list[str]) -> Any:
+            lines = said[texts.get('a', 'control') if '--allow-holes' in flags else 'alone']
+            return SimpleNamespace(stdout=lines, returncode=0 if 'no proof' not in lines else 1)
+        with tempfile.TemporaryDirectory() as room, mock.patch.object(checks, 'checked', checked), \
+                mock.patch.object(checks, 'says_nothing', lambda said, texts: False), \
+                mock.patch.object(checks, 'texts_with', lambda group, folder: {'a': ' '.join(it.name for it in group)}), \
+                mock.patch('project.mutants.stated.parts', lambda: ('src', 'proofs')):
+            trial = checks.Trial(crate_at(Path(room), {'src/a.rt': '', 'proofs/A.antt': ''}), edits)
+            return trial.control(), trial.verdicts(edits)
 
-    def test_what_was_refused_over_the_same_texts_is_left_out(self):
-        self.assertEqual(self.left({'low/a'}), [['b']])
-        self.assertEqual(self.said.getvalue(), '1 were refused before, and nothing has changed since (log/wrong_bodies.tsv)\n')
+    ONE = Edit('low/a', Path('a.edit'), [], [Function(1, 1, 'a::one')], True, None)
+    TWO = Edit('low/b', Path('b.edit'), [], [Function(3, 3, 'a::two')], True, None)
+    GOOD, BAD = 'fn c::a::%s: no holes\n', 'fn c::a::%s: no proof: `search` did not prove `returns`\n'
 
-    def test_a_crate_of_which_nothing_is_left_is_left_out(self):
-        self.assertEqual(self.left({'low/a', 'low/b'}), [])
+    def test_a_check_judges_many(self) -> None:
+        lacking, found = self.trial({'control': self.GOOD % 'one' + self.GOOD % 'two' + 'only=2',
+                                     'low/a low/b': self.BAD % 'one' + self.BAD % 'two' + 'only=2'}, self.ONE, self.TWO)
+        self.assertEqual((lacking, {name: it.kind for name, it in found.items()}), ('', {'low/a': CONTRACT, 'low/b': CONTRACT}))
 
-    def test_all_are_tried_that_were_not(self):
-        self.assertEqual(self.left(set()), [['a', 'b']])
+    def test_what_it_leaves_undecided_is_tried_alone(self) -> None:
+        said = {'control': self.GOOD % 'one' + 'only=1', 'low/a': self.GOOD % 'one' + 'only=1', 'alone': self.BAD % 'one' + 'only=1'}
+        self.assertEqual(self.trial(said, self.ONE)[1]['low/a'].kind, CONTRACT)
+        said['alone'] = 'fn c::a::one: proved\nonly=1'
+        self.assertEqual(self.trial(said, self.ONE)[1]['low/a'].kind, checks.NOT_REFUSED)
+
+    def test_a_control_that_is_not_proved_counts_against_no_mutant(self) -> None:
+        lacking, found = self.trial({'control': self.BAD % 'one' + 'only=1', 'alone': 'fn c::a::one: proved\nonly=1'}, self.ONE)
+        self.assertEqual((lacking, found['low/a'].kind), ('a::one', checks.NOT_REFUSED))
+
+
+class Log(unittest.TestCase):
+    def setUp(self) -> None:
+        room = tempfile.TemporaryDirectory()
+        self.addCleanup(room.cleanup)
+        self.room = Path(room.name)
+        for name, value in ('KEPT', self.room / 'log/kept.tsv'), ('version', lambda: self.kit), ('is_there', lambda it: 'gone' not in it):
+            patch = mock.patch.object(log, name, value)
+            patch.start()
+            self.addCleanup(patch.stop)
+        self.kit = 'one'
+
+    def test_the_last_try_is_noted(self) -> None:
+        first, last = Verdict(CONTRACT, 'c::f', 'returns'), Verdict(ANSWER, '', 'an\terror ' + 'x' * 999)
+        log.note({'low/a': (first, '1'), 'low/b': (first, '1'), 'gone/c': (first, '1')})
+        log.note({'low/b': (last, '2')})
+        found = log.noted()
+        self.assertEqual((list(found), found['low/a'].verdict, found['low/b'].digest), (['low/a', 'low/b'], first, '2'))
+        self.assertTrue(found['low/b'].verdict.why.startswith('an error xxx'))
+
+    def test_a_digest_has_all_that_a_verdict_depends_on(self) -> None:
+        below = crate_at(self.room / 'low', {'src/lib.rt': 'fn a() {}\n', 'specs/A.antt': '', 'proofs/P.antt': ''})
+        high = crate_at(self.room / 'high', {'src/lib.rt': '/// Says more.\nfn b() {}\n', 'a.edit': 'file: src/lib.rt\n'})
+        high.below, changed = (lambda: [below]), []
+        (self.room / 'crates.txt').write_text('low:\n')
+        (self.room / 'tools/project/mutants').mkdir(parents=True)
+
+        def same(path: str, text: str) -> None:
+            before = self.digest(high)
+            (self.room / path).write_text(text)
+            if self.digest(high) != before:
+                changed.append(path)
+        files = ['high/a.edit', 'high/src/lib.rt', 'low/src/lib.rt', 'low/specs/A.antt', 'low/proofs/P.antt', 'crates.txt',
+                 'tools/project/mutants/x.py']
+        same('high/src/lib.rt', '    // A comment only.\nfn b() {}\n')
+        self.assertEqual(changed, [])
+        for path in files:
+            same(path, 'x = 1\n')
+        self.assertEqual(changed, files)
+        before, self.kit = self.digest(high), 'another'
+        self.assertNotEqual(self.digest(high), before)
+
+    def digest(self, crate: Any) -> str:
+        log.sum_of.cache_clear()
+        return log.digest(crate, self.room / 'high/a.edit', self.room)
+
+    def test_what_is_noted_over_the_same_is_not_tried_again(self) -> None:
+        kinds = {'low/a': CONTRACT, 'low/b': ANSWER, 'low/c': checks.NOT_REFUSED, 'low/d': CONTRACT}
+        log.note({name: (Verdict(kind, 'f', 'g'), '1') for name, kind in kinds.items()})
+        chosen = {'low': [Trials.ONE._replace(name=name) for name in [*kinds, 'low/e']]}
+        found = wrong_bodies.changed(chosen, {**dict.fromkeys(kinds, '1'), 'low/d': '2', 'low/e': '1'})
+        self.assertEqual(found, {'low/c', 'low/d', 'low/e'})
 
 
 class Tenth(unittest.TestCase):
-    def of(self, seed):
-        """The names of a thousand wrong bodies that this seed chooses."""
-        edits = [types.SimpleNamespace(name=str(number)) for number in range(1000)]
-        bodies = types.SimpleNamespace(crate=types.SimpleNamespace(name='low'), edits=edits)
-        with unittest.mock.patch.object(wrong_bodies, 'Bodies', lambda crate, folders, names: names), \
-                contextlib.redirect_stdout(io.StringIO()):
-            return wrong_bodies.tenth([bodies], ['gate-bodies'], seed)[0]
+    CHOSEN = {name: [Edit('%s/%d' % (name, at), Path('x'), [], [Function(1, 1, 'f%d' % (at % 20))], True, None)
+                     for at in range(40)] for name in ('low', 'high', 'other')}
 
-    def test_it_is_about_a_tenth(self):
-        self.assertTrue(70 < len(self.of('one')) < 130)
+    def test_it_is_about_a_tenth_by_whole_batches(self) -> None:
+        found = wrong_bodies.tenth(self.CHOSEN, 'one')
+        self.assertTrue(12 <= len(found) < 24, found)
+        self.assertEqual(found, wrong_bodies.tenth(self.CHOSEN, 'one'))
+        self.assertNotEqual(found, wrong_bodies.tenth(self.CHOSEN, 'two'))
 
-    def test_the_same_commit_has_the_same_and_another_has_another(self):
-        self.assertEqual(self.of('one'), self.of('one'))
-        self.assertNotEqual(self.of('one'), self.of('two'))
-
-    def test_each_is_tried_in_the_end(self):
-        self.assertEqual(len({name for seed in range(200) for name in self.of(str(seed))}), 1000)
+    def test_each_is_tried_in_the_end(self) -> None:
+        self.assertEqual(len({name for seed in range(200) for name in wrong_bodies.tenth(self.CHOSEN, str(seed))}), 120)
 
 
 if __name__ == '__main__':

@@ -1,1 +1,0 @@
-"""Wrong bodies of functions, which the prover must refuse: what tools/dev/wrong_bodies is made of."""

@@ -1,0 +1,79 @@
+"""What each mutant came to when it was last tried, and over which texts: log/wrong_bodies.tsv.
+
+A line has the mutant, the day, what it came to, the function that was refused, the goals or the error for which it was,
+and a digest of all that this depends on: the mutant, its crate, the crates below with their proofs, crates.txt, the code
+that judges, and the kit. Lines that are comments only don't count.
+"""
+from __future__ import annotations
+
+import hashlib
+import time
+from collections.abc import Iterable, Mapping
+from functools import cache
+from pathlib import Path
+from typing import NamedTuple
+
+from project.kit import Crate, version
+from project.mutants.checks import Verdict
+from project.tree import PARTS, TOP
+
+KEPT = TOP / 'log/wrong_bodies.tsv'
+HEAD = '# written by tools/dev/wrong_bodies: mutant, day, what it came to, function, goals or error, digest\n'
+# How a line begins that is a comment only.
+COMMENTS = {'.rt': b'//', '.antt': b'--', '.txt': b'#'}
+MOST = 100
+
+
+class Tried(NamedTuple):
+    """When a mutant was tried, what it came to, and the digest of what it was tried over."""
+    day: str
+    verdict: Verdict
+    digest: str
+
+
+def without_comments(path: Path) -> bytes:
+    mark = COMMENTS.get(path.suffix)
+    return b'\n'.join(it for it in path.read_bytes().split(b'\n') if not (mark and it.lstrip().startswith(mark)))
+
+
+@cache
+def sum_of(folder: Path, parts: Iterable[str]) -> bytes:
+    """A digest of these parts of a folder."""
+    found = hashlib.sha256()
+    for path in sorted(it for part in parts for it in [folder / part, *(folder / part).rglob('*')]):
+        if path.is_file() and '__pycache__' not in path.parts:
+            found.update(b'%s %s\n' % (str(path.relative_to(folder)).encode(), hashlib.sha256(without_comments(path)).digest()))
+    return found.digest()
+
+
+def digest(crate: Crate, edit: Path, top: Path = TOP) -> str:
+    """A digest of a mutant and of all that its verdict depends on."""
+    found = hashlib.sha256(edit.read_bytes() + version().encode())
+    for it in [crate, *sorted(crate.below(), key=lambda it: it.name)]:
+        found.update(it.name.encode() + sum_of(Path(it.folder), PARTS))
+    found.update(sum_of(top, ('crates.txt',)) + sum_of(top / 'tools/project', ('kit.py', 'mutants')))
+    return found.hexdigest()[:16]
+
+
+def noted() -> dict[str, Tried]:
+    """What is noted, by CRATE/NAME."""
+    rows = KEPT.read_text('utf-8').splitlines() if KEPT.is_file() else []
+    cells = [it.split('\t') for it in rows if it.count('\t') == 5 and not it.startswith('#')]
+    return {name: Tried(day, Verdict(*verdict), sum_) for name, day, *verdict, sum_ in cells}
+
+
+def is_there(name: str) -> bool:
+    """Whether there is a mutant of this name."""
+    crate, _, edit = name.partition('/')
+    return any((TOP / 'crates' / crate).glob('*/%s.edit' % edit))
+
+
+def note(found: Mapping[str, tuple[Verdict, str]]) -> None:
+    """Notes what mutants came to today, and the digests of what they were tried over. Mutants that are gone are
+    forgotten."""
+    kept = {name: it for name, it in noted().items() if is_there(name)}
+    kept.update((name, Tried(time.strftime('%Y-%m-%d'), *it)) for name, it in found.items())
+    rows = ['\t'.join([name, it.day, it.verdict.kind, it.verdict.function, ' '.join(it.verdict.why[:MOST].split()),
+                       it.digest]) + '\n' for name, it in sorted(kept.items())]
+    KEPT.parent.mkdir(exist_ok=True)
+    KEPT.write_text(HEAD + ''.join(rows), 'utf-8')
