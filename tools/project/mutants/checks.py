@@ -160,19 +160,18 @@ class Trial:
     def verdict(self, edit: Edit) -> Verdict:
         """The verdict on a mutant by itself, over all proofs of the crate. The control is the proof of the crate."""
         texts = texts_with([edit], Path(self.crate.folder))
-        for flags in [only(edit.functions), []] if edit.functions else [[]]:
+        for flags in ([only(edit.functions)] if edit.functions else []) + [[]]:
             ran = checked(self.crate, texts, ['--jobs', '1', *flags])
             # (status 2: a path fits no function)
             if ran.returncode != 2:
                 break
         lines = ran.stdout.rstrip('\n').split('\n')
         found = self.best(edit, refused_in(lines, self.cycles))
-        if found.kind != NOT_REFUSED:
+        if found.kind != NOT_REFUSED or ran.returncode == 0:
             return found
-        if says_nothing(ran.stdout, texts) or ran.returncode not in (0, 1, 3):
-            return Verdict(UNKNOWN, '', ' '.join(lines[:3])[:200])
         limit = next((it for it in lines if LIMITS.search(it)), None)
-        error = next((it for it in lines if re.match(r'(\./)?proofs/\S+: error', it)), None)
+        error = next((it for it in lines if ' error' in it), lines[0])
         if ran.returncode == 3 or limit:
             return Verdict(LIMIT, '', limit or lines[-1])
-        return Verdict(ANSWER, '', error or lines[-1]) if ran.returncode == 1 and not edit.functions else found
+        is_of_proofs = ran.returncode == 1 and not edit.functions and error.removeprefix('./').startswith('proofs/')
+        return Verdict(ANSWER if is_of_proofs and not says_nothing(ran.stdout, texts) else UNKNOWN, '', error)
