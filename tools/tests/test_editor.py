@@ -4,7 +4,8 @@ import re
 import unittest
 
 from here import TOOLS, TOP
-from motesim.notation.grammar import COLOURS, RESERVED, SCOPES, STATEMENTS
+from motesim.notation import written
+from motesim.notation.grammar import COLOURS, RESERVED, SCOPES, SIGNS, STATEMENTS
 
 FOLDER = TOOLS / 'editor'
 
@@ -69,6 +70,21 @@ class Grammars(unittest.TestCase):
         rule = rule.replace('[ "else" B ]', '"else" B')
         shown = {' '.join(it.replace('"', ' ').split()).replace(' ;', ';') for it in rule.split('|')}
         self.assertEqual(shown - {'VARIABLE = E;'}, {it.form for it in STATEMENTS.values()})
+
+    def test_the_page_and_the_syntax_are_made_of_the_grammar(self):
+        for path, made in (written.PAGE, written.page_of), (written.SYNTAX, written.syntax_of):
+            text = path.read_text('utf-8')
+            self.assertEqual(made(text), text, 'PYTHONPATH=tools python3 -m motesim.notation.written writes it')
+        page = written.PAGE.read_text('utf-8')
+        for old, new in (('"yield" ";"', '"yield"'), ('exit pause', 'exit'), ('cast       =', 'casts      =')):
+            changed = page.replace(old, new)
+            self.assertTrue(changed != page and written.page_of(changed) == page, new)
+        syntax = written.SYNTAX.read_text('utf-8')
+        self.assertEqual(written.syntax_of(syntax.replace('|pause|', '|')), syntax)
+
+    def test_the_grammar_has_each_word_that_programs_may_have(self):
+        found = set(re.findall('"([^" ]+)"', written.grammar()))
+        self.assertEqual(found, RESERVED.difference(('radio', 'all')) | SIGNS)
 
     def test_nothing_in_the_examples_is_marked_as_wrong(self):
         import tomllib

@@ -8,21 +8,21 @@ from __future__ import annotations
 import re
 from dataclasses import dataclass, field
 
+from motesim.notation.grammar import ANY, CAST, SENT, SIGNS, VALUES
 from motesim.notation.grammar import OPERATORS as OPERATORS
 from motesim.notation.grammar import RESERVED as KEYWORDS
 from motesim.notation.grammar import STATEMENTS as FORMS
 from motesim.notation.grammar import TESTS as TESTS
 
-TOKEN = re.compile(r'[a-z0-9_]+|==|!=|<=|>=|&&|\|\||[{}();,=!+\-*/%<>]|.', re.S)
+# (of two signs that are possible, the longer one is read)
+_SIGN = '|'.join(map(re.escape, sorted(SIGNS, key=len, reverse=True)))
+TOKEN = re.compile('[a-z0-9_]+|%s|.' % _SIGN, re.S)
 BLANK = re.compile(r'(?:[ \t\r\n]|//[^\n]*)*')
-CAST = ('continue', 'msg', 'com', 'packet')
-SENT = CAST + ('exit',)
-ANY = SENT + ('init', 'poll', 'exited', 'timer')
+EVENT_WORDS = {'CAST': CAST, 'SENT': SENT}
 WAITS = tuple(word for word, it in FORMS.items() if it.waits)
 LONGEST_NAME, MOST_NUMBER, MOST_LEVELS, MOST_STATEMENTS = 16, 65_535, 32, 4_096
 MOST = {'event': 117, 'semaphore': 64, 'process': 64, 'timer': 64, 'variable': 64, 'thread': 7}
 
-SIGNS = frozenset(OPERATORS) | frozenset('{};,=!()')
 STATEMENTS = tuple(FORMS)
 ARTICLES = {'event': 'an', 'semaphore': 'a', 'process': 'a', 'timer': 'a', 'variable': 'a', 'thread': 'a'}
 COUNTED = {
@@ -307,37 +307,29 @@ class _Reader:
             self.checked_target('variable')
             self.need('=')
             self.expression()
-        elif word in ('if', 'while'):
-            self.expression()
-            self.block()
-            if word == 'if' and self.accept('else'):
-                self.block()
-            return
+            self.need(';')
         else:
-            self.rest_of(word)
-        self.need(';')
+            self.operands(FORMS[word].form)
 
-    def rest_of(self, word: str) -> None:
-        """What follows the first word of a plain statement."""
-        if word in ('print', 'send', 'yield_until', 'wait_until', 'wait_while'):
-            self.expression()
-        elif word == 'spawn':
-            self.target('thread')
-        elif word in ('acquire', 'signal'):
-            self.target('semaphore')
-        elif word in ('post', 'synch', 'broadcast'):
-            if word != 'broadcast':
-                self.target('process')
-            self.event(CAST if word == 'broadcast' else SENT)
-            self.expression()
-            if word != 'synch' and self.accept('into'):
-                self.target('variable')
-        elif word in ('poll', 'start', 'kill'):
-            self.target('process')
-        elif word in ('set', 'reset', 'restart_timer', 'stop'):
-            self.target('timer')
-            if word == 'set':
+    def operands(self, form: str) -> None:
+        """What follows the first word of a statement of this form."""
+        for part in form.rstrip(';').split()[1:]:
+            if part == 'E':
                 self.expression()
+            elif part == 'B':
+                self.block()
+            elif part in EVENT_WORDS:
+                self.event(EVENT_WORDS[part])
+            elif part == 'INTO':
+                if self.accept('into'):
+                    self.target('variable')
+            elif part == 'else':
+                if not self.accept('else'):
+                    return
+            else:
+                self.target(part.lower())
+        if form.endswith(';'):
+            self.need(';')
 
     def event(self, words: tuple[str, ...]) -> None:
         if not self.accept(*words):
@@ -355,7 +347,7 @@ class _Reader:
                 self.expression()
                 self.need(')')
             self.level -= 1
-        elif not self.accept('data', 'from', 'now', 'self'):
+        elif not self.accept(*VALUES):
             self.test_or_variable()
 
     def test_or_variable(self) -> None:

@@ -1,8 +1,9 @@
-"""The words of the notation as data: docs/use/NOTATION.md has the language.
+"""The grammar of the notation as data: docs/use/NOTATION.md describes the language.
 
-What reads programs, explains their faults and colours them takes its words from here: `STATEMENTS` has each statement
-with its form and whether it may wait, `COLOURS` each word's class on the page of the studio, and `SCOPES` that in the
-grammars for editors.
+The reader that explains errors, the colours of the studio's page, the syntax files for editors and the grammar on that
+page are all made of it. `STATEMENTS` has each statement with its form, and whether it may wait; `RULES` has the other
+rules; `COLOURS` has each word's class on the page of the studio, and `SCOPES` that in the syntax files.
+`motesim.notation.written` writes the page and the files.
 """
 from __future__ import annotations
 
@@ -45,6 +46,21 @@ STATEMENTS = {
 # What an expression asks of a name, with the kind of that name.
 TESTS = {'fired': 'timer', 'expired': 'timer', 'gone': 'process', 'running': 'process', 'count': 'semaphore'}
 OPERATORS = ('+', '-', '*', '/', '%', '==', '!=', '<', '<=', '>', '>=', '&&', '||')
+# Other values, and the events that may be broadcast, that may be posted, and that may be asked for.
+VALUES = ('data', 'from', 'now', 'self')
+CAST = ('continue', 'msg', 'com', 'packet')
+SENT = (*CAST, 'exit')
+ANY = (*SENT, 'init', 'poll', 'exited', 'timer')
+SIGNS = frozenset((*OPERATORS, *'{}();,=!'))
+# The rules but those of statements, events and expressions, in the order of the page.
+RULES = {
+    'program': '{ "event" NAME ";" } { "semaphore" NAME "=" NUMBER ";" } "process" NAME { "," NAME } ";" '
+               '[ "autostart" PROCESS { "," PROCESS } ";" ] [ "receiver" PROCESS ";" ] { code }',
+    'code': '"code" PROCESS "{" { "var" NAME "=" NUMBER ";" } { "etimer" NAME ";" } { "ctimer" NAME block } '
+            '{ "thread" NAME block } [ "onpoll" block ] [ "onexit" block ] "body" block "}"',
+    'block': '"{" { statement } "}"',
+    'into': '[ "into" VARIABLE ]',
+}
 SYSTEM = ('etimer', 'ctimer', 'radio')
 EVENTS = ('continue', 'msg', 'com', 'packet', 'exit', 'timer')
 # The words that declare something, and of these the ones behind which its name is.
@@ -52,8 +68,10 @@ DECLARING = ('event', 'semaphore', 'process', 'autostart', 'receiver', 'code', '
              'onpoll', 'onexit', 'body')
 NAMING = ('event', 'semaphore', 'process', 'code', 'var', 'etimer', 'ctimer', 'thread')
 OTHERS = ('else', 'into', 'continue', 'msg', 'com', 'packet', 'init', 'exited', 'timer', 'data', 'from', 'now', 'self',
-          'is', 'radio', 'all')
-RESERVED = frozenset((*DECLARING, *STATEMENTS, *TESTS, *OTHERS))
+          'is')
+# Words that only reports have.
+OF_REPORTS = ('radio', 'all')
+RESERVED = frozenset((*DECLARING, *STATEMENTS, *TESTS, *OTHERS, *OF_REPORTS))
 
 # The classes of words on the page: what a statement does has the colour that it has on the lanes.
 _PACKETS = ('packet', 'receiver', 'from', 'data', 'radio')
