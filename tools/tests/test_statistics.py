@@ -53,6 +53,24 @@ class Estimates(unittest.TestCase):
                 self.assertGreater(count, 95)
                 self.assertLess(count, 119)
 
+    def test_wilsons_score_is_that_of_the_books(self) -> None:
+        # (of 10 runs 8 and 10 are 1: 0.490 to 0.943, and 0.722 to 1; Wilson, JASA 22, 1927, by his formula)
+        for ones, low, high in ((8, 0.4902, 0.9433), (10, 0.7225, 1.0), (0, 0.0, 0.2775)):
+            found = estimates.mean_by_wilson([1] * ones + [0] * (10 - ones), 0.95)
+            self.assertAlmostEqual(found.low or 0, low, delta=0.0001)
+            self.assertAlmostEqual(found.high or 0, high, delta=0.0001)
+
+    def test_the_interval_of_a_share_stays_within_0_and_1(self) -> None:
+        shares = [0.99, 1.0, 1.0, 0.9, 1.0]
+        self.assertGreater(estimates.mean_by_t(shares, 0.95).high or 0, 1)
+        for values, method in ((shares, 'bootstrap'), ([0.5, 0.6, 0.55], 't'), ([1, 1, 1, 0], 'wilson'), ([1, 1, 3], 't')):
+            kind = estimates.measured(values)
+            self.assertEqual(estimates.method_of(values, 0.95, 't', kind), method)
+            found = Wish('m', show='mean').estimate(values, kind)
+            if kind != 'any':
+                self.assertTrue(0 <= (found.low or 0) and (found.high or 2) <= 1)
+        self.assertEqual(estimates.method_of(shares, 0.95, 'bootstrap', 'share'), 'bootstrap')
+
     def test_the_bootstrap_is_the_same_each_time(self) -> None:
         values = [3.0, 1.0, 4.0, 1.0, 5.0, 9.0]
         self.assertEqual(estimates.mean_by_bootstrap(values, 0.95), estimates.mean_by_bootstrap(values, 0.95))
@@ -79,6 +97,27 @@ class Crossings(unittest.TestCase):
         self.assertLess(found.low, 4.2)
         self.assertGreater(found.high, 4.8)
         self.assertIsNone(crossing(curve, 3, 0.95))
+
+
+    def test_runs_of_one_seed_are_drawn_together(self) -> None:
+        # Each seed shifts its whole curve, so that curves of seeds drawn for each point alone would be far too sure.
+        shifts = [0.0, 0.1, 0.2, 0.3, 0.4, 0.5]
+        curve = [(float(x), [x / 10 + it for it in shifts]) for x in range(0, 21)]
+        keys = [[(seed,) for seed in range(6)]] * 21
+        alone, together = crossing(curve, 1.0, 0.95), crossing(curve, 1.0, 0.95, keys)
+        assert alone and together
+        self.assertEqual(alone.at, together.at)
+        # (the mean of six shifts has the standard error 0.07, so twice 1.96 of it are 0.27, or 2.7 of x)
+        self.assertAlmostEqual(together.high - together.low, 2.7, delta=0.4)
+        self.assertLess(alone.high - alone.low, 2.2)
+
+    def test_the_order_of_runs_does_not_matter_and_other_runs_are_drawn_alone(self) -> None:
+        curve = [(0.0, [0.0, 0.2]), (1.0, [1.0, 1.2])]
+        turned = [(0.0, [0.0, 0.2]), (1.0, [1.2, 1.0])]
+        one, two = ([(1,), (2,)], [(1,), (2,)]), ([(1,), (2,)], [(2,), (1,)])
+        self.assertEqual(crossing(curve, 0.5, 0.95, one), crossing(turned, 0.5, 0.95, two))
+        for keys in (), ([(1,), (2,)], [(3,), (4,)]), ([(1,), (1,)], [(1,), (1,)]):
+            self.assertEqual(crossing(curve, 0.5, 0.95, keys), crossing(curve, 0.5, 0.95))
 
 
 def row(period: int, seed: int, sent: float | None, **more: int | str | None) -> Row:
@@ -169,6 +208,28 @@ class Command(unittest.TestCase):
         rows = self.plot('--measure', 'sent', '--where', 'density=thin', '--where', 'period=1', '--show', 'cdf')
         self.assertEqual([row for row in rows[2:4]], [['11.000', '0.200'], ['12.000', '0.400']])
         self.plot('--measure', 'sent', '--against', 'period', '--show', 'heat', status=2)
+
+    def test_title_footer_axes_and_size_of_a_picture(self) -> None:
+        interpreter_with(self, 'matplotlib')
+        words = '--measure', 'sent', '--against', 'period', '--show', 'mean', '-o', 'a.svg'
+        self.plot(*words)
+        usual = (self.folder / 'a.svg').read_text()
+        self.assertIn('width="460.8', usual.replace("'", '"'))
+        for shown in 'sent against period', 'mean, and intervals':
+            self.assertIn(shown, usual)
+        self.plot(*words, '--title', '', '--footer', '', '--x', 'period in moments', '--y', 'packets', '--size', '12.7x7.62')
+        plain = (self.folder / 'a.svg').read_text()
+        self.assertRegex(plain, 'width="360pt" height="216pt"')
+        for shown in 'period in moments', 'packets':
+            self.assertIn(shown, plain)
+        for shown in 'sent against period', 'mean, and intervals':
+            self.assertNotIn(shown, plain)
+        self.plot(*words, '--title', 'A title', '--footer', 'Source: %s' % 'a long sentence ' * 20)
+        other = (self.folder / 'a.svg').read_text()
+        self.assertIn('A title', other)
+        self.assertGreater(other.count('a long sentence'), 2)
+        for size in 'big', '1x1', '200x20':
+            self.plot(*words, '--size', size, status=2)
 
     def test_pictures_of_each_kind_with_their_tables(self) -> None:
         interpreter_with(self, 'matplotlib')

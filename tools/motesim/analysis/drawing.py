@@ -1,6 +1,8 @@
 """Pictures of points, by matplotlib: SVG, PDF or PNG. The same points have the same bytes."""
 from __future__ import annotations
 
+import re
+import textwrap
 from collections.abc import Callable, Sequence
 from pathlib import Path
 from typing import Any
@@ -15,6 +17,10 @@ from motesim.faults import Fault
 
 FORMATS = ('.svg', '.pdf', '.png')
 MOST_TICKS = 12
+# The size of a picture in centimetres, and the least and greatest length of a side.
+SIZE = 16.256, 10.668
+LEAST_SIDE, MOST_SIDE, INCH = 3, 100, 2.54
+POINTS = 72
 # Colours that are told apart by those who see fewer of them (Okabe and Ito); lines differ by their marks too.
 COLOURS = ['#0072b2', '#d55e00', '#009e73', '#cc79a7', '#e69f00', '#56b4e9', '#000000']
 MARKS = ['o', 's', '^', 'D', 'v', 'P', 'X']
@@ -33,6 +39,40 @@ def _pyplot() -> Any:
 def _look(number: int) -> dict[str, str]:
     return {'color': COLOURS[number % len(COLOURS)], 'marker': MARKS[number % len(MARKS)],
             'linestyle': STROKES[number % len(STROKES)]}
+
+
+def size_of(text: str) -> tuple[float, float]:
+    """The width and the height of a picture in centimetres."""
+    found = re.fullmatch(r'([0-9]+(?:\.[0-9]+)?)\s*x\s*([0-9]+(?:\.[0-9]+)?)', text)
+    if not text:
+        return SIZE
+    if not found or not all(LEAST_SIDE <= float(it) <= MOST_SIDE for it in found.groups()):
+        raise Fault('the size of a picture is WIDTHxHEIGHT in centimetres, %d to %d each, such as 16x10, and not %r' % (
+            LEAST_SIDE, MOST_SIDE, text))
+    return float(found[1]), float(found[2])
+
+
+def _figure(pyplot: Any, wish: Wish) -> tuple[Any, Any]:
+    width, height = size_of(wish.size)
+    figure, axes = pyplot.subplots(figsize=(width / INCH, height / INCH), layout='constrained')
+    return figure, axes
+
+
+def _words_around(figure: Any, axes: Any, wish: Wish, title: str, footer: str) -> None:
+    """The title and the footer."""
+    head = title if wish.title is None else wish.title
+    if head:
+        axes.set_title(_folded(figure, head, 11 if wish.title else 9), loc='left', fontsize=11 if wish.title else 9)
+    foot = footer if wish.footer is None else wish.footer
+    if foot:
+        axes.annotate(_folded(figure, foot, 7), (1, 0), (0, -34), 'axes fraction', 'offset points', ha='right', va='top',
+                      fontsize=7, color='#555555')
+
+
+def _folded(figure: Any, words: str, points: int) -> str:
+    """Words in lines that are no wider than the picture, at about half a letter's height for each letter."""
+    width = max(20, int(figure.get_figwidth() * POINTS * 0.92 / (points * 0.52)))
+    return '\n'.join(part for line in words.split('\n') for part in textwrap.wrap(line, width) or [''])
 
 
 def _groups(shown: Shown) -> dict[Cell, list[Point]]:
@@ -129,14 +169,12 @@ def _note(shown: Shown, wish: Wish) -> str:
 def draw(shown: Shown, wish: Wish, path: Path) -> None:
     """Draws the points into a file."""
     pyplot = _pyplot()
-    figure, axes = pyplot.subplots(figsize=(6.4, 4.2), layout='constrained')
+    figure, axes = _figure(pyplot, wish)
     if wish.show == 'heat':
         _draw_heat(figure, axes, shown, wish)
     else:
         _draw_curves(axes, shown, wish)
-    axes.set_title(wish.title or heading(shown, wish), loc='left', fontsize=11 if wish.title else 9)
-    axes.annotate(_note(shown, wish), (1, 0), (0, -34), 'axes fraction', 'offset points', ha='right', va='top',
-                  fontsize=7, color='#555555')
+    _words_around(figure, axes, wish, heading(shown, wish), _note(shown, wish))
     _save(figure, pyplot, path)
 
 
@@ -172,7 +210,7 @@ def _draw_curves(axes: Any, shown: Shown, wish: Wish) -> None:
 def draw_differences(found: Sequence[Difference], wish: Wish, words: str, path: Path) -> None:
     """Draws the differences of a paired comparison, with their intervals."""
     pyplot = _pyplot()
-    figure, axes = pyplot.subplots(figsize=(6.4, 4.2), layout='constrained')
+    figure, axes = _figure(pyplot, wish)
     places = [it.against for it in found]
     is_scale = all(type(it) in (int, float) for it in places)
     xs = [float(it) if isinstance(it, int | float) and is_scale else number for number, it in enumerate(places)]
@@ -184,7 +222,7 @@ def draw_differences(found: Sequence[Difference], wish: Wish, words: str, path: 
     _scale(axes, places, wish, is_scale)
     axes.set_xlabel(wish.x or wish.against)
     axes.set_ylabel(wish.y or 'difference of %s' % wish.measure)
-    axes.set_title(wish.title or words, loc='left', fontsize=11 if wish.title else 9)
+    _words_around(figure, axes, wish, words, '')
     axes.grid(True, color='#dddddd', linewidth=0.6)
     axes.spines[['top', 'right']].set_visible(False)
     _save(figure, pyplot, path)

@@ -3,6 +3,9 @@
 An interval by Student's t takes the runs as independent draws of something near to normal. One by the bootstrap takes
 no form for granted: the runs are drawn again with replacement, and the interval has the middle part of the means. Its
 draws come from a fixed seed, so the same runs give the same interval anywhere.
+
+The interval of a share stays between 0 and 1: by Wilson's score if the runs are 0 or 1 each, else by the bootstrap if
+Student's t would pass 0 or 1.
 """
 from __future__ import annotations
 
@@ -10,7 +13,7 @@ import math
 import statistics
 from collections.abc import Callable, Sequence
 from functools import lru_cache
-from typing import NamedTuple
+from typing import Literal, NamedTuple, TypeVar
 
 from motesim.plan.chance import Chance
 
@@ -18,6 +21,8 @@ DRAWS = 2_000
 SEED = 1
 STEPS = 200
 TINY = 1e-300
+Value = TypeVar('Value')
+Measured = Literal['any', 'share', 'yes or no']
 
 
 class Estimate(NamedTuple):
@@ -83,7 +88,7 @@ def mean_by_t(values: Sequence[float], confidence: float) -> Estimate:
     return Estimate(runs, mean, mean - room, mean + room)
 
 
-def resampled(values: Sequence[float], chance: Chance) -> list[float]:
+def resampled(values: Sequence[Value], chance: Chance) -> list[Value]:
     """As many of the values, drawn with replacement."""
     return [values[chance.below(len(values))] for _ in values]
 
@@ -112,4 +117,34 @@ def median_with_quartiles(values: Sequence[float], confidence: float) -> Estimat
     return Estimate(len(values), median, first, third)
 
 
+def mean_by_wilson(values: Sequence[float], confidence: float) -> Estimate:
+    """The share of runs that are 1, among runs that are 0 or 1, with Wilson's score interval."""
+    share, runs = statistics.fmean(values), len(values)
+    if runs < 2:
+        return Estimate(runs, share, None, None)
+    z = statistics.NormalDist().inv_cdf((1 + confidence) / 2)
+    middle = (share + z * z / (2 * runs)) / (1 + z * z / runs)
+    room = z / (1 + z * z / runs) * math.sqrt(share * (1 - share) / runs + z * z / (4 * runs * runs))
+    return Estimate(runs, share, max(0.0, middle - room), min(1.0, middle + room))
+
+
+def method_of(values: Sequence[float], confidence: float, interval: str, measure: Measured) -> str:
+    """How the interval of a mean is found: as wished, unless it is a share that the wish does not fit."""
+    if interval != 't' or measure == 'any':
+        return interval
+    if measure == 'yes or no':
+        return 'wilson'
+    low, high = mean_by_t(values, confidence)[2:]
+    return 't' if low is None or high is None or 0 <= low and high <= 1 else 'bootstrap'
+
+
+def measured(values: Sequence[float]) -> Measured:
+    """The kind of a measure, by all its values: each is 0 or 1, or between, or any number."""
+    if not values or min(values) < 0 or max(values) > 1:
+        return 'any'
+    return 'yes or no' if set(values) <= {0, 1} else 'share'
+
+
 MEANS: dict[str, Callable[[Sequence[float], float], Estimate]] = {'t': mean_by_t, 'bootstrap': mean_by_bootstrap}
+METHODS = {**MEANS, 'wilson': mean_by_wilson}
+NAMES = {'t': 'Student\'s t', 'bootstrap': 'the bootstrap', 'wilson': 'Wilson\'s score'}

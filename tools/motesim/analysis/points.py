@@ -1,10 +1,10 @@
 """The points of a plot: the runs of a sweep in groups, each with its estimate."""
 from __future__ import annotations
 
-from collections.abc import Callable, Sequence
+from collections.abc import Sequence
 from typing import NamedTuple
 
-from motesim.analysis.estimates import MEANS, Estimate, median_with_quartiles
+from motesim.analysis.estimates import METHODS, Estimate, Measured, measured, median_with_quartiles, method_of
 from motesim.experiments.measures import Cell
 from motesim.experiments.results import Row
 from motesim.faults import Fault
@@ -13,12 +13,16 @@ SHOWS = ('median', 'mean', 'points', 'cdf', 'heat')
 
 
 class Wish(NamedTuple):
-    """What is to be shown, and the words around it."""
+    """What is to be shown, and the words around it.
+
+    title, footer  the words above and below a picture; None: what it shows, and of which runs; '': none
+    size           the width and the height of a picture in centimetres, `16x10`, or nothing
+    """
     measure: str
     against: str = ''
     by: str = ''
     file: str = ''
-    title: str = ''
+    title: str | None = None
     x: str = ''
     y: str = ''
     log: bool = False
@@ -27,16 +31,22 @@ class Wish(NamedTuple):
     confidence: int = 95
     threshold: str = ''
     over: str = ''
+    footer: str | None = None
+    size: str = ''
 
     @property
     def part(self) -> float:
         return self.confidence / 100
 
-    def estimate(self, values: Sequence[float]) -> Estimate:
+    def estimate(self, values: Sequence[float], measure: Measured = 'any') -> Estimate:
         """What the runs of a point say."""
-        how: Callable[[Sequence[float], float], Estimate] = (
-            median_with_quartiles if self.show == 'median' else MEANS[self.interval])
-        return how(values, self.part)
+        if self.show == 'median':
+            return median_with_quartiles(values, self.part)
+        return METHODS[self.method(values, measure)](values, self.part)
+
+    def method(self, values: Sequence[float], measure: Measured) -> str:
+        """How the interval of a mean is found."""
+        return method_of(values, self.part, self.interval, measure)
 
 
 class Point(NamedTuple):
@@ -46,6 +56,8 @@ class Point(NamedTuple):
     values: tuple[float, ...]
     estimate: Estimate
     across: Estimate | None = None
+    # Of each run, in the order of the values, the parameters in which the runs of a point differ.
+    keys: tuple[tuple[Cell, ...], ...] = ()
 
     @property
     def x(self) -> float:
@@ -53,10 +65,12 @@ class Point(NamedTuple):
 
 
 class Shown(NamedTuple):
+    """What is shown, what its runs differ in, how many are left out, and how the intervals were found."""
     points: list[Point]
     over: list[str]
     faults: int
     empty: int
+    methods: tuple[str, ...] = ()
 
 
 def parameters_of(rows: Sequence[Row]) -> list[str]:
@@ -101,7 +115,7 @@ def shown_of(rows: Sequence[Row], wish: Wish) -> Shown:
     if wish.against in measures_of(rows):
         return _of_two_measures(rows, good, varying, wish)
     over = [name for name in varying if name not in (wish.against, wish.by)]
-    groups: dict[tuple[Cell, Cell], list[float]] = {}
+    groups: dict[tuple[Cell, Cell], list[tuple[float, tuple[Cell, ...]]]] = {}
     empty = 0
     for row in good:
         value = number_of(row, wish.measure)
@@ -109,10 +123,15 @@ def shown_of(rows: Sequence[Row], wish: Wish) -> Shown:
         if value is None:
             empty += 1
         else:
-            group.append(value)
+            group.append((value, tuple(row[name] for name in over)))
     keys = sorted(groups, key=lambda key: (order(key[0]), order(key[1])))
-    points = [Point(*key, tuple(groups[key]), wish.estimate(groups[key])) for key in keys if groups[key]]
-    return Shown(points, over, len(rows) - len(good), empty)
+    kind = measured([value for its in groups.values() for value, _ in its])
+    points, methods = [], []
+    for key in (it for it in keys if groups[it]):
+        values = [value for value, _ in groups[key]]
+        methods.append(wish.method(values, kind))
+        points.append(Point(*key, tuple(values), wish.estimate(values, kind), keys=tuple(it for _, it in groups[key])))
+    return Shown(points, over, len(rows) - len(good), empty, tuple(dict.fromkeys(methods)))
 
 
 def _of_two_measures(rows: Sequence[Row], good: Sequence[Row], varying: Sequence[str], wish: Wish) -> Shown:
@@ -130,10 +149,12 @@ def _of_two_measures(rows: Sequence[Row], good: Sequence[Row], varying: Sequence
             continue
         groups.setdefault(key, []).append((x, y))
         bys[key] = row[wish.by] if wish.by else None
-    points = []
+    kinds = [measured([pair[side] for pairs in groups.values() for pair in pairs]) for side in (0, 1)]
+    points, methods = [], []
     for key, pairs in groups.items():
-        across = wish.estimate([x for x, _ in pairs])
-        values = tuple(y for _, y in pairs)
-        points.append(Point(bys[key], across.middle, values, wish.estimate(values), across))
+        xs, values = [x for x, _ in pairs], tuple(y for _, y in pairs)
+        across = wish.estimate(xs, kinds[0])
+        methods += [wish.method(xs, kinds[0]), wish.method(values, kinds[1])]
+        points.append(Point(bys[key], across.middle, values, wish.estimate(values, kinds[1]), across))
     points.sort(key=lambda it: (order(it.by), order(it.against)))
-    return Shown(points, over, len(rows) - len(good), empty)
+    return Shown(points, over, len(rows) - len(good), empty, tuple(dict.fromkeys(methods)))

@@ -5,6 +5,7 @@ from collections.abc import Sequence
 from typing import Any
 
 from motesim.analysis.crossings import crossing
+from motesim.analysis.estimates import NAMES
 from motesim.analysis.paired import Difference
 from motesim.analysis.points import Point, Shown, Wish
 from motesim.experiments.results import line_of, text_of
@@ -60,14 +61,14 @@ def csv_of(rows: Sequence[Row]) -> str:
 def heading(shown: Shown, wish: Wish) -> str:
     over = ', over ' + ', '.join(shown.over) if shown.over else ''
     against = ' against %s' % wish.against if wish.against else ''
-    return '%s%s%s%s' % (wish.measure, against, over, how(wish))
+    return '%s%s%s%s' % (wish.measure, against, over, how(shown, wish))
 
 
-def how(wish: Wish) -> str:
-    """How the interval was found, if there is one."""
+def how(shown: Shown, wish: Wish) -> str:
+    """How the intervals were found, if there are some."""
     if wish.show != 'mean':
         return ''
-    by = 'Student\'s t' if wish.interval == 't' else 'the bootstrap'
+    by = ' or '.join(NAMES[it] for it in shown.methods or (wish.interval,))
     return ': means with intervals of %d %% by %s' % (wish.confidence, by)
 
 
@@ -99,7 +100,7 @@ def crossings(shown: Shown, wish: Wish) -> list[str]:
         its = [point for point in shown.points if point.by == by]
         if not all(isinstance(point.against, int | float) for point in its):
             raise Fault('a threshold is crossed along numbers, and %s has others' % wish.against)
-        found = crossing([(point.x, point.values) for point in its], threshold, wish.part)
+        found = crossing([(point.x, point.values) for point in its], threshold, wish.part, [point.keys for point in its])
         name = '%s %s: ' % (wish.by, text_of(by)) if wish.by else ''
         if found is None:
             lines.append('%sthe mean doesn\'t cross %g' % (name, threshold))

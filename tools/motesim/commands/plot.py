@@ -43,7 +43,11 @@ def arguments() -> argparse.Namespace:
     words.add_argument('--compare', metavar='RESULTS', help='the other side of a comparison, run by run')
     words.add_argument('--pair', metavar='NAME=ONE,OTHER', help='compare two values of a parameter, run by run')
     words.add_argument('--where', action='append', default=[], metavar='NAME=VALUE', help='only runs with this value')
-    words.add_argument('--title', help='the title of the picture')
+    words.add_argument('--title', metavar='TEXT', help="the title of the picture; '' is none")
+    words.add_argument('--footer', metavar='TEXT', help="the text below the picture; '' is none")
+    words.add_argument('--x', metavar='TEXT', default='', help='the text at the axis from left to right')
+    words.add_argument('--y', metavar='TEXT', default='', help='the text at the axis upwards')
+    words.add_argument('--size', metavar='WxH', default='', help='the size of the picture in centimetres (16.3x10.7)')
     words.add_argument('--log', action='store_true',
                        help='a logarithmic axis: each step to the right doubles the parameter')
     words.add_argument('--plan', metavar='PLAN', help="show what this plan's `plot` describes")

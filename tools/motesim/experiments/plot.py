@@ -20,9 +20,10 @@ from motesim.plan.tables import Tables, needed, optional
 from motesim.summary.counts import table
 
 PLOT = {'file': needed(str), 'measure': needed(str), 'against': optional(str, ''), 'by': optional(str, ''),
-        'title': optional(str, ''), 'x': optional(str, ''), 'y': optional(str, ''), 'log': optional(bool, False),
+        'title': optional(str, None), 'x': optional(str, ''), 'y': optional(str, ''), 'log': optional(bool, False),
         'show': optional(str, 'median'), 'interval': optional(str, 't'), 'confidence': optional(int, 95, 50, 99),
-        'threshold': optional(str, ''), 'over': optional(str, '')}
+        'threshold': optional(str, ''), 'over': optional(str, ''),
+        'footer': optional(str, None), 'size': optional(str, '')}
 
 
 def table_path(picture: Path) -> Path:
@@ -43,6 +44,10 @@ def wishes_of(plan: Plan) -> list[Wish]:
             if values[key] not in known:
                 raise tables.fault(path + (key,), 'A plot has no such `%s`.' % key, ', '.join('`"%s"`' % it for it in known))
         wish = Wish(**values)
+        try:
+            drawing.size_of(wish.size)
+        except Fault as fault:
+            raise tables.fault(path + ('size',), str(fault), '`size`: a text such as `"16x10"`') from None
         if not wish.against and wish.show != 'cdf':
             raise tables.fault(path, 'A plot needs the key `against`, and it is not there.', '`against`: a text', False)
         found.append(wish)
@@ -102,12 +107,13 @@ def wishes(asked: argparse.Namespace) -> list[Wish]:
     if not asked.measure or not asked.against and asked.show != 'cdf':
         raise Fault('what is to be shown? --measure NAME --against NAME, or --plan PLAN')
     if asked.output and Path(asked.output).suffix not in FORMATS:
-        raise Fault('%s: a picture is SVG, PDF or PNG, and its name ends so' % asked.output)
+        raise Fault('%s: a picture is SVG, PDF or PNG: its name ends in .svg, .pdf or .png' % asked.output)
     if asked.show == 'heat' and not asked.by:
         raise Fault('--show heat needs --by: the parameter from below upwards')
-    return [Wish(asked.measure, asked.against or '', asked.by or '', asked.output or '', asked.title or '',
+    drawing.size_of(asked.size)
+    return [Wish(asked.measure, asked.against or '', asked.by or '', asked.output or '', asked.title, asked.x, asked.y,
                  log=asked.log, show=asked.show, interval=asked.interval, confidence=asked.confidence,
-                 threshold=asked.threshold or '', over=asked.over or '')]
+                 threshold=asked.threshold or '', over=asked.over or '', footer=asked.footer, size=asked.size)]
 
 
 def chosen(rows: Sequence[Row], where: Sequence[str]) -> list[Row]:
