@@ -19,7 +19,7 @@ import here
 
 TABLE = Path(__file__).with_name('words.tsv')
 LOG = here.TOP / 'log/wrong_bodies.tsv'
-LONGEST = 120
+LONGEST = {'.rt': 120, '.antt': 120, '.md': 119, '.py': 120, '.js': 120}
 PAGES = ('*.md', 'docs/**/*.md', 'bench/*.md', 'examples/**/*.md', 'tests/**/*.md', 'tools/**/*.md')
 # (the pages of style quote what is not to be written)
 NO_PROSE = ('docs/dev/STYLE.md', 'tools/tests/test_words.py')
@@ -142,15 +142,14 @@ def is_unbreakable(line: str) -> bool:
     return line.lstrip().startswith(('|', '![', '#[', '"', "'")) or 'http' in line
 
 
-def long_lines() -> Iterator[str]:
+def long_lines(*patterns: str) -> Iterator[str]:
     """Lines that are too long, except in what commands print."""
-    patterns = ('crates/*/src/**/*.rt', 'crates/*/specs/**/*.antt', 'tools/**/*.py', 'tools/**/*.js', *PAGES)
     for path in files(*patterns):
         block: str | None = None
         for number, line in enumerate(text_of(path).splitlines(), 1):
             if path.suffix == '.md' and line.startswith('```'):
                 block = line[3:] if block is None else None
-            elif block != '' and len(line) > LONGEST and not is_unbreakable(line):
+            elif block != '' and len(line) > LONGEST[path.suffix] and not is_unbreakable(line):
                 yield '%s:%d' % (name_of(path), number)
 
 
@@ -181,7 +180,9 @@ def open_mutants() -> list[str]:
 COUNTS: dict[str, Callable[[], object]] = {
     'doc comments that open with a question': questions, 'public items without docs': without_docs,
     'results without a section on errors': without_errors, 'clauses without a name': without_names,
-    'lines over %d' % LONGEST: long_lines, 'broken links': broken_links, 'open mutants': open_mutants,
+    'long lines of crates': lambda: long_lines('crates/*/src/**/*.rt', 'crates/*/specs/**/*.antt'),
+    'long lines of pages': lambda: long_lines(*PAGES), 'long lines of tools': lambda: long_lines('tools/**/*.py', 'tools/**/*.js'),
+    'broken links': broken_links, 'open mutants': open_mutants,
 }
 
 
