@@ -1,23 +1,24 @@
 -- What a mote is before it is booted.
 use Rattle.std.proofs.Common.{ℕ, zero, suc, ◌≡◌, ◌+◌, ◌≤◌, ◌++◌, List, [], ◌∷◌, length, map, drop, Some, refl, ap, sym, ◌∙◌, arith, append_assoc}
-use Rattle.std.specs.Prelude.{slice_get}
+use Rattle.std.specs.Prelude.{slice_get, Option}
+use Rattle.std.specs.Global.{Box}
 use Rattle.program_tree.specs.Code.{Code}
 use Rattle.protothread.specs.declared.part.Part.TheVariants.{Body}
 use Rattle.protothread.specs.Remainder.{fresh_of}
 use Rattle.protothread.specs.declared.thread.Thread.{Thread}
-use Rattle.protothread.specs.Places.{remainder_of}
-use Rattle.process_kernel.specs.Views.{remainders_of}
+use Rattle.process_kernel.specs.Views.{body_of, remainders_of}
 
 -- fresh threads: nothing of their bodies has run, whatever the code
-abbrev pub AreFresh : List Thread → Type 0
+abbrev pub AreFresh : List (Option (Box Thread)) → Type 0
 AreFresh [] = Unit {0}
-AreFresh (t ∷ ts) = ((code : Code) → remainder_of code t ≡ fresh_of code Body) × AreFresh ts
+AreFresh (t ∷ ts) = ((code : Code) → body_of code t ≡ fresh_of code Body) × AreFresh ts
 
-pub AreFresh-push : (ts : List Thread) (t : Thread) → AreFresh ts → ((code : Code) → remainder_of code t ≡ fresh_of code Body) → AreFresh (ts ++ t ∷ [])
+pub AreFresh-push : (ts : List (Option (Box Thread))) (t : Option (Box Thread)) → AreFresh ts
+    → ((code : Code) → body_of code t ≡ fresh_of code Body) → AreFresh (ts ++ t ∷ [])
 AreFresh-push [] t are fresh = (fresh, tt)
 AreFresh-push (u ∷ ts) t are fresh = (are.0, AreFresh-push ts t are.1 fresh)
 
-pub fresh_remainders : (cs : List Code) (ts : List Thread) → AreFresh ts → length cs ≤ length ts → remainders_of cs ts ≡ map (λ c. fresh_of c Body) cs
+pub fresh_remainders : (cs : List Code) (ts : List (Option (Box Thread))) → AreFresh ts → length cs ≤ length ts → remainders_of cs ts ≡ map (λ c. fresh_of c Body) cs
 fresh_remainders [] ts are enough = refl
 fresh_remainders (c ∷ cs) [] are enough = absurd (omega arith)
 fresh_remainders (c ∷ cs) (t ∷ ts) are enough =

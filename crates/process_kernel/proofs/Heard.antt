@@ -1,5 +1,5 @@
 -- The packets of the receive ring, one by one.
-use Rattle.std.proofs.Common.{◌≡◌, ◌++◌, List, [], ◌∷◌, length, map, drop, refl, ap, sym, suc}
+use Rattle.std.proofs.Common.{◌≡◌, ◌++◌, List, [], ◌∷◌, length, map, drop, refl, ap, suc}
 use Rattle.std.specs.Prelude.{slice_get, option_map}
 use Rattle.process_kernel.specs.declared.ring.Heard.{Heard}
 use Rattle.process_kernel.specs.Heard.{arrival_of}

@@ -1,11 +1,11 @@
 pub mod Absent
 pub mod Depth
 pub mod First
+pub mod FirstList
 pub mod Given
 pub mod Heard
 pub mod Left
 pub mod Lists
-pub mod NeedsPoll
 pub mod Numbered
 pub mod Places
 pub mod Remainders

@@ -1,5 +1,7 @@
 -- What the types of `src/machine.rt` and `src/look.rt` stand for, in a mote with this program.
 use Rattle.std.specs.Prelude.{ℕ, ◌≡◌, ◌+◌, ◌<◌, ◌≤◌, ◌++◌, ◌^◌, Bool, IsTrue, List, [], ◌∷◌, Result, Ok, Err}
+use Rattle.std.specs.Prelude.{Option, Some, None, if◌then◌else◌}
+use Rattle.std.specs.Global.{Box}
 use Rattle.program_tree.specs.Code.{Code, Tree}
 use Rattle.protothread.specs.declared.answer.PtState.{PtState}
 use Rattle.protothread.specs.declared.thread.Thread.{Thread}
@@ -9,6 +11,8 @@ use Rattle.protothread.specs.Looks.{Looks}
 use Rattle.trace_lines.specs.declared.line.Line.{Line}
 use Rattle.radio_packet.specs.declared.sent.Sent.{Sent}
 use Rattle.trace_lines.specs.declared.out.Out.{Out}
+use Rattle.protothread.specs.declared.part.Part.TheVariants.{Body}
+use Rattle.process_kernel.specs.declared.process.Member.{Member}
 use Rattle.process_kernel.specs.declared.machine.Machine.{Machine}
 use Rattle.process_kernel.specs.declared.machine.Stop.{Stop}
 use Rattle.process_kernel.specs.declared.machine.Stop.TheVariants.{Halted, Memory}
@@ -22,11 +26,20 @@ use Rattle.process_kernel.specs.State.{State, Outcome, Went, Ends, Goes, ◌>>=�
 use Rattle.process_kernel.specs.Mote.{Mote, at_rest}
 use Rattle.process_kernel.specs.Calls.{Calls, Answer}
 
+-- what the body of a process with this code has still to do: all, while the body is taken out of the table
+abbrev pub body_of : Code → Option (Box Thread) → Remainder
+body_of c None = fresh_of c Body
+body_of c (Some t) = remainder_of c t.value
+
 -- what each body has still to do, by the code of its process
-abbrev pub remainders_of : List Code → List Thread → List Remainder
+abbrev pub remainders_of : List Code → List (Option (Box Thread)) → List Remainder
 remainders_of [] ts = []
 remainders_of (c ∷ cs) [] = []
-remainders_of (c ∷ cs) (t ∷ ts) = remainder_of c t ∷ remainders_of cs ts
+remainders_of (c ∷ cs) (t ∷ ts) = body_of c t ∷ remainders_of cs ts
+
+-- the process list when the boot or run began
+abbrev pub first_list_of : Machine → List Member
+first_list_of m = if m.is_numbered then m.members.items else m.first_list.items
 
 abbrev pub state_of : Tree → Machine → State
 state_of program m = record {
@@ -79,9 +92,10 @@ Begins lines sends out =
 abbrev pub Grows : Out → Out → Type 0
 Grows old new = (lines : List Line) (sends : List Sent) → Begins lines sends old → Begins lines sends new
 
--- each start, except for this many, is paid for by a unit of work
+-- each start, except for this many, is paid for by a unit of work; the first process list stays known
 abbrev pub Spends : ℕ → Machine → Machine → Type 0
 Spends n old new = (new.fuel ≤ old.fuel) × (new.started + new.fuel ≤ old.started + old.fuel + n)
+    × (first_list_of new ≡ first_list_of old)
 
 -- the call of a running process costs a unit of work
 abbrev pub Pays : Proc → Machine → Machine → Type 0
@@ -93,9 +107,9 @@ Pays p old new =
 abbrev pub HasRoom : ℕ → Machine → Type 0
 HasRoom n m = m.started + m.fuel + n < 2 ^ 32
 
--- neither work is spent nor a process started
+-- neither work is spent nor a process started, and the first process list stays known
 abbrev pub KeepsCounts : Machine → Machine → Type 0
-KeepsCounts old new = (new.fuel ≡ old.fuel) × (new.started ≡ old.started)
+KeepsCounts old new = (new.fuel ≡ old.fuel) × (new.started ≡ old.started) × (first_list_of new ≡ first_list_of old)
 
 -- neither the ring nor the timers change
 abbrev pub KeepsLists : Machine → Machine → Type 0

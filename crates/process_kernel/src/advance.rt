@@ -8,7 +8,7 @@ ghost use Rattle.protothread.specs.Step.{PaysFor};
 ghost use Rattle.process_kernel.specs.Thread.{stepped_of};
 ghost use Rattle.process_kernel.specs.Operation.{answer_of};
 ghost use Rattle.process_kernel.specs.State.{Goes};
-ghost use Rattle.process_kernel.specs.Views.{state_of, Grows, KeepsCounts};
+ghost use Rattle.process_kernel.specs.Views.{first_list_of, state_of, Grows, KeepsCounts};
 
 use crate::machine::Machine;
 use program_tree::{Event, ProcessText};
@@ -34,6 +34,7 @@ impl Machine {
             } }
         ensures pays { PaysFor result self.old.fuel self.new.fuel }
         ensures started { self.new.started ≡ self.old.started }
+        ensures first_list { first_list_of self.new ≡ first_list_of self.old }
         ensures grows { Grows self.old.out self.new.out }
     {
         let place = usize::from(process);

@@ -141,7 +141,7 @@ impl Machine {
         ensures { Follows program.now self.old result self.new
             (λ calls state. resume_of calls state (code_of text.now) number event.now) }
     {
-        let mut body = self.take_thread(number);
+        let mut body = self.take_thread(number)?;
         let answer = self.run(program, text, &mut body, number, event)?;
         self.put_thread(number, body);
         Ok(answer)

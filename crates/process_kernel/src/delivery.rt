@@ -1,6 +1,6 @@
 //! The delivery of events (`do_event` of `process.c`).
 
-ghost use Rattle.std.specs.Prelude.{◌≤◌, length};
+ghost use Rattle.std.specs.Prelude.{◌≡◌, true};
 ghost use Rattle.process_kernel.specs.Delivery.{give_of, visit_of, walk_broadcast, deliver_of};
 ghost use Rattle.process_kernel.specs.Follows.{Follows};
 ghost use Rattle.process_kernel.specs.Run.{deliver_front};
@@ -8,13 +8,9 @@ ghost use Rattle.process_kernel.specs.Views.{HasRoom};
 
 use crate::machine::{Machine, Stop};
 use crate::process::Member;
-use arrayvec::ArrayVec;
 use event_queue::Posted;
 use program_tree::{Proc, Program, Target};
 use trace_lines::What;
-
-/// Up to this many processes are copied into a short array, since a call initializes its whole array.
-const FEW: usize = 16;
 
 impl Machine {
     /// Removes the oldest event from the queue, if there is one, and delivers it.
@@ -43,31 +39,36 @@ impl Machine {
         }
     }
 
+    /// Delivers an event to each member of the current process list.
     fn broadcast(&mut self, program: &Program, posted: &Posted) -> Result<(), Stop>
         requires { HasRoom 0 self.old }
         ensures { Follows program.now self.old result self.new
             (λ calls. walk_broadcast calls posted.now self.old.members.items) }
     {
-        if self.members.len() <= FEW {
-            self.broadcast_to_few(program, posted)
+        if self.is_numbered {
+            self.broadcast_to_first_list(program, posted)
         } else {
-            self.broadcast_to_many(program, posted)
+            self.broadcast_to_snapshot(program, posted)
         }
     }
 
-    /// Delivers an event to all, where at most 16 are listed.
-    fn broadcast_to_few(&mut self, program: &Program, posted: &Posted) -> Result<(), Stop>
+    /// The walk over a list that hasn't changed since the boot or run began.
+    fn broadcast_to_first_list(&mut self, program: &Program, posted: &Posted) -> Result<(), Stop>
         requires units { HasRoom 0 self.old }
-        requires few { length self.old.members.items ≤ 16 }
+        requires numbered { self.old.is_numbered ≡ true }
         ensures { Follows program.now self.old result self.new
             (λ calls. walk_broadcast calls posted.now self.old.members.items) }
     {
-        let members: ArrayVec<Member, FEW> = self.snapshot_from(0);
-        self.walk_broadcast(program, posted, members.as_slice())
+        for place in 0..self.members.len() {
+            let member = self.first_member(place);
+            self.give_in_turn(program, posted, member)?;
+        }
+        Ok(())
     }
 
-    /// Delivers an event to all, however many are listed.
-    fn broadcast_to_many(&mut self, program: &Program, posted: &Posted) -> Result<(), Stop>
+    /// The walk over a list that has changed. It is not inlined, since its frame has a copy of the list.
+    #[inline(never)]
+    fn broadcast_to_snapshot(&mut self, program: &Program, posted: &Posted) -> Result<(), Stop>
         requires { HasRoom 0 self.old }
         ensures { Follows program.now self.old result self.new
             (λ calls. walk_broadcast calls posted.now self.old.members.items) }

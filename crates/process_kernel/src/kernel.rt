@@ -14,10 +14,10 @@ use std::error::Error;
 use std::{fmt, mem};
 use trace_lines::Out;
 
-/// How a boot or a kernel run ends.
+/// The end of a boot or of a kernel run.
 #[derive(Clone, Copy, Debug, PartialEq, Eq)]
 pub enum Ran {
-    /// How much is left to do: the queued events, and one more if a poll is requested.
+    /// What is left to do: the number of queued events, and one more if a poll is requested.
     Left(u16),
     Halted,
 }
@@ -46,9 +46,9 @@ impl fmt::Display for KernelError {
 impl Error for KernelError {}
 
 /// The process kernel of a mote (`process.c`, `etimer.c` and `ctimer.c` of Contiki). It is booted once and then run,
-/// always with the same program. All its memory is allocated by `new`, except for the lines and packets of its runs.
-/// If such an allocation fails, `out` keeps what it had, perhaps with more appended, and the kernel fails from then
-/// on.
+/// always with the same program. All its memory is allocated by `new`, except for the lines and packets of its runs,
+/// and for the thread of a process that is called for the first time since its start. If such an allocation fails,
+/// `out` keeps what it had, perhaps with more appended, and the kernel fails from then on.
 pub struct Kernel {
     booted: bool,
     halted: bool,
@@ -75,7 +75,11 @@ impl Kernel {
     ghost use Rattle.process_kernel.specs.Underway.{GoesOn};
     ghost use Rattle.process_kernel.specs.Runs.{runs_of};
 
-    /// The kernel of the mote with this number, not booted yet, whose queue has this capacity, 1 to 128 events.
+    /// Makes the kernel of the mote with this number, not booted yet, whose queue has this capacity, 1 to 128 events.
+    ///
+    /// # Errors
+    ///
+    /// `Memory`: out of memory.
     #[tactic(auto, unfolding(crate::specs::Public::mote_in, crate::specs::Mote::unbooted))]
     pub fn new(
         alloc: Global,
@@ -101,7 +105,11 @@ impl Kernel {
     }
 
     /// Boots the mote at this moment: the system processes are started, and then those that the program names. Lines
-    /// and packets are appended to `out`. A kernel that ran out of memory fails from then on.
+    /// and packets are appended to `out`.
+    ///
+    /// # Errors
+    ///
+    /// `Memory`: out of memory, so the kernel fails from then on. `Failed`: it ran out of memory before.
     pub fn boot(&mut self, program: &Program, now: u64, out: &mut Out) -> Result<Ran, KernelError>
         requires { now ≤ 2 ^ 40 }
         ensures { let t = tree_of program.now in
@@ -140,7 +148,11 @@ impl Kernel {
     }
 
     /// One kernel run at this moment: the polls, if one is requested, and the oldest event of the queue. Lines and
-    /// packets are appended to `out`. A kernel that ran out of memory fails from then on.
+    /// packets are appended to `out`.
+    ///
+    /// # Errors
+    ///
+    /// `Memory`: out of memory, so the kernel fails from then on. `Failed`: it ran out of memory before.
     pub fn run(&mut self, program: &Program, now: u64, out: &mut Out) -> Result<Ran, KernelError>
         requires { now ≤ 2 ^ 40 }
         ensures { let t = tree_of program.now in
@@ -177,8 +189,12 @@ impl Kernel {
     }
 
     /// At most `most` kernel runs at this moment, until one leaves nothing to do or the mote halts: the same as that
-    /// many calls of `run`. Lines and packets are appended to `out`, even if one of the runs is out of memory; the
-    /// kernel fails from then on.
+    /// many calls of `run`. Lines and packets are appended to `out`, even if one of the runs is out of memory.
+    ///
+    /// # Errors
+    ///
+    /// `Memory`: one of the runs was out of memory, so the kernel fails from then on. `Failed`: it ran out of memory
+    /// before.
     pub fn run_all(
         &mut self,
         program: &Program,
@@ -207,7 +223,7 @@ impl Kernel {
         self.machine.poll(process);
     }
 
-    /// Whether an event is queued or a poll is requested.
+    /// Returns true if an event is queued or a poll is requested.
     #[tactic(auto, unfolding(crate::specs::Public::mote_in, crate::specs::Public::held_in))]
     pub fn pending(&self) -> bool
         ensures mote { (t : Tree) → IfSome (mote_in t self.now) (λ m. result ≡ is_pending m) }

@@ -1,14 +1,13 @@
 //! How the process list grows and shrinks.
 
-ghost use Rattle.std.specs.Prelude.{◌≡◌, ◌<◌, ◌≤◌, ◌+◌, ◌^◌, ◌∷◌, false, not, OnOk, Some, drop, filter};
-ghost use Rattle.std.specs.Prelude.{length, slice_get};
+ghost use Rattle.std.specs.Prelude.{◌≡◌, ◌<◌, ◌+◌, ◌^◌, ◌∷◌, false, not, OnOk, IfOk, Some, filter, length, slice_get};
 ghost use Rattle.program_tree.specs.Code.{Tree, Code};
 ghost use Rattle.protothread.specs.Places.{remainder_of};
 ghost use Rattle.process_kernel.specs.Members.{is_same as are_same, place_of, stands_in};
 ghost use Rattle.process_kernel.specs.ProcessList.{put_remainder, enlist_of, exiting_of, unlisted_of, leave_of};
 ghost use Rattle.process_kernel.specs.ProcessList.{numbered_from, with_fresh_body, with_fresh_process};
 ghost use Rattle.process_kernel.specs.Reaction.{remainder_at};
-ghost use Rattle.process_kernel.specs.Views.{state_of, Tells, Grows, KeepsCounts};
+ghost use Rattle.process_kernel.specs.Views.{body_of, first_list_of, state_of, Tells, Grows, KeepsCounts};
 
 use crate::machine::{MOST_PROCESSES, Machine, Stop};
 use crate::process::{Member, ProcessState};
@@ -30,50 +29,87 @@ impl Machine {
         members
     }
 
-    /// The current process list, from a place on.
-    pub fn snapshot_from<const ROOM: usize>(&self, place: usize) -> ArrayVec<Member, ROOM>
-        requires inside { place ≤ length self.now.members.items }
-        requires room { length self.now.members.items ≤ place + ROOM }
-        ensures { result.items ≡ drop place self.now.members.items }
+    /// The incarnation that had this place on the process list when the boot or run began.
+    #[inline(always)]
+    pub fn first_member(&self, place: usize) -> Member
+        requires { place < length (first_list_of self.now) }
+        ensures { slice_get (first_list_of self.now) place ≡ Some result }
     {
-        let mut members = ArrayVec::new();
-        members
-            .try_extend_from_slice(&self.members[place..])
-            .unwrap();
-        members
+        if self.is_numbered {
+            self.members[place]
+        } else {
+            self.first_list[place]
+        }
+    }
+
+    /// Keeps the process list of the beginning of a boot or run, before the list changes for the first time.
+    fn keep_first_list(&mut self) -> Result<(), AllocError>
+        ensures exact { (t : Tree) → state_of t self.new ≡ state_of t self.old }
+        ensures unnumbered { OnOk result (self.new.is_numbered ≡ false) }
+        ensures first { OnOk result (self.new.first_list.items ≡ first_list_of self.old) }
+        ensures members { self.new.members ≡ self.old.members }
+        ensures shown { self.new.shown ≡ self.old.shown }
+        ensures counts { (self.new.fuel ≡ self.old.fuel) × (self.new.started ≡ self.old.started) }
+        ensures out { self.new.out ≡ self.old.out }
+    {
+        if self.is_numbered {
+            self.first_list.clear();
+            self.first_list.extend_from_slice(&self.members)?;
+            self.is_numbered = false;
+        }
+        Ok(())
     }
 
     /// Puts a thread back as the body of a process.
     #[inline(always)]
     #[tactic(auto, using(crate::proofs::Remainders::remainders_set, crate::proofs::Remainders::remainders_set_past), unfolding(crate::specs::ProcessList::put_remainder))]
-    pub fn put_thread(&mut self, process: u8, thread: Thread)
+    pub fn put_thread(&mut self, process: u8, thread: Box<Thread>)
         ensures exact { (t : Tree) (code : Code) → slice_get t.codes process ≡ Some code
-            → state_of t self.new ≡ put_remainder (state_of t self.old) process (remainder_of code thread) }
+            → state_of t self.new ≡ put_remainder (state_of t self.old) process (remainder_of code thread.value) }
         ensures kept { KeepsCounts self.old self.new }
         ensures grows { Grows self.old.out self.new.out }
     {
         let place = usize::from(process);
         if place < self.threads.len() {
-            self.threads[place] = thread;
+            self.threads[place] = Some(thread);
         }
     }
 
-    /// Takes the body of a process, and leaves a fresh one in its place.
+    /// Takes the body of a process, if it is in the table. One that isn't there is fresh.
     #[inline(always)]
     #[tactic(auto, using(crate::proofs::Remainders::remainders_get, crate::proofs::Remainders::remainders_past, crate::proofs::Remainders::remainders_fresh, crate::proofs::Remainders::fresh_past))]
-    pub fn take_thread(&mut self, process: u8) -> Thread
+    fn lift_thread(&mut self, process: u8) -> Option<Box<Thread>>
         ensures exact { (t : Tree) (code : Code) → slice_get t.codes process ≡ Some code
-            → remainder_of code result ≡ remainder_at (state_of t self.old) code process }
+            → body_of code result ≡ remainder_at (state_of t self.old) code process }
         ensures after { (t : Tree) → state_of t self.new ≡ with_fresh_body (state_of t self.old) process }
         ensures kept { KeepsCounts self.old self.new }
         ensures grows { Grows self.old.out self.new.out }
     {
-        let fresh = Thread::fresh(Part::Body);
         let place = usize::from(process);
         if place < self.threads.len() {
-            mem::replace(&mut self.threads[place], fresh)
+            mem::replace(&mut self.threads[place], None)
         } else {
-            fresh
+            None
+        }
+    }
+
+    /// Takes the body of a process, and leaves a fresh one in its place.
+    ///
+    /// # Errors
+    ///
+    /// Out of memory for a fresh body, which is allocated only while the one before is taken.
+    #[inline(always)]
+    pub fn take_thread(&mut self, process: u8) -> Result<Box<Thread>, AllocError>
+        ensures exact { (t : Tree) (code : Code) → slice_get t.codes process ≡ Some code
+            → IfOk result (λ thread. remainder_of code thread.value
+            ≡ remainder_at (state_of t self.old) code process) }
+        ensures after { (t : Tree) → state_of t self.new ≡ with_fresh_body (state_of t self.old) process }
+        ensures kept { KeepsCounts self.old self.new }
+        ensures grows { Grows self.old.out self.new.out }
+    {
+        match self.lift_thread(process) {
+            Some(thread) => Ok(thread),
+            None => Ok(Box::new(*self.threads.allocator(), Thread::fresh(Part::Body))?),
         }
     }
 
@@ -86,7 +122,7 @@ impl Machine {
     {
         let place = usize::from(process);
         if place < self.threads.len() {
-            self.threads[place] = Thread::fresh(Part::Body);
+            self.threads[place] = None;
         }
     }
 
@@ -112,11 +148,12 @@ impl Machine {
               members = record { process = process; incarnation = self.old.started } ∷ self.old.members.items;
               started = self.old.started + 1;
             }) }
-        ensures counts { OnOk result ((self.new.fuel ≡ self.old.fuel) × (self.new.started ≡ self.old.started + 1)) }
+        ensures counts { OnOk result ((self.new.fuel ≡ self.old.fuel) × (self.new.started ≡ self.old.started + 1)
+            × (first_list_of self.new ≡ first_list_of self.old)) }
         ensures grows { Grows self.old.out self.new.out }
     {
+        self.keep_first_list()?;
         let incarnation = self.started;
-        self.is_numbered = false;
         self.members.insert(
             0,
             Member {
@@ -135,7 +172,8 @@ impl Machine {
         requires away { stands_in self.old.members.items process ≡ false }
         requires room { self.old.started + 1 < 2 ^ 32 }
         ensures exact { (t : Tree) → Tells result (state_of t self.new) (enlist_of (state_of t self.old) process) }
-        ensures counts { OnOk result ((self.new.fuel ≡ self.old.fuel) × (self.new.started ≡ self.old.started + 1)) }
+        ensures counts { OnOk result ((self.new.fuel ≡ self.old.fuel) × (self.new.started ≡ self.old.started + 1)
+            × (first_list_of self.new ≡ first_list_of self.old)) }
         ensures grows { Grows self.old.out self.new.out }
     {
         self.list_first(process)?;
@@ -157,25 +195,26 @@ impl Machine {
 
     /// Removes a process from the list.
     #[tactic(auto, unfolding(crate::specs::ProcessList::unlisted_of))]
-    fn unlist(&mut self, process: Proc)
-        ensures exact { (t : Tree) → state_of t self.new ≡ unlisted_of (state_of t self.old) process }
-        ensures kept { KeepsCounts self.old self.new }
+    fn unlist(&mut self, process: Proc) -> Result<(), AllocError>
+        ensures exact { (t : Tree) → OnOk result (state_of t self.new ≡ unlisted_of (state_of t self.old) process) }
+        ensures kept { OnOk result (KeepsCounts self.old self.new) }
         ensures grows { Grows self.old.out self.new.out }
     {
-        self.is_numbered = false;
+        self.keep_first_list()?;
         self.members
             .retain(|member| !is_same(member.process, process));
+        Ok(())
     }
 
     /// Ends the exit of a process, which leaves the list.
     #[tactic(auto, unfolding(crate::specs::ProcessList::leave_of))]
     pub fn leave(&mut self, process: Proc) -> Result<(), Stop>
         ensures exact { (t : Tree) → Tells result (state_of t self.new) (leave_of (state_of t self.old) process) }
-        ensures kept { KeepsCounts self.old self.new }
+        ensures kept { OnOk result (KeepsCounts self.old self.new) }
         ensures grows { Grows self.old.out self.new.out }
     {
         self.set_exiting(process, false);
-        self.unlist(process);
+        self.unlist(process)?;
         self.write(What::Leave(process))
     }
 }

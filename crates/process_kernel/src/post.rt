@@ -6,7 +6,7 @@ ghost use Rattle.process_kernel.specs.State.{Goes};
 ghost use Rattle.process_kernel.specs.Writes.{write_of, spend_of, halted_of};
 ghost use Rattle.process_kernel.specs.Posts.{post_of, poll_of, send_of};
 ghost use Rattle.process_kernel.specs.Semaphores.{take_of, signal_of};
-ghost use Rattle.process_kernel.specs.Views.{state_of, Tells, Grows, KeepsCounts, KeepsLists, OnlyAdds};
+ghost use Rattle.process_kernel.specs.Views.{first_list_of, state_of, Tells, Grows, KeepsCounts, KeepsLists, OnlyAdds};
 
 use crate::machine::{Machine, Stop};
 use crate::table::is_alive;
@@ -47,7 +47,8 @@ impl Machine {
     #[tactic(auto, unfolding(crate::specs::Writes::spend_of))]
     pub fn spend(&mut self) -> Result<(), Stop>
         ensures exact { (t : Tree) → Tells result (state_of t self.new) (spend_of (state_of t self.old)) }
-        ensures units { OnOk result ((self.new.fuel + 1 ≡ self.old.fuel) × (self.new.started ≡ self.old.started)) }
+        ensures units { OnOk result ((self.new.fuel + 1 ≡ self.old.fuel) × (self.new.started ≡ self.old.started)
+            × (first_list_of self.new ≡ first_list_of self.old)) }
         ensures grows { Grows self.old.out self.new.out }
     {
         if !self.fuel.spend() {

@@ -3,6 +3,7 @@
 ghost use Rattle.std.specs.Prelude.{◌≡◌, ◌≤◌, ◌+◌, false, [], IfOk, OnOk, length, map, replicate};
 ghost use Rattle.mote_timers.specs.TimerLists.{new_timers};
 ghost use Rattle.program_tree.specs.Program.{tree_of};
+ghost use Rattle.protothread.specs.declared.part.Part.TheVariants.{Body};
 ghost use Rattle.protothread.specs.Remainder.{fresh_of};
 ghost use Rattle.process_kernel.specs.Mote.{unbooted};
 ghost use Rattle.process_kernel.specs.Views.{state_of, remainders_of};
@@ -14,18 +15,18 @@ use crate::ring::Ring;
 use event_queue::EventQueue;
 use mote_timers::{Callbacks, Timers};
 use program_tree::Program;
-use protothread::{Fuel, Part, Semaphore, Thread, Vars};
+use protothread::{Fuel, Semaphore, Thread, Vars};
 use std::alloc::{AllocError, Global};
 use trace_lines::Out;
 
-/// A fresh body for each process.
-fn fresh_bodies(alloc: Global, program: &Program) -> Result<Vec<Thread>, AllocError>
+/// A fresh body for each process: none is allocated before its process is called.
+fn fresh_bodies(alloc: Global, program: &Program) -> Result<Vec<Option<Box<Thread>>>, AllocError>
     ensures { IfOk result (λ threads. remainders_of (tree_of program.now).codes threads.items
-        ≡ map (λ c. fresh_of c Part.Body) (tree_of program.now).codes) }
+        ≡ map (λ c. fresh_of c Body) (tree_of program.now).codes) }
 {
     let mut threads = Vec::with_capacity(alloc, usize::from(program.processes()))?;
     for _process in 0..program.processes() {
-        threads.push(Thread::fresh(Part::Body))?;
+        threads.push(None)?;
     }
     Ok(threads)
 }
@@ -97,6 +98,7 @@ impl Machine {
             callbacks: Callbacks::new(alloc, program.timers())?,
             shown: first_shown(alloc, program, mote)?,
             exiting: Vec::new(alloc),
+            first_list: Vec::new(alloc),
             needs_poll: Vec::new(alloc),
             members: Vec::new(alloc),
             variables: Vec::new(alloc),
@@ -118,7 +120,7 @@ impl Machine {
             ≡ record (state_of t self.old) {
               exiting = replicate n false;
               needs_poll = replicate n false;
-              remainders = map (λ c. fresh_of c Part.Body) t.codes;
+              remainders = map (λ c. fresh_of c Body) t.codes;
               variables = map (λ c. c.starts) t.codes;
               members = [];
             }) }
@@ -129,6 +131,7 @@ impl Machine {
         self.threads = fresh_bodies(alloc, program)?;
         self.variables = first_variables(alloc, program)?;
         self.exiting = vec![in alloc; false; places]?;
+        self.first_list = Vec::with_capacity(alloc, places)?;
         Ok(())
     }
 

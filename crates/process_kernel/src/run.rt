@@ -5,7 +5,7 @@ ghost use Rattle.program_tree.specs.Code.{Tree};
 ghost use Rattle.process_kernel.specs.Follows.{Follows};
 ghost use Rattle.process_kernel.specs.ProcessList.{numbered_from};
 ghost use Rattle.process_kernel.specs.Run.{begun_of, kernel_of};
-ghost use Rattle.process_kernel.specs.Views.{state_of, Grows, HasRoom, KeepsCounts};
+ghost use Rattle.process_kernel.specs.Views.{state_of, Grows, HasRoom};
 
 use crate::machine::{Machine, Stop};
 use crate::process::Member;
@@ -45,7 +45,7 @@ impl Machine {
     fn number_members(&mut self)
         ensures exact { (t : Tree) → state_of t self.new
             ≡ record (state_of t self.old) { members = numbered_from 0 self.old.members.items } }
-        ensures kept { KeepsCounts self.old self.new }
+        ensures counts { (self.new.fuel ≡ self.old.fuel) × (self.new.started ≡ self.old.started) }
         ensures grows { Grows self.old.out self.new.out }
     {
         if !self.is_numbered {

@@ -1,4 +1,4 @@
-use Rattle.std.proofs.Common.{rules, arith}
+use Rattle.std.proofs.Common.{rules, arith, refl, None}
 use Rattle.std.proofs.lemmas.List.{length-map}
 use Rattle.program_tree.specs.Program.{tree_of, code_of}
 use Rattle.process_kernel.proofs.First.{AreFresh-push, fresh_remainders}
@@ -6,7 +6,7 @@ use Rattle.process_kernel.proofs.room.fresh_bodies.Goals as goal
 
 pub loop-process-preserved : goal.loop-process-preserved
 loop-process-preserved c =
-    (search rules, rw c.in_ok-push.ensures.items (AreFresh-push c.loop-process.threads.items c.fresh.result c.loop-process.invariant.1 c.fresh.ensures))
+    (search rules, rw c.in_ok-push.ensures.items (AreFresh-push c.loop-process.threads.items None c.loop-process.invariant.1 (λ code. refl)))
 
 pub returns : goal.returns
 returns c =

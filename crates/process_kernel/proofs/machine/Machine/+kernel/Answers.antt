@@ -184,8 +184,8 @@ resume-returns-in_err-answer t c = record {
   exact = let T = tree_of c.args.program.now in
       λ k enough. search (
         rules,
-        c.take_thread-body.ensures.exact T (code_of c.args.text.now) c.requires.text,
-        c.take_thread-body.ensures.after T,
+        c.in_ok-body.ensures.exact T (code_of c.args.text.now) c.requires.text,
+        c.take_thread.ensures.after T,
       );
   spends = search rules;
   grows = search rules;
@@ -197,8 +197,8 @@ resume-returns t c = record {
   exact = let T = tree_of c.args.program.now in
       λ k enough. search (
         rules,
-        c.take_thread-body.ensures.exact T (code_of c.args.text.now) c.requires.text,
-        c.take_thread-body.ensures.after T,
+        c.in_ok-body.ensures.exact T (code_of c.args.text.now) c.requires.text,
+        c.take_thread.ensures.after T,
         c.put_thread.ensures.exact T (code_of c.args.text.now) c.requires.text,
       );
   spends = search rules;
@@ -211,7 +211,7 @@ run-loop-op-preserved t c =
     let T = tree_of c.args.program.now in
     let pays = c.in-Op.ensures.pays in
     let spends = c.in_ok-perform-in-Op.ensures.spends in (
-      (omega (arith, pays, spends), omega (arith, pays, spends)),
+      (omega (arith, pays, spends), omega (arith, pays, spends), spends.2 ∙ c.in-Op.ensures.first_list ∙ c.loop-op.invariant.0.2),
       search rules,
       λ k enough.
           let now = c.loop-op.invariant.2 k enough in
@@ -306,7 +306,7 @@ start-returns-in_ok-enlist t c =
       exact = λ k enough. search (rules, listed);
       spends =
           on_ok_both c.call.result _ _ _ c.call.ensures.follows.spends c.call.ensures.pays (λ spends pays.
-          let cost = pays runs in (omega (arith, counts, spends), omega (arith, counts, cost)));
+          let cost = pays runs in (omega (arith, counts, spends), omega (arith, counts, cost), spends.2 ∙ counts.2));
       grows = search rules;
     }
 

@@ -8,15 +8,15 @@ use Rattle.process_kernel.proofs.machine.Machine.unlist.Goals as goal
 
 rest : (c : goal.After-retain)
     → c.retain.new.self.items
-    ≡ filter (λ (m : Member). not (is_same m.process c.args.process)) c.args.self.now.members.items
+    ≡ filter (λ (m : Member). not (is_same m.process c.args.process)) c.keep_first_list.new.self.members.items
 rest c = filter_same _ (λ (m : Member). not (is_same m.process c.args.process)) _
     (λ x b f h. search (rules, of_calls)) _ _ c.retain.ensures.filtered
 
 pub returns-clause-exact : goal.returns-clause-exact
 unfolding unlisted_of
-returns-clause-exact c = λ t. let gone = rest c.before in search (rules, gone)
+returns-clause-exact c = λ t. let gone = rest c.before in search (rules, gone, c.in_ok-keep_first_list.ensures.exact t)
 
 pub invariant_of-self-clause-are_members : goal.invariant_of-self-clause-are_members
 invariant_of-self-clause-are_members c =
-    subst (λ ms. AreMembers ms (length c.args.self.now.shown.states.items)) (sym (rest c))
-    (AreMembers-filter _ _ _ c.args.self.now.are_members)
+    subst (λ ms. AreMembers ms (length c.keep_first_list.new.self.shown.states.items)) (sym (rest c))
+    (AreMembers-filter _ _ _ c.keep_first_list.new.self.are_members)

@@ -1,0 +1,19 @@
+-- The process list of the beginning of a boot or a run.
+use Rattle.std.proofs.Common.{ℕ, ◌≡◌, ◌+◌, ◌∙◌, true, ◌∷◌, drop, Some, ap, sym}
+use Rattle.std.specs.Prelude.{if◌then◌else◌, slice_get}
+use Rattle.process_kernel.specs.declared.machine.Machine.{Machine}
+use Rattle.process_kernel.specs.declared.process.Member.{Member}
+use Rattle.process_kernel.specs.Views.{first_list_of}
+use Rattle.process_kernel.proofs.First.{drop_from}
+
+-- it is the current list while that is known to be numbered
+first_is_current : (m : Machine) → m.is_numbered ≡ true → first_list_of m ≡ m.members.items
+first_is_current m numbered = ap (λ b. if b then m.members.items else m.first_list.items) numbered
+
+-- after some turns of a walk over it, the rest begins with the incarnation at the next place
+pub rest_begins : (old now : Machine) (place : ℕ) (m : Member) → old.is_numbered ≡ true
+    → first_list_of now ≡ first_list_of old → slice_get (first_list_of now) place ≡ Some m
+    → drop place old.members.items ≡ m ∷ drop (place + 1) old.members.items
+rest_begins old now place m numbered same is =
+    drop_from old.members.items place m
+    (ap (λ ms. slice_get ms place) (sym (same ∙ first_is_current old numbered)) ∙ is)

@@ -1,0 +1,36 @@
+use Rattle.std.proofs.Common.{rules, arith, ◌+◌, ◌∙◌, ap, drop}
+use Rattle.program_tree.specs.Program.{tree_of}
+use Rattle.process_kernel.specs.State.{◌>>=◌}
+use Rattle.process_kernel.specs.Call.{calls_of}
+use Rattle.process_kernel.specs.Polls.{walk_polls}
+use Rattle.process_kernel.specs.Views.{state_of}
+use Rattle.process_kernel.proofs.FirstList.{rest_begins}
+use Rattle.process_kernel.proofs.machine.Machine.poll_first_list.Goals as goal
+
+pub returns-in_err-poll_in_turn : goal.returns-in_err-poll_in_turn
+returns-in_err-poll_in_turn c = record {
+  exact = λ k enough.
+      let inv = c.loop-place.invariant in
+      let rest = rest_begins c.args.self.now c.loop-place.self c.loop-place.place c.first_member-member.result
+      c.requires.numbered inv.0.2 c.first_member-member.ensures in
+      rw (inv.2 k enough, rest) (search (rules, c.in_err-poll_in_turn.ensures.exact k (omega (arith, enough, inv.0.0))));
+  spends = search rules;
+  grows = search rules;
+}
+
+pub loop-place-preserved : goal.loop-place-preserved
+loop-place-preserved c =
+    let T = tree_of c.args.program.now in
+    let ms = c.args.self.now.members.items in
+    let inv = c.loop-place.invariant in
+    let turn = c.in_ok-poll_in_turn.ensures in
+    let spends = turn.spends in
+    let rest = rest_begins c.args.self.now c.loop-place.self c.loop-place.place c.first_member-member.result
+    c.requires.numbered inv.0.2 c.first_member-member.ensures in (
+      (omega (arith, inv.0.0, spends.0), omega (arith, inv.0.1, spends.1), spends.2 ∙ inv.0.2),
+      search rules,
+      λ k enough.
+          inv.2 k enough ∙ ap (λ xs. walk_polls (calls_of k) xs (state_of T c.loop-place.self)) rest
+              ∙ ap (λ o. o >>= λ _ s1. walk_polls (calls_of k) (drop (c.loop-place.place + 1) ms) s1)
+              (turn.exact k (omega (arith, enough, inv.0.0))),
+    )
