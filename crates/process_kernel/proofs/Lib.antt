@@ -3,7 +3,6 @@ pub mod Depth
 pub mod First
 pub mod FirstList
 pub mod Given
-pub mod Heard
 pub mod Left
 pub mod Lists
 pub mod Numbered

@@ -8,7 +8,6 @@ pub mod Exit
 pub mod Given
 pub mod Follows
 pub mod KernelErrors
-pub mod Heard
 pub mod Kill
 pub mod Laws
 pub mod Looks

@@ -50,7 +50,7 @@ impl Machine {
         }
     }
 
-    /// What a process does with an event.
+    /// Lets a process react to an event.
     #[cycle(kernel)]
     #[inline(always)]
     #[tactic(auto, unfolding(crate::specs::Reaction::react_of))]
@@ -81,7 +81,7 @@ impl Machine {
         }
     }
 
-    /// A process of the program: the event's handler first, and then its body.
+    /// Runs the event's handler of a process of the program, and then resumes its body.
     #[cycle(kernel)]
     #[inline(always)]
     #[tactic(auto, unfolding(crate::specs::Reaction::own_of))]

@@ -1,4 +1,4 @@
-//! How the process list grows and shrinks.
+//! The process list, as it grows and shrinks, and the threads of its processes.
 
 ghost use Rattle.std.specs.Prelude.{◌≡◌, ◌<◌, ◌+◌, ◌^◌, ◌∷◌, false, not, OnOk, IfOk, Some, filter, length, slice_get};
 ghost use Rattle.program_tree.specs.Code.{Tree, Code};

@@ -1,4 +1,4 @@
-//! The state of a kernel, and why its run stops.
+//! The state of a kernel, and the reasons for which its run stops.
 
 ghost use Rattle.std.specs.Prelude.{◌≡◌, ◌≤◌, ◌^◌, true, length};
 ghost use Rattle.process_kernel.specs.Members.{AreMembers};
@@ -14,10 +14,10 @@ use protothread::{Fuel, Thread, Vars};
 use std::alloc::{AllocError, AllocFailed};
 use trace_lines::Out;
 
-/// How many processes a mote has at most: 64 of its program, and the three system processes.
+/// The most processes that a mote can have: 64 of its program, and the three system processes.
 pub const MOST_PROCESSES: usize = 67;
 
-/// Why a run stops.
+/// The reason for which a run stops.
 #[derive(Clone, Copy)]
 pub enum Stop {
     /// The mote has halted.
@@ -47,10 +47,11 @@ impl<T: Drop> From<AllocFailed<T>> for Stop {
 }
 
 /// The kernel of a mote. The tables have the system processes first, then those of the program in their order; threads
-/// and variables are those of the program's processes alone. While a body runs, a fresh one stands in its place.
-/// `is_numbered` says that the incarnations on the process list are known to be numbered from 0 on, which spares
-/// numbering them anew. `needs_poll` says of each process whether it needs a poll (Contiki's `needspoll`). The fields
-/// that a run touches stand together, so that it needs few cache lines.
+/// and variables are only those of the program's processes. A thread that isn't in its table is fresh: it is taken out
+/// while it runs, and allocated when its process is first called. `is_numbered` says that the incarnations on the
+/// process list are known to be numbered from 0 on, so the list hasn't changed since the boot or run began. While it
+/// is false, `first_list` keeps the list of that beginning. `needs_poll` has for each process whether it needs a poll
+/// (Contiki's `needspoll`). The fields that a run touches are next to each other, so that it needs few cache lines.
 #[derive(Drop)]
 pub struct Machine {
     pub(crate) shown: Shown,

@@ -54,7 +54,7 @@ impl Machine {
         }
     }
 
-    /// How much is left to do: the queued events, and one more if a poll is requested.
+    /// Counts what is left to do: the queued events, and one more if a poll is requested.
     pub fn left(&self) -> u16
         ensures { result ≡ length self.now.queue.events + (if self.now.poll_requested then 1 else 0) }
     {
@@ -62,7 +62,7 @@ impl Machine {
     }
 }
 
-/// Numbers the members anew, from the first on.
+/// Numbers the members again, from the first on.
 fn number(members: &mut [Member])
     requires { length members.old ≤ 67 }
     ensures { members.new ≡ numbered_from 0 members.old }

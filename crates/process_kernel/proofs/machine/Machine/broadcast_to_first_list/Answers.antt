@@ -31,6 +31,6 @@ loop-place-preserved c =
       search rules,
       λ k enough.
           inv.2 k enough ∙ ap (λ xs. walk_broadcast (calls_of k) c.args.posted.now xs (state_of T c.loop-place.self)) rest
-              ∙ ap (λ o. o >>= λ _ s1. walk_broadcast (calls_of k) c.args.posted.now (drop (c.loop-place.place + 1) ms) s1)
-              (turn.exact k (omega (arith, enough, inv.0.0))),
+          ∙ ap (λ o. o >>= λ _ s1. walk_broadcast (calls_of k) c.args.posted.now (drop (c.loop-place.place + 1) ms) s1)
+          (turn.exact k (omega (arith, enough, inv.0.0))),
     )
