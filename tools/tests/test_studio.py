@@ -94,8 +94,8 @@ class Edits(unittest.TestCase):
     def test_what_the_map_cannot_change_is_refused_and_why(self):
         inline = 'version = 1\nend = 1\nmote = [{x = 1, y = 2, program = "p"}, {x = 3, y = 2, program = "p"}]\n'
         self.assertIn('cannot change', self.refused(inline, what='move', mote=0, x=1, y=1))
-        self.assertIn('does not stand in the text as a table', self.refused(inline, what='remove', mote=0))
-        self.assertIn('has a fault', self.refused(NET + '[', what='move', mote=0, x=1, y=1))
+        self.assertIn('is not a table [[mote]] of its own', self.refused(inline, what='remove', mote=0))
+        self.assertIn('has an error', self.refused(NET + '[', what='move', mote=0, x=1, y=1))
         for wish in ({'mote': 3, 'x': 0, 'y': 0}, {'mote': 0, 'x': 30_001, 'y': 0}, {'mote': 0, 'x': 0.5, 'y': 0},
                      {'mote': True, 'x': 0, 'y': 0}, {'mote': 0, 'x': 0}):
             self.assertIn('is a whole number', self.refused(NET, what='move', **wish))
@@ -233,9 +233,9 @@ class Running(unittest.TestCase):
         self.assertEqual((got.status, got.report, got.fault), (1, b'', b'motesim: medium fault 2\n'))
 
     def test_each_limit_stops_a_run_and_says_how_to_raise_it(self):
-        for word, limits, said in [('never_ends', {'seconds': 1}, 'after 1 second. tools/studio --seconds 6'),
-                                   ('long_report', {'output': 1}, 'after 1 megabyte of report. tools/studio --report'),
-                                   ('much_memory', {'memory': 400}, 'at 400 megabytes of memory. tools/studio --memory')]:
+        for word, limits, said in [('never_ends', {'seconds': 1}, 'after 1 second. Start tools/studio with --seconds 6'),
+                                   ('long_report', {'output': 1}, 'after 1 megabyte of report. Start tools/studio with --report'),
+                                   ('much_memory', {'memory': 400}, 'at 400 megabytes of memory. Start tools/studio with --memory')]:
             begin = time.monotonic()
             with self.assertRaises(LimitMet, msg=word) as caught:
                 self.run_text('# %s\n%s' % (word, NET), **limits)

@@ -337,7 +337,7 @@ class Page(unittest.TestCase):
         place = self.value('run.places[1]')
         text = self.value('text')
         self.assertEqual(text, NET.replace('x = 8\ny = 0', 'x = %d\ny = %d' % tuple(place)))
-        self.assertIn('Mote 1 stands at', self.shown('map-said'))
+        self.assertIn('Mote 1 is at', self.shown('map-said'))
         self.assertEqual(self.value('run.hearers[0].length'), 0)
 
     def shown_on_map(self, mote):
@@ -360,7 +360,7 @@ class Page(unittest.TestCase):
             self.browser.drag(x, y, x - 30, y - 10)
             self.wait('m.studio.judged === m.studio.number && run.places[2][0] < 100')
             self.assertEqual(self.value('[m.maps[0].dx, m.maps[0].dy]'), [0, 0])
-            self.assertIn('Mote 2 stands at', self.shown('map-said'))
+            self.assertIn('Mote 2 is at', self.shown('map-said'))
             self.value('m.editor().replace(text, %s)' % json.dumps(NET))
             self.wait('m.studio.judged === m.studio.number && run.places[2][0] === 100')
 

@@ -1,6 +1,6 @@
-"""A page in which a protocol is written, run and seen at once: docs/use/STUDIO.md.
+"""The studio, a page for writing, running and looking at a protocol: docs/use/STUDIO.md.
 
-    command  the command       server   answers the page       desk   the files that are read and written
-    session  runs and answers  runs     the program, limited   edits  changes of the text that the map asks for
-    answers  what the page is told of a run                    guides what to look at in an example
+    command   starts it              server   serves the page          session  has the answers to the page
+    desk      the files              edits    changes by the map       runs     runs of a text, within limits
+    answers   what a run comes to    guides   what to look at          searches for faults
 """

@@ -24,13 +24,13 @@ NO_EDITOR = "The editor isn't installed (Debian's package libjs-codemirror): the
 
 
 def has_screen() -> bool:
-    """Whether a browser of its own window can be opened; one of the terminal would take it."""
+    """True if a browser can open a window of its own. One in the terminal would take the terminal over."""
     return sys.platform in ('darwin', 'win32') or bool(os.environ.get('DISPLAY') or os.environ.get('WAYLAND_DISPLAY'))
 
 
 def room() -> tempfile.TemporaryDirectory[str]:
-    """A folder for the file by which the page is opened: in the home of the user, since browsers that are installed as
-    snaps read no other."""
+    """A folder for the file that opens the page: in the home of the user, since browsers that are installed as snaps
+    read no other."""
     try:
         return tempfile.TemporaryDirectory(prefix='motesim-studio-', dir=Path.home())
     except (OSError, RuntimeError):
@@ -39,7 +39,7 @@ def room() -> tempfile.TemporaryDirectory[str]:
 
 @contextlib.contextmanager
 def opened(address: str, wanted: bool) -> Iterator[None]:
-    """Opens the page by a file that only this user can read: others see the words with which a browser is started."""
+    """Opens the page by a file that only this user can read, since others can see the arguments of a browser."""
     if not (wanted and has_screen()):
         yield
         return
@@ -53,7 +53,7 @@ def opened(address: str, wanted: bool) -> Iterator[None]:
 
 def serve(server: Server, is_open: bool) -> None:
     """Serves until Ctrl-C, which it leaves to its caller."""
-    # (a terminal that is closed, and a polite request to end, end it as Ctrl-C does)
+    # (if the terminal is closed, or the process is asked to end, it ends as by Ctrl-C)
     for number in (signal.SIGTERM, signal.SIGHUP):
         signal.signal(number, signal.default_int_handler)
     print(server.address, flush=True)
@@ -65,7 +65,7 @@ def serve(server: Server, is_open: bool) -> None:
 
 def status_of(asked: argparse.Namespace) -> int:
     """Does what tools/studio is asked for."""
-    # (the studio goes on for hours, other commands end soon)
+    # (the studio runs for hours, other commands for seconds)
     gc.enable()
     program_path()
     runs = Runs(Limits(asked.seconds, asked.memory, asked.report))

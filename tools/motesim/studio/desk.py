@@ -1,8 +1,8 @@
 """The files of the studio: what it may read and write, and nothing else.
 
 It reads scenarios in the folder of the file that it was started with, and the examples. It writes the file that it
-was started with, and new ones that are named in the page. A file that changed elsewhere since it was read is
-written only where that was asked for.
+was started with, and new ones that the reader names in the page. It overwrites a file that was changed elsewhere since
+it was read only if the reader wants that.
 """
 from __future__ import annotations
 
@@ -17,11 +17,11 @@ from motesim.files import write_whole
 from motesim.runner.programs import TOP
 
 LONGEST = 1_048_576
-# Files of TOML that are no scenarios.
+# Endings of TOML files that are not scenarios.
 OTHERS = ('.expect.toml', '.plan.toml')
 NAME = re.compile(r'[A-Za-z0-9_][A-Za-z0-9_. -]{0,80}\.toml')
 MARK = '\ufeff'
-FIRST = '''# A scenario: which motes there are, where they stand, what they run, and how packets travel.
+FIRST = '''# A scenario: which motes there are, their places, what they run, and how packets travel.
 version = 1
 end = 60
 [medium]
@@ -64,11 +64,11 @@ program = "hello"
 
 
 class Changed(Fault):
-    """A file isn't as it was when it was read."""
+    """A file was changed since it was read."""
 
 
 class Document(NamedTuple):
-    """A text with how its file was written: a stamp of its bytes (empty where it isn't there), line ends and mark."""
+    """A text and how its file is written: a stamp of its bytes (empty without a file), line ends, byte order mark."""
     where: str
     name: str
     text: str
@@ -88,7 +88,7 @@ def bytes_of(text: str, returns: bool, mark: bool) -> bytes:
 
 
 def document(where: str, name: str, data: bytes) -> Document:
-    """A file's text with plain line ends, where all of them are CR and LF."""
+    """A file's text. If all lines end with CR and LF, it has LF only."""
     try:
         text = data.decode('utf-8')
     except UnicodeDecodeError:
@@ -118,7 +118,7 @@ class Desk:
 
     def folder_of(self, where: str) -> Path:
         if where not in ('folder', 'example'):
-            raise Fault('there is no place %s' % where)
+            raise Fault('there is no folder %s' % where)
         return self.examples if where == 'example' else self.folder
 
     def names(self, where: str) -> list[str]:
@@ -130,15 +130,15 @@ class Desk:
         return sorted(name for name in names if NAME.fullmatch(name) and not name.endswith(OTHERS))
 
     def path(self, where: str, name: str) -> Path:
-        """The path of a file that may be read: it stands in its folder itself, and isn't a link to elsewhere."""
+        """The path of a file that may be read: one in its folder itself, and no link to elsewhere."""
         folder = self.folder_of(where)
         path = folder / name
         if not NAME.fullmatch(name) or path.resolve() != path:
-            raise Fault('%s is no scenario of this folder' % name)
+            raise Fault('%s is not a scenario in this folder' % name)
         return path
 
     def data(self, path: Path) -> bytes | None:
-        """The bytes of a file, or None where it isn't there."""
+        """The bytes of a file, or None if it doesn't exist."""
         try:
             with open(path, 'rb') as file:
                 data = file.read(LONGEST + 1)
@@ -147,7 +147,7 @@ class Desk:
         except OSError as fault:
             raise Fault(in_words(fault)) from None
         if len(data) > LONGEST:
-            raise Fault('%s is longer than %d bytes, as a scenario may be' % (path.name, LONGEST))
+            raise Fault('%s is longer than %d bytes, the limit of a scenario' % (path.name, LONGEST))
         return data
 
     def read(self, where: str, name: str) -> Document:
@@ -155,11 +155,11 @@ class Desk:
         if data is None:
             if where == 'folder' and name == self.mine:
                 return Document(where, name, FIRST, '')
-            raise Fault('%s is not there' % name)
+            raise Fault('%s does not exist' % name)
         return document(where, name, data)
 
     def first(self) -> Document:
-        """What the page opens on: the file that was named, or else the first example of docs/use/EXAMPLES.md."""
+        """The document that the page opens with: the named file, or else the first example of docs/use/EXAMPLES.md."""
         return self.read('folder', self.mine) if self.mine else self.read('example', 'flooding.toml')
 
     def stamp(self, where: str, name: str) -> str:
@@ -167,7 +167,7 @@ class Desk:
         return stamp_of(self.data(self.path(where, name)))
 
     def expectations(self, where: str, name: str) -> tuple[str, str] | None:
-        """The name and the text of the expectations beside a scenario."""
+        """The name and the text of the expectations next to a scenario, or None."""
         name = name.removesuffix('.toml') + '.expect.toml'
         data = self.data(self.path(where, name))
         return None if data is None else (name, document(where, name, data).text)
@@ -176,10 +176,10 @@ class Desk:
         return document['where'] == 'folder' and document['name'] in self.written
 
     def save(self, document: dict[str, Any], over: bool = False) -> str:
-        """Writes a document into its file, and gives the stamp of what is there now."""
+        """Writes a document into its file, and returns the stamp of what is there now."""
         name = document['name']
         if not self.may_save(document):
-            raise Fault('the studio writes only the file that it was started with, or a new one that is named')
+            raise Fault('the studio writes only the file that it was started with, and new ones that you name')
         path = self.path('folder', name)
         if not over and stamp_of(self.data(path)) != document['stamp']:
             raise Changed('%s was changed elsewhere since it was read here' % name)
@@ -188,14 +188,14 @@ class Desk:
         return stamp_of(data)
 
     def save_new(self, document: dict[str, Any], name: str) -> str:
-        """Writes a document into a new file of the folder, from which on it may be saved there."""
+        """Writes a document into a new file of the folder. From then on it may be saved there."""
         name = name if name.endswith('.toml') else name + '.toml'
         path = self.path('folder', name)
         if name.endswith(OTHERS):
             raise Fault('%s is a name of %s, and not of a scenario' % (
                 name, 'a plan' if name.endswith('.plan.toml') else 'expectations'))
         if path.exists() and name not in self.written:
-            raise Fault('%s is there already; choose another name' % name)
+            raise Fault('%s exists already; choose another name' % name)
         self.written.add(name)
         if path.exists():
             return self.save({**document, 'where': 'folder', 'name': name})
@@ -204,11 +204,11 @@ class Desk:
         return stamp_of(data)
 
     def write(self, path: Path, data: bytes) -> None:
-        """Puts a file in its place whole, or not at all."""
+        """Writes a file as a whole, or not at all."""
         if len(data) > LONGEST:
-            raise Fault('the text is longer than %d bytes, as a scenario may be' % LONGEST)
+            raise Fault('the text is longer than %d bytes, the limit of a scenario' % LONGEST)
         if path.exists() and not os.access(path, os.W_OK):
-            raise Fault('%s may not be written' % path.name)
+            raise Fault('%s is read-only' % path.name)
         try:
             write_whole(path, [data])
         except Fault as fault:

@@ -1,9 +1,9 @@
-"""Changes of a scenario's text that the map asks for. All else in the text stays: comments, order and layout.
+"""Changes of a scenario's text by the map. Everything else in the text stays: comments, order and layout.
 
     changes, said = edit(text, {'what': 'move', 'mote': 3, 'x': 10, 'y': 20})
     text = applied(text, changes)
 
-The text is read before and after: an edit that would change anything else, or not what was asked for, is refused.
+The text is read before and after an edit. One that changes anything else than what it should is refused.
 """
 from __future__ import annotations
 
@@ -18,7 +18,7 @@ MOST_PLACE, MOST_MOTES, MOST_EVERY = 30_000, 1_000, 1_000_000
 
 
 class Change(NamedTuple):
-    """A stretch of the text, from offset to offset, and what stands there instead."""
+    """A piece of the text, from offset to offset, and what replaces it."""
     begin: int
     end: int
     text: str
@@ -39,7 +39,7 @@ class Text:
         try:
             self.tables: dict[str, Any] = read_toml(text)
         except NoToml:
-            raise Fault('The text has a fault. Mend it first; then the map can change it.') from None
+            raise Fault('The text has an error. Correct it first; then the map can change the text.') from None
         self.rows = text.split('\n')
         self.places = places(text)
         self.begins = [0]
@@ -59,23 +59,23 @@ class Text:
         """The lines of a table `[[name]]`, from its header to its last key: the first and the one after the last."""
         place = self.places.get((name, index))
         if place is None or not self.rows[place.line - 1].lstrip().startswith('[['):
-            raise Fault('%s %d does not stand in the text as a table [[%s]] of its own, so the map cannot change it.'
+            raise Fault('%s %d is not a table [[%s]] of its own in the text, so the map cannot change it.'
                         % (name, index, name))
         following = next((line - 1 for line in self.headers if line > place.line), len(self.rows))
         last = max(it.line for path, it in self.places.items() if path[:2] == (name, index) and it.line <= following)
         return place.line - 1, last
 
     def number(self, path: tuple[str | int, ...], number: int) -> Change:
-        """Puts another number in the place of a key's."""
+        """The change to another number of a key."""
         key = self.places.get(path)
         value = value_of(self.text, key) if key else None
         if value is None or value == key:
-            raise Fault('%s of %s %s does not stand in a line of its own, so the map cannot change it.'
+            raise Fault('%s of %s %s is not in a line of its own, so the map cannot change it.'
                         % (path[2], path[0], path[1]))
         return Change(self.offset(value), self.offset(value) + value.length, str(number))
 
     def without(self, name: str, index: int) -> Change:
-        """Takes a table out, with the blank line that would stand double."""
+        """The change without a table, and without the second of two blank lines."""
         first, end_line = self.lines(name, index)
         if (first and end_line < len(self.rows) and not self.rows[first - 1].strip()
                 and not self.rows[end_line].strip()):
@@ -86,7 +86,7 @@ class Text:
         return Change(begin, end, '')
 
     def appended(self, name: str, table: list[str]) -> Change:
-        """Puts a table after the last of its name, or at the end of the text."""
+        """The change with a table more, after the last of its name or at the end of the text."""
         members = self.members(name)
         first, end_line = self.lines(name, len(members) - 1) if members else (0, len(self.rows))
         spaced = bool(members) and first > 0 and not self.rows[first - 1].strip()
@@ -108,16 +108,16 @@ def _mote(text: Text, wish: dict[str, Any], name: str = 'mote') -> int:
 
 
 def move(text: Text, wish: dict[str, Any], wanted: dict[str, Any]) -> tuple[list[Change], str]:
-    """Another place for a mote."""
+    """Moves a mote."""
     mote = _mote(text, wish)
     place = {name: _number(wish, name, -MOST_PLACE, MOST_PLACE) for name in ('x', 'y')}
     wanted['mote'][mote].update(place)
     changes = [text.number(('mote', mote, name), value) for name, value in place.items()]
-    return changes, 'Mote %d stands at %d, %d.' % (mote, place['x'], place['y'])
+    return changes, 'Mote %d is at %d, %d.' % (mote, place['x'], place['y'])
 
 
 def add(text: Text, wish: dict[str, Any], wanted: dict[str, Any]) -> tuple[list[Change], str]:
-    """One mote more, after the others, so that their numbers stay."""
+    """Adds a mote after the others, so that their numbers stay."""
     x, y = (_number(wish, name, -MOST_PLACE, MOST_PLACE) for name in ('x', 'y'))
     program, number = wish.get('program'), len(text.members('mote'))
     if type(program) is not str or program not in text.tables.get('programs', {}):
@@ -126,11 +126,11 @@ def add(text: Text, wish: dict[str, Any], wanted: dict[str, Any]) -> tuple[list[
         raise Fault('a scenario has at most %s motes' % '{:,}'.format(MOST_MOTES))
     wanted['mote'].append({'x': x, 'y': y, 'program': program})
     rows = ['[[mote]]', 'x = %d' % x, 'y = %d' % y, 'program = "%s"' % program]
-    return [text.appended('mote', rows)], 'Mote %d, which runs %s, stands at %d, %d.' % (number, program, x, y)
+    return [text.appended('mote', rows)], 'Mote %d, which runs %s, is at %d, %d.' % (number, program, x, y)
 
 
 def remove(text: Text, wish: dict[str, Any], wanted: dict[str, Any]) -> tuple[list[Change], str]:
-    """One mote less. Those after it get the number before theirs, in the losses too, and its losses go with it."""
+    """Removes a mote with its losses. Those after it get the number before theirs, in the losses too."""
     mote = _mote(text, wish)
     if len(text.members('mote')) == 1:
         raise Fault('a scenario has at least one mote')
@@ -150,12 +150,12 @@ def remove(text: Text, wish: dict[str, Any], wanted: dict[str, Any]) -> tuple[li
         wanted['loss'] = kept
     said = 'Mote %d is removed' % mote
     if mote < len(wanted['mote']):
-        said += '; motes after it are numbered anew'
+        said += '; the motes after it are renumbered'
     return changes, said + ('; so are its %d losses.' % gone if gone > 1 else '; so is its loss.' if gone else '.')
 
 
 def lose(text: Text, wish: dict[str, Any], wanted: dict[str, Any]) -> tuple[list[Change], str]:
-    """Which packets are lost on the way from a mote to another: each `every`th, or none for 0."""
+    """Sets the losses from a mote to another one: each `every`th packet, or none for 0."""
     sender, receiver = _mote(text, wish, 'from'), _mote(text, wish, 'to')
     every = _number(wish, 'every', 0, MOST_EVERY)
     if sender == receiver:
@@ -181,7 +181,7 @@ EDITS = {'move': move, 'add': add, 'remove': remove, 'lose': lose}
 
 
 def edit(source: str, wish: dict[str, Any]) -> tuple[list[Change], str]:
-    """The changes that an edit takes, and what it does in words."""
+    """The changes that make an edit, and its effect in words."""
     text = Text(source)
     if wish.get('what') not in EDITS:
         raise Fault('there is no edit %s' % wish.get('what'))
@@ -189,7 +189,7 @@ def edit(source: str, wish: dict[str, Any]) -> tuple[list[Change], str]:
     try:
         changes, said = EDITS[wish['what']](text, wish, wanted)
     except (KeyError, TypeError, AttributeError, IndexError):
-        raise Fault('The text has a fault. Mend it first; then the map can change it.') from None
+        raise Fault('The text has an error. Correct it first; then the map can change the text.') from None
     try:
         got: dict[str, Any] | None = read_toml(applied(source, changes))
     except NoToml:
@@ -197,5 +197,5 @@ def edit(source: str, wish: dict[str, Any]) -> tuple[list[Change], str]:
     if not wanted.get('loss', True):
         del wanted['loss']
     if got != wanted:
-        raise Fault('The text is written in a way that the map cannot change; change it by hand.')
+        raise Fault('The map cannot change a text that is written like this. Change it by hand.')
     return changes, said

@@ -18,7 +18,7 @@ def head_of(text: str) -> list[str]:
 
 
 def comment(text: str) -> list[dict[str, Any]]:
-    """The guide of a scenario that is no example: the comment at its head, as it is written."""
+    """The guide of a scenario that is no example: the comment at its head, unchanged."""
     rows = [row.removeprefix(' ').rstrip() for row in head_of(text)]
     return [{'kind': 'comment', 'text': '\n'.join(rows)}] if rows else []
 
@@ -85,11 +85,11 @@ def guide(name: str, text: str, page: Path = PAGE) -> list[dict[str, Any]]:
     except OSError:
         source = ''
     rows = sections(source).get(name, [])
-    told = [{'kind': 'look' if it.startswith('Look at:') else 'text', 'text': it.removeprefix('Look at:').strip()}
-            for it in comment_of(text)]
+    own = [{'kind': 'look' if it.startswith('Look at:') else 'text', 'text': it.removeprefix('Look at:').strip()}
+           for it in comment_of(text)]
     of_page = blocks(rows)
     tasks = [it for it in of_page if it['kind'] == 'task']
-    found = told + tasks + [it for it in of_page if it['kind'] != 'task']
+    found = own + tasks + [it for it in of_page if it['kind'] != 'task']
     line = shows(source, name)
     return found or ([{'kind': 'text', 'text': line[0].upper() + line[1:] + '.'}] if line else [])
 

@@ -1,8 +1,8 @@
 """The program under limits: one run at a time, and a newer one stops the one before.
 
     runs = Runs(Limits())
-    ticket = runs.ask()                 # stops the run that goes on, if any
-    got = runs.run(ticket, scenario)    # an `Answer`; a `Superseded` where a newer ticket was asked for
+    ticket = runs.ask()                 # stops the run before, if it still runs
+    got = runs.run(ticket, scenario)    # an `Answer`; raises `Superseded` if there is a newer ticket
 """
 from __future__ import annotations
 
@@ -17,7 +17,7 @@ MEGABYTE = 1 << 20
 
 
 class Limits(NamedTuple):
-    """What a run may take: seconds, and megabytes of memory and of output."""
+    """The limits of a run: seconds, and megabytes of memory and of output."""
     seconds: float = 10
     memory: int = 1024
     output: int = 16
@@ -31,11 +31,11 @@ class Superseded(Fault):
 
 
 class LimitMet(Fault):
-    """A run took as much as it may."""
+    """A run met a limit."""
 
 
 class Runs:
-    """Runs of the program, of which never two go on at once."""
+    """Runs of the program, one at a time."""
 
     def __init__(self, limits: Limits):
         self.limits = limits
@@ -45,7 +45,7 @@ class Runs:
         self.running: Running | None = None
 
     def ask(self) -> int:
-        """The ticket of a new run. A run that goes on is stopped."""
+        """The ticket of a new run. The run before is stopped."""
         with self.state:
             self.newest += 1
             if self.running is not None:
@@ -58,7 +58,7 @@ class Runs:
             raise Superseded
 
     def run(self, ticket: int, scenario: bytes) -> Answer:
-        """What the program answers."""
+        """The answer of the program."""
         seconds, memory, output = self.limits
         limited = Runner(limits=runner.Limits(seconds, memory * MEGABYTE, output * MEGABYTE))
         with self.turn:
@@ -70,7 +70,7 @@ class Runs:
             except runner.Stopped:
                 raise Superseded from None
             except runner.LimitMet as met:
-                raise LimitMet(self.told(met)) from None
+                raise LimitMet(self.in_words(met)) from None
             finally:
                 with self.state:
                     self.running = None
@@ -78,14 +78,14 @@ class Runs:
             raise LimitMet('The run was ended from outside, by signal %d.' % -got.status)
         return got
 
-    def told(self, met: runner.LimitMet) -> str:
-        """A limit that was met, and how a run gets more."""
+    def in_words(self, met: runner.LimitMet) -> str:
+        """The limit that a run met, and how to raise it."""
         seconds, memory, output = self.limits
         what, option, more = {
             'seconds': ('after ' + counted(seconds, 'second'), '--seconds', seconds * 6),
             'memory': ('at %s of memory' % counted(memory, 'megabyte'), '--memory', memory * 4),
             'report': ('after %s of report' % counted(output, 'megabyte'), '--report', output * 4)}[met.limit]
-        return 'The run was stopped %s. tools/studio %s %g gives it more.' % (what, option, more)
+        return 'The run was stopped %s. Start tools/studio with %s %g to raise the limit.' % (what, option, more)
 
 
 def counted(number: float, what: str) -> str:

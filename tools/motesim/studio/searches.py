@@ -1,8 +1,8 @@
 """Searches for faults, for the page: tools/search and tools/shrink in processes of their own, one at a time.
 
     searches = Searches(limits)
-    number = searches.begin(Wanted(...))     # stops what went on before
-    searches.state(number)                   # how far it is, and at its end what it found
+    number = searches.begin(Wanted(...))     # stops the search before
+    searches.state(number)                   # its progress, and at its end what it found
 """
 from __future__ import annotations
 
@@ -27,7 +27,7 @@ SHRINK = 'from motesim.commands.shrink import main; main()'
 # (two kinds take values, which the page doesn't ask for)
 OF_PAGE = [kind for kind in KINDS if kind not in ('values', 'parameters')]
 MOST_FAULTS, NAME = 3, 'scenario.toml'
-GONE = 'this search is over; search again'
+GONE = 'The studio no longer has this search. Search again.'
 
 
 class Wanted(NamedTuple):
@@ -41,23 +41,23 @@ class Wanted(NamedTuple):
 def wanted_of(text: str, sentences: list[str], kinds: object, at_most: object) -> Wanted:
     """What the page asks for."""
     if type(kinds) is not list or not kinds or not all(it in OF_PAGE for it in kinds):
-        raise Fault('Choose one kind of fault at least.')
+        raise Fault('Choose at least one kind of fault.')
     if type(at_most) is not int or not 1 <= at_most <= MOST_FAULTS:
-        raise Fault('At most 1, 2 or 3 faults are put together here.')
+        raise Fault('The page combines up to three faults; tools/search combines more.')
     if not sentences:
-        raise Fault('Nothing is expected of this scenario: put sentences into NAME.expect.toml beside NAME.toml.')
+        raise Fault('There are no expectations for this scenario. Write sentences into NAME.expect.toml next to NAME.toml.')
     return Wanted(text, sentences, kinds, at_most)
 
 
 class Going:
-    """A process of a search, with the folder that it works in, and the last that it said of how far it is."""
+    """A process of a search, with the folder that it works in, and its progress."""
 
     def __init__(self, number: int, wanted: Wanted, limits: Limits):
         self.number, self.wanted, self.limits = number, wanted, limits
         self.room = tempfile.TemporaryDirectory(prefix='motesim-search-')
         self.folder = Path(self.room.name)
         self.progress: dict[str, Any] = {}
-        self.told = ''
+        self.errors = ''
         self.found: dict[str, Any] | None = None
         self.shrinking: subprocess.Popen[bytes] | None = None
         (self.folder / NAME).write_text(wanted.text, 'utf-8', newline='')
@@ -79,13 +79,13 @@ class Going:
                                 start_new_session=True)
 
     def read(self) -> None:
-        """Takes what the search says of how far it is, up to its end."""
+        """Reads the progress of the search, up to its end."""
         assert self.process.stderr
         for row in self.process.stderr:
             try:
                 self.progress = json.loads(row)
             except ValueError:
-                self.told += row.decode('utf-8', 'backslashreplace')
+                self.errors += row.decode('utf-8', 'backslashreplace')
         self.process.stderr.close()
         self.process.wait()
         with contextlib.suppress(OSError, ValueError):
@@ -108,7 +108,7 @@ class Going:
         is_over = not self.reader.is_alive()
         fault = ''
         if is_over and self.found is None:
-            fault = self.told.strip().removeprefix('search: ') or 'the search ended without a word'
+            fault = self.errors.strip().removeprefix('search: ') or 'the search ended without a result'
         return {'progress': self.progress, 'over': is_over, 'fault': fault, 'found': self.found if is_over else None}
 
     def one(self, index: object) -> dict[str, Any]:
@@ -130,14 +130,14 @@ class Going:
             words += ['--fault', ' '.join(map(str, effect))]
         process = self.started(SHRINK, words)
         self.shrinking = process
-        told = process.communicate()[1].decode('utf-8', 'backslashreplace').strip()
+        errors = process.communicate()[1].decode('utf-8', 'backslashreplace').strip()
         if process.returncode:
-            raise Fault(told.removeprefix('shrink: ') or 'making it small was stopped')
+            raise Fault(errors.removeprefix('shrink: ') or 'the shrinking was stopped')
         return {'text': (self.folder / 'small.toml').read_text('utf-8')}
 
 
 class Searches:
-    """The search that goes on, or the last one."""
+    """The search that runs, or the last one."""
 
     def __init__(self, limits: Limits):
         self.limits = limits
@@ -146,7 +146,7 @@ class Searches:
         self.going: Going | None = None
 
     def begin(self, wanted: Wanted) -> int:
-        """Starts a search; the one before is stopped and forgotten."""
+        """Starts a search. The one before is stopped and forgotten."""
         with self.lock:
             self.forget()
             self.number += 1
@@ -159,7 +159,7 @@ class Searches:
             self.going = None
 
     def stop(self) -> None:
-        """Stops the search that goes on."""
+        """Stops the search."""
         with self.lock:
             self.forget()
 

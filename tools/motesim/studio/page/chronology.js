@@ -48,7 +48,7 @@ export function nextMoment(run, place, by, line) {
   return found < 0 ? -1 : order[Math.ceil(placeOf(run, -1, run.at[found]))];
 }
 
-/** Whether a line begins the call of a process. */
+/** True if a line begins the call of a process. */
 export const isCall = (run, line) => run.kind[line] === START || run.kind[line] === TAKE;
 
 /** The lines that fit one of several searches, as places in chronological order; or null with a word that means

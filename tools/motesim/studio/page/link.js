@@ -25,7 +25,7 @@ export async function ask(what, question) {
     lose();
     throw new Lost();
   }
-  if (!answer.ok) throw new Refused(`The studio answers with status ${answer.status}.`);
+  if (!answer.ok) throw new Refused(`The studio's answer has the status ${answer.status}.`);
   keep();
   if (answer.headers.get('Content-Type') !== 'application/json') return got;
   const value = JSON.parse(new TextDecoder().decode(got));

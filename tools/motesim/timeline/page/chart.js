@@ -24,7 +24,7 @@ function arrowHead(x0, y0, x1, y1) {
   return `<path class="head" d="M${at(5, 0)}L${at(15, 5)}L${at(15, -5)}z"/>`;
 }
 
-/** The chart of a chain, as the text of an SVG. A very long chain is cut at its older end, and says so. */
+/** The chart of a chain, as the text of an SVG. Of a very long chain it has the last part, and says so. */
 export function chartOf(run, hops) {
   const shown = hops.slice(0, CHART.most).reverse(), motes = [...new Set(shown.map(hop => hop.mote))], parts = [];
   const x = mote => CHART.left + motes.indexOf(mote) * CHART.column + 12, y = row => CHART.top + (row + 1) * CHART.row;

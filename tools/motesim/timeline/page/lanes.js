@@ -204,7 +204,7 @@ export function drawPane(pane) {
   c.restore();
   drawColumn(pane, from, to);
   drawHeads(pane);
-  // (over the heads: the name beside a low lane is taller than the lane)
+  // (over the heads: the name of a low lane is taller than the lane)
   drawNames(pane, from, to);
   drawAxis(pane);
   drawCursorHead(pane);

@@ -1,4 +1,4 @@
-// The lanes of a pane: where motes, moments and lines are on it.
+// The layout of a pane: the places of its motes, moments and lines.
 import {DEAF, DROP, FULL, POST, PRINT, RECV, SEND, TAKE, lowerBound} from './data.js';
 import {time} from './time.js';
 

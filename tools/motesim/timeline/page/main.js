@@ -106,7 +106,7 @@ const KEYS = {
   End: 'end', t: 'taller', T: 'taller', l: 'lower', L: 'lower', ' ': 'play', '.': 'step', ',': 'back',
 };
 
-/** Reacts to keys everywhere but in fields and on buttons, where they mean something else. */
+/** Reacts to keys, except in fields and on buttons, which need them. */
 function onKey(event) {
   if (event.ctrlKey || event.metaKey || event.altKey) return;
   const there = event.target.closest &&

@@ -29,7 +29,7 @@ export class MapView extends MapLayout {
     this.still = null;
   }
 
-  /** Makes the picture as large as the page shows it, so that the mouse finds the motes where they are drawn. */
+  /** Makes the picture as large as the page shows it, so that the mouse finds the motes at their places. */
   resize() {
     const dots = window.devicePixelRatio || 1;
     this.fitTo(this.canvas.clientWidth || 120);

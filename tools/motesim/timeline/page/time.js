@@ -8,7 +8,7 @@ export const time = {begin: 0, scale: 1, end: 0, width: 100};
 /** The scale at which the whole run is in view. */
 export const leastScale = () => time.width / (time.end + 1) * 0.98;
 
-/** Whether the whole run is in view. */
+/** True if the whole run is in view. */
 export const isWhole = () => time.scale <= leastScale() * 1.001;
 
 /** Keeps the view within the run. */
