@@ -9,6 +9,7 @@ pub mod Numbered
 pub mod Places
 pub mod Remainders
 pub mod Repeated
+pub mod SameProcess
 pub mod Starts
 pub mod Steps
 pub mod Walks
