@@ -49,21 +49,21 @@ def check_streams() -> None:
 
 
 def status_of(tool: str, work: Callable[[], int]) -> int:
-    """The status that `work` gives, or the one of what went wrong, which is told."""
+    """The status that `work` gives, or that of an error, whose message is printed."""
     try:
         check_streams()
         status = work()
         sys.stdout.flush()
         return status
     except Fault as fault:
-        told = str(fault)
+        message = str(fault)
     except MemoryError:
-        told = 'out of memory'
+        message = 'out of memory'
     except BrokenPipeError:
-        told = 'standard output was closed before all of it was written'
+        message = 'standard output was closed before all of it was written'
         drop_output()
     except OSError as fault:
-        told = in_words(fault)
+        message = in_words(fault)
         if fault.filename is None:
             drop_output()
     except KeyboardInterrupt:
@@ -71,8 +71,8 @@ def status_of(tool: str, work: Callable[[], int]) -> int:
     except Exception as fault:
         if os.environ.get(SHOW):
             raise
-        told = 'an error in the tool itself: %s: %s (%s=1 shows where)' % (type(fault).__name__, fault, SHOW)
-    print('%s: %s' % (tool, told), file=sys.stderr)
+        message = 'an error in the tool itself: %s: %s (%s=1 shows where)' % (type(fault).__name__, fault, SHOW)
+    print('%s: %s' % (tool, message), file=sys.stderr)
     return FAILED
 
 

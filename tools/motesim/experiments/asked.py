@@ -151,7 +151,7 @@ def columns_of(sweep: Sweep, names: Names, sources: Mapping[str, str]) -> list[s
         try:
             measures.append(read_measure(words, names, sources).name)
         except SentenceFault as fault:
-            raise Fault('in the measure %r\n%s' % (words, str(fault).split('\n', 1)[1])) from None
+            raise Fault('in the measure %r\n%s' % (words, fault.explained)) from None
     columns = [*sweep.plan.parameters, *measures, *MADE]
     twice = [it for number, it in enumerate(columns) if it in columns[:number]]
     if twice:

@@ -25,7 +25,7 @@ OF_REPORT = 'This is a report, and no scenario: tools/summary, tools/compare and
 PROGRAM = re.compile(r'program (\S+) fault (\d+) line (\d+)')
 
 
-def told(got: Answer) -> str | None:
+def error_line(got: Answer) -> str | None:
     """The fault line of an answer, or None where it is a report."""
     if got.status == 0:
         return None
@@ -215,7 +215,7 @@ def explain(name: str) -> int:
     """Prints what tools/explain says of a file; returns the status."""
     data = read_file(name)
     got = answer(data)
-    line = told(got)
+    line = error_line(got)
     if line is None:
         print('\n'.join(['%s has a report, and no fault' % name, *all_warnings(name, data, got.report)]))
         return 0

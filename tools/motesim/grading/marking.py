@@ -118,9 +118,10 @@ class Task:
         sentences = read_all(part.sentences, names)
         got = Runner(limits=self.limits).answer(text.encode())
         if got.status:
-            told = refused(part, sentences, got)
-            why = '' if all(it.holds for it in told) and told else next(it.more[0] for it in told) if told else REFUSED
-            held = iter([Mark(it.sentence, it.holds) for it in told])
+            verdicts = refused(part, sentences, got)
+            is_held = verdicts and all(it.holds for it in verdicts)
+            why = '' if is_held else verdicts[0].more[0] if verdicts else REFUSED
+            held = iter([Mark(it.sentence, it.holds) for it in verdicts])
             return InNet(self.spread(held, lacks), lacks, why, None, [None] * len(lacks), True)
         scenario = known or Scenario.parse(text)
         report = Report.parse(got.report)
@@ -131,8 +132,8 @@ class Task:
         places = iter(broken)
         marks = self.spread(held, lacks)
         if self.part.report is not None:
-            told_whole = same_report(judge.rows, self.part.report)
-            marks.append(Mark(told_whole.sentence, told_whole.holds, (), tuple(told_whole.more)))
+            whole = same_report(judge.rows, self.part.report)
+            marks.append(Mark(whole.sentence, whole.holds, (), tuple(whole.more)))
         run = Run('', report, scenario) if len(got.report) <= MOST_SHOWN else None
         return InNet(marks, lacks, '', run, [None if lack else next(places) for lack in lacks])
 

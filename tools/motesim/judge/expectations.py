@@ -1,6 +1,6 @@
-"""Files of expectations: what they say, and which of their sentences hold of a scenario. tools/expect is the command.
+"""Files of expectations: their sentences, and which of them hold for a scenario. tools/expect is the command.
 
-`expect(Path('a.toml'), Path('a.expect.toml'))` runs the program, prints what holds and what doesn't, and counts both.
+`expect(Path('a.toml'), Path('a.expect.toml'))` runs the scenario, prints which sentences hold, and counts them.
 """
 from __future__ import annotations
 
@@ -25,7 +25,7 @@ LONGEST_SHOWN = 150
 REFUSED = 'the scenario is refused'
 WHOLE = 'the report is as it is written down'
 KEYS = {'expect': list, 'report': str, 'change': list, 'about': str, 'replace': dict}
-# What may stand at a key, and how it is written.
+# What each key contains, and how it is written.
 WRITTEN = {
     'expect': 'an array of sentences, as `expect = ["mote 0 sends twice"]`', 'report': 'a text',
     'change': 'an array of tables: each begins with a line `[[change]]`', 'about': 'a text, as `about = "a late end"`',
@@ -34,7 +34,7 @@ WRITTEN = {
 
 
 def beside(scenario: Path) -> Path:
-    """The file of expectations that stands beside a scenario."""
+    """The file of expectations next to a scenario."""
     return scenario.with_suffix('.expect.toml')
 
 
@@ -48,22 +48,23 @@ def text_of(path: Path) -> str:
 
 @dataclass(frozen=True)
 class Part:
-    """What is expected of the scenario, or of it with some text replaced by another."""
+    """The expectations for the scenario, or for it with some text replaced by another."""
     name: str
     sentences: list[str]
     report: str | None
     replace: dict[str, str]
 
 
-class Told(NamedTuple):
-    """A sentence, whether it holds, and more to show where it doesn't."""
+class Verdict(NamedTuple):
+    """A sentence, whether it holds, and what is shown if it doesn't; and whether the scenario has no report."""
     sentence: str
     holds: bool
     more: list[str]
+    is_refused: bool = False
 
 
 def part_of(table: dict[str, Any], name: str, keys: set[str]) -> Part:
-    """What a table of the file expects."""
+    """The expectations of a table of the file."""
     for key, value in table.items():
         if key not in keys:
             like = nearest(key, keys)
@@ -80,7 +81,7 @@ def part_of(table: dict[str, Any], name: str, keys: set[str]) -> Part:
 
 
 def parts_of(text: str, name: str) -> list[Part]:
-    """What a file expects: first of the scenario as it is, then of each change."""
+    """The expectations of a file: first those for the unchanged scenario, then those for each change."""
     try:
         tables = read_toml(text)
     except NoToml as fault:
@@ -102,18 +103,18 @@ def changed(scenario: str, replace: dict[str, str]) -> str:
 
 
 def read_all(sentences: list[str], names: Names) -> list[Sentence]:
-    """The sentences of a part. The first that can't be read is told with its number."""
+    """The sentences of a part. Raises a `Fault` with the number of the first one that can't be read."""
     found = []
     for number, sentence in enumerate(sentences, 1):
         try:
             found.append(read_sentence(sentence, names))
         except SentenceFault as fault:
-            raise Fault('sentence %d is not known\n%s' % (number, str(fault).split('\n', 1)[1])) from None
+            raise Fault('sentence %d is not known\n%s' % (number, fault.explained)) from None
     return found
 
 
 def more_of(broken: Broken, rows: Sequence[str]) -> list[str]:
-    """What is shown of a broken sentence."""
+    """The lines that are shown for a broken sentence."""
     why = broken.why.split('\n')
     if broken.row is None:
         return why
@@ -121,40 +122,40 @@ def more_of(broken: Broken, rows: Sequence[str]) -> list[str]:
     return [*why, 'line %d: %s' % (broken.row, row if len(row) <= LONGEST_SHOWN else row[:LONGEST_SHOWN] + '..')]
 
 
-def same_report(rows: Sequence[str], wanted: str) -> Told:
-    """Whether the report is the one that is written down."""
+def same_report(rows: Sequence[str], wanted: str) -> Verdict:
+    """The verdict on a report that has to be the same as another one."""
     for number, (row, line) in enumerate(itertools.zip_longest(rows, wanted.splitlines(), fillvalue='the end'), 1):
         if row != line:
-            return Told(WHOLE, False, ['line %d: %s' % (number, row), 'expected: %s' % line])
-    return Told(WHOLE, True, [])
+            return Verdict(WHOLE, False, ['line %d: %s' % (number, row), 'expected: %s' % line])
+    return Verdict(WHOLE, True, [])
 
 
-def refused(part: Part, sentences: list[Sentence], got: Answer) -> list[Told]:
-    """What is told of a scenario that has no report."""
+def refused(part: Part, sentences: list[Sentence], got: Answer) -> list[Verdict]:
+    """The verdicts on a scenario that has no report."""
     line = got.fault.decode('utf-8', 'backslashreplace').strip() or 'status %d' % got.status
     more, found = ['%s: %s' % (REFUSED, line)], []
     for text, sentence in zip(part.sentences, sentences):
         holds = isinstance(sentence, Refused) and got == Answer(1, b'', ('motesim: %s\n' % sentence.fault).encode())
-        found.append(Told(text, holds, more))
-    return found if part.report is None else found + [Told(WHOLE, False, more)]
+        found.append(Verdict(text, holds, more, True))
+    return found if part.report is None else found + [Verdict(WHOLE, False, more, True)]
 
 
-def of_report(part: Part, sentences: list[Sentence], judge: Judge) -> list[Told]:
-    """Which sentences of a part hold of a report."""
+def of_report(part: Part, sentences: list[Sentence], judge: Judge) -> list[Verdict]:
+    """The verdicts on a report."""
     found = []
     for text, sentence in zip(part.sentences, sentences):
         broken = judge.broken(sentence)
-        found.append(Told(text, broken is None, more_of(broken, judge.rows) if broken else []))
+        found.append(Verdict(text, broken is None, more_of(broken, judge.rows) if broken else []))
     return found + ([same_report(judge.rows, part.report)] if part.report is not None else [])
 
 
-def judged_by(part: Part, report: Report, scenario: Scenario) -> list[Told]:
-    """Which sentences of a part hold of a report that is there already, of the scenario as the part has changed it."""
+def judged_by(part: Part, report: Report, scenario: Scenario) -> list[Verdict]:
+    """The verdicts on a report that is there already, of the scenario with the changes of the part."""
     return of_report(part, read_all(part.sentences, names_of(scenario)), Judge(report, scenario))
 
 
 def known_of(text: str) -> tuple[Scenario | None, Names]:
-    """A scenario, if the text is one, and what sentences may name of it."""
+    """A scenario, if the text is one, and the names that sentences may use."""
     try:
         known = Scenario.parse(text)
         return known, names_of(known)
@@ -162,19 +163,19 @@ def known_of(text: str) -> tuple[Scenario | None, Names]:
         return None, Names()
 
 
-def judged_each(scenario: str, part: Part) -> tuple[list[Told], list[str]]:
-    """Which sentences of a part hold, and what each of them names that the scenario hasn't; such a one doesn't hold."""
+def judged_each(scenario: str, part: Part) -> tuple[list[Verdict], list[str]]:
+    """The verdicts of a part, and what each sentence names that the scenario lacks; such a sentence doesn't hold."""
     names = known_of(scenario)[1]
     lacks = [lacking(it, names) for it in part.sentences]
     readable = [it for it, lack in zip(part.sentences, lacks) if not lack]
-    told = iter(judged(scenario, replace(part, sentences=readable)))
-    found = [Told(it, False, ['the scenario has %s' % lack]) if lack else next(told)
+    verdicts = iter(judged(scenario, replace(part, sentences=readable)))
+    found = [Verdict(it, False, ['the scenario has %s' % lack]) if lack else next(verdicts)
              for it, lack in zip(part.sentences, lacks)]
-    return found + list(told), lacks
+    return found + list(verdicts), lacks
 
 
-def judged(scenario: str, part: Part) -> list[Told]:
-    """Which sentences of a part hold."""
+def judged(scenario: str, part: Part) -> list[Verdict]:
+    """The verdicts of a part."""
     text = changed(scenario, part.replace)
     known, names = known_of(text)
     sentences = read_all(part.sentences, names)
@@ -184,33 +185,28 @@ def judged(scenario: str, part: Part) -> list[Told]:
     return of_report(part, sentences, Judge(Report.parse(got.report), known or Scenario.parse(text)))
 
 
-def is_refused(told: list[Told]) -> bool:
-    """Whether sentences are broken because the scenario has no report."""
-    return any(not it.holds and it.more and it.more[0].startswith(REFUSED) for it in told)
-
-
 def expect(scenario: Path, expectations: Path, is_quiet: bool = False) -> tuple[int, int]:
-    """Tells which sentences hold, or, quietly, which don't; and counts those that do and those that don't."""
+    """Prints which sentences hold, or, quietly, which don't; returns how many hold and how many don't."""
     text = text_of(scenario)
     passed = failed = 0
     has_fault = False
     name = str(expectations)
     for part in parts_of(text_of(expectations), name):
         try:
-            told = judged(text, part)
+            verdicts = judged(text, part)
         except LimitMet as fault:
             raise Fault('%s: the run was ended: %s' % (scenario, fault)) from None
         except Fault as fault:
             raise Fault('%s: %s' % (part.name, fault)) from None
-        if part.replace and not (is_quiet and all(it.holds for it in told)):
+        if part.replace and not (is_quiet and all(it.holds for it in verdicts)):
             print('with %s:' % (part.name if part.name != name else 'a change'))
-        for it in told:
+        for it in verdicts:
             passed, failed = passed + it.holds, failed + (not it.holds)
             if it.holds and not is_quiet:
                 print('holds   %s' % it.sentence)
             elif not it.holds:
                 print('\n          '.join(['broken  %s' % it.sentence, *it.more]))
-        has_fault |= is_refused(told) and not part.replace
+        has_fault |= not part.replace and any(it.is_refused and not it.holds for it in verdicts)
     if has_fault:
         print('tools/explain %s shows where the error is, and what is allowed there' % scenario)
     return passed, failed

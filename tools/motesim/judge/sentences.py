@@ -72,10 +72,12 @@ class SentenceFault(Fault):
         self.sentence, self.place, self.wanted = sentence, place, wanted
         may = textwrap.wrap('Allowed here: ' + ', '.join(wanted), WIDTH, break_on_hyphens=False)
         like = meant(sentence[place:], wanted)
-        lines = ['a sentence that is not known', sentence, ' ' * place + '^', *may]
+        lines = [sentence, ' ' * place + '^', *may]
         lines += ['Did you mean: %s' % like] if like else []
         lines += ['Hint: %s' % hint for hint in [redirected(sentence[place:])] if hint]
-        super().__init__('\n  '.join(lines))
+        # (the sentence with a mark under the word, and what is allowed there)
+        self.explained = '  ' + '\n  '.join(lines)
+        super().__init__('a sentence that is not known\n' + self.explained)
 
 
 @dataclass(frozen=True)

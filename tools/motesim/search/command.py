@@ -110,7 +110,7 @@ def asking_of(words: argparse.Namespace) -> Asking:
     return Asking(base, texts, sentences, asked_of(words), bounds, Limits(words.seconds, words.bytes))
 
 
-def told(words: argparse.Namespace, asking: Asking, search: Search, folder: Path) -> int:
+def show(words: argparse.Namespace, asking: Asking, search: Search, folder: Path) -> int:
     """Writes and shows what was found; gives the status."""
     found = found_by(search, asking.texts)
     write_files(found, asking.base, asking.texts, folder)
@@ -206,4 +206,4 @@ def status_of(words: argparse.Namespace) -> int:
     with Break() as stop:
         search = asking.search(words.jobs, kept, progress.show, lambda: stop.is_asked, words.dask)
     progress.end(search)
-    return told(words, asking, search, folder)
+    return show(words, asking, search, folder)
