@@ -97,6 +97,16 @@ class Runs(unittest.TestCase):
         log = of_sentence(source, 'exactly 1 copy is lost at mote 1', ALL)
         self.assertEqual([it[:2] for it in lines(log)], [(80, 0)])
 
+    def test_a_time_that_depends_on_hops_is_that_of_each_mote(self) -> None:
+        """Each of the 25 motes sends message 1 at 40 plus 3 for each hop from mote 0."""
+        data = (TOP / 'examples/flooding.toml').read_bytes()
+        source = Source('flooding', answer(data).report, Scenario.parse(data))
+        log = of_sentence(source, 'exactly 25 packets are sent at 40 plus 3 for each hop from mote 0', ALL)
+        self.assertEqual(sorted({it[1] for it in lines(log)}), list(range(25)))
+        self.assertEqual(lines(log)[0][:2], (40, 0))
+        copies = of_sentence(source, 'at least 1 copy arrives at 40 plus 3 for each hop from mote 0', ALL)
+        self.assertEqual(lines(copies)[0][:2], (43, 1))
+
     def log(self, *arguments: str) -> str:
         return subprocess.run([sys.executable, str(TOOLS / 'log'), 'examples/flooding.toml', *arguments],
                               capture_output=True, text=True, cwd=TOP, check=True).stdout

@@ -545,13 +545,19 @@ code flood {
             self.assertEqual(status, 2)
             self.assertIn('is of another search', told)
 
+    def test_values_that_are_set_need_no_kind(self):
+        with folder_with() as folder:
+            alone = search(folder, '--set', 'range=5,10')
+            self.assertEqual(alone, search(folder, '--faults', 'values', '--set', 'range=5,10'))
+
     def test_what_is_told_of_wrong_words(self):
         with folder_with() as folder:
             for words, wanted in ((('--faults', 'lynx'), 'there is no kind of fault lynx'),
                                   (('--faults', 'values'), 'takes --set'),
                                   (('--faults', 'values', '--set', 'end=5'), 'the kind `values` takes --set'),
                                   (('--faults', 'parameters', '--set', 'a=5'), 'is for plans'),
-                                  (('--set', 'range=5'), '--set range is for the kind `values`'),
+                                  (('--faults', 'links', '--set', 'range=5'),
+                                   '--set range is for the kind `values`: --faults links,values'),
                                   (('--every', '1', '--faults', 'every'), 'whole numbers from 2 on'),
                                   (('--expect', 'mote 9 sends'), 'sentence 1 is not known')):
                 status, said, told = search(folder, *words)

@@ -413,6 +413,34 @@ class Runs(unittest.TestCase):
             (1, 89, 3, 'medium'), (6, 86, 3, 'medium'), (5, 83, 3, 'medium'), (0, 80, 40, 'timer'),
             (0, 40, 40, 'timer')])
 
+    def test_sentences_on_two_events(self) -> None:
+        found = self.run_of('flooding.toml')
+        asker = Asker(found)
+        for question, line, holds, remark in (
+                ('mote 3 sends after mote 0 sends', '3: 49 send 0 1', True, ''),
+                ('every mote but 0 prints flood within 0 of receiving', '24: 64 print flood 1', True, 'mote 24 is the last'),
+                ('mote 0 sends after mote 3 sends', '0: 40 send 0 1', False, 'is not after the first `mote 3 sends`'),
+                ('mote 3 sends at least 80 % as often as mote 2', '3: 49 send 0 1', True, ''),
+                ('mote 3 sends more than 2 times as often as mote 2', '3: 129 send 2 3', False, '3 lines beside 3')):
+            with self.subTest(question):
+                asked = asker.about(question)
+                assert isinstance(asked, Asked)
+                self.assertEqual(lines_of(found, asked.where)[0], line)
+                self.assertEqual(asked.holds, holds)
+                self.assertIn(remark, asked.remark)
+        missing = asker.about('mote 3 prints flood 9 after mote 0 sends')
+        assert isinstance(missing, Missing)
+        self.assertTrue(misses(asker, missing))
+        with self.assertRaisesRegex(Unasked, 'no mote does'):
+            asker.about('some mote prints flood 9 after mote 0 sends')
+
+    def test_the_if_that_led_to_a_statement(self) -> None:
+        found = self.run_of('flooding.toml')
+        for question, led in (('mote 6 prints flood 1', ', in line 20: `if (is(packet) && (data > newest))`'),
+                              ('mote 0 sends 1', ', in line 13: `if fired(next)`')):
+            asked = Asker(found).about(question)
+            self.assertTrue(chain(found, asked.where)[0].because.endswith(led), question)
+
     def near(self, name: str, question: str) -> list[str]:
         asker = Asker(self.run_of(name))
         missing = asker.about(question)

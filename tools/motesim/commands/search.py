@@ -41,7 +41,8 @@ def arguments() -> argparse.ArgumentParser:
     words.add_argument('expectations', nargs='?', metavar='EXPECTATIONS', help='else NAME.expect.toml beside it')
     words.add_argument('--expect', action='append', default=[], metavar='SENTENCE',
                        help='an expectation, instead of those of a file')
-    words.add_argument('--faults', default='links,motes', metavar='KINDS', help='which faults (links,motes)')
+    words.add_argument('--faults', default='', metavar='KINDS',
+                       help='which faults (links,motes; with --set, only those values)')
     words.add_argument('--at-most', type=int, default=1, metavar='K', help='how many faults at once (1)')
     words.add_argument('--every', default='2', metavar='NUMBERS', help='for `every`: which packets are lost')
     words.add_argument('--moments', metavar='NUMBERS', help='for `deaths` and `late`: when')

@@ -31,6 +31,7 @@ from motesim.search.study import check_studies
 from motesim.toml import NoToml, read_toml
 
 STATE = 'tried.txt'
+USUAL = 'links,motes'
 
 
 def numbers_of_words(words: str, name: str, least: int) -> tuple[int, ...]:
@@ -55,18 +56,20 @@ def values_asked(words: list[str]) -> tuple[dict[str, tuple[int, ...]], dict[str
 
 
 def asked_of(words: argparse.Namespace) -> Asked:
-    """Which faults the command line asks for."""
-    kinds = tuple(it.strip() for it in words.faults.split(','))
+    """Which faults the command line asks for: those of --set if it names no others."""
+    numbers, given = values_asked(words.set)
+    implied = ','.join(kind for kind, names in (('values', numbers), ('parameters', given)) if names)
+    faults = words.faults or implied or USUAL
+    kinds = tuple(it.strip() for it in faults.split(','))
     unknown = next((it for it in kinds if it not in KINDS), None)
     if unknown is not None:
         raise Fault('there is no kind of fault %s; allowed are: %s' % (unknown, ', '.join(KINDS)))
-    numbers, given = values_asked(words.set)
     for kind, names, what in (('values', list(numbers), 'range=8..12'),
                               ('parameters', list(given), 'period=10,20, of a plan')):
         if kind in kinds and not names:
             raise Fault('the kind `%s` takes --set, as --set %s' % (kind, what))
         if names and kind not in kinds:
-            raise Fault('--set %s is for the kind `%s`: --faults %s,%s' % (names[0], kind, words.faults, kind))
+            raise Fault('--set %s is for the kind `%s`: --faults %s,%s' % (names[0], kind, faults, kind))
     moments = numbers_of_words(words.moments, '--moments', 1) if words.moments else ()
     return Asked(kinds, numbers_of_words(words.every, '--every', 2), (), moments,
                  numbers_of_words(words.queues, '--queues', 1), numbers, words.step, given)

@@ -72,6 +72,16 @@ def in_words(program: Program, number: int) -> str:
     return '%s: `%s`' % (program.line(it.line), text)
 
 
+def led_by(program: Program, number: int) -> str:
+    """The `if` that led to a statement: the innermost one around it, with its line."""
+    for around in reversed(program.statement(number).around):
+        it = program.statement(around.number)
+        if it.kind == 'if':
+            text = it.text if len(it.text) <= WIDEST else it.text[:WIDEST - 3] + '...'
+            return ', in %sline %d: `%s`' % ('the `else` of ' if around.is_else else '', it.line, text)
+    return ''
+
+
 class Explainer:
     """Says why the lines of one mote are there."""
 
@@ -125,7 +135,7 @@ class Explainer:
         elif kind == 'halt':
             own = 'the work of this run of the kernel was used up'
         elif link.row and frame:
-            own = '%s, %s' % (self.name(frame.process), self.statement(link.row))
+            own = '%s, %s%s' % (self.name(frame.process), self.statement(link.row), led_by(self.program, link.row))
         else:
             own = 'the mote boots'
         return '; '.join([own, *self.calls(frame)])

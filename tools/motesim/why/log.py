@@ -15,7 +15,7 @@ from motesim.judge.judge import Span
 from motesim.judge.sentences import Copies, Does, Packets
 from motesim.report import FIELDS, MOST_MOMENT
 from motesim.why.question import Asker, within
-from motesim.why.source import At, Source, Traces, read_traces, traces_of
+from motesim.why.source import At, Found, Source, Traces, read_traces, traces_of
 
 # How many bytes are written at a time.
 PIECE = 1 << 20
@@ -143,6 +143,11 @@ def add_all(log: Log, mote: int, _: re.Pattern[str], span: tuple[int, int]) -> I
         begin = end + 1
 
 
+def is_inside(line: Found, asker: Asker, it: Copies | Packets) -> bool:
+    """Whether a line is in the time of a sentence, which may depend on the hops of its mote."""
+    return any(within([line], span) for span in asker.judge.spans(it.window, (line.where.mote,)))
+
+
 def of_sentence(source: Source, sentence: str, it: Filter) -> Log:
     """The lines that a sentence is about, of those that a filter leaves."""
     asker, asked = Asker(source), None
@@ -155,9 +160,9 @@ def of_sentence(source: Source, sentence: str, it: Filter) -> Log:
             lines += [line for line in own if any(within([line], span) for span in spans)]
     elif isinstance(asked, Copies) and asked.outcome != 'left':
         lines = asker.of_losses(asked) if asked.outcome == 'lost' else asker.of_copies(asked)
-        lines = within(lines, asker.judge.spans(asked.window, (0,))[0])
+        lines = [line for line in lines if is_inside(line, asker, asked)]
     elif isinstance(asked, Packets):
-        lines = within(asker.packets(), asker.judge.spans(asked.window, (0,))[0])
+        lines = [line for line in asker.packets() if is_inside(line, asker, asked)]
     else:
         raise Fault('this sentence is about no lines of a trace: %s' % sentence)
     kept = filtered(source.traces, it)

@@ -7,11 +7,11 @@ from __future__ import annotations
 
 import re
 from collections.abc import Sequence
-from dataclasses import dataclass
+from dataclasses import dataclass, replace
 
 from motesim.faults import Fault
 from motesim.judge.judge import Judge, Span, _Apart
-from motesim.report import FIELDS
+from motesim.report import FIELDS, Report
 from motesim.judge.sentences import (
     Copies, Count, Does, Hears, Packets, Pattern, Sentence, Value, names_of, read_sentence,
 )
@@ -239,10 +239,8 @@ class Asker:
 
     def of_motes(self, it: Does) -> Answer:
         """The line of a sentence on motes."""
-        if it.than:
-            raise Unasked('a comparison of two counts is about no single line; ask about one of the lines')
-        if it.relation:
-            raise Unasked('tools/expect says which line breaks a sentence about two events; ask about that line')
+        if it.than or it.relation:
+            return self.of_two(it)
         chosen = self.judge.chosen(it.motes)
         if it.motes.kind == 'together':
             return self.of_unit(it, chosen)
@@ -255,6 +253,41 @@ class Asker:
             return self.of_many(asked, Count('at least', 1))
         assert it.motes.count
         return self.of_many(asked, it.motes.count)
+
+    def of_two(self, it: Does) -> Answer:
+        """The line of a sentence that compares two counts, or puts two events in order."""
+        chosen = self.judge.chosen(it.motes)
+        broken = Judge(Report.parse(self.traces.data), self.source.scenario).broken(it)
+        try:
+            inside = {mote: self.inside(it, mote) for mote in chosen}
+        except _Apart as apart:
+            return Lineless(False, str(apart))
+        lines = sorted(line for its in inside.values() for line in its)
+        if broken is None:
+            return self.of_kept(it, inside)
+        where = self.traces.at_row(broken.row) if broken.row is not None else None
+        why = broken.why.split('\n', 1)[0]
+        if where:
+            return Asked(where, False, why)
+        if lines or it.motes.kind not in ('each', 'together'):
+            return Lineless(False, why)
+        span = self.judge.spans(it.window, chosen)[0]
+        return Missing(replace(it, than=None, relation=None), chosen, span, (), why)
+
+    def inside(self, it: Does, mote: int) -> list[Found]:
+        """The lines of a mote in the time of a sentence."""
+        spans = self.judge.spans(it.window, (mote,))
+        return [line for line in self.lines(it, (mote,)) if any(within([line], span) for span in spans)]
+
+    def of_kept(self, it: Does, inside: dict[int, list[Found]]) -> Answer:
+        """The line by which a sentence on two events holds: of each mote the one with which it is fulfilled."""
+        wanted = 1 if it.than else max(it.count.least, 1)
+        shown = sorted(its[min(wanted, len(its)) - 1] for its in inside.values() if its)
+        if not shown:
+            return Lineless(True, 'there is no such line')
+        last = shown[-1] if it.motes.kind in ('each', 'together') else shown[0]
+        return Asked(last.where, True, 'mote %d is the last of them' % last.where.mote if len(shown) > 1
+                     and it.motes.kind == 'each' else '')
 
     def by_time(self, answers: list[Answer]) -> list[Asked]:
         """Those that a line shows, in the order of the lines' moments."""
