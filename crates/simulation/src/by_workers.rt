@@ -27,7 +27,7 @@ fn cut_of(alloc: Global, kind: CutKind, motes: u16, workers: u16) -> Result<Cut,
     }
 }
 
-/// How many workers there are, how the motes are cut among them, and how they are synchronized.
+/// The number of workers, the cut of the motes among them, and their kind of synchronization.
 #[derive(Clone, Copy)]
 pub struct Team {
     pub workers: u16,
@@ -38,7 +38,7 @@ pub struct Team {
 /// The report of a net, by these workers. Their number is checked before the cut is made.
 ///
 /// # Errors
-/// `Workers` where they aren't 1 to 16, else `Memory` or `Thread`.
+/// `Workers` if there aren't 1 to 16 of them, else `Memory` or `Thread`.
 pub fn run_by<T, G>(
     rt: &T,
     alloc: Global,

@@ -30,8 +30,8 @@ fn report_fault<E: Write>(fault: &SimError, errors: &mut E) -> io::Result<()>
     writeln!(errors, "motesim: {fault}")
 }
 
-/// The exit status of a simulation: 0, or 1 where it has a fault, whose line then goes to `errors`. A line that can't
-/// be written doesn't change the status.
+/// Returns the exit status of a simulation: 0, or 1 if it has a fault, whose line then goes to `errors`. A line that
+/// can't be written doesn't change the status.
 pub fn status_of<E: Write>(answer: Result<(), SimError>, errors: &mut E) -> u8
     ensures status { result ≡ status_of answer }
     ensures quiet { answer ≡ Ok tt → Keeps (E.contents errors.old) (E.contents errors.new) }
@@ -45,8 +45,8 @@ pub fn status_of<E: Write>(answer: Result<(), SimError>, errors: &mut E) -> u8
     }
 }
 
-/// The exit status where the words of the command line ask for help, which is written to `output`, or have a fault,
-/// which is written to `errors`. Where an allocation failed it is that of a simulation that ran out of memory.
+/// The exit status if the arguments of the command line ask for help, which is written to `output`, or have a fault,
+/// which is written to `errors`. If an allocation failed it is that of a simulation that ran out of memory.
 fn status_of_words<W: Write, E: Write>(error: &clap::Error, output: &mut W, errors: &mut E) -> u8
     ensures status { result ≡ status_of_words (kind_of error.now) }
     ensures fault { result ≢ 0 → Keeps (W.contents output.old) (W.contents output.new) }
@@ -68,7 +68,7 @@ fn status_of_words<W: Write, E: Write>(error: &clap::Error, output: &mut W, erro
 /// A file that can be read.
 ///
 /// # Errors
-/// `Read` where it can't be opened.
+/// `Read` if it can't be opened.
 fn open_file<T: Files>(rt: &T, file: &str) -> Result<T::File, SimError>
     ensures { IfErr result (λ e. e ≡ fault.Read) }
 {
@@ -81,7 +81,7 @@ fn open_file<T: Files>(rt: &T, file: &str) -> Result<T::File, SimError>
 /// Simulates the scenario in a file.
 ///
 /// # Errors
-/// `Read` also where the file can't be opened.
+/// As `simulate`; `Read` also if the file can't be opened.
 fn simulate_file<T, W, G>(
     rt: &T,
     file: &str,
@@ -100,7 +100,7 @@ where
     simulate(rt, rt.alloc(), &mut input, output, options, gate)
 }
 
-/// Simulates, on one thread, the scenario in the file, or else the one that `input` gives. It never waits for another
+/// Simulates, on one thread, the scenario in the file, or else the one that `input` holds. It never waits for another
 /// thread, so it is proved to return.
 ///
 /// # Errors
@@ -133,11 +133,11 @@ where
     }
 }
 
-/// Simulates what is asked for: the scenario in the file, or else the one that `input` gives, by the options. Without
+/// Simulates what is asked for: the scenario in the file, or else the one that `input` holds, by the options. Without
 /// workers it is `simulate_alone`.
 ///
 /// # Errors
-/// As `simulate`; `Read` also where the file can't be opened.
+/// As `simulate`; `Read` also if the file can't be opened.
 pub fn simulate_asked<T, R, W, G>(
     rt: &T,
     asked: &Asked<'_>,
@@ -166,7 +166,7 @@ where
     }
 }
 
-/// Does what the words ask for, and returns the exit status.
+/// Does what the arguments ask for, and returns the exit status.
 fn run_asked<T, R, W, E>(
     rt: &T,
     asked: &Asked<'_>,
@@ -187,13 +187,12 @@ where
     status_of(answer, errors)
 }
 
-/// Does what the program does with these words of the command line, the program's name first: simulates the scenario
-/// in the file that they name, or else the one that `input` gives, on one thread or by workers, and writes its report
-/// to `output`, or the line of its fault to `errors`. Help that is asked for goes to `output`, and what is wrong with
-/// the words to `errors`.
+/// Runs the program with these arguments, the program's name first: simulates the scenario in the file that they name,
+/// or else the one that `input` holds, on one thread or by workers, and writes its report to `output`, or the line of
+/// its fault to `errors`. Help that is asked for goes to `output`, and an error of the arguments to `errors`.
 ///
-/// It returns the exit status: 0 for a report or help, 1 for a fault, and 2 for a fault of the words. A help text or a
-/// fault's line that can't be written doesn't change it.
+/// It returns the exit status: 0 for a report or help, 1 for a fault, and 2 for a fault of the arguments. A help text
+/// or a fault's line that can't be written doesn't change it.
 pub fn run_command<T, R, W, E>(
     rt: &T,
     words: &[&str],

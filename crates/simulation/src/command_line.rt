@@ -1,4 +1,4 @@
-//! The words of the command line, as `clap` reads them.
+//! The arguments of the command line, as `clap` reads them.
 ghost use Rattle.std.specs.Prelude.{◌≡◌, codes, Some, None, option_map, false, map, ◌∷◌, [], IfOk, IfErr};
 ghost use Rattle.clap.specs.Words.{app_of, found_of, kind_of, new_rule, rows_of, rule_of};
 ghost use Rattle.simulation.specs.Words.{AskedIn, AsksFor, Choices, FaultOf, IsMotesim, choice_rule, cut_of, sync_of};
@@ -11,7 +11,7 @@ use clap::{Arg, ArgMatches, Command, Error};
 use std::alloc::{AllocError, Global};
 use window_workers::{MOST_WORKERS, SyncKind};
 
-/// What the words ask for.
+/// The file and the options that a command line asks for.
 #[derive(Clone, Copy, Debug, PartialEq, Eq)]
 pub struct Asked<'a> {
     /// The scenario's file; without one, standard input is read.
@@ -86,7 +86,7 @@ fn options_for(workers: Option<u16>, cut: Option<&str>, sync: Option<&str>) -> O
     Options { workers, cut, sync }
 }
 
-/// What the values of the arguments ask for.
+/// Reads the file and the options from the values of the arguments.
 fn asked_of<'a>(matches: &ArgMatches<'a>) -> Asked<'a>
     ensures { AskedIn (rows_of (found_of matches.now)) result }
 {
@@ -147,7 +147,7 @@ fn file_arg<'a>(alloc: Global) -> Arg<'a>
     Arg::new(alloc, "FILE").help("The scenario; without it, standard input is read")
 }
 
-/// The program's one command. Each argument is made once those before it have been added, so none is owned where
+/// The program's one command. Each argument is made once those before it have been added, so none is owned when
 /// adding one can fail.
 fn command<'a>(alloc: Global) -> Result<Command<'a>, AllocError>
     ensures { IfOk result (λ c. IsMotesim (app_of c)) }
@@ -162,12 +162,12 @@ fn command<'a>(alloc: Global) -> Result<Command<'a>, AllocError>
         .arg(file_arg(alloc))
 }
 
-/// What the words of the command line ask for, of which the first is the program's name. Without workers, neither
-/// the cut nor the kind of synchronization has an effect.
+/// Reads the arguments of a command line, of which the first is the program's name. Without workers, neither the cut
+/// nor the kind of synchronization has an effect.
 ///
 /// # Errors
-/// Of the kind `DisplayHelp` where help is asked for, `OutOfMemory` where an allocation failed, and else of the fault
-/// of the words.
+/// Of the kind `DisplayHelp` if help is asked for, `OutOfMemory` if an allocation failed, and else of the fault of the
+/// arguments.
 pub fn asked_by<'a>(alloc: Global, words: &'a [&'a str]) -> Result<Asked<'a>, Error>
     ensures asks { IfOk result (AsksFor (texts_of words.entry.now)) }
     ensures refuses { IfErr result (λ e. FaultOf (texts_of words.entry.now) (kind_of e)) }

@@ -55,19 +55,19 @@ where
 /// Reads a scenario to its end, simulates it on one thread, and writes its report.
 ///
 /// # Errors
-/// In this order: `Read` where a call of the reader failed before the limit was passed, an interrupted one included;
-/// `TooLong` where more than 1,048,576 bytes came, also from a reader that never ends; `NotText` where they aren't
-/// UTF-8; `Scenario` with the scenario's first fault; `Run` where an allocation of the run failed; `Print` where the
+/// In this order: `Read` if a call of the reader failed before the limit was passed, an interrupted one included;
+/// `TooLong` if more than 1,048,576 bytes came, also from a reader that never ends; `NotText` if they aren't
+/// UTF-8; `Scenario` with the scenario's first fault; `Run` if an allocation of the run failed; `Print` if the
 /// writer failed or took no byte, and then a proper prefix of the report has been written. `Memory`, and `Memory` of a
-/// part, only where an allocation failed. An error other than `Print` has written nothing.
+/// part, only if an allocation failed. An error other than `Print` has written nothing.
 #[tactic(auto, using(crate::proofs::Printed::some_bytes))]
 pub fn simulate_serial<R: Read, W: Write>(
     alloc: Global,
     reader: &mut R,
     writer: &mut W,
 ) -> Result<(), SimError>
-    // Where the reader's contents are known, the answer is that of these bytes; where the writer's contents are known,
-    // what is written is the report's text.
+    // If the reader's contents are known, the result is that of these bytes; if the writer's contents are known, the
+    // report's text is written.
     ensures answer { IfSome (R.remaining reader.old)
         (λ input. SimulatedWith None input (W.contents writer.old) (W.contents writer.new) result) }
     // Whatever the reader, a report is that of some bytes, and a scenario's fault is that of some bytes.
@@ -79,14 +79,14 @@ pub fn simulate_serial<R: Read, W: Write>(
     simulate_text(alloc, text.as_str(), writer)
 }
 
-/// Reads a scenario to its end, simulates it as the options say, and writes its report: on one thread where they name
+/// Reads a scenario to its end, simulates it as the options say, and writes its report: on one thread if they name
 /// no workers, else by that many workers, window by window. By joins each worker has a thread for each window, with
 /// marks one for the whole run; a long report is formatted by as many threads. The bytes of the report are the same.
 /// Workers wait for one another, so the promise holds if the run returns.
 ///
 /// # Errors
-/// As `simulate_serial`; `Run` with `Workers` where there aren't 1 to 16 of them, which is checked once the scenario
-/// has been read, and with `Memory` or `Thread` where an allocation of a worker failed, or its thread couldn't be
+/// As `simulate_serial`; `Run` with `Workers` if there aren't 1 to 16 of them, which is checked once the scenario
+/// has been read, and with `Memory` or `Thread` if an allocation of a worker failed, or its thread couldn't be
 /// started or run. With marks the contract also allows `Stopped`: a worker that waits for marks gives up if another
 /// failed. No run returns it, since that other worker's error is reported.
 #[tactic(auto, using(crate::proofs::Printed::some_bytes))]

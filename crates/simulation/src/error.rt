@@ -1,4 +1,4 @@
-//! Why a simulation wrote no whole report, and the line that says so.
+//! The errors of a simulation, and the line that reports each.
 ghost use Rattle.std.specs.Prelude.{◌≡◌, Some};
 ghost use Rattle.simulation.specs.FaultLines.{fault_line};
 ghost use Rattle.simulation.specs.Simulation.{sim_fault};
@@ -11,7 +11,7 @@ use std::fmt;
 use trace_printer::PrintError;
 use window_workers::RunError;
 
-/// Why a simulation wrote no whole report.
+/// The reason why a simulation wrote no whole report.
 #[derive(Debug, PartialEq, Eq, Drop)]
 pub enum SimError {
     /// A call of the reader failed.

@@ -8,10 +8,10 @@ use net_scenario::LONGEST_TEXT;
 use std::alloc::{AllocError, Global};
 use std::io::Read;
 
-/// How many bytes are asked for at a time.
+/// The number of bytes that are asked for at a time.
 const CHUNK: usize = 4096;
 
-/// Why an input was refused.
+/// The reason why an input was refused.
 #[derive(Clone, Copy, Debug, PartialEq, Eq)]
 pub enum InputError {
     /// The reader failed. An interrupted call counts as a failure.
@@ -53,10 +53,10 @@ fn read_all<R: Read>(alloc: Global, reader: &mut R) -> Result<Vec<u8>, InputErro
 /// The text that a reader holds, of at most `LONGEST_TEXT` bytes of UTF-8.
 ///
 /// # Errors
-/// In this order: `Read` where a call of the reader failed before the limit was passed, `TooLong` where more than
-/// `LONGEST_TEXT` bytes came, `NotText` where they aren't UTF-8. `Memory` only where an allocation failed.
+/// In this order: `Read` if a call of the reader failed before the limit was passed, `TooLong` if more than
+/// `LONGEST_TEXT` bytes came, `NotText` if they aren't UTF-8. `Memory` only if an allocation failed.
 pub fn read_text<R: Read>(alloc: Global, reader: &mut R) -> Result<String, InputError>
-    // Where the reader's contents are known, the answer is that of these bytes.
+    // If the reader's contents are known, the result is that of these bytes.
     ensures told { IfSome (R.remaining reader.old) (λ input. ReadsText input result) }
     ensures bounded { IfOk result (λ text. string_len text ≤ longest_text) }
 {

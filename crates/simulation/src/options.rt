@@ -1,4 +1,4 @@
-//! How a scenario is simulated.
+//! The options of a simulation.
 
 ghost use Rattle.std.specs.Prelude.{◌≡◌, None};
 ghost use Rattle.simulation.specs.declared.options.CutKind.TheVariants as kind;
@@ -6,7 +6,7 @@ ghost use Rattle.window_workers.specs.declared.sync.SyncKind.TheVariants as wait
 
 use window_workers::SyncKind;
 
-/// How the motes are cut among the workers.
+/// The kinds of cuts of the motes among the workers.
 #[derive(Clone, Copy, Debug, PartialEq, Eq)]
 pub enum CutKind {
     /// Each worker has motes that follow one another.
@@ -15,14 +15,14 @@ pub enum CutKind {
     Stripe,
 }
 
-/// Whether workers simulate a scenario, how the motes are cut among them, and how they are synchronized.
+/// The workers that simulate a scenario, the cut of the motes among them, and their kind of synchronization.
 #[derive(Clone, Copy, Debug, PartialEq, Eq)]
 pub struct Options {
-    /// How many workers there are, each in threads of its own; without a number, one thread takes all turns.
+    /// The number of workers, each in threads of its own; without a number, one thread takes all turns.
     pub workers: Option<u16>,
     pub cut: CutKind,
-    /// Whether each worker has a thread for each window, joined at its end, or one for the whole run, in which it
-    /// waits for the marks of the others.
+    /// With joins each worker has a thread for each window, joined at its end; with marks it has one for the whole run,
+    /// in which it waits for the marks of the others.
     pub sync: SyncKind,
 }
 

@@ -1,4 +1,4 @@
-//! The command as a process runs it: with the words that the process was given.
+//! The command as a process runs it: with the arguments that the process was given.
 ghost use Rattle.std.specs.Prelude.{◌≡◌, MatchResult};
 ghost use Rattle.simulation.specs.Command.{ReturnsSome, RunsSome, streams};
 
@@ -16,13 +16,13 @@ fn borrow_words(alloc: Global, words: &[String]) -> Result<Vec<&str>, AllocError
     words.iter().map(|word| word.as_str()).collect(alloc)
 }
 
-/// The words that the process was given.
+/// The arguments that the process was given.
 fn words_of<T: AllocGlobal + Env>(rt: &T) -> io::Result<Vec<String>> {
     let words = env::args(rt)?.collect(rt.alloc())?;
     Ok(words)
 }
 
-/// Runs the command with these words.
+/// Runs the command with these arguments.
 fn run_words<T, R, W, E>(
     rt: &T,
     words: &[String],
@@ -43,7 +43,7 @@ where
     Ok(run_command(rt, &words, input, output, errors))
 }
 
-/// Runs the command with the words that the process was given.
+/// Runs the command with the arguments that the process was given.
 fn run<T, R, W, E>(rt: &T, input: &mut R, output: &mut W, errors: &mut E) -> io::Result<u8>
 where
     T: AllocGlobal + Env + Files + Threads + Wait + RandomSource + Sync,
@@ -58,10 +58,10 @@ where
     Ok(run_words(rt, &words, input, output, errors)?)
 }
 
-/// Runs `run_command` with the words that the process was given, and returns its exit status. If one of the words isn't
+/// Runs `run_command` with the arguments that the process was given, and returns its exit status. If one of them isn't
 /// UTF-8, that is 2, and `errors` says so.
 ///
-/// It stands here, and not with the program's `main`, since a check of `main` would load once more all that the
+/// It is here, and not with the program's `main`, since a check of `main` would load once more all that the
 /// contract of `run_command` rests on.
 pub fn run_process<T, R, W, E>(rt: &T, input: &mut R, output: &mut W, errors: &mut E) -> u8
 where
