@@ -23,37 +23,23 @@ with a line `N passed, M failed`, and with status 1 where one failed.
 """
 from __future__ import annotations
 
-import difflib
-import os
-import subprocess
 import tempfile
-from collections.abc import Iterable, Sequence
-from concurrent.futures import ThreadPoolExecutor
+from collections.abc import Iterable, Iterator, Sequence
 from pathlib import Path
-from typing import Any, Iterator
+from typing import Any
 
 from motesim.faults import Fault, command
 from motesim.runner.programs import is_compiled
-from motesim.words import words_of
-from project.tree import TOP, program_of, take_program
+from project.runs import Answer, Wrong, answer, asked_for, count, difference, in_parallel
+from project.tree import TOP
 
 CASES = TOP / 'tests' / 'cases'
 KINDS = ['.toml', '.make', '.args', '.runs', '.expected', '.stderr', '.status', '.stack']
 NO_SCENARIO = b'this is no scenario\n'
-SECONDS = 60
-MOST_LINES = 20
-
-
-# The status, the standard output and the standard error of a run.
-Answer = tuple[int, bytes, bytes]
 
 
 def as_bytes(text: str | bytes) -> bytes:
     return text.encode() if isinstance(text, str) else text
-
-
-class Wrong(Exception):
-    """A case isn't answered as it should be."""
 
 
 class Case:
@@ -81,7 +67,7 @@ class Case:
     def table(self) -> list[tuple[str, bytes, Answer]]:
         """Each scenario with its name, and with the status, the standard output and the standard error."""
         if 'table' in self.made:
-            return [(name, as_bytes(text), (status, as_bytes(output), as_bytes(errors)))
+            return [(name, as_bytes(text), Answer(status, as_bytes(output), as_bytes(errors)))
                     for name, text, status, output, errors in self.made['table']()]
         return [('', self.call('scenario') if self.made else self.read('.toml'), self.wanted())]
 
@@ -106,51 +92,20 @@ class Case:
     def wanted(self) -> Answer:
         """The status, the standard output and the standard error."""
         output = self.call('expected') if 'expected' in self.made else self.read('.expected')
-        return int(self.read('.status') or 0), output, self.read('.stderr')
-
-
-def difference(got: bytes, wanted: bytes) -> list[str]:
-    """Two texts compared line by line, and at most `MOST_LINES` lines of that."""
-    one, other = (text.decode('utf-8', 'backslashreplace').split('\n') for text in (wanted, got))
-    lines = list(difflib.unified_diff(one, other, 'expected', 'found', lineterm=''))
-    left = len(lines) - MOST_LINES
-    return lines if left <= 0 else lines[:MOST_LINES] + ['.. and %d lines more' % left]
-
-
-def answer(program: str, words: Sequence[str], text: bytes, stack: str) -> Answer:
-    """The status, the standard output and the standard error of a run with so many KB of stack, where some are
-    named."""
-    asked, executable = ['motesim', *words], program
-    # (what is compiled without a proof has checks that take more stack)
-    if stack and not is_compiled(Path(program)):
-        asked, executable = ['sh', '-c', 'ulimit -s "$0" && exec "$@"', stack, program, *words], '/bin/sh'
-    try:
-        done = subprocess.run(asked, executable=executable, input=text, capture_output=True, timeout=SECONDS)
-    except subprocess.TimeoutExpired:
-        raise Wrong('no answer in %d seconds' % SECONDS) from None
-    return done.returncode, done.stdout, done.stderr
+        return Answer(int(self.read('.status') or 0), output, self.read('.stderr'))
 
 
 def run(program: str, words: Sequence[str], scenario: bytes, stack: str) -> Answer:
-    """A run with these words, where {} stands for the scenario's path."""
-    if '{}' not in words:
-        return answer(program, words, scenario, stack)
+    """A run with these words, in which {} is the scenario's path, and with so many KB of stack, if some are named."""
     with tempfile.NamedTemporaryFile(suffix='.toml') as file:
-        file.write(scenario)
-        file.flush()
-        return answer(program, [file.name if word == '{}' else word for word in words], NO_SCENARIO, stack)
-
-
-def check_run(program: str, words: Sequence[str], scenario: bytes, stack: str, wanted: Answer) -> None:
-    found = run(program, words, scenario, stack)
-    faults: list[str] = []
-    for what, got, want in (('standard output', found[1], wanted[1]), ('standard error', found[2], wanted[2])):
-        if got != want:
-            faults += ['%s differs' % what] + difference(got, want)
-    if found[0] != wanted[0]:
-        faults += ['the status is %d, not %d' % (found[0], wanted[0])]
-    if faults:
-        raise Wrong('\n  '.join(faults))
+        if '{}' in words:
+            file.write(scenario)
+            file.flush()
+            words, scenario = [file.name if word == '{}' else word for word in words], NO_SCENARIO
+        # (what is compiled without a proof has checks that need more stack)
+        if stack and not is_compiled(Path(program)):
+            return answer(['sh', '-c', 'ulimit -s "$0" && exec "$@"', stack, program, *words], scenario)
+        return answer(['motesim', *words], scenario, executable=program)
 
 
 def check_case(program: str, path: Path, kinds: set[str]) -> str | None:
@@ -163,7 +118,9 @@ def check_case(program: str, path: Path, kinds: set[str]) -> str | None:
         stack = case.read('.stack').decode().strip()
         for name, scenario, wanted in case.table():
             for words in case.runs():
-                check_run(program, words, scenario, stack, wanted)
+                lines = difference(run(program, words, scenario, stack), wanted)
+                if lines:
+                    raise Wrong('\n  '.join(lines))
     except Exception as fault:  # Whatever is in the files of a case, the others are run.
         what = str(fault) if isinstance(fault, Wrong) else '%s: %s' % (type(fault).__name__, fault)
         return '%s: %s' % (' '.join([str(path.relative_to(CASES))] + words + [name] * bool(name)), what)
@@ -193,20 +150,9 @@ def chosen(cases: Iterable[Path], names: Iterable[str]) -> Iterator[Path]:
 
 @command('run_cases')
 def main() -> int:
-    words = words_of(__doc__)
-    take_program(words)
-    words.add_argument('names', nargs='*', metavar='NAME', help='cases, or folders of cases')
-    asked = words.parse_args()
-    program = program_of(asked.program)
+    asked, program = asked_for(__doc__, 'names', metavar='NAME', help='cases, or folders of cases')
     cases, strange = cases_below(CASES)
     paths = sorted(set(chosen(cases, asked.names))) if asked.names else list(cases)
-    with ThreadPoolExecutor(os.cpu_count()) as pool:
-        faults = [fault for fault in pool.map(lambda path: check_case(program, path, cases[path]), paths) if fault]
-    passed = len(paths) - len(faults)
-    if not asked.names:
-        faults += ['%s: the file belongs to no case' % file.relative_to(CASES) for file in strange]
-    for fault in faults:
-        print(fault)
-    print('%d passed, %d failed' % (passed, len(faults)))
-    return 1 if faults else 0
-
+    faults = in_parallel(lambda path: check_case(program, path, cases[path]), paths)
+    files = [] if asked.names else ['%s: the file belongs to no case' % it.relative_to(CASES) for it in strange]
+    return count(len(paths) + len(files), [*filter(None, faults), *files])

@@ -20,15 +20,11 @@ from motesim.faults import Fault, command
 from motesim.judge.judge import Judge
 from motesim.report import Report
 from motesim.runner.run import Run, read_run
-from motesim.words import words_of
+from project.runs import Wrong, asked_for, count
 from project.tree import TOP, program_of
 
 PAGES = ['README.md', 'docs/use/EXAMPLES.md', 'docs/use/SCENARIO.md', 'docs/use/REPORT.md']
 EXPECTED = '.expect.toml'
-
-
-class Wrong(Exception):
-    """An example doesn't show what is said of it."""
 
 
 def readings_of_those_below(run: Run) -> None:
@@ -102,20 +98,15 @@ def check_task(task: Path) -> str:
 
 @command('check_examples')
 def main() -> int:
-    words = words_of(__doc__)
-    words.add_argument('program', nargs='?', metavar='PROGRAM', help='the motesim to run')
-    asked = words.parse_args()
-    if asked.program:
-        os.environ['MOTESIM'] = asked.program
-    program_of(None)
+    asked, program = asked_for(__doc__, 'programs', metavar='PROGRAM', help='the same as --program')
+    os.environ['MOTESIM'] = program_of(asked.programs[0]) if asked.programs else program
     paths = [path for path in sorted((TOP / 'examples').glob('*.toml')) if not path.name.endswith(EXPECTED)]
-    quotes, failed = quoted([page for page in PAGES if (TOP / page).is_file()]), 0
+    quotes = quoted([page for page in PAGES if (TOP / page).is_file()])
     tasks = sorted((TOP / 'examples/lesson').glob('*' + EXPECTED))
+    faults = []
     for path in [*paths, *tasks]:
         try:
             print('%s: %s' % (path.stem, check_task(path) if path in tasks else check(path, quotes)), flush=True)
         except (Wrong, Fault, OSError, LookupError, ValueError) as fault:
-            failed += 1
-            print('%s: FAILED: %s' % (path.stem, fault), flush=True)
-    print('%d passed, %d failed' % (len(paths) + len(tasks) - failed, failed))
-    return 1 if failed else 0
+            faults.append('%s: FAILED: %s' % (path.stem, fault))
+    return count(len(paths) + len(tasks), faults)

@@ -6,12 +6,12 @@ report and status 0, or with `motesim: out of memory`, status 1 and a beginning 
 `motesim: run fault 5`, status 1 and no report; and each has to end. The words after FILE are the program's, as
 `--workers 2 --sync marks`. Without FILE small scenarios are tried, on one thread and by two and three workers of both
 kinds: packets that meet and are heard, a full ring, a full queue, a refused timer, and a scenario with a fault. So is
-a test of crates/part_tests, as `rt ci` builds it, which asks kernels and motes what they answer once they are out of
-memory: it has to pass, or to end with an error of its own where it has no kernel or mote to ask.
+a test of crates/part_tests, as `rt ci` builds it, which calls kernels and motes once they are out of memory: it has to
+pass, or to end with an error of its own if it has no kernel or mote to call.
 
-What refuses is a library in C that stands before the C library. `cc` compiles it, or else the compiler of the Rattle
-kit; where there is neither, nothing is tried and all fails. Ends with a line `N passed, M failed`, and with status 1
-where one failed.
+A library in C that is loaded before the C library refuses. `cc` compiles it, or else the compiler of the Rattle kit;
+without either, nothing is tried and all fails. Ends with a line `N passed, M failed`, and with status 1 if one
+failed.
 """
 from __future__ import annotations
 
@@ -21,13 +21,13 @@ import shutil
 import subprocess
 import tempfile
 from collections import Counter
-from concurrent.futures import ThreadPoolExecutor
-from dataclasses import dataclass
+from collections.abc import Sequence
 from pathlib import Path
 
 from motesim.faults import Fault, command
 from motesim.words import words_of
 from project import kit
+from project.runs import Answer, answer, count, in_parallel
 from project.tree import TOP, program_of, take_program
 
 FILES = ['tests/cases/nets/two_senders.toml', 'tests/cases/nets/ring_overflows.toml',
@@ -46,111 +46,87 @@ AT_ONCE = 16
 MOST_SHOWN = 10
 
 
-@dataclass(frozen=True)
-class Answer:
-    status: int | None  # None where the run didn't end
-    report: bytes
-    fault: bytes
-
-
 def kind_of(got: Answer, wanted: Answer, by_workers: bool) -> str | None:
-    """What the answer of a refused run is, or None where it may not be so."""
+    """The kind of the answer of a refused run, or None if it may not be so."""
     if got.status is None:
         return None
-    if got.status == 1 and got.fault == b'motesim: out of memory\n' and wanted.report.startswith(got.report):
+    if got.status == 1 and got.errors == b'motesim: out of memory\n' and wanted.output.startswith(got.output):
         return 'out of memory'
     if by_workers and got == Answer(1, b'', b'motesim: run fault 5\n'):
         return 'no thread'
     return 'the same answer' if got == wanted else None
 
 
-class Scenario:
-    """A scenario that the program is run on, and the allocator that stands before the program's."""
+def kind_of_calls(got: Answer, wanted: Answer) -> str | None:
+    """The same of the test that calls kernels and motes once they are out of memory."""
+    if wanted.status != 0:
+        return None
+    if got.status == RETURNED_ERROR:
+        return 'nothing to ask'
+    return 'the same answer' if got == wanted else None
 
-    def __init__(self, program: str, path: Path, words: list[str], refuses: Path) -> None:
-        self.program, self.path, self.words, self.refuses = program, path, words, refuses
 
-    def answer(self, more: dict[str, str]) -> Answer:
-        words, environment = [self.program, *self.words], {**os.environ, **more}
-        with open(self.path, 'rb') as text:
-            try:
-                done = subprocess.run(words, stdin=text, capture_output=True, env=environment, timeout=SECONDS)
-            except subprocess.TimeoutExpired:
-                return Answer(None, b'', b'no answer in %d seconds' % SECONDS)
-        return Answer(done.returncode, done.stdout, done.stderr)
+class Refused:
+    """The runs of one scenario, and the library that refuses."""
 
-    def kind_of(self, got: Answer, wanted: Answer) -> str | None:
-        return kind_of(got, wanted, '--workers' in self.words)
+    def __init__(self, program: str, path: Path, words: Sequence[str], refuses: Path):
+        self.words, self.path, self.refuses = [program, *words], path, refuses
 
-    def refused(self, number: int) -> Answer | None:
-        """The answer where the request of this number is refused; None where the run makes fewer."""
+    def answer(self, number: int) -> Answer | None:
+        """The answer if the request of this number is refused, 0 for none; None if the run makes fewer."""
         done = self.refuses.parent / ('done-%d' % number)
-        got = self.answer({'LD_PRELOAD': str(self.refuses), 'REFUSED': str(number), 'DONE': str(done)})
-        if got.status is None:
+        refusing = {'LD_PRELOAD': str(self.refuses), 'REFUSED': str(number), 'DONE': str(done)} if number else {}
+        got = answer(self.words, self.path, seconds=SECONDS, environment=refusing)
+        if not number or got.status is None:
             return got
         if not done.exists():
             return None
         done.unlink()
         return got
 
-    def all_refused(self) -> list[Answer]:
+    def answers(self) -> list[Answer]:
         """The answer to each request that is refused, up to the first run that doesn't end."""
-        answers: list[Answer] = []
-        with ThreadPoolExecutor(os.cpu_count()) as pool:
-            while True:
-                for got in pool.map(self.refused, range(len(answers) + 1, len(answers) + 1 + AT_ONCE)):
-                    if got is None:
-                        return answers
-                    answers.append(got)
-                    if got.status is None:
-                        return answers
+        found: list[Answer] = []
+        while True:
+            for got in in_parallel(self.answer, range(len(found) + 1, len(found) + 1 + AT_ONCE)):
+                if got is not None:
+                    found.append(got)
+                if got is None or got.status is None:
+                    return found
 
 
-class Calls(Scenario):
-    """The test that asks kernels and motes what they answer once they are out of memory."""
-
-    def __init__(self, refuses: Path) -> None:
-        tests = CALLS / 'out' / (CALLS.name + '_tests')
-        super().__init__(str(tests), Path(os.devnull), [CALLS_TEST], refuses)
-
-    def kind_of(self, got: Answer, wanted: Answer) -> str | None:
-        if wanted.status != 0:
-            return None
-        if got.status == RETURNED_ERROR:
-            return 'nothing to ask'
-        return 'the same answer' if got == wanted else None
-
-
-def calls_tried(refuses: Path) -> bool:
-    """Whether that test is built, and each refusal is answered as it should be."""
-    calls = Calls(refuses)
-    if not Path(calls.program).is_file():
-        print('the tests of %s are not built' % CALLS.relative_to(TOP))
-        return False
-    return tried(calls)
-
-
-def tried(scenario: Scenario) -> bool:
-    """Whether each refusal is answered as it should be; what came is printed."""
-    wanted = scenario.answer({})
-    answers = scenario.all_refused() if wanted.status is not None else [wanted]
-    kinds = [scenario.kind_of(got, wanted) for got in answers]
-    counts = Counter(kind or 'another answer' for kind in kinds)
+def tried(program: str, path: Path, words: Sequence[str], refuses: Path) -> bool:
+    """Whether each refusal is answered as it should be; the answers are printed."""
+    runs = Refused(program, path, words, refuses)
+    wanted = runs.answer(0)
+    assert wanted
+    answers = runs.answers() if wanted.status is not None else [wanted]
+    is_calls = path == Path(os.devnull)
+    kinds = [kind_of_calls(it, wanted) if is_calls else kind_of(it, wanted, '--workers' in words) for it in answers]
     wrong = [(number, got) for number, (got, kind) in enumerate(zip(answers, kinds), 1) if kind is None]
     for number, got in wrong[:MOST_SHOWN]:
-        fault = got.fault[:100].decode('utf-8', 'backslashreplace').strip()
+        fault = got.errors[:100].decode('utf-8', 'backslashreplace').strip()
         print('request %d refused: status %s, %s' % (number, got.status, fault or 'no fault line'))
+    counts = Counter(kind or 'another answer' for kind in kinds)
     shown = ', '.join('%d times %s' % (number, kind) for kind, number in sorted(counts.items())) or 'none'
-    path = scenario.path if scenario.path != Path(os.devnull) else CALLS
-    shown_path = path.relative_to(TOP) if TOP in path.parents else path
-    name = ' '.join([str(shown_path), *scenario.words])
+    path = CALLS if is_calls else path
+    name = ' '.join([str(path.relative_to(TOP) if TOP in path.parents else path), *words])
     print('%s: %d requests, each refused in turn: %s' % (name, len(answers), shown), flush=True)
-    # (a program that asks for no memory at all isn't reached by the allocator)
+    # (the library doesn't reach a program that asks for no memory at all)
     return not wrong and bool(answers)
 
 
+def calls_tried(refuses: Path) -> bool:
+    """Whether the test that calls kernels and motes is built, and each refusal is answered as it should be."""
+    tests = CALLS / 'out' / (CALLS.name + '_tests')
+    if not tests.is_file():
+        print('the tests of %s are not built' % CALLS.relative_to(TOP))
+        return False
+    return tried(str(tests), Path(os.devnull), [CALLS_TEST], refuses)
+
+
 def compiler() -> list[str] | None:
-    """The words that call a C compiler, or None where there is none."""
+    """The words that call a C compiler, or None if there is none."""
     if shutil.which('cc'):
         return ['cc']
     return kit.c_compiler() if shutil.which('rt') else None
@@ -182,9 +158,7 @@ def main() -> int:
         return 1
     with tempfile.TemporaryDirectory() as room:
         refuses = compiled(Path(room), words_of_compiler)
-        ended = [tried(Scenario(program, path, words, refuses)) for path, words in runs]
+        ended = [tried(program, path, words, refuses) for path, words in runs]
         if not asked.file and CALLS.is_dir():
             ended.append(calls_tried(refuses))
-    print('%d passed, %d failed' % (ended.count(True), ended.count(False)))
-    return 0 if all(ended) else 1
-
+    return count(len(ended), ['the lines above say what is not as it should be'] * ended.count(False))

@@ -1,14 +1,13 @@
 """Checks that the commands of the tutorial give what the page shows: tools/dev/check_tutorial [--write] [PROGRAM]
 
-The pages are those of docs/use/. Their blocks of commands begin with ```sh, and what these
-print stands in the block right after, which begins with ```. Where no block is right after, they print nothing. A block
-that begins with ```console has commands that open a window, and is not run. A block that begins with ```toml NAME,
-```mote NAME or ```python NAME is a file that the reader saves under that name. The commands of a page are run in a
-folder of their own, in which ./run, tools/ and examples/ are found. PROGRAM is the motesim that they run, else the built
-one.
+The pages are those of docs/use/. Their blocks of commands begin with ```sh, and the output of these is in the block
+right after, which begins with ```. If there is no such block, they print nothing. A block that begins with ```console
+has commands that open a window, and is not run. A block that begins with ```toml NAME, ```mote NAME or ```python NAME
+is a file that the reader saves under that name. The commands of a page are run in a folder of their own, in which
+./run, tools/ and examples/ are found. PROGRAM is the motesim that they run, else the built one.
 
-Shows for each block that fails what differs. Ends with a line `N passed, M failed`, and with status 1 where one
-failed. With `--write` it puts what the commands print into the pages, to be read before it is kept.
+Shows the difference of each block that fails. Ends with a line `N passed, M failed`, and with status 1 if one failed.
+With `--write` it writes the output of the commands into the pages, to be read before it is kept.
 """
 from __future__ import annotations
 
@@ -23,6 +22,7 @@ from pathlib import Path
 
 from motesim.faults import Fault, command
 from motesim.words import words_of
+from project.runs import count
 from project.tree import TOP, program_of
 
 PAGES = sorted(TOP.glob('docs/use/*.md'))
@@ -32,7 +32,7 @@ SECONDS = 300
 
 @dataclass
 class Block:
-    """A block of a page: what stands behind its first fence, and the lines between `first` and `last`, its fences."""
+    """A block of a page: the words behind its first fence, and the lines of both fences."""
     info: list[str]
     first: int
     last: int
@@ -41,19 +41,17 @@ class Block:
 def blocks_of(lines: list[str]) -> list[Block]:
     """The blocks of a page."""
     found: list[Block] = []
-    first: int | None = None
     for at, line in enumerate(lines):
         if not line.startswith(FENCE):
             continue
-        if first is None:
-            first = at
+        if not found or found[-1].last >= 0:
+            found.append(Block(line[len(FENCE):].split(), at, -1))
         elif line == FENCE:
-            found.append(Block(lines[first][len(FENCE):].split(), first, at))
-            first = None
+            found[-1].last = at
         else:
             raise Fault('line %d: a block begins within another' % (at + 1))
-    if first is not None:
-        raise Fault('line %d: the block has no end' % (first + 1))
+    if found and found[-1].last < 0:
+        raise Fault('line %d: the block has no end' % (found[-1].first + 1))
     return found
 
 
@@ -62,7 +60,7 @@ def text_of(lines: list[str], block: Block) -> str:
 
 
 def shown_of(lines: list[str], blocks: list[Block], place: int) -> Block | None:
-    """The block with what the commands of another print: the one right behind, with at most empty lines between."""
+    """The block with the output of another's commands: the one right behind, with at most empty lines between."""
     if place + 1 == len(blocks) or blocks[place + 1].info:
         return None
     between = lines[blocks[place].last + 1:blocks[place + 1].first]
@@ -92,9 +90,9 @@ def printed(folder: Path, program: Path, commands: str) -> str:
 
 @dataclass
 class Checked:
-    """A page with what its commands print, how many blocks passed, and what differs in the others."""
+    """A page with the output of its commands, the number of its blocks, and the differences."""
     text: str
-    passed: int
+    total: int
     faults: list[str]
 
 
@@ -114,12 +112,11 @@ def check(name: str, text: str, program: Path) -> Checked:
             shown = shown_of(lines, blocks, place)
             wanted = text_of(lines, shown) if shown else ''
             found = printed(folder, program, text_of(lines, block))
-            if found == wanted:
-                checked.passed += 1
-            else:
-                checked.faults += ['%s: the commands on line %d print something else' % (name, block.first + 2)]
-                checked.faults += ['  ' + it for it in difflib.unified_diff(
-                    wanted.splitlines(), found.splitlines(), 'shown', 'printed', lineterm='')]
+            checked.total += 1
+            if found != wanted:
+                rows = difflib.unified_diff(wanted.splitlines(), found.splitlines(), 'shown', 'printed', lineterm='')
+                checked.faults.append('\n  '.join([
+                    '%s: the commands on line %d print something else' % (name, block.first + 2), *rows]))
             made += lines[kept:block.last + 1]
             if found:
                 made += ['', FENCE, *found.split('\n')[:-1], FENCE]
@@ -135,17 +132,14 @@ def main() -> int:
     words.add_argument('--page', action='append', metavar='FILE', help='this page, and no other')
     words.add_argument('program', nargs='?', metavar='PROGRAM', help='the motesim to run')
     asked = words.parse_args()
-    program = Path(program_of(asked.program))
-    passed = failed = 0
+    program, total = Path(program_of(asked.program)), 0
+    faults: list[str] = []
     for page in map(Path, asked.page or PAGES):
         text = page.read_text(encoding='utf-8')
         checked = check(page.name, text, program)
-        passed += checked.passed
-        failed += sum(not it.startswith('  ') for it in checked.faults)
-        print(''.join(it + '\n' for it in checked.faults), end='')
+        total += checked.total
+        faults += checked.faults
         if asked.write and checked.text != text:
             page.write_text(checked.text, encoding='utf-8')
-            print('%s is written anew' % page.name)
-    print('%d passed, %d failed' % (passed, failed))
-    return 1 if failed and not asked.write else 0
-
+            print('%s is written again' % page.name)
+    return 0 if count(total, faults) == 0 or asked.write else 1

@@ -9,21 +9,17 @@ Ends with a line `N passed, M failed`, and with status 1 where a check failed.
 """
 from __future__ import annotations
 
-import os
-import subprocess
 from collections import Counter
-from collections.abc import Sequence
-from concurrent.futures import ThreadPoolExecutor
+from collections.abc import Iterator
 
 from motesim.faults import command
-from motesim.words import words_of
-from project.tree import TOP, program_of, take_program
+from project.runs import answer, asked_for, count, in_parallel
+from project.tree import TOP
 
 CASE = TOP / 'tests/cases/motes/print_then_yield'
-SECONDS = 60
 
-# A word for what the program answers, and its report.
-Answer = tuple[str, bytes]
+# The kind of an answer, and its report.
+Kind = tuple[str, bytes]
 
 # For each byte how many texts are answered which fault, or a report, and how many bytes these reports have together.
 SPOILED: list[tuple[bytes, dict[str, int], int]] = [
@@ -49,53 +45,37 @@ SPOILED: list[tuple[bytes, dict[str, int], int]] = [
 ]
 
 
-def answer(program: str, text: bytes) -> Answer:
-    """A word for what the program answers, and its report."""
-    done = subprocess.run([program], input=text, capture_output=True, timeout=SECONDS)
-    line = done.stderr.decode('utf-8', 'backslashreplace')
-    if done.returncode == 0 and done.stdout and not line:
-        return 'report', done.stdout
-    if done.returncode == 1 and not done.stdout and line.startswith('motesim: ') and line.endswith('\n'):
+def kind_of(program: str, text: bytes) -> Kind:
+    """The kind of the answer to a text, and its report."""
+    status, output, errors = answer([program], text)
+    line = errors.decode('utf-8', 'backslashreplace')
+    if status == 0 and output and not line:
+        return 'report', output
+    if status == 1 and not output and line.startswith('motesim: ') and line.endswith('\n'):
         return line[len('motesim: '):-1], b''
-    return 'status %d, %d bytes and %r' % (done.returncode, len(done.stdout), line), b''
+    return 'status %s, %d bytes and %r' % (status, len(output), line), b''
 
 
-def spoiled_fault(answers: Sequence[Answer], wanted: dict[str, int], length: int) -> str | None:
-    """What is wrong with the answers to the spoiled texts, or None."""
-    counts = Counter(word for word, report in answers)
-    found = sum(len(report) for word, report in answers)
-    differing = [word for word in sorted(set(counts) | set(wanted)) if counts[word] != wanted.get(word, 0)]
-    if differing:
-        return ', '.join('%d times %s, not %d' % (counts[word], word, wanted.get(word, 0)) for word in differing)
-    return 'the reports have %d bytes, not %d' % (found, length) if found != length else None
-
-
-def fronts_fault(answers: Sequence[Answer], report: bytes) -> str | None:
-    """What is wrong with the answers to the fronts of the scenario, the shortest first, or None."""
-    for length, (word, _) in enumerate(answers[:-1]):
-        if word not in ('scenario fault 1', 'scenario fault 2'):
-            return 'the first %d bytes: %s' % (length, word)
-    return None if answers[-1] == ('report', report) else 'all but the last byte: %s' % answers[-1][0]
+def faults_of(program: str, text: bytes, report: bytes) -> Iterator[str]:
+    """The checks that fail."""
+    for byte, wanted, length in SPOILED:
+        texts = [text[:place] + byte + text[place + 1:] for place in range(len(text))]
+        answers = in_parallel(lambda it: kind_of(program, it), texts)
+        counts, found = Counter(kind for kind, _ in answers), sum(len(it) for _, it in answers)
+        differing = ['%d times %s, not %d' % (counts[it], it, wanted.get(it, 0)) for it in sorted({*counts, *wanted})
+                     if counts[it] != wanted.get(it, 0)]
+        differing += ['the reports have %d bytes, not %d' % (found, length)] if found != length else []
+        if differing:
+            yield 'each byte in turn as %r: %s' % (byte, ', '.join(differing))
+    fronts = in_parallel(lambda length: kind_of(program, text[:length]), range(len(text)))
+    yield from ['the first %d bytes: %s' % (length, kind) for length, (kind, _) in enumerate(fronts[:-1])
+                if kind not in ('scenario fault 1', 'scenario fault 2')][:1]
+    if fronts[-1] != ('report', report):
+        yield 'all but the last byte: %s' % fronts[-1][0]
 
 
 @command('spoil_bytes')
 def main() -> int:
-    words = words_of(__doc__)
-    take_program(words)
-    program = program_of(words.parse_args().program)
+    _, program = asked_for(__doc__)
     text, report = CASE.with_suffix('.toml').read_bytes(), CASE.with_suffix('.expected').read_bytes()
-    faults: list[tuple[str, str | None]] = []
-    with ThreadPoolExecutor(os.cpu_count()) as pool:
-        for byte, wanted, length in SPOILED:
-            texts = [text[:place] + byte + text[place + 1:] for place in range(len(text))]
-            answers = list(pool.map(lambda text: answer(program, text), texts))
-            faults.append(('each byte in turn as %r' % byte, spoiled_fault(answers, wanted, length)))
-        answers = list(pool.map(lambda length: answer(program, text[:length]), range(len(text))))
-        faults.append(('each front', fronts_fault(answers, report)))
-    for what, fault in faults:
-        if fault:
-            print('%s: %s' % (what, fault))
-    failed = sum(fault is not None for what, fault in faults)
-    print('%d passed, %d failed' % (len(faults) - failed, failed))
-    return 1 if failed else 0
-
+    return count(len(SPOILED) + 1, list(faults_of(program, text, report))[:len(SPOILED) + 1])

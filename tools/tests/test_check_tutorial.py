@@ -56,14 +56,15 @@ class Pages(unittest.TestCase):
 
     def test_what_is_shown_is_what_is_printed(self):
         found = self.check(PAGE)
-        self.assertEqual((found.passed, found.faults, found.text), (2, [], PAGE))
+        self.assertEqual((found.total, found.faults, found.text), (2, [], PAGE))
 
     def test_another_output_fails_and_can_be_written(self):
         for changed in PAGE.replace('ran end = 5', 'ran end = 6'), PAGE.replace('\n```\nran end = 5\ndone\n```\n', ''):
             found = self.check(changed)
-            self.assertEqual((found.passed, found.text), (1, PAGE))
-            self.assertEqual(found.faults[0], 'PAGE.md: the commands on line 12 print something else')
-            self.assertIn('  +ran end = 5', found.faults)
+            self.assertEqual((found.total, len(found.faults), found.text), (2, 1, PAGE))
+            lines = found.faults[0].splitlines()
+            self.assertEqual(lines[0], 'PAGE.md: the commands on line 12 print something else')
+            self.assertIn('  +ran end = 5', lines)
 
     def test_commands_that_print_nothing_more_lose_their_block(self):
         self.assertEqual(self.check('```sh\ntrue\n```\n\n```\nonce\n```\nend\n').text, '```sh\ntrue\n```\nend\n')

@@ -44,12 +44,12 @@ class Runs(unittest.TestCase):
 
     def test_a_kind_that_differs(self):
         _, said, code = self.compared('marks', ('a.toml', 'end = 5\n'))
-        self.assertIn('10 of its runs differ; --workers 1 --cut block --sync marks: another report from line 1 on', said)
+        self.assertIn('10 of its runs differ; --workers 1 --cut block --sync marks: standard output differs\n', said)
         self.assertEqual(code, 1)
 
     def test_a_report_that_is_written_down(self):
         _, said, code = self.compared('none', ('a.toml', 'end = 5\n'), ('a.expected', 'end = 6\n'))
-        self.assertIn('1 of its runs differ; on one thread: another report from line 1 on', said)
+        self.assertIn('1 of its runs differ; on one thread: standard output differs\n', said)
         self.assertEqual(code, 1)
 
 

@@ -59,7 +59,7 @@ int main(void) {
 class Kinds(unittest.TestCase):
     def test_answers_that_may_be(self):
         for status, report, fault, by_workers, kind in [
-            (0, WHOLE.report, b'', False, 'the same answer'),
+            (0, WHOLE.output, b'', False, 'the same answer'),
             (1, b'', NO_MEMORY, False, 'out of memory'),
             (1, b'mote 0 p\n', NO_MEMORY, True, 'out of memory'),
             (1, b'', NO_THREAD, True, 'no thread'),
@@ -161,18 +161,18 @@ class Small(unittest.TestCase):
 
 class Calls(unittest.TestCase):
     def test_what_may_be_answered(self):
-        calls, wanted = refuse.Calls(Path('refuses.so')), refuse.Answer(0, b'\ntest result: ok', b'')
-        self.assertEqual(calls.kind_of(wanted, wanted), 'the same answer')
+        kind_of, wanted = refuse.kind_of_calls, refuse.Answer(0, b'\ntest result: ok', b'')
+        self.assertEqual(kind_of(wanted, wanted), 'the same answer')
         no_memory = b'error: Memory\nthe test failed: its result gives status 1\n'
-        self.assertEqual(calls.kind_of(refuse.Answer(101, b'', no_memory), wanted), 'nothing to ask')
+        self.assertEqual(kind_of(refuse.Answer(101, b'', no_memory), wanted), 'nothing to ask')
         for got in [refuse.Answer(0, b'', b''), refuse.Answer(None, b'', b''), refuse.Answer(1, b'', NO_MEMORY),
                     refuse.Answer(-6, b'', b'assertion failed: all_fail_for_good(..)?'), refuse.Answer(-11, b'', b'')]:
-            self.assertIsNone(calls.kind_of(got, wanted))
+            self.assertIsNone(kind_of(got, wanted))
         broken = refuse.Answer(-6, b'', b'assertion failed: all_fail_for_good(..)?')
-        self.assertIsNone(calls.kind_of(broken, broken))
+        self.assertIsNone(kind_of(broken, broken))
         # (a test that returns an error where nothing is refused: no such test, say)
         unasked = refuse.Answer(101, b'', b'')
-        self.assertIsNone(calls.kind_of(unasked, unasked))
+        self.assertIsNone(kind_of(unasked, unasked))
 
     def test_the_test_is_there(self):
         module = refuse.CALLS_TEST.split('::')
