@@ -15,7 +15,8 @@ from project.tree import program_of
 
 SECONDS = 60
 MOST_LINES = 20
-One, Other = TypeVar('One'), TypeVar('Other')
+One = TypeVar('One')
+Other = TypeVar('Other')
 
 
 class Wrong(Exception):

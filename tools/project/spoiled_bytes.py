@@ -11,6 +11,7 @@ from __future__ import annotations
 
 from collections import Counter
 from collections.abc import Iterator
+from functools import partial
 
 from motesim.faults import command
 from project.runs import answer, asked_for, count, in_parallel
@@ -60,14 +61,14 @@ def faults_of(program: str, text: bytes, report: bytes) -> Iterator[str]:
     """The checks that fail."""
     for byte, wanted, length in SPOILED:
         texts = [text[:place] + byte + text[place + 1:] for place in range(len(text))]
-        answers = in_parallel(lambda it: kind_of(program, it), texts)
+        answers: list[Kind] = in_parallel(partial(kind_of, program), texts)
         counts, found = Counter(kind for kind, _ in answers), sum(len(it) for _, it in answers)
         differing = ['%d times %s, not %d' % (counts[it], it, wanted.get(it, 0)) for it in sorted({*counts, *wanted})
                      if counts[it] != wanted.get(it, 0)]
         differing += ['the reports have %d bytes, not %d' % (found, length)] if found != length else []
         if differing:
             yield 'each byte in turn as %r: %s' % (byte, ', '.join(differing))
-    fronts = in_parallel(lambda length: kind_of(program, text[:length]), range(len(text)))
+    fronts: list[Kind] = in_parallel(partial(kind_of, program), [text[:length] for length in range(len(text))])
     yield from ['the first %d bytes: %s' % (length, kind) for length, (kind, _) in enumerate(fronts[:-1])
                 if kind not in ('scenario fault 1', 'scenario fault 2')][:1]
     if fronts[-1] != ('report', report):
