@@ -1,3 +1,4 @@
+-- The law of the delivery machine: each of its traces has the order of delivery.
 use Rattle.std.specs.Prelude.{List}
 use Rattle.delivery_laws.specs.HandedOn.{Line, HandedOn}
 use Rattle.delivery_laws.specs.StartsAndHalts.{HaltIsLast, StartsTheUnlisted}
