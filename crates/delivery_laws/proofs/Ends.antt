@@ -40,7 +40,7 @@ has_line : (g : Target) (t : List Line) (s : ℕ) → IsGivenTo g t s [] → Has
 has_line (ToOne p) t s h = found s (handings t) h.0.line [] h.0.alone
 has_line ToAll t s h = let g = h.0 in found_in_turn t s [] g g.reached _ (λ e. h.1 (g.whole ∙ rw (e) refl)) g.in_turn refl
 
--- what is known at the end: the serials below a number have their lines, and lack none, except at a halt
+-- the state at the end: the serials below a number have their lines, and lack none, except at a halt
 pub record Ended (t : List Line) (handed : ℕ) : Type 0 where
   pub lacks : ℕ → List Incarnation
   pub given : (s : ℕ) → s < handed → IsGiven t s (lacks s)

@@ -1,4 +1,4 @@
--- Nothing follows a halt, and only what is not listed starts.
+-- Nothing follows a halt, and only processes that aren't listed start.
 use Rattle.std.proofs.Common.{ℕ, ◌≡◌, ◌⊎◌, inl, inr, Bool, true, false, List, [], ◌∷◌, ◌++◌, refl, sym, ap, ◌∙◌, subst, append-nil, arith}
 use Rattle.std.specs.List.{Contains}
 use Rattle.std.proofs.lemmas.List.Elements.{Contains-append_right, Contains-append_cases}
@@ -77,7 +77,7 @@ pub halt_is_last : DeliveryHaltsLast
 halt_is_last t (inl r) = ends_without t (no_halt_runs initial t r.0 r.1)
 halt_is_last t (inr h) = rw h.ends (ends_with h.before (no_halt_runs initial h.before h.last h.runs))
 
--- only what is not listed starts
+-- only processes that aren't listed start
 
 one_more : (t : List Line) (l : Line) → ((p : ℕ) → l ≡ Start p → is_listed (process_list t) p ≡ false) → StartsTheUnlisted t → StartsTheUnlisted (t ++ l ∷ [])
 one_more t l f h before behind p e = elim (split_push t before (Start p) behind l e) [ inl s ↦ subst (λ u. is_listed (process_list u) p ≡ false) (sym s.all) (f p (sym s.same)) | inr s ↦ h before s.rest p s.within ]

@@ -49,7 +49,7 @@ pub data DeliveryStep : DeliveryMachine → List Line → DeliveryMachine → Ty
   walks_on : (m : DeliveryMachine) (i : Incarnation) (rest : List Incarnation) → m.coming ≡ i ∷ rest →
       DeliveryStep m (take_or_drop (is_on m.list i) m.walked i.process ∷ []) (record m { coming = rest })
   writes : (m : DeliveryMachine) → DeliveryStep m (Other ∷ []) m
-  -- the incarnations are numbered anew, which no line shows
+  -- the incarnations are numbered again, which no line shows
   renumbers : (m : DeliveryMachine) (list : List Incarnation) (n : ℕ) → m.coming ≡ []
       → map (λ i. i.process) list ≡ map (λ i. i.process) m.list → All (λ i. i.number < n) list →
       DeliveryStep m [] (record m { list = list; numbered = n })

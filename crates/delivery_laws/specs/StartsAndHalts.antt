@@ -6,7 +6,7 @@ use Rattle.delivery_laws.specs.HandedOn.{Line, Start, Halt, is_listed, process_l
 abbrev pub HaltIsLast : List Line → Type 0
 HaltIsLast lines = (before behind : List Line) → lines ≡ before ++ Halt ∷ behind → behind ≡ []
 
--- Only a process that is not listed starts: between two `start` lines of a process stands a `leave` of it.
+-- Only a process that is not listed starts: between two `start` lines of a process there is a `leave` of it.
 abbrev pub StartsTheUnlisted : List Line → Type 0
 StartsTheUnlisted lines = (before behind : List Line) (p : ℕ) → lines ≡ before ++ Start p ∷ behind
     → is_listed (process_list before) p ≡ false

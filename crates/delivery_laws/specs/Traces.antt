@@ -1,4 +1,5 @@
--- Small traces that have the property, and small ones that don't: each of the latter breaks what its name says.
+-- Small traces that have the property, and small ones that don't: each of the latter breaks the part that its name
+-- says.
 use Rattle.std.specs.Prelude.{List, [], ◌∷◌}
 use Rattle.delivery_laws.specs.StartsAndHalts.{StartsTheUnlisted, HaltIsLast}
 use Rattle.delivery_laws.specs.HandedOn.{ToOne, ToAll, Line, Start, Leave, Post, Take, Drop, Halt, Other, HandedOn}
@@ -73,7 +74,7 @@ abbrev pub taken_by_the_next : List Line
 taken_by_the_next = Start 5 ∷ Post 0 (ToOne 5) ∷ Leave 5 ∷ Post 1 (ToOne 5) ∷ Drop 0 5 ∷ Start 5 ∷ Take 1 5
     ∷ Post 2 ToAll ∷ []
 
--- What the property doesn't detect: it holds of these too, though a kernel would write other lines.
+-- Traces that the property doesn't detect: they have it too, though a kernel would write other lines.
 
 -- an event that waits forever
 abbrev pub never_taken : List Line

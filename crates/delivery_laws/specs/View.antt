@@ -1,4 +1,4 @@
--- What the delivery of events sees of a kernel: its lines, and where it stands as a delivery machine.
+-- A kernel as the delivery of events sees it: its lines, and its state as a delivery machine.
 use Rattle.std.specs.Prelude.{ℕ, List, []}
 use Rattle.delivery_laws.specs.HandedOn.{Line, Incarnation}
 use Rattle.delivery_laws.specs.Delivery.{Waiting, DeliveryMachine, initial, DeliveryRuns, Halts}
@@ -15,7 +15,7 @@ abbrev pub machine_at : View → ℕ → List Incarnation → DeliveryMachine
 machine_at v walked coming = record
     { list = v.list; numbered = v.numbered; queue = v.queue; accepted = v.accepted; walked = walked; coming = coming }
 
--- The lines so far are a run of the machine from its beginning, and the kernel stands where it ends, with no walk
+-- The lines so far are a run of the machine from its beginning, the kernel's state is its last one, and no walk is
 -- under way.
 pub record GoesWithView (lines : List Line) (v : View) : Type 0 where
   pub walked : ℕ

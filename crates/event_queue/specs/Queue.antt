@@ -1,4 +1,4 @@
--- What a contract sees of an `EventQueue`.
+-- The view of an `EventQueue` that contracts use.
 use Rattle.std.specs.Prelude.{ℕ, ◌+◌, List, [], ◌∷◌, ◌++◌, drop}
 use Rattle.program_tree.specs.declared.event.Event.{Event}
 use Rattle.program_tree.specs.declared.event.Target.{Target}

@@ -19,7 +19,7 @@ pub struct Posted {
     pub event: Event,
 }
 
-/// What a full queue returns (`PROCESS_ERR_FULL` of `process.h`). Nobody gets the event that was posted.
+/// The error of a full queue (`PROCESS_ERR_FULL` of `process.h`). Nobody gets the event that was posted.
 #[derive(Clone, Copy, Debug, PartialEq, Eq)]
 pub struct Full;
 
@@ -45,7 +45,7 @@ struct Waiting {
 #[derive(Drop)]
 pub struct EventQueue {
     waiting: HeapCircularBuffer<Waiting>,
-    /// How many were taken, which is the serial of the oldest that waits, or of the next if none does.
+    /// The number of events taken, which is the serial of the oldest that waits, or of the next if none does.
     taken: u64,
 }
 
@@ -92,7 +92,7 @@ impl EventQueue {
         })
     }
 
-    /// How many events wait.
+    /// The number of events that wait.
     #[tactic(auto, using(crate::proofs::Posting::length_posted))]
     pub fn len(&self) -> usize
         ensures len { result ≡ length self.now.events }
@@ -101,7 +101,7 @@ impl EventQueue {
         self.waiting.len()
     }
 
-    /// How many events were ever accepted.
+    /// The number of events that were ever accepted.
     #[inline(always)]
     pub fn accepted(&self) -> u64
         ensures { result ≡ self.now.accepted }

@@ -1,4 +1,4 @@
--- Each small step leaves a system process where it can be polled.
+-- Each small step leaves a system process in a state in which it can be polled.
 use Rattle.std.proofs.Common.{ℕ, ◌≡◌, ◌<◌, ◌⊎◌, inl, inr, ◌==◌, Bool, true, false, not, nat_lt, List, [], ◌∷◌, length, unwrap_or, slice_get, slice_set, refl, sym, ◌∙◌, subst, arith}
 use Rattle.std.specs.List.{filter}
 use Rattle.std.proofs.lemmas.List.{length-set}

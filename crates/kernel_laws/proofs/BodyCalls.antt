@@ -149,7 +149,7 @@ module _ (program : Tree) (mote p : ℕ) (code : Code) (earlier : List Line) whe
   quietly {A} s (Ends t) h = ends s t h
   quietly {A} s (Goes a t) h = goes s a t h
 
-  -- the process is at rest again, if the mote goes on
+  -- the process is at rest again, if the mote continues
   abbrev pub Settles : {A : Type 0} → Outcome A → Type 0
   Settles {A} o = IfGives Stopped (λ a t. Stands (standing_of p t)) o
 
@@ -158,7 +158,7 @@ module _ (program : Tree) (mote p : ℕ) (code : Code) (earlier : List Line) whe
   lead_of {A} s (Ends t) h i = record { leads = record { away = λ a so. quiet_stopped s t (h a) so; stands = i } }
   lead_of {A} s (Goes a t) h i = record { leads = record { away = h; stands = i } }
 
-  -- where the program is known to be this one
+  -- if the program is known to be this one
   pub knowing : {A : Type 0} (s : State) (o : Outcome A) → ((standing_of p s).program ≡ program → Leads A s o) → Leads A s o
   knowing {A} s (Ends t) h = record { leads = record { away = λ x. (h x.of_program).leads.away x; stands = λ x. (h x.of_program).leads.stands x } }
   knowing {A} s (Goes a t) h = record { leads = record { away = λ x. (h x.of_program).leads.away x; stands = λ x. (h x.of_program).leads.stands x } }
@@ -255,7 +255,8 @@ module _ (program : Tree) (mote p : ℕ) (code : Code) (earlier : List Line) whe
   radio_led s e =
       either s (is_system_event Poll e) _ _ (empty_led Keeps Stops chain (λ t packets. quiet_keeps t _ refl) (λ t target event fits. quietly t _ (post_quiet p t target event)) (λ t sender number. quiet_keeps t _ (line_quiet p t (what.Deaf sender number) refl)) s.program.receiver s.ring s) (still s tt)
 
-  -- what the calls of a process and the runs of a thread keep: threads of others, of its body, and of its other blocks
+  -- an invariant of the calls of a process and the runs of a thread: threads of others, of its body, and of its other
+  -- blocks
   pub record AreTold (calls : Calls) : Type 0 where
     pub call : (s : State) (q : Proc) (e : Event) → Leads (Unit {0}) s (calls.call s q e)
     pub ready : (s : State) (e : Event) → IsReady (standing_of p s) e → Settles (calls.call s (Own p) e)
@@ -263,7 +264,7 @@ module _ (program : Tree) (mote p : ℕ) (code : Code) (earlier : List Line) whe
     pub body : BodyRuns program mote p code earlier calls
     pub beside : (s : State) (r : Remainder) (e : Event) → IsQuietRest code r → Leads Answer s (calls.run s code r p e)
 
-  -- the body has run, or only what runs before it
+  -- the body has run, or only the parts that run before it
   record Reacted (v : Standing) (a : PtState) (w : Standing) : Type 0 where
     left : List ℕ
     next : Remainder
@@ -300,7 +301,7 @@ module _ (program : Tree) (mote p : ℕ) (code : Code) (earlier : List Line) whe
   some_is : {X : Type 0} (x y : X) → Some x ≡ Some y → x ≡ y
   some_is x y e = ap (λ o. unwrap_or o x) e
 
-  -- the process stands like this in this state
+  -- the process has this position in this state
   abbrev At : Standing → State → Type 0
   At v t = standing_of p t ≡ v
 
@@ -681,7 +682,7 @@ module _ (program : Tree) (mote p : ℕ) (code : Code) (earlier : List Line) whe
       body_runs s r vars e coming away has can here so =
           runs_on program mote p code earlier calls s r vars e coming away has can here so are.body (λ t o f a so. lead_away t _ (act_led t p o f) a so)
 
-      -- a block beside the body
+      -- a block other than the body
 
       answered_beside : (u : State) (r : Remainder) (e : Event) (answer : ℕ) (variables : Option (List ℕ)) → slice_get u.variables p ≡ variables → IsQuietRest code r
           → Leads Answer u (answered_with variables u r p answer >>= λ r1 s1. calls.run s1 code r1 p e)

@@ -123,7 +123,7 @@ module _ (program : Tree) (mote p : ℕ) (code : Code) where
       subst (λ v. RestsAsTold program mote p code (starts_and_prints (Own p) earlier ++ v.told) v) (sym (begun_stands m moment before sends))
       (subst (λ l. RestsAsTold program mote p code l (record (standing_of p m.state) { moment = moment; told = starts_and_prints (Own p) before })) (told_twice earlier before) (retold _ (standing_of p m.state) moment _ h))
 
-  -- what a boot or a run that goes on adds
+  -- the lines that a boot or a run that continues adds
   given_told : (earlier : List Line) (m : Mote) (moment : ℕ) (before : List Line) (sends : List Sent) (o : Outcome ℕ) → RestsAsTold program mote p code (starts_and_prints (Own p) (earlier ++ before)) (standing_of p m.state)
       → Leads program mote p code (starts_and_prints (Own p) earlier) ℕ (begun m moment before sends) o → TellsSoFar program mote p code (earlier ++ (given o).lines) (given o).mote
   given_told earlier m moment before sends (Ends t) h leads = record {

@@ -1,4 +1,5 @@
--- A run of the body of a process continues the run of its fresh thread, if what it calls leaves the process alone.
+-- A run of the body of a process continues the run of its fresh thread, if the processes that it calls leave the
+-- process alone.
 use Rattle.std.proofs.Common.{ℕ, zero, ◌≡◌, ◌<◌, ◌||◌, Bool, true, false, if◌then◌else◌, List, [], ◌∷◌, ◌++◌, Some, None, slice_get, slice_set, refl, sym, ap, ◌∙◌, subst, arith, append_assoc, append-nil}
 use Rattle.std.proofs.lemmas.Bool.Decides.{nat_tests}
 use Rattle.program_tree.specs.declared.event.Proc.TheVariants.{Own}
@@ -35,7 +36,7 @@ use Rattle.kernel_laws.proofs.Lives.{operates_on, performs_there, gives_up_on, s
 use Rattle.kernel_laws.proofs.Untold.{IsUntold, StepUntold, step_untold, answer_untold}
 use Rattle.kernel_laws.proofs.Standing.{Always, get_set, told_more, halted_quiet, post_quiet}
 
--- what is true of the answer and the state of an outcome that goes on, and of the state in which it ends
+-- a property of the answer and the state of an outcome that continues, and of the state in which it ends
 abbrev pub IfGives : {A : Type 0} → (State → Type 0) → (A → State → Type 0) → Outcome A → Type 0
 IfGives E P (Ends t) = E t
 IfGives E P (Goes a t) = P a t
@@ -59,7 +60,7 @@ pub record IsAway (program : Tree) (mote : ℕ) (v : Standing) : Type 0 where
   pub not_running : is_running_state v.state ≡ false
   pub busy : (is_called_state v.state || v.exiting) ≡ true
 
--- what it is told next
+-- its next answer
 abbrev answer_in : Next → ℕ
 answer_in (InCall answer e m) = answer
 answer_in next = 0
@@ -122,7 +123,7 @@ module _ (program : Tree) (mote p : ℕ) (code : Code) (earlier : List Line) whe
       (subst (λ o. Lives code (Own p) mote code.starts (before ++ lines_of (Own p) h.life) (left_by o)) h.became_so (LivesAgain lived h.life))
 
   module _ (calls : Calls) (s : State) (r : Remainder) (vars : List ℕ) (e : Event) (next : Next) (away : IsAway program mote (standing_of p s)) (has : (standing_of p s).vars ≡ Some vars) (can : CanCome next e s.moment) (here : ComesHere (standing_of p s).told next r vars) (so_far : Stopped s) where
-    -- what it is shown
+    -- its sight
     abbrev now : Sight
     now = record { answer = answer_in next; event = e; looks = looks_of s }
 
@@ -165,7 +166,7 @@ module _ (program : Tree) (mote p : ℕ) (code : Code) (earlier : List Line) whe
     done_so Ended after changed takes w same =
         ends Ended after changed _ (ends_there p code mote here.start here.lines next r after vars changed now can (is_answered next) away.of_mote here.comes takes) refl refl w same
 
-    -- an operation was performed, and the run goes on
+    -- an operation was performed, and the run continues
     abbrev IsBehind : Op → List ℕ → State → Type 0
     IsBehind o changed t = standing_of p t ≡ record (standing_of p s) { vars = Some changed; told = (standing_of p s).told ++ printed (Own p) now (operates o) }
 
@@ -217,7 +218,7 @@ module _ (program : Tree) (mote p : ℕ) (code : Code) (earlier : List Line) whe
       stepped_so_far : (changed : List ℕ) (left : ℕ) (t : State) → standing_of p t ≡ standing_of p (stepped changed left) → Stopped t
       stepped_so_far changed left t same = subst (λ v. SoFar v.told) (sym (same ∙ stepped_stands changed left)) so_far
 
-      -- it was told whether the queue was full
+      -- it learned whether the queue was full
       abbrev IsTold : Remainder → List ℕ → Remainder → State → Type 0
       IsTold after changed r1 t =
           (told : ℕ) × (told < 2) × (r1 ≡ (answered_of after changed told).remainder) × (standing_of p t ≡ record (standing_of p s) { vars = Some (answered_of after changed told).variables })

@@ -72,14 +72,14 @@ rests_behind A m s u m' (Goes a t) added w r h = record {
   sound = h.sound;
 }
 
--- what calls do first, in the midst of a walk, where their outcome is known
+-- the first steps of calls, in the midst of a walk, if their outcome is known
 rests_first : (A B : Type 0) (s : State) (walked : ℕ) (coming : List Member) (o : Outcome A) (g : A → State → Outcome B) → Reach A s o →
     ((a : A) (t : State) → o ≡ Goes a t → (SystemStays s → SystemStays t) → RestsAt (machine_of t walked coming) t (g a t)) → RestsAt (machine_of s walked coming) s (o >>= g)
 rests_first A B s walked coming (Ends t) g r f = let e = r.leads in record { added = e.added; wrote = e.wrote; halts = e.halts walked (map seen_member coming) }
 rests_first A B s walked coming (Goes a t) g r f =
     let e = r.leads in rests_behind B (machine_of s walked coming) s t (machine_of t walked coming) (g a t) e.added e.wrote (e.moves walked (map seen_member coming)) (f a t refl e.sound)
 
--- what calls do first, from a sound state
+-- the first steps of calls, from a sound state
 rests_after : (A B : Type 0) (s : State) (walked : ℕ) (coming : List Member) (o : Outcome A) (g : A → State → Outcome B) → Reach A s o → SystemStays s →
     ((a : A) (t : State) → SystemStays t → RestsAt (machine_of t walked coming) t (g a t)) → RestsAt (machine_of s walked coming) s (o >>= g)
 rests_after A B s walked coming o g r h f = rests_first A B s walked coming o g r (λ a t q i. f a t (i h))
@@ -108,7 +108,7 @@ some_listed : (ms : List Member) → stands_in ms Etimer ≡ true → map seen_m
 some_listed [] h e = absurd (cc)
 some_listed (m ∷ ms) h e = cc
 
--- numbering anew changes numbers alone
+-- numbering again changes only numbers
 
 same_processes : (k : ℕ) (ms : List Member) → map (λ i. i.process) (map seen_member (numbered_from k ms)) ≡ map (λ i. i.process) (map seen_member ms)
 same_processes k [] = refl

@@ -41,7 +41,7 @@ use Rattle.process_kernel.specs.Given.{begun, given, unless_halted, boot_given, 
 use Rattle.kernel_laws.specs.Depth.{CallsAreAnyDepth, ThreadsAreAnyDepth, BootsAreAnyDepth, RunsAreAnyDepth}
 use Rattle.kernel_laws.proofs.Units.{Less, Costs, writes, spends, posts, sends, polled, enlists, leaves, sets, resets, restarts, stops, answers, etimer_costs, radio_costs, step_pays}
 
--- it ends, or goes on with at most this many units
+-- it ends, or continues with at most this many units
 abbrev Leaves : {A : Type 0} → ℕ → Outcome A → Type 0
 Leaves n (Ends t) = Unit {0}
 Leaves n (Goes a t) = t.units ≤ n

@@ -59,7 +59,7 @@ are_watched k = record {
 all_watched : AreWatched (calls_of (most_units + 1))
 all_watched = subst (λ n. AreWatched (calls_of n)) (omega arith) (are_watched most_units)
 
--- where a boot or a run begins
+-- the beginning of a boot or a run
 
 module _ (m : Mote) (moment : ℕ) (lines : List Line) (sends : List Sent) where
   first_rests : IsInStep m.state → IsIdle m.state → resting.Rests (record m.state { lines = lines; sends = sends })
@@ -108,7 +108,7 @@ module _ (m : Mote) (moment : ℕ) (lines : List Line) (sends : List Sent) where
   sound_now : SystemStays m.state → SystemStays (begun m moment lines sends)
   sound_now h = begun_sound (record m.state { lines = lines; sends = sends }) moment (record { stays = h.stays; fits = h.fits })
 
--- what a boot or a run leaves
+-- the state that a boot or a run leaves
 
 leaves_good : (moment walked : ℕ) (s b : State) (o : Outcome ℕ) → IfGoes (Good true moment) o → RestsAt (machine_of s walked []) b o → (given o).mote.halted ≡ false → IsAtRest (given o).mote.state × ForgetsNone moment (given o).mote.state
 leaves_good moment walked s b (Ends t) g r h = absurd (cc)
@@ -224,7 +224,7 @@ telling_of moment u v lines more target number word same now wrote k = record {
   split = append_cancel_left lines more _ (sym wrote ∙ k.wrote ∙ ap (λ l. l ++ (k.before ++ record { at = u.moment; what = k.telling } ∷ k.after)) same ∙ ap (λ n. lines ++ (k.before ++ record { at = n; what = k.telling } ∷ k.after)) now);
 }
 
--- what the polls of a run come to
+-- the result of the polls of a run
 record Polled (calls : Calls) (moment : ℕ) (s t : State) : Type 0 where
   at_turn : State
   comes : walk_polls calls (members_before Etimer s.members) s ≡ Goes tt at_turn

@@ -1,4 +1,5 @@
--- What each small step of the kernel keeps, each call keeps, however deep calls nest, and each boot and kernel run.
+-- An invariant of each small step of the kernel is one of each call, however deep calls nest, and of each boot and
+-- kernel run.
 use Rattle.std.proofs.Common.{ℕ, zero, suc, ◌≡◌, Bool, true, false, not, ◌&&◌, ◌||◌, ◌==◌, nat_lt, if◌then◌else◌, List, [], ◌∷◌, Option, Some, None, slice_get, refl, arith, map}
 use Rattle.std.proofs.lemmas.Bool.Decides.{nat_tests}
 use Rattle.program_tree.specs.declared.event.Proc.{Proc}
@@ -58,13 +59,13 @@ use Rattle.kernel_laws.proofs.Fits.{FitsOp, FitsStep, fits_advanced}
 abbrev pub Whoever : Proc → Type 0
 Whoever p = Unit {0}
 
--- Two relations from a state to a later one: one from which the kernel goes on, and one in which the mote has halted.
+-- Two relations from a state to a later one: one from which the kernel continues, and one in which the mote has halted.
 module _ (Keeps Stops : State → State → Type 0) where
   abbrev pub Leads : {A : Type 0} → State → Outcome A → Type 0
   Leads s (Ends t) = Stops s t
   Leads s (Goes a t) = Keeps s t
 
-  -- whether it goes on or ends
+  -- whether it continues or ends
   pub record Lead (A : Type 0) (s : State) (o : Outcome A) : Type 0 where
     pub leads : Leads s o
 
@@ -91,7 +92,7 @@ module _ (Keeps Stops : State → State → Type 0) where
     pub lead_bind : (A B : Type 0) (s : State) (o : Outcome A) (f : A → State → Outcome B) → Lead A s o → ((a : A) (t : State) → Lead B t (f a t)) → Lead B s (o >>= f)
     lead_bind A B s o f h go = record { leads = bind_leads A B s o f h.leads go }
 
-    -- where more is known of the state from which it goes on
+    -- if more is known of the state from which it continues
     pub lead_knowing : (A B : Type 0) (P : State → Type 0) (s : State) (o : Outcome A) (f : A → State → Outcome B) → Lead A s o → IfGoes P o → ((a : A) (t : State) → P t → Lead B t (f a t)) → Lead B s (o >>= f)
     lead_knowing A B P s (Ends t) f h k go = record { leads = h.leads }
     lead_knowing A B P s (Goes a t) f h k go = lead_from B s t (f a t) h.leads (go a t k)
@@ -126,7 +127,7 @@ module _ (Keeps Stops : State → State → Type 0) where
     keeps_cases s true t u h i = h refl
     keeps_cases s false t u h i = i refl
 
-    -- the radio's poll, where it is a chain of small steps
+    -- the radio's poll, if it is a chain of small steps
     module _ (ring : (s : State) (packets : List Arrival) → Keeps s (record s { ring = packets })) (posts : (s : State) (t : Target) (e : Event) → FitsTarget t e.number → Lead Bool s (post_of s t e)) (deaf : (s : State) (sender number : ℕ) → Keeps s (with_line s (what.Deaf sender number))) where
       hand_led : (receiver : Option ℕ) (s : State) (a : Arrival) → Lead (Unit {0}) s (hand_to receiver s a)
       unfolding hand_to write_of
@@ -387,7 +388,7 @@ module _ (Keeps Stops : State → State → Type 0) where
               Lead (Unit {0}) s ((o >>= λ _ s1. Goes Yielded s1) >>= λ answer s2. answered calls s2 p (has_ended answer || is_system_event Exit e))
           system_led s p e f o h = bind_twice _ _ _ s o _ _ (lead_bind _ _ s o _ h (λ a t. answered_led t p (is_system_event Exit e) (λ q. f (grind (arith, nat_tests)))))
 
-          -- a process that is called reacts, and its answer decides what follows
+          -- a process that is called reacts, and its answer decides the next step
           reacted_led : (s : State) (p : Proc) (e : Event) → Fits p e.number → Lead (Unit {0}) s (react_of calls s p e >>= λ answer s2. answered calls s2 p (has_ended answer || is_system_event Exit e))
           unfolding react_of
           reacted_led s (Own p) e f = lead_bind _ _ s _ _ (own_led s p e) (λ b t. answered_led t (Own p) _ (λ q. steps.own (Own p) tt))
@@ -405,7 +406,7 @@ module _ (Keeps Stops : State → State → Type 0) where
         calls_led zero = record { call = λ s p e f. lead_halts _ s; run = λ s code r p e. lead_halts _ s }
         calls_led (suc k) = record { call = call_led (calls_of k) (calls_led k); run = one_run_led (calls_of k) (calls_led k) }
 
-      -- the steps of boots and kernel runs outside any call, where each process may be exited
+      -- the steps of boots and kernel runs outside any call, in which each process may be exited
       pub record AreRunSteps : Type 0 where
         pub any : (p : Proc) → Leaves p
         pub poll_requested : (s : State) → Keeps s (record s { poll_requested = false })

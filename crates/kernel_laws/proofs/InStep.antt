@@ -56,7 +56,7 @@ abbrev Out : {A : Type 0} → (State → Type 0) → Outcome A → Type 0
 Out P (Ends t) = Unit {0}
 Out P (Goes a t) = P t
 
--- an outcome that goes on leaves a state of which this holds
+-- an outcome that continues leaves a state with this property
 pub record Leaves (A : Type 0) (P : State → Type 0) (o : Outcome A) : Type 0 where
   pub out : Out P o
 
@@ -226,7 +226,7 @@ unfolding post_of write_of
 post_kept s t e =
     kept_if s (nat_le (2 ^ 62) s.queue.accepted) _ _ (kept_ends s _) (kept_if s (nat_le s.queue.capacity (length s.queue.events)) _ _ (kept_goes s true _ (record { states = refl; exiting = refl; members = refl })) (kept_goes s false _ (record { states = refl; exiting = refl; members = refl })))
 
--- what follows from being in step
+-- consequences of being in step
 
 called_is : (x : ProcessState) (e l : Bool) → AreInStep x e l → is_called_state x ≡ true → (x ≡ Called) × (e ≡ false) × (l ≡ true)
 called_is Off e l h q = absurd (cc)

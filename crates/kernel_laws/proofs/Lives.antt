@@ -1,4 +1,4 @@
--- The life so far of a process, from which it goes on.
+-- The life so far of a process, from which it continues.
 use Rattle.std.proofs.Common.{ℕ, ◌≡◌, ◌<◌, List, [], ◌∷◌, ◌++◌, refl, sym, ap, subst, append_assoc, append-nil}
 use Rattle.program_tree.specs.declared.event.Proc.TheVariants.{Own}
 use Rattle.program_tree.specs.Code.{Code}

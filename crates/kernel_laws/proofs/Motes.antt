@@ -1,4 +1,4 @@
--- What each call of a kernel adds to its lines keeps them going with its mote.
+-- The lines that each call of a kernel adds keep them in step with its mote.
 use Rattle.std.proofs.Common.{ℕ, ◌≡◌, ◌+◌, Bool, true, false, if◌then◌else◌, List, [], ◌∷◌, ◌++◌, refl, sym, ◌∙◌, subst, append-nil}
 use Rattle.std.proofs.lemmas.List.{map-append}
 use Rattle.delivery_laws.specs.HandedOn as handed
@@ -136,7 +136,7 @@ pub note_keeps : (lines : List Line) (m : Mote) (l : Line) → m.halted ≡ fals
 note_keeps lines m l h n g =
     let k : GoesWithAs m.booted false lines m.state = subst (λ x. GoesWithAs m.booted x lines m.state) h g in rw h (noted m.booted lines m.state l n k)
 
--- what holds of lines that go with a mote
+-- the properties of lines that are in step with a mote
 
 told_in_order : (lines : List Line) (s : State) → view.GoesWithView (seen_lines lines) (view_of s) → IsInOrder lines
 told_in_order lines s g = record { handed_on = goes_with_hands_on _ _ g; halt_is_last = goes_with_halts_last _ _ g; starts = goes_with_starts _ _ g }

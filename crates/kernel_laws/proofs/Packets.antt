@@ -28,7 +28,7 @@ pub record WritesOne (s t : State) : Type 0 where
 abbrev pub Offered : Target → (number word : ℕ) → State → State → Type 0
 Offered target number word s t = (w : WritesOne s t) × TellsPost target number word w.telling
 
--- what is true of an outcome that goes on
+-- a property of an outcome that continues
 abbrev pub IfGoes : {A : Type 0} → (State → Type 0) → Outcome A → Type 0
 IfGoes P (Ends t) = Unit {0}
 IfGoes P (Goes a t) = P t

@@ -44,7 +44,7 @@ calls_forget_none depth s t p e fits can none goes =
 
 -- a pass
 
--- an outcome that goes on forgets no timer
+-- an outcome that continues forgets no timer
 abbrev pub Forgets : State → Type 0
 Forgets t = ForgetsNone t.moment t
 
@@ -121,7 +121,7 @@ walks_forget (suc few) s can within =
 
 -- a call of etimer that polls it
 
--- what etimer leaves, and what it tells of
+-- the timers that etimer leaves, and those that it reports
 pub record Serves (s t : State) : Type 0 where
   pub forgets : ForgetsNone t.moment t
   pub tells : (timer : ℕ) (owner : Proc) → IsDueFor s.moment s.timers timer owner → TellsOfPost s t (One owner) (system_number Timer) timer

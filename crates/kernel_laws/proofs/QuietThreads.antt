@@ -62,7 +62,7 @@ callback_quiet code timer h = block_quiet (callback_at code timer) (by (nat_le (
     by true = one_quiet code.callbacks _ h.in_callbacks
     by false = refl
 
--- where such a thread stands, and how it is marked
+-- the position and the mark of such a thread
 
 abbrev pub IsQuietPlace : Place → Type 0
 IsQuietPlace ended = Unit {0}
@@ -77,7 +77,7 @@ before_quiet : (y : Bool) (ss : List (Statement ℕ)) → all_quiet ss ≡ true 
 before_quiet y [] h = tt
 before_quiet y (s ∷ ss) h = both (is_quiet_statement s) (all_quiet ss) h
 
--- what a quiet thread has still to do
+-- the remainder of a quiet thread
 pub record IsQuietRest (code : Code) (r : Remainder) : Type 0 where
   pub whole : all_quiet (whole_of code r.part) ≡ true
   pub mark : IsQuietMark r.mark

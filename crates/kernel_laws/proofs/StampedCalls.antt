@@ -1,4 +1,4 @@
--- What calls, boots and kernel runs write is stamped with the moment.
+-- The output of calls, boots and kernel runs is stamped with the moment.
 use Rattle.std.proofs.Common.{ℕ, ◌+◌, Bool, true, false, if◌then◌else◌, List, refl}
 use Rattle.process_kernel.specs.State.{State, Outcome, Ends, Goes}
 use Rattle.process_kernel.specs.Calls.{Calls}
@@ -25,7 +25,7 @@ AreKept calls = AreLed Keeps Keeps chain Whoever calls
 pub calls_kept : (k : ℕ) → AreKept (calls_of k)
 calls_kept k = calls_led Keeps Keeps chain Whoever steps k
 
--- a boot or a run, whether the mote goes on or halts
+-- a boot or a run, whether the mote continues or halts
 given_stamped : (moment : ℕ) (m : Mote) (lines : List Line) (sends : List Sent) (o : Outcome ℕ) → Keeps (begun m moment lines sends) (state_after o) → GivesStamped moment m lines sends (given o)
 unfolding begun_of
 given_stamped moment m lines sends (Ends t) k = let h = k.stamped in record {

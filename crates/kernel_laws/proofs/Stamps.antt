@@ -29,7 +29,7 @@ pub record Keeps (s t : State) : Type 0 where
   pub stamped : Stamped s.moment s t
   pub moment : t.moment ≡ s.moment
 
--- whether it goes on or ends
+-- whether it continues or ends
 abbrev pub Kept : {A : Type 0} → State → Outcome A → Type 0
 Kept {A} s o = Lead Keeps Keeps A s o
 
@@ -161,7 +161,7 @@ write_kept : (s : State) (w : What) → Kept s (write_of s w)
 unfolding write_of
 write_kept s w = record { leads = keeps_line s w }
 
--- what writes nothing
+-- steps without output
 
 state_still : (s : State) (p : Proc) (x : ProcessState) → IsStill s (with_state s p x)
 unfolding with_state

@@ -1,4 +1,4 @@
--- How a process of the program stands, and the small steps that don't change this: all those of others.
+-- The position of a process of the program, and the small steps that don't change it: all those of others.
 use Rattle.std.proofs.Common.{ℕ, zero, suc, ◌≡◌, ◌+◌, ◌^◌, ◌⊎◌, inl, inr, ◌==◌, Bool, true, false, not, nat_lt, nat_le, if◌then◌else◌, List, [], ◌∷◌, ◌++◌, Some, None, length, slice_get, slice_set, refl, sym, ap, ◌∙◌, arith, append-nil}
 use Rattle.std.specs.List.{filter}
 use Rattle.std.proofs.lemmas.List.{length-set}
@@ -96,7 +96,7 @@ which p Etimer = inr (etimer_other p)
 which p Ctimer = inr (ctimer_other p)
 which p Radio = inr (radio_other p)
 
--- what is true where it goes on, and where it ends
+-- a property if it continues, and if it ends
 abbrev pub Always : {A : Type 0} → (State → Type 0) → Outcome A → Type 0
 Always P (Ends t) = P t
 Always P (Goes a t) = P t
@@ -106,7 +106,7 @@ always_if {A} P true o q h i = h
 always_if {A} P false o q h i = i
 
 module _ (p : ℕ) where
-  -- the process stands the same in both states
+  -- the process has the same position in both states
   abbrev pub IsQuiet : State → State → Type 0
   IsQuiet s t = standing_of p t ≡ standing_of p s
 

@@ -48,11 +48,11 @@ pub record Stops (s t : State) : Type 0 where
 abbrev pub Reaches : {A : Type 0} → State → Outcome A → Type 0
 Reaches s o = Leads GoesOn Stops s o
 
--- whether it goes on or ends
+-- whether it continues or ends
 abbrev pub Reach : (A : Type 0) → State → Outcome A → Type 0
 Reach A s o = Lead GoesOn Stops A s o
 
--- nothing of what the delivery sees is changed
+-- nothing that the delivery sees is changed
 pub record IsQuiet (s t : State) : Type 0 where
   pub lines : t.lines ≡ s.lines
   pub members : t.members ≡ s.members
@@ -145,7 +145,7 @@ pub halts : (s : State) → Stops s (halted_of s)
 unfolding halted_of
 halts s = record { added = record { at = s.moment; what = what.Halt } ∷ []; wrote = refl; halts = halt_stops (view_of s) }
 
--- what changes nothing that the delivery sees
+-- steps that change nothing that the delivery sees
 
 pub state_quiet : (s : State) (p : Proc) (x : ProcessState) → IsQuiet s (with_state s p x)
 unfolding with_state
@@ -207,7 +207,7 @@ enlists s p n =
     let q : IsQuiet (enlisted s p) u = quiet_twice _ _ _ (state_quiet (enlisted s p) p Running) (fresh_quiet _ p) in
     goes (Unit {0}) s tt _ (one_line s u (what.Start p) q.lines (subst (λ v. Moves (view_of s) (handed.Start (place_of p) ∷ []) v) (view_quiet (enlisted s p) u q) (start_moves (view_of s) (place_of p) (sym (listed_alike s.members p) ∙ n))) (enlisted_sound s u p q))
 
--- where the etimer process has just started, with no event posted, the state is sound
+-- if the etimer process has just started, with no event posted, the state is sound
 pub first_sound : (s : State) (a : Unit {0}) (t : State) → s.queue.events ≡ [] → enlist_of s Etimer ≡ Goes a t → SystemStays t
 unfolding enlist_of write_of with_state
 first_sound s a t f e =

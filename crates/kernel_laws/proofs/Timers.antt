@@ -146,7 +146,7 @@ module _ (id : ℕ) (owner : Proc) where
   abbrev Again : (few : ℕ) → (again : State → Went) → Type 0
   Again few again = (s : State) → Waits few s → IfGoes (Tells s) (again s)
 
-  -- a timer's event was offered to this owner, and the walk goes on
+  -- a timer's event was offered to this owner, and the walk continues
   offered : (few : ℕ) (again on : State → Went) → Goes_on again → Again few again → Goes_on on → (s u : State) (x : ℕ) (q : Proc) (full : Bool) → (h : Offered (One q) (system_number Timer) x s u) → Waits (suc few) s → is_member x s.timers.listed ≡ true
       → ((id == x) ≡ true → q ≡ owner) → ((id == x) ≡ false → IfGoes (Tells (poll_of u Etimer)) (on (poll_of u Etimer)))
       → IfGoes (Tells s) (if full then on (poll_of u Etimer) else again (fired_of u x))

@@ -38,7 +38,7 @@ Anyhow s t = Unit {0}
 pub chain : AreJoined Less Anyhow
 chain = record { same = λ s. omega arith; joined = λ a b c h i. omega (arith, h, i); ended = λ a b c h i. tt }
 
--- it goes on with as many units, or fewer
+-- it continues with as many units, or fewer
 abbrev pub Costs : (A : Type 0) → State → Outcome A → Type 0
 Costs A s o = Lead Less Anyhow A s o
 

@@ -1,4 +1,4 @@
--- A thread that gets no answer: what its last operation answered changes it only after a post.
+-- A thread that gets no answer: the answer to its last operation changes it only after a post.
 use Rattle.std.proofs.Common.{ℕ, zero, suc, ◌≡◌, ◌-◌, Bool, true, false, ◌&&◌, if◌then◌else◌, List, None, refl, sym, subst}
 use Rattle.std.specs.Prelude.{nat_lt, not, slice_index, ◌==◌}
 use Rattle.program_tree.specs.declared.event.Event.{Event}

@@ -1,5 +1,5 @@
--- What each small step keeps: etimer and the radio process can be polled, a poll that was asked for still waits, and a
--- timer that is set asks for one.
+-- An invariant of each small step: etimer and the radio process can be polled, a poll that was requested still waits,
+-- and a timer that is set requests one.
 use Rattle.std.proofs.Common.{ℕ, ◌≡◌, ◌+◌, ◌^◌, ◌<◌, inl, inr, ◌==◌, Bool, true, false, not, nat_lt, nat_le, if◌then◌else◌, List, [], ◌∷◌, length, Some, refl, sym, ◌∙◌, subst, arith}
 use Rattle.std.specs.List.{filter}
 use Rattle.std.proofs.lemmas.Bool.Decides.{nat_tests}
@@ -31,7 +31,7 @@ use Rattle.kernel_laws.proofs.Tables.{set_same, set_other}
 use Rattle.kernel_laws.proofs.Timers.{other_timer}
 use Rattle.kernel_laws.proofs.EachStep.{Lead, AreJoined, AreSteps, lead_if, empty_led}
 
--- what a step keeps, with a look at whether one process needs a poll
+-- an invariant of a step, with whether one process needs a poll
 pub record Watches (p : Proc) (s t : State) : Type 0 where
   pub moment : t.moment ≡ s.moment
   pub etimer : Alive Etimer s t

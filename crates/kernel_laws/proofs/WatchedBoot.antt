@@ -59,7 +59,7 @@ alive_is Off e l h q r = let f : false ≡ true = sym q ∙ h ∙ r in absurd (c
 alive_is Running e l h q r = refl
 alive_is Called e l h q r = refl
 
--- what a boot begins with
+-- the beginning of a boot
 pub record IsUnstarted (moment : ℕ) (s : State) : Type 0 where
   pub now_is : s.moment ≡ moment
   pub step : IsInStep s

@@ -127,7 +127,7 @@ pub record Comes (r : Bool) (moment : ℕ) (x : Member) (t : State) : Type 0 whe
   pub there : is_on_list t x ≡ true
   pub due : NoneIsDue moment t.timers ⊎ (process_needs_poll t Etimer ≡ true)
 
--- what holds of the calls that nest less deep
+-- the properties of the calls that nest less deep
 pub record AreWatched (calls : Calls) : Type 0 where
   pub led : AreLed (Watches Etimer) Whatever (chain Etimer) IsOwn calls
   pub kept : tables.AreKept calls

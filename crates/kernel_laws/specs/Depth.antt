@@ -25,7 +25,7 @@ ThreadsAreAnyDepth =
     (depth other : ℕ) (s : State) (code : Code) (r : Remainder) (p : ℕ) (e : Event) → s.units < depth → s.units < other
     → (calls_of depth).run s code r p e ≡ (calls_of other).run s code r p e
 
--- what a boot gives is the same at any depth above its units
+-- the outcome of a boot is the same at any depth above its units
 abbrev pub BootsAreAnyDepth : Type 0
 BootsAreAnyDepth =
     (depth moment : ℕ) (m : Mote) (lines : List Line) (sends : List Sent) → most_units < depth

@@ -43,7 +43,7 @@ HaveOwners l = (timer : ℕ) → is_member timer l.listed ≡ true → IsSome (t
 abbrev pub ForgetsNone : (moment : ℕ) → State → Type 0
 ForgetsNone moment s = NoneIsDue moment s.timers ⊎ PollWaits Etimer s
 
--- what holds of a kernel between its runs: etimer and the radio process can be polled and never leave, and no process
+-- a property of a kernel between its runs: etimer and the radio process can be polled and never leave, and no process
 -- is in a call
 pub record IsAtRest (s : State) : Type 0 where
   pub sound : SystemStays s

@@ -28,7 +28,7 @@ pub record IsBlank (s : State) : Type 0 where
   pub idle : is_busy s Etimer ≡ false
   pub there : has_process s Etimer ≡ true
 
--- the lines are a run of the delivery machine to where the mote stands, with no walk under way
+-- the lines are a run of the delivery machine to the mote's state, with no walk under way
 pub record StandsBooted (lines : List Line) (s : State) : Type 0 where
   pub told : view.GoesWithView (seen_lines lines) (view_of s)
   pub sound : SystemStays s
@@ -44,8 +44,8 @@ GoesWithAs false true lines s = ⊥
 GoesWithAs true false lines s = StandsBooted lines s
 GoesWithAs true true lines s = HasHalted (seen_lines lines)
 
--- The lines of a mote are a run of the delivery machine: to where the mote stands, or to its halt. No mote halts
--- before it is booted.
+-- The lines of a mote are a run of the delivery machine: to the mote's state, or to its halt. No mote halts before it
+-- is booted.
 abbrev pub GoesWith : List Line → Mote → Type 0
 GoesWith lines m = GoesWithAs m.booted m.halted lines m.state
 

@@ -18,7 +18,7 @@ pub record CanBePolled (p : Proc) (s : State) : Type 0 where
   pub alive : is_alive (process_state s p) ≡ true
   pub can_need_poll : nat_lt (place_of p) (length s.needs_poll) ≡ true
 
--- the members of the process list that stand before the process
+-- the members of the process list before the process
 abbrev pub members_before : Proc → List Member → List Member
 members_before p [] = []
 members_before p (m ∷ ms) = if is_same m.process p then [] else m ∷ members_before p ms

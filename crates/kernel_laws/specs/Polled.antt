@@ -1,4 +1,4 @@
--- What the radio does with its packets, and etimer with the timers that are due, when they are polled.
+-- The radio with its packets, and etimer with the timers that are due, when they are polled.
 use Rattle.std.specs.Prelude.{ℕ, ◌≡◌, true, List, [], ◌∷◌, ◌++◌, map, Option, Some, None}
 use Rattle.program_tree.specs.declared.event.Proc.{Proc}
 use Rattle.program_tree.specs.declared.event.Proc.TheVariants.{Own}

@@ -1,4 +1,4 @@
--- What a process prints, and what its body says.
+-- The lines that a process prints, and the meaning of its body.
 use Rattle.std.specs.Prelude.{ℕ, ◌≡◌, ◌&&◌, ◌<◌, Bool, true, false, List, [], ◌∷◌, ◌++◌, Option, None, Some, slice_get}
 use Rattle.std.specs.List.{filter}
 use Rattle.program_tree.specs.declared.event.Proc.{Proc}
@@ -57,7 +57,7 @@ pub record IsQuietApart (code : Code) : Type 0 where
   pub at_exit : is_quiet_block code.on_exit ≡ true
   pub in_callbacks : are_quiet code.callbacks ≡ true
 
--- it says that this process starts, or what it prints
+-- a line for the start of this process, or one that it prints
 abbrev pub is_told_of : Proc → What → Bool
 is_told_of p (what.Start q) = is_same q p
 is_told_of p (what.Print q v) = is_same q p
@@ -67,7 +67,8 @@ is_told_of p w = false
 abbrev pub starts_and_prints : Proc → List Line → List Line
 starts_and_prints p lines = filter (λ l. is_told_of p l.what) lines
 
--- what a process prints when it is shown these sights and does this: a line for each print, at the moment of its sight
+-- the lines that a process prints when it is shown these sights and does these actions: one for each print, at the
+-- moment of its sight
 abbrev pub printed : Proc → Sight → Happening → List Line
 printed p now (operates (op.Print v)) = record { at = now.looks.moment; what = what.Print p v } ∷ []
 printed p now h = []
@@ -103,8 +104,8 @@ left_by (restarts now later variables) = variables
 left_by (exits now later variables) = variables
 left_by (stands variables) = variables
 
--- One life of a process that starts with these variables: it is shown these sights, INIT first, and does what its body
--- says, read by its structure.
+-- One life of a process that starts with these variables: it is shown these sights, INIT first, and its actions are a
+-- reading of its body by its structure.
 pub record Life (code : Code) (mote : ℕ) (variables : List ℕ) : Type 0 where
   pub now : Sight
   pub later : List Sight
@@ -114,7 +115,7 @@ pub record Life (code : Code) (mote : ℕ) (variables : List ℕ) : Type 0 where
   pub shown : AreShown mote (now ∷ later) did
   pub reads : ReadsThread code Yielded (listed code.body) now later variables did became
 
--- its lines: it starts, and prints what it does
+-- its lines: its start, and its prints
 abbrev pub lines_of : {code : Code} {mote : ℕ} {variables : List ℕ} → Proc → Life code mote variables → List Line
 lines_of p life = record { at = life.now.looks.moment; what = what.Start p } ∷ prints p (life.now ∷ life.later) life.did
 
@@ -138,7 +139,7 @@ abbrev pub TellsLives : Code → (p mote : ℕ) → List Line → (variables : O
 TellsLives code p mote lines variables = (left : List ℕ) × (variables ≡ Some left)
     × Lives code (Own p) mote code.starts (starts_and_prints (Own p) lines) left
 
--- A process that is quiet apart from its body prints, from each start on, what a reading of its body does, whatever
+-- A process that is quiet apart from its body prints, from each start on, the lines of a reading of its body, whatever
 -- the others do, and whatever calls follow the boot, as long as the mote doesn't halt.
 abbrev pub PrintsAreTheReading : Type 0
 PrintsAreTheReading =
@@ -147,8 +148,8 @@ PrintsAreTheReading =
     let t = after_calls (booted_at program mote queue moment) calls in
     t.mote.halted ≡ false → TellsLives code p mote t.lines (slice_get t.mote.state.variables p)
 
--- and if the mote halts, up to the line that says so: what the process printed by then in its last life is what a
--- reading does by then
+-- and if the mote halts, up to the line that says so: the lines that the process printed by then in its last life are
+-- those of a reading
 abbrev pub PrintsSoFarAreTheReading : Type 0
 PrintsSoFarAreTheReading =
     (program : Tree) (p : ℕ) (code : Code) (mote queue moment : ℕ) (calls : List KernelCall)

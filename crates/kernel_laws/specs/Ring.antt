@@ -1,4 +1,4 @@
--- The receive ring of a mote beside its lines: which packets wait, and which line each of them gets.
+-- The receive ring of a mote and its lines: the packets that wait, and the line that each of them gets.
 use Rattle.std.specs.Prelude.{ℕ, ◌≡◌, ◌⊎◌, ◌<◌, ◌≤◌, false, List, [], ◌∷◌, ◌++◌, length, Option}
 use Rattle.std.specs.List.{All}
 use Rattle.program_tree.specs.declared.event.Proc.{Proc}
@@ -44,8 +44,8 @@ pub data RingRuns (receiver : Option ℕ) : List Arrival → List Line → List 
       → IsApart w → RingRuns receiver ring lines left
       → RingRuns receiver ring (record { at = moment; what = w } ∷ lines) left
 
--- lines were added from one state to a later one; along these the ring goes from what it held to what it holds, and
--- none is of a packet that arrives
+-- lines were added from one state to a later one; along these the ring changes from its old contents to its new ones,
+-- and none is of a packet that arrives
 pub record RingGoes (s t : State) : Type 0 where
   pub added : List Line
   pub wrote : t.lines ≡ s.lines ++ added
@@ -70,8 +70,8 @@ RingLeads s (Goes a t) = RingGoes s t
 abbrev pub CallsTellPackets : Type 0
 CallsTellPackets = (depth : ℕ) (s : State) (p : Proc) (e : Event) → RingLeads s ((calls_of depth).call s p e)
 
--- along the lines that a boot or a run adds, the ring goes from what it held to what it holds, unless the mote has
--- halted; none is of a packet that arrives
+-- along the lines that a boot or a run adds, the ring changes from its old contents to its new ones, unless the mote
+-- has halted; none is of a packet that arrives
 pub record GivesPackets (m : Mote) (lines : List Line) (g : Given) : Type 0 where
   pub added : List Line
   pub wrote : g.lines ≡ lines ++ added

@@ -1,4 +1,4 @@
--- What the delivery of events sees of a kernel: its lines, and where it stands as a delivery machine.
+-- A kernel as the delivery of events sees it: its lines, and its state as a delivery machine.
 use Rattle.std.specs.Prelude.{List, map}
 use Rattle.delivery_laws.specs.HandedOn as handed
 use Rattle.delivery_laws.specs.HandedOn.{Incarnation, ToOne, ToAll}

@@ -1,4 +1,4 @@
--- What is written is stamped with its moment, and packets are numbered on.
+-- Lines and packets are stamped with their moments, and packets are numbered in order.
 use Rattle.std.specs.Prelude.{ℕ, ◌≡◌, ◌+◌, List, ◌++◌, length, map, All}
 use Rattle.std.specs.List.{range_with_len}
 use Rattle.trace_lines.specs.declared.line.Line.{Line}
@@ -34,7 +34,7 @@ pub record Stamped (moment : ℕ) (s t : State) : Type 0 where
   pub mote : t.mote ≡ s.mote
   pub program : t.program ≡ s.program
 
--- the state in which a step ends, or goes on
+-- the state in which a step ends or continues
 abbrev pub state_after : {A : Type 0} → Outcome A → State
 state_after (Ends t) = t
 state_after (Goes a t) = t
@@ -43,6 +43,6 @@ state_after (Goes a t) = t
 abbrev pub with_output : Mote → List Line → List Sent → State
 with_output m lines sends = record m.state { lines = lines; sends = sends }
 
--- what a boot or a run at this moment gives, after these lines and packets were written
+-- the outcome of a boot or a run at this moment, after these lines and packets were written
 abbrev pub GivesStamped : (moment : ℕ) → Mote → List Line → List Sent → Given → Type 0
 GivesStamped moment m lines sends g = Stamped moment (with_output m lines sends) (with_output g.mote g.lines g.sends)

@@ -1,4 +1,4 @@
--- What a process has still to do after the lines that tell of its lives, which each call of its kernel keeps.
+-- The remainder of a process after the lines about its lives, which each call of its kernel keeps.
 use Rattle.std.specs.Prelude.{ℕ, ◌≡◌, ◌⊎◌, Bool, true, false, nat_lt, List, [], ◌∷◌, ◌++◌, length, Option, Some}
 use Rattle.std.specs.Prelude.{slice_get}
 use Rattle.program_tree.specs.declared.event.Proc.{Proc}
@@ -24,7 +24,7 @@ use Rattle.kernel_laws.specs.Going.{IsNote}
 use Rattle.kernel_laws.specs.Printed.{IsQuietApart, starts_and_prints, prints, AreShown, Life, lines_of, Lives}
 use Rattle.kernel_laws.specs.Printed.{LivesSoFar, TellsLives}
 
--- what the process is shown next: INIT at its start, at this moment; the same event at the same moment, with this
+-- the next sight of the process: INIT at its start, at this moment; the same event at the same moment, with this
 -- answer; or anything
 pub data Next : Type 0 where
   AtStart : (moment : ℕ) → Next
@@ -65,8 +65,8 @@ pub record ComesHere (p : ℕ) (code : Code) (mote : ℕ) (told : List Line) (ne
   pub is_told : told ≡ before ++ lines
 
 -- A process in the state of a mote: the program, the mote and the moment; whether the tables have room for it; its
--- state, whether it is being exited, and whether it is on the process list; what its body has still to do, its
--- variables, and what the lines of the run under way tell of it.
+-- state, whether it is being exited, and whether it is on the process list; the remainder of its body, its variables,
+-- and the lines of the run under way about it.
 pub record Standing : Type 0 where
   pub program : Tree
   pub mote : ℕ
@@ -120,8 +120,7 @@ pub record RestsAsTold (program : Tree) (mote p : ℕ) (code : Code) (told : Lis
   pub lived : Lives code (Own p) mote code.starts told left
   pub where_it_is : IsOut v ⊎ IsIn p code mote told AtCall v still left
 
--- The lines so far of a mote tell of the lives of the process, up to where it stands; or up to where the mote has
--- halted.
+-- The lines so far of a mote are about the lives of the process up to its state; or up to the halt of the mote.
 pub record TellsSoFar (program : Tree) (mote p : ℕ) (code : Code) (lines : List Line) (m : Mote) : Type 0 where
   pub going : m.halted ≡ false → RestsAsTold program mote p code (starts_and_prints (Own p) lines)
       (standing_of p m.state)

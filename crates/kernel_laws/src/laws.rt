@@ -38,7 +38,7 @@ pub fn the_listed_are_running()
     ensures between { ListedAreRunning }
 {}
 
-/// What becomes of packets and timers that wait when the system processes are polled: each packet that was accepted
+/// Packets and timers that wait when the system processes are polled are accounted for: each packet that was accepted
 /// into the receive ring is posted to the receiver once, in order, or nobody hears it; and a timer that is due by now
 /// gives its owner TIMER. If the queue was full, a line says so.
 pub fn what_waits_is_told()
@@ -80,10 +80,10 @@ pub fn no_timer_is_forgotten()
 {}
 
 /// A process that is quiet apart from its body (its blocks at POLL and EXIT and those of its callback timers print
-/// nothing, set no variable and spawn no thread) prints, from each of its starts on, what a reading of its body does:
-/// of its block, read by its structure, over sights of its mote, whatever the others do in between, and whatever calls
-/// of the kernel follow the boot. INIT comes first, each call has one event and one moment, and each line is at the
-/// moment of its sight; what else is seen there (later events, timers, processes, semaphores) isn't in the lines. The
+/// nothing, set no variable and spawn no thread) prints, from each of its starts on, the lines of a reading of its
+/// body: of its block, read by its structure, over sights of its mote, whatever the others do in between, and whatever
+/// calls of the kernel follow the boot. INIT comes first, each call has one event and one moment, and each line is at
+/// the moment of its sight; the rest of a sight (later events, timers, processes, semaphores) isn't in the lines. The
 /// next life begins with the variables that the one before left. If the mote halts, the lines have the last life up to
 /// there.
 pub fn prints_are_the_reading()
@@ -91,7 +91,7 @@ pub fn prints_are_the_reading()
     ensures so_far { PrintsSoFarAreTheReading }
 {}
 
-/// The lines so far of a kernel tell of the lives of such a process up to where it stands: a mote that was not booted
+/// The lines so far of a kernel are about the lives of such a process, up to its position: a mote that was not booted
 /// has none, and each call of its kernel keeps this, whatever was written before the call.
 pub fn each_call_tells_lives()
     ensures lives { TellingIsOfLives }
@@ -105,7 +105,7 @@ pub fn each_call_tells_lives()
 {}
 
 /// The depth that the rules give to calls is no limit, since a unit of work is spent at each: with more depth than
-/// units, more depth changes nothing of what a call, a thread, a boot or a kernel run does.
+/// units, more depth doesn't change the outcome of a call, a thread, a boot or a kernel run.
 pub fn depth_is_no_limit()
     ensures calls { CallsAreAnyDepth }
     ensures threads { ThreadsAreAnyDepth }

@@ -28,7 +28,7 @@ use Rattle.mote_node.specs.Laws.{Turns, Rests, Takes}
 use Rattle.mote_laws.specs.Laws.{first_node}
 use Rattle.mote_laws.specs.Ring.{GoesWithRing, RingGoesWithLines, received_of, received_in, AreAmong, AllPassed, Another, ThisOne}
 
--- along the lines before the turn and those of the turn so far, the ring goes to what the mote holds
+-- along the lines before the turn and those of the turn so far, the ring changes to the mote's contents
 record Goes (program : Tree) (before : List Line) (u : Underway) : Type 0 where
   ring : GoesWithRing program.receiver (before ++ u.lines) u.mote
   program_is : u.mote.state.program ≡ program
@@ -71,14 +71,14 @@ boot_by program before moment u false e h = given_goes program before u _ e (boo
 
 -- packets that arrive
 
--- more lines, along which the ring goes to what the mote holds then
+-- more lines, along which the ring changes to the mote's contents then
 lines_go : (program : Tree) (before : List Line) (u : Underway) (m : Mote) (more : List Line) → (h : Goes program before u) → RingRuns program.receiver h.ring.left more m.state.ring → m.state.program ≡ u.mote.state.program → Goes program before (with_lines (with_mote u m) more)
 lines_go program before u m more h r e = record {
   ring = record { left = m.state.ring; runs = subst (λ l. RingRuns program.receiver [] l m.state.ring) (append_assoc before u.lines more) (ring_runs_on program.receiver [] h.ring.left m.state.ring (before ++ u.lines) more h.ring.runs r); holds = λ q. refl };
   program_is = e ∙ h.program_is;
 }
 
--- the ring to which the lines lead is what the mote holds
+-- the ring to which the lines lead is the mote's
 held : (program : Tree) (u : Underway) (before : List Line) (w : Works program before u) → (more : List Line) (left : List Arrival) → RingRuns program.receiver u.mote.state.ring more left → RingRuns program.receiver w.goes.ring.left more left
 held program u before w more left r = subst (λ x. RingRuns program.receiver x more left) (w.goes.ring.holds w.running) r
 

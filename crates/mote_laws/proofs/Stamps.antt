@@ -30,7 +30,7 @@ use Rattle.mote_laws.proofs.Rising.{rises_empty, rises_level, rises_joined}
 abbrev pub so_far : Underway → State
 so_far u = with_output u.mote u.lines u.sends
 
--- what is written from one point of a turn to a later one is stamped with its moment
+-- the output from one point of a turn to a later one is stamped with its moment
 abbrev pub Goes : (moment : ℕ) → Underway → Underway → Type 0
 Goes moment u v = Stamped moment (so_far u) (so_far v)
 

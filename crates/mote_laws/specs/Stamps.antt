@@ -1,4 +1,4 @@
--- What a turn writes is stamped with its moment, and a mote's packets are numbered on from turn to turn.
+-- The lines and packets of a turn are stamped with its moment, and a mote's packets are numbered from turn to turn.
 use Rattle.std.specs.Prelude.{ℕ, ◌≡◌, ◌+◌, Bool, List, [], ◌∷◌, ◌++◌, length, All}
 use Rattle.std.specs.List.Sorted.{IsNonDecreasingBy}
 use Rattle.program_tree.specs.Code.{Tree}

@@ -21,7 +21,7 @@ pub fn each_turn_keeps_order()
     ensures turn { TurnKeeps }
 {}
 
-/// What a mote writes and sends is stamped with its moment, a tick of the simulated clock.
+/// The lines and packets of a mote are stamped with their moment, a tick of the simulated clock.
 pub fn each_turn_bears_its_moment()
     // Each line and each packet of a turn is stamped with the turn's moment, and the packets with the mote's number.
     ensures turn { TurnsStamp }
@@ -55,8 +55,8 @@ pub fn no_timer_is_forgotten()
     // Each timer on the list has an owner.
     ensures owners { TurnsKeepOwners }
     // A turn at or after the expiration of a listed timer polls etimer in its first kernel run, after the processes
-    // that stand before it on the process list and had asked for a poll. For each timer that is due then, a line of
-    // that turn says that TIMER was posted to its owner (`post`), or that the queue was full (`full`).
+    // that are before it on the process list and had asked for a poll. For each timer that is due then, a line of that
+    // turn says that TIMER was posted to its owner (`post`), or that the queue was full (`full`).
     ensures serves { TurnsServeTimers }
     // After a turn each listed timer expires later than the turn's moment, or a poll of etimer waits and the mote
     // wakes at the next moment.

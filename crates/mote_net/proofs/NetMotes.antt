@@ -35,7 +35,7 @@ mote_at ps ms i m there m-is =
     let lt : i < length ms = rw (length-map ms (setup_of ps)) at there in
     slice_get-map (setup_of ps) ms i m lt ∙ ap (λ (k : SetupOfCode). Some (setup_of ps k)) (sym m-is)
 
--- what holds of each mote holds of the one at an index
+-- a property of each mote is one of the mote at an index
 pub mote_fits : (ps : List NamedProgram) (ms : List SetupOfCode) (i : ℕ) (m : SetupOfCode) → IsTrue (list_all (is_mote_of (length ps)) ms)
     → i < length (map (setup_of ps) ms) → m ≡ get_or ms i m → is_mote_of (length ps) m ≡ true
 mote_fits ps ms i m all there m-is =

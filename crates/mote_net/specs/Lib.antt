@@ -1,4 +1,4 @@
--- Nets: what is simulated.
+-- Nets: the subject of a simulation.
 pub mod Limits
 pub mod Motes
 pub mod Net

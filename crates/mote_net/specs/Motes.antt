@@ -1,4 +1,4 @@
--- What holds of the motes of every net.
+-- The properties of the motes of every net.
 use Rattle.std.specs.Prelude.{ℕ, Bool, ◌&&◌, nat_lt, nat_le}
 use Rattle.mote_net.specs.declared.net.MoteSetup.{MoteSetup as SetupOfCode}
 use Rattle.mote_net.specs.Limits.{shortest_queue, longest_queue}

@@ -1,4 +1,4 @@
--- A net: what its motes and its medium are.
+-- A net: its motes and its medium.
 use Rattle.std.specs.Prelude.{ℕ, Bool, List, [], map, slice_get, None, option_map, unwrap_or}
 use Rattle.program_tree.specs.Code.{Tree}
 use Rattle.radio_medium.specs.Medium.{Radio}
@@ -7,7 +7,7 @@ use Rattle.mote_net.specs.declared.net.Net.{Net}
 use Rattle.mote_net.specs.declared.programs.NamedProgram.{NamedProgram}
 use Rattle.mote_net.specs.Programs.{NamedTree, named_tree}
 
--- what is set up of a mote: its program's name and tree, and how many events its queue holds
+-- the set-up of a mote: its program's name and tree, and the length of its queue
 pub record MoteSetup : Type 0 where
   pub program : List ℕ
   pub tree : Tree
@@ -47,7 +47,7 @@ setup_of programs m = record {
   queue = m.queue;
 }
 
--- what a `Net` means
+-- the meaning of a `Net`
 abbrev pub net_of : Net → NetTold
 net_of n = record {
   end = n.end;

@@ -1,4 +1,4 @@
--- What a report contains.
+-- The contents of a report.
 use Rattle.std.specs.Prelude.{ℕ, List, map, Vec}
 use Rattle.std.specs.declared.alloc.Global.{Global}
 use Rattle.trace_lines.specs.declared.line.Line.{Line}

@@ -25,7 +25,7 @@ ring_after moment a u =
     (λ b. ring_of (if b then with_lines (with_mote u (with_packet u.mote a)) (received_line moment a ∷ []) else with_lines u (lost_line moment a ∷ [])) ≡ grown_by b (ring_of u))
     [ true ↦ length-append u.mote.state.ring (a ∷ []) | false ↦ refl ]
 
--- what was heard so far, and whether any packet went into the ring
+-- the packets heard so far, and whether any went into the ring
 pub record HeardSoFar (moment : ℕ) (packets later : List Arrival) (first : Underway) (by_now : Option Underway) (any : Bool) : Type 0 where
   pub u : Underway
   pub is : by_now ≡ Some u

@@ -1,4 +1,4 @@
--- Steps of a turn that go on by their definitions.
+-- Steps of a turn that continue by their definitions.
 use Rattle.std.proofs.Common.{◌≡◌, Bool, true, false, option_map, Option, Some, None, refl, if◌then◌else◌}
 use Rattle.trace_lines.specs.declared.out.Out.{Out}
 use Rattle.process_kernel.specs.Mote.{Mote}

@@ -49,7 +49,7 @@ some_underway : (new : Option Mote) (out : Out) (u : Underway) → underway_in n
 some_underway None out u h = cc
 some_underway (Some m) out u h = refl
 
--- a mote that goes on has not failed
+-- a mote that continues has not failed
 pub some_after : (step : Underway → Underway) (old new : Option Mote) (out out' : Out) → GoesOn step old out new out' → IsSome old → IsSome new
 some_after step None new out out' goes h = cc
 some_after step (Some m) new out out' goes h = some_underway new out' (step (underway m out)) (goes.leads (underway m out) refl)

@@ -1,4 +1,4 @@
--- What the calls of a `Mote` promise.
+-- The promises of a `Mote`'s calls.
 use Rattle.std.specs.Prelude.{ℕ, Bool, false, if◌then◌else◌, Option, Some, None, option_map}
 use Rattle.program_tree.specs.Code.{Tree}
 use Rattle.trace_lines.specs.declared.out.Out.{Out}
@@ -31,10 +31,10 @@ abbrev pub is_past_in : (moment : ℕ) → Option Node → Bool
 is_past_in moment None = false
 is_past_in moment (Some n) = is_past moment n.last
 
--- what a turn wrote, with the next wake
+-- the lines and packets of a turn, with the next wake
 abbrev pub told_with : Out → (wake : Option ℕ) → TurnOut
 told_with out wake = record { lines = out.lines; sends = out.sends; wake = wake }
 
--- what a turn gave, and the node that it left
+-- the outcome of a turn, and the node that it left
 abbrev pub turn_told : TurnOut → Node → TurnGiven
 turn_told out n = record { node = n; lines = out.lines.items; sends = out.sends.items; wake = out.wake }

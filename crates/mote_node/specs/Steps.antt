@@ -1,2 +1,2 @@
--- What the steps of a turn promise, over a kernel and what it writes.
+-- The promises of the steps of a turn, about a kernel and its output.
 pub use Rattle.process_kernel.specs.Underway.{underway_in, GoesOn}

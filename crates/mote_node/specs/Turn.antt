@@ -44,7 +44,7 @@ net_turn collides moment arrivals u =
     if collides && is_collision u.mote arrivals then mote_turn moment [] (with_collisions moment arrivals u)
     else mote_turn moment arrivals u
 
--- what a turn gives: the node after it, its lines and packets, and the next wake
+-- the outcome of a turn: the node after it, its lines and packets, and the next wake
 pub record TurnGiven : Type 0 where
   pub node : Node
   pub lines : List Line

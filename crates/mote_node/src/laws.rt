@@ -13,12 +13,12 @@ pub fn wakes_in_time()
     ensures { WakesInTime }
 {}
 
-/// Turns happen at rising moments alone.
+/// Turns happen only at rising moments.
 pub fn turns_rise()
     ensures { TurnsRise }
 {}
 
-/// A turn of a node that has halted changes its clock alone, and writes nothing.
+/// A turn of a node that has halted changes only its clock, and writes nothing.
 pub fn halted_rests()
     ensures { HaltedRests }
 {}

@@ -17,7 +17,7 @@ use std::alloc::{AllocError, Global};
 use std::error::Error;
 use std::{fmt, mem};
 
-/// Why a mote gives no turn.
+/// The reason why a mote has no turn.
 #[derive(Clone, Copy, Debug, PartialEq, Eq)]
 pub enum MoteError {
     /// Out of memory: an allocation failed.
@@ -54,7 +54,7 @@ impl From<AllocError> for MoteError {
     }
 }
 
-/// What a turn gives: its lines and packets, and when the mote wakes next.
+/// The outcome of a turn: its lines and packets, and the mote's next wake.
 #[derive(Debug, Drop)]
 pub struct TurnOut {
     pub lines: Vec<Line>,
@@ -74,7 +74,7 @@ pub struct Mote {
     ghost running: { (t : Tree) → failed ≡ false → IsSome (mote_in t kernel.value) } by { Prim.hlevel props },
 }
 
-/// By hand, so that a mote is dropped by one call: the check of a function that owns one sees that call alone.
+/// By hand, so that a mote is dropped by one call: the check of a function that owns one sees only that call.
 impl Drop for Mote {
     fn drop(self) {
         let Mote {
@@ -102,7 +102,7 @@ fn wake_after(kernel: &Kernel, moment: u64) -> Option<u64>
     }
 }
 
-/// Whether the moment isn't above that of the last turn.
+/// Returns whether the moment isn't above that of the last turn.
 fn is_past(moment: u64, last: Option<u64>) -> bool
     ensures { result ≡ is_past moment last }
 {
@@ -123,7 +123,7 @@ impl Mote {
     /// to 128.
     ///
     /// # Errors
-    /// `Memory` alone.
+    /// Only `Memory`.
     #[tactic(auto, unfolding(crate::specs::Public::node_in, crate::specs::Node::new_node))]
     pub fn new(alloc: Global, number: u16, program: &Program, queue: u16) -> Result<Mote, MoteError>
         requires some_room { 1 ≤ queue }
@@ -212,8 +212,8 @@ impl Mote {
         Ok(TurnOut { lines, sends, wake })
     }
 
-    /// The same turn as `turn`: its lines and packets replace what `out` had, in the memory of `out`, and the next
-    /// wake is returned. After an error the content of `out` is unspecified.
+    /// The same turn as `turn`: its lines and packets replace the contents of `out`, in the memory of `out`, and the
+    /// next wake is returned. After an error the content of `out` is unspecified.
     ///
     /// # Errors
     /// Those of `turn`.

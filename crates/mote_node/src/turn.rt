@@ -1,4 +1,4 @@
-//! The steps of a turn, over a kernel and what it writes in the turn.
+//! The steps of a turn, over a kernel and its output in the turn.
 
 ghost use Rattle.std.specs.Prelude.{◌≡◌, ◌≤◌, ◌^◌, ◌++◌, map, option_map, OnOk, IfOk, IfSome};
 ghost use Rattle.program_tree.specs.Code.{Tree};

@@ -55,7 +55,7 @@ zip_length [] (b ∷ ys) e = refl
 zip_length (a ∷ xs) [] e = absurd (omega arith)
 zip_length (a ∷ xs) (b ∷ ys) e = let k : length ys ≡ length xs = omega arith in ap suc (zip_length xs ys k)
 
--- one name with what stands beside it
+-- one name with its item
 pub one_pair : {X Y : Type 0} (F : X × Y → List Token) (xs : List X) (ys : List Y) (i : ℕ) (x : X) (y : Y)
     (mid new all : List Token) → length ys ≡ length xs → i < length xs → mid ++ flat_map F (drop i (zip xs ys)) ≡ all
     → new ≡ mid ++ F (get_or xs i x, get_or ys i y) → new ++ flat_map F (drop (i + 1) (zip xs ys)) ≡ all
@@ -167,7 +167,7 @@ pub if_ok : {T E : Type 0} {P Q : T → Type 0} (r : Result T E) → ((x : T) �
 if_ok (Ok x) f h = f x h
 if_ok (Err e) f h = tt
 
--- one name with what an item beside it stands for
+-- one name with the meaning of its item
 pub one_item : {X Y : Type 0} (F : Name × Y → List Token) (names : List Name) (g : X → Y) (xs : List X) (i : ℕ)
     (n : Name) (x : X) (mid new all : List Token) → length xs ≡ length names → i < length names → get_or names i [] ≡ n
     → x ≡ get_or xs i x

@@ -41,7 +41,7 @@ is_first : (f : Body Name → Body ℕ) (d : Declarations) (a : Body Name) (b : 
     → NamesDeclared d (f a) → NamesDeclared d b
 is_first f d a b e h = let same : f a ≡ b = cc in subst (NamesDeclared d) same h
 
--- what is declared before the block of the k-th of some callback timers that come after others
+-- the declarations before the block of the k-th of some callback timers that come after others
 abbrev callback_counts : Names → (done : List Name) → (k : ℕ) → Declarations
 callback_counts n done k = record (counts_of n) { timers = length done + (k + 1); threads = 0 }
 
@@ -118,7 +118,7 @@ handler_declared t f k c None h b e = absurd cc
 handler_declared t f k c (Some a) h b e = is_first (block_in (inside (names_at t f) c))
     (of_process t (code_at t f k c)) a b e (block_declared t f k c a (h a refl))
 
--- what was found about the blocks of a code, as its tree has them
+-- the facts about the blocks of a code, as its tree has them
 code_declared : (t : Tree) (f k : ℕ) (c : CodeShape) →
     CallbacksStand (record (inside (names_at t f) c) { timers = c.etimers; threads = [] }) c.ctimers
     → ThreadsStand (record (inside (names_at t f) c) { threads = [] }) c.threads →

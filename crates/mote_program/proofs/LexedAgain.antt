@@ -134,7 +134,7 @@ decimal_fits n h =
     let capped : n ≡ min (digits_value 10 (decimal n)) 65536 = omega (arith, value) in
     (number.0, digits-word (decimal n) number.1, sym (number_token (decimal n) n number.2 capped))
 
--- no word runs on into what stands after it
+-- no word continues into the text after it
 keyword_stops : (b : ℕ) (k : Keyword) (rest : List Token)
     → begins is_word_byte (gap b (token.Keyword k) rest ++ text_from b rest) ≡ false
 keyword_stops b k [] = refl

@@ -1,4 +1,4 @@
--- The marks of a program keep the rules on names: each name that is used stands in scope.
+-- The marks of a program keep the rules on names: each name that is used is in scope.
 use Rattle.std.proofs.Common.{◌≡◌, List, [], ◌∷◌, ◌++◌, refl, sym, ap, subst, ◌∙◌, append_assoc, Bool, true, false}
 use Rattle.std.proofs.Common.{not, ◌&&◌, ◌||◌, IsTrue}
 use Rattle.std.proofs.lemmas.List.{map-append}
@@ -11,7 +11,7 @@ use Rattle.program_tree.specs.Shapes.{ProgramShape}
 use Rattle.program_tree.specs.Tree.{a_process, a_thread}
 use Rattle.program_tree.specs.declared.error.ReadErrorKind.TheVariants.{UnknownName, BadTarget}
 
--- a name that is used stands for one of its class
+-- a name that is used is one of its class
 abbrev pub KeepsRole : Names → Role → Type 0
 KeepsRole n (uses k x) = is_a n k x ≡ true
 KeepsRole n (spawns own x) = (is_a n a_thread x ≡ true) × (is_own own x ≡ false)

@@ -1,4 +1,4 @@
--- If the names of a block stand for something, its numbers are those of what is declared.
+-- If the names of a block have a meaning, its numbers are those of declarations.
 use Rattle.std.proofs.Common.{◌≡◌, ℕ, ◌+◌, ◌<◌, ◌≤◌, nat_lt, List, [], ◌∷◌, ◌++◌, length, slice_index_or, refl, sym}
 use Rattle.std.proofs.Common.{ap, subst, ◌∙◌, arith, Bool, true, false, Option, Some, None, option_map}
 use Rattle.std.specs.List.{All}

@@ -1,4 +1,4 @@
--- Each name in a block stands for one of its class, if the marks of the block keep the rules.
+-- Each name in a block is one of its class, if the marks of the block keep the rules.
 use Rattle.std.proofs.Common.{◌≡◌, ℕ, ◌+◌, List, [], ◌∷◌, ◌++◌, refl, ap, true, false, Option, Some, None, is_some}
 use Rattle.std.proofs.Common.{option_map}
 use Rattle.std.specs.List.{All}
@@ -25,7 +25,7 @@ use Rattle.mote_program.specs.Named.{named_by_into, named_by_action, named_by_st
 use Rattle.mote_program.specs.Named.{named_by_otherwise}
 use Rattle.mote_program.proofs.Marks.{AreSound}
 
--- a name that stands for one of its class, but not for the thread that is being read
+-- a name of its class that isn't that of the thread that is being read
 abbrev pub Stands : Names → Option Name → Class × Name → Type 0
 Stands n own m = (i : ℕ) × Finds n own m.0 m.1 i
 

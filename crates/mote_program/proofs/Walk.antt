@@ -1,4 +1,4 @@
--- Through the parts of a program: what is declared after each, and that the names in its blocks stand for something.
+-- Through the parts of a program: the declarations after each, and that the names in its blocks have a meaning.
 use Rattle.std.proofs.Common.{◌≡◌, List, [], ◌∷◌, ◌++◌, sym, subst, append_assoc, Option, Some, None}
 use Rattle.std.specs.List.{All}
 use Rattle.std.specs.Option.{ForSome}
@@ -68,7 +68,7 @@ threads_stand n (t ∷ ts) after h =
           (append_assoc n.threads (t.0 ∷ []) (named_of ts)) r.1,
     )
 
--- what stands after the threads of a code
+-- the text after the threads of a code
 abbrev pub behind_threads : (on_poll on_exit : Option (Body Name)) → Body Name → (after : List Mark) → List Mark
 behind_threads p e b after = content_marks (record {
   variables = [];

@@ -1,10 +1,10 @@
--- Programs in which each declaration has what it declares.
+-- Programs in which each declaration has its parts.
 use Rattle.std.specs.Prelude.{◌≡◌, ℕ, ◌+◌, ◌<◌, ◌≤◌, nat_le, length, slice_get, Some}
 use Rattle.program_tree.specs.Code.{Code, Tree}
 
 -- Each variable of a process has its first value, each callback timer and each thread its block; and each timer of the
--- process, in the program's list of timers, is that process's own, and a callback timer where it stands after the
--- event timers.
+-- process, in the program's list of timers, is that process's own, and a callback timer if it comes after the event
+-- timers.
 pub record IsCompleteIn (t : Tree) (c : Code) : Type 0 where
   pub starts : length c.starts ≡ length c.variables
   pub callbacks : length c.callbacks ≡ length c.ctimers

@@ -1,4 +1,4 @@
--- Programs whose blocks name only what is declared before them.
+-- Programs whose blocks name only things that are declared before them.
 use Rattle.std.specs.Prelude.{◌≡◌, ℕ, ◌+◌, ◌<◌, ◌≤◌, length, slice_get, Some}
 use Rattle.std.specs.List.{All}
 use Rattle.std.specs.Option.{ForSome}
@@ -30,7 +30,7 @@ IsOneOf d a_thread i = i < d.threads
 abbrev pub NamesDeclared : Declarations → Body ℕ → Type 0
 NamesDeclared d b = All (λ named. IsOneOf d named.0 named.1) (named_by_block b)
 
--- What the program declares, and this process: before its body, and before its blocks at POLL and EXIT.
+-- The declarations of the program and of this process: before its body, and before its blocks at POLL and EXIT.
 abbrev pub of_process : Tree → Code → Declarations
 of_process t c = record {
   events = length t.events;

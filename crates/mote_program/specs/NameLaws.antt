@@ -1,4 +1,4 @@
--- The laws of programs: what holds of the tree of any text.
+-- The laws of programs: properties of the tree of any text.
 use Rattle.std.specs.Prelude.{◌≡◌, ℕ, List}
 use Rattle.std.specs.List.{All}
 use Rattle.program_tree.specs.Code.{Tree}
@@ -14,8 +14,8 @@ NamesAreDeclared = (text : List ℕ) (tree : Tree) → IsTreeOf text tree → Is
 abbrev pub DeclarationsAreComplete : Type 0
 DeclarationsAreComplete = (text : List ℕ) (tree : Tree) → IsTreeOf text tree → IsComplete tree
 
--- The list of what a block names leaves out none of its names: if two ways to number names agree on the list, they
--- make the same block.
+-- The list of the names of a block leaves none out: if two ways to number names agree on the list, they make the same
+-- block.
 abbrev pub EachNameIsListed : Type 0
 EachNameIsListed =
     (f g : Class → List ℕ → ℕ) (b : Body (List ℕ))

@@ -1,5 +1,4 @@
--- What each part of a program names: the names, or the numbers that they stand for, each with its class, in the order
--- of the text.
+-- The names in each part of a program: the names, or their numbers, each with its class, in the order of the text.
 use Rattle.std.specs.Prelude.{List, [], ◌∷◌, ◌++◌, Option, Some, None}
 use Rattle.program_tree.specs.EventNames as event
 use Rattle.program_tree.specs.EventNames.{CastEvent, SentEvent, AnyEvent}

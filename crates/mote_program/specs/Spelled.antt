@@ -33,7 +33,7 @@ sent_token e = (sent_mark e).token
 abbrev pub any_token : AnyEvent Name → Token
 any_token e = (any_mark e).token
 
--- a keyword with what it asks about in parentheses
+-- a keyword with its question in parentheses
 abbrev pub telling : KeywordRead → Token → List Token
 telling k t = Keyword k ∷ Open ∷ t ∷ Close ∷ []
 
@@ -125,7 +125,7 @@ abbrev pub handler_tokens : KeywordRead → Option (Body Name) → List Token
 handler_tokens k None = []
 handler_tokens k (Some b) = Keyword k ∷ block_tokens b
 
--- what a code declares, and what it runs with its last brace
+-- the declarations of a code, and the statements that it runs, with its last brace
 abbrev pub declared_tokens : CodeShape → List Token
 declared_tokens c =
     flat_map (valued_tokens word.Var) c.variables ++ (flat_map (listed_tokens word.Etimer) c.etimers

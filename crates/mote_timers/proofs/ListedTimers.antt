@@ -1,4 +1,4 @@
--- What holds of every timer list, and that calls keep it.
+-- The properties of every timer list, which calls keep.
 use Rattle.std.proofs.Common.{◌≡◌, ◌≢◌, ℕ, ◌≤◌, ◌^◌, ◌==◌, Bool, true, not, List, [], ◌∷◌, set, ◌∙◌}
 use Rattle.std.specs.List.{AllByRecursion, filter}
 use Rattle.std.specs.Option.{IsSome}

@@ -1,4 +1,4 @@
--- Lists on which a number stands at most once.
+-- Lists in which a number occurs at most once.
 use Rattle.std.proofs.Common.{◌≡◌, ℕ, ◌<◌, ◌≤◌, Bool, true, false, eqb, List, [], ◌∷◌, length, refl, sym, ap, ◌∙◌, subst, arith}
 use Rattle.std.specs.List.{AllByRecursion, IsDistinct, filter, items_where_true}
 use Rattle.std.specs.List.Retain.{IsFiltered}
@@ -23,7 +23,7 @@ AreNumbers-cons k ks n are below new = record {
   within = All-cons (λ j. j < n) k ks below are.within;
 }
 
--- each number stands there once, so the list is no longer than there are numbers
+-- each number occurs once, so the list is no longer than there are numbers
 pub length-le_limit : (ks : List ℕ) (n : ℕ) → AreNumbers ks n → length ks ≤ n
 length-le_limit ks n are = length-le_from_distinct_below ks n are.once (λ q there. All-contains (λ j. j < n) ks q are.within (Contains-from_any eqb-true q ks there))
 
@@ -31,7 +31,7 @@ length-le_limit ks n are = length-le_from_distinct_below ks n are.once (λ q the
 pub length-lt_limit : (k : ℕ) (ks : List ℕ) (n : ℕ) → AreNumbers ks n → k < n → is_member k ks ≡ false → length ks < n
 length-lt_limit k ks n are below new = let most : length (k ∷ ks) ≤ n = length-le_limit (k ∷ ks) n (AreNumbers-cons k ks n are below new) in omega arith
 
--- what a filter keeps of such a list
+-- the part of such a list that a filter keeps
 module _ (n : ℕ) where
   kept_apart : (k : ℕ) (bs : List Bool) (ks : List ℕ) → AllByRecursion (λ y. eqb k y ≡ false) ks → AllByRecursion (λ y. eqb k y ≡ false) (items_where_true bs ks)
   kept_apart k [] ks h = tt
@@ -61,7 +61,7 @@ module _ (n : ℕ) where
 pub same_numbers : (a b : Numbers) → a.members ≡ b.members → a.limit ≡ b.limit → a ≡ b
 same_numbers a b same_members same_limit = ap (λ ks. numbers ks a.limit) same_members ∙ ap (λ n. numbers b.members n) same_limit
 
--- what the code found about a list holds of an equal list
+-- a fact that the code found about a list is one of an equal list
 pub lacks : (s t : Numbers) (k : ℕ) (answer : Bool) → s ≡ t → answer ≡ is_member k t.members → answer ≡ false → is_member k s.members ≡ false
 lacks s t k answer same told missing = ap (λ (l : Numbers). is_member k l.members) same ∙ sym told ∙ missing
 

@@ -1,4 +1,4 @@
--- Lists on which a number stands at most once.
+-- Lists in which a number occurs at most once.
 use Rattle.std.specs.Prelude.{ℕ, ◌<◌, ◌==◌, nat_eq, Bool, not, if◌then◌else◌, List, ◌∷◌, All, filter}
 use Rattle.std.specs.List.{list_any, IsDistinct}
 

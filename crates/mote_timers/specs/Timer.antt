@@ -1,4 +1,4 @@
--- Timers, and what each call makes of them.
+-- Timers, and the effect of each call on them.
 use Rattle.std.specs.Prelude.{ℕ, ◌+◌, nat_le, Bool, false, None}
 use Rattle.std.specs.Option.{option_map_or}
 use Rattle.program_tree.specs.declared.event.Proc.{Proc}

@@ -57,7 +57,7 @@ NoneStarts id (call ∷ calls) = (Starts id call → ⊥) × NoneStarts id calls
 abbrev pub IsDue : TimerLists → ℕ → ℕ → Type 0
 IsDue s id moment = IsTrue (is_member id s.listed) × (expiration (timer_at s.timers id) ≤ moment)
 
--- after any calls, each timer stands on the list at most once
+-- after any calls, each timer is on the list at most once
 abbrev pub ListedOnce : Type 0
 ListedOnce = (n : ℕ) (calls : List TimerCall) → IsDistinct nat_eq (after_calls (new_timers n) calls).listed
 

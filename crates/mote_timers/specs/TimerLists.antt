@@ -1,4 +1,4 @@
--- The timers of a mote with its timer list, and what each call makes of them.
+-- The timers of a mote with its timer list, and the effect of each call on them.
 use Rattle.std.specs.Prelude.{◌≡◌, ℕ, ◌≤◌, ◌^◌, ◌==◌, min, not, List, [], ◌∷◌, All, length, map, filter, find}
 use Rattle.std.specs.Prelude.{replicate, slice_index_or, slice_set, Option, Some, None, IsSome}
 use Rattle.std.specs.List.{after_first}
@@ -13,11 +13,11 @@ pub record TimerLists : Type 0 where
   pub timers : List Timer
   pub listed : List ℕ
 
--- the timer with this number; any other number stands for a timer that was never set
+-- the timer with this number; any other number gives a timer that was never set
 abbrev pub timer_at : List Timer → ℕ → Timer
 timer_at ts id = slice_index_or ts id unset
 
--- what holds of every `Timers`: the list has room for each timer, a timer on it has an owner, and no start is past
+-- the properties of every `Timers`: the list has room for each timer, a timer on it has an owner, and no start is past
 -- its limit
 pub record AreTimers (ts : List Timer) (listed : Numbers) : Type 0 where
   pub room : length ts ≡ listed.limit
@@ -60,7 +60,7 @@ purge_timers s p = record {
   listed = filter (λ id. not (is_owned_by p (timer_at s.timers id))) s.listed;
 }
 
--- what stands after a member, or the whole list
+-- the members after a member, or the whole list
 abbrev pub behind : Option ℕ → List ℕ → List ℕ
 behind None ids = ids
 behind (Some id) ids = after_first (λ other. other == id) ids

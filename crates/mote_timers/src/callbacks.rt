@@ -51,7 +51,7 @@ impl Callbacks {
         was_there
     }
 
-    /// Whether a timer's callback is on the list.
+    /// Returns whether a timer's callback is on the list.
     pub fn holds(&self, id: u16) -> bool
         requires { id < self.now.limit }
         ensures { result ≡ is_member id self.now.members }

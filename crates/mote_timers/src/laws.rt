@@ -3,7 +3,7 @@
 ghost use Rattle.mote_timers.specs.TimerCalls.{ListedOnce, KeepsTimers, DueFromExpiration, DueFromSet};
 ghost use Rattle.mote_timers.specs.TimerCalls.{DueFromNextExpiration};
 
-/// After any calls, a timer stands on the timer list at most once, and so a walk along it comes to an end.
+/// After any calls, a timer is on the timer list at most once, and so a walk along it comes to an end.
 pub fn listed_once()
     ensures { ListedOnce }
 {}

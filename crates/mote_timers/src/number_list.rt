@@ -1,4 +1,4 @@
-//! Lists on which a number stands at most once, with room for every number below a limit.
+//! Lists in which a number occurs at most once, with room for every number below a limit.
 
 ghost use Rattle.std.specs.Prelude.{◌≡◌, ◌<◌, [], IfOk};
 ghost use Rattle.std.specs.Fn.{CalledAt};

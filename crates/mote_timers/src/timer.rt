@@ -5,8 +5,8 @@ ghost use Rattle.mote_timers.specs.Timer.{expiration, is_due, is_owned_by};
 
 use program_tree::Proc;
 
-/// A timer: its start in moments, its interval in moments, and the process that is told when it is due
-/// (`struct timer` of `timer.h`, and `p` of `struct etimer`).
+/// A timer: its start in moments, its interval in moments, and the process that gets an event when it is due (`struct
+/// timer` of `timer.h`, and `p` of `struct etimer`).
 #[derive(Clone, Copy, Debug, PartialEq, Eq)]
 pub struct Timer {
     pub start: u64,
@@ -39,14 +39,14 @@ impl Timer {
         self.start + u64::from(self.interval)
     }
 
-    /// Whether the timer is due at this moment.
+    /// Returns whether the timer is due at this moment.
     pub fn is_due(&self, now: u64) -> bool
         ensures { result ≡ is_due now self.now }
     {
         now >= self.start && now - self.start >= u64::from(self.interval)
     }
 
-    /// Whether this process owns the timer.
+    /// Returns whether this process owns the timer.
     pub fn is_owned_by(&self, owner: Proc) -> bool
         ensures { result ≡ is_owned_by owner self.now }
     {

@@ -105,7 +105,7 @@ impl Timers {
         self.listed.remove(id);
     }
 
-    /// Whether a timer has no owner: it was never set, or was stopped, or its event was posted.
+    /// Returns whether a timer has no owner: it was never set, or was stopped, or its event was posted.
     pub fn expired(&self, id: u16) -> bool
         requires { id < length self.now.timers }
         ensures { IsTrue result ↔ IsNone (timer_at self.now.timers id).owner }
@@ -192,7 +192,7 @@ fn listed_behind(listed: &[u16], after: Option<u16>) -> &[u16]
     }
 }
 
-/// Where a number stands on the list.
+/// The place of a number on the list.
 fn place_of(listed: &[u16], id: u16) -> Option<usize>
     ensures { result ≡ position (λ other. other == id) listed.now }
 {
@@ -230,7 +230,7 @@ fn sooner(best: Option<u64>, moment: u64) -> u64
     best.map_or(moment, |earlier| earlier.min(moment))
 }
 
-/// Whether the process owns this timer. Nobody owns a number without a timer.
+/// Returns whether the process owns this timer. Nobody owns a number without a timer.
 fn is_owned(timers: &[Timer], id: u16, owner: Proc) -> bool
     ensures { result ≡ is_owned_by owner (timer_at timers.now id) }
 {

@@ -1,4 +1,4 @@
--- What an agenda has for each mote at each moment, as items come and go.
+-- The events of an agenda for each mote at each moment, as items come and go.
 use Rattle.std.proofs.Common.{◌≡◌, ℕ, Bool, true, false, cond, not, ◌&&◌, eqb, if◌then◌else◌, List, [], ◌∷◌, ◌++◌, map, refl, sym, ap, ◌∙◌, inl, inr, append-nil, length-append, arith, zero, suc, ◌<◌, subst, append_assoc, add-one, take, get_or, length, ◌+◌, Option, Some, None, unwrap_or}
 use Rattle.std.specs.List.{filter, filter_map, list_any, AllByRecursion}
 use Rattle.std.specs.Ordering.{nat_cmp, is_eq}
@@ -142,7 +142,7 @@ due_unwoken items u k one t m =
     elsewhere : is_here u k t m ≡ false → filter (comes_at t m) (Wake u k ∷ []) ≡ []
     elsewhere e = rw e refl
 
--- without a mote's wakes, where they may be more than one
+-- without a mote's wakes, of which there may be more than one
 pub due_asleep : (items : List Item) (k t m : ℕ)
     → due_of t m (filter (λ item. not (is_wake_of k item)) items) ≡ (if eqb k m then without_wake (due_of t m items) else due_of t m items)
 due_asleep items k t m =
@@ -232,7 +232,7 @@ any_same t m xs ys e = sym (filled_any (comes_at t m) xs) ∙ (both _ _ e ∙ fi
     both (x ∷ xs) [] e = absurd (cc)
     both (x ∷ xs) (y ∷ ys) e = refl
 
--- what holds at each place where something is due holds of each item
+-- a property at each place with a due event is one of each item
 pub from_due : (P : ℕ → ℕ → Type 0) (items : List Item) → ((t m : ℕ) → list_any (comes_at t m) items ≡ true → P t m) → AllByRecursion (λ item. P (moment_of item) (mote_of item)) items
 from_due P [] f = tt
 from_due P (x ∷ xs) f = (

@@ -23,7 +23,7 @@ use Rattle.net_agenda.proofs.Gathered.{unwrapped, due_taken, any_same}
 use Rattle.net_agenda.proofs.Keys.{same_number}
 use Rattle.net_agenda.proofs.Moments.{moment_at}
 
--- what is due in the items of all buckets is what is due in the bucket of its moment
+-- the events due in the items of all buckets are those due in the bucket of its moment
 
 abbrev pub Entries : Type 0
 Entries = List (ℕ × Bucket)
@@ -90,7 +90,7 @@ not_wakes [] = refl
 not_wakes (Wake u k ∷ xs) = not_wakes xs
 not_wakes (Packet c ∷ xs) = ap (λ l. Packet c ∷ l) (not_wakes xs)
 
--- what is due, as items again
+-- the due events, as items again
 abbrev told : (t m : ℕ) → Due → List Item
 told t m due = replicate due.wakes (Wake t m) ++ map Packet (map (copy_at t m) due.copies)
 

@@ -1,4 +1,4 @@
--- The moments of the buckets, and what a map has at them.
+-- The moments of the buckets, and their entries in a map.
 use Rattle.std.proofs.Common.{◌≡◌, ℕ, Bool, true, false, cond, ltb, eqb, if◌then◌else◌, refl, inl, inr, arith, Option, option_map}
 use Rattle.std.specs.Ordering.{nat_cmp, is_eq, is_gt, is_lt}
 use Rattle.std.specs.declared.cmp.Ordering.TheVariants.{Less, Equal, Greater}

@@ -1,4 +1,4 @@
--- What an agenda has for the motes at each moment, gathered in a bucket.
+-- The pending events of the motes at each moment, gathered in a bucket.
 use Rattle.std.specs.Prelude.{ℕ, suc, ◌≡◌, ◌≤◌, ◌-◌, Bool, true, false, not, ◌&&◌, ◌==◌, nat_lt, if◌then◌else◌, List}
 use Rattle.std.specs.Prelude.{[], ◌∷◌, ◌++◌, length, map, Option, Some, None, option_map, is_some, slice_get}
 use Rattle.std.specs.List.{filter, filter_map, AllByRecursion}
@@ -31,12 +31,12 @@ is_wake (Packet copy) = false
 abbrev pub due_all : List Item → Due
 due_all items = record { wakes = length (filter is_wake items); copies = map arrival_of (packets items) }
 
--- what items for one mote at one moment come to, if there are any
+-- the events of one mote at one moment as one pending event, if there are any
 abbrev pub gathered : List Item → Option Due
 gathered [] = None
 gathered (item ∷ items) = Some (due_all (item ∷ items))
 
--- what an agenda has for a mote at a moment
+-- the pending event of a mote at a moment
 abbrev pub due_of : (moment mote : ℕ) → List Item → Option Due
 due_of moment mote items = gathered (filter (comes_at moment mote) items)
 
@@ -161,7 +161,7 @@ abbrev pub wake_but_at : (moment : ℕ) → Option ℕ → Option ℕ
 wake_but_at moment None = None
 wake_but_at moment (Some wake) = if wake == moment then None else Some wake
 
--- what a mote is given at a moment
+-- the event that a mote is given at a moment
 abbrev pub arrivals_at : (moment mote : ℕ) → List Item → List Arrival
 arrivals_at moment mote items = map arrival_of (in_order (packets (filter (comes_at moment mote) items)))
 

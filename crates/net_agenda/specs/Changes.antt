@@ -1,4 +1,4 @@
--- What the calls of an agenda change, whatever list of items its buckets hold.
+-- The changes that the calls of an agenda make, whatever list of items its buckets hold.
 use Rattle.std.specs.Prelude.{ℕ, ◌≡◌, not, List, ◌++◌, Option}
 use Rattle.std.specs.List.{filter}
 use Rattle.radio_packet.specs.declared.arrival.Arrival.{Arrival}
@@ -12,7 +12,7 @@ Adds old new more = (items : List Item) → Holds old items → Holds new (items
 abbrev pub without_wakes : (mote : ℕ) → List Item → List Item
 without_wakes mote items = filter (λ item. not (is_wake_of mote item)) items
 
--- the wake of this mote was taken out, where this is its only one, or it has none
+-- the wake of this mote was taken out, if this is its only one, or it has none
 abbrev pub DropsWake : (mote : ℕ) → (wake : Option ℕ) → (old new : Buckets) → Type 0
 DropsWake mote wake old new = (items : List Item) → Holds old items → filter (is_wake_of mote) items
     ≡ wake_items mote wake

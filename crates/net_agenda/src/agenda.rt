@@ -171,7 +171,8 @@ impl Agenda {
         Ok(())
     }
 
-    /// Takes out all pending events of a mote at a moment. The mote's packets replace what the list has, in order.
+    /// Takes out all pending events of a mote at a moment. The mote's packets replace the contents of the list, in
+    /// order.
     pub fn take_due_into(
         &mut self,
         moment: u64,
@@ -207,7 +208,7 @@ impl Agenda {
         }
     }
 
-    /// How many copies are on their way. This allocates nothing.
+    /// The number of copies on their way. This allocates nothing.
     ///
     /// # Errors
     /// Only for a number above `u64::MAX`, for which no memory has room.

@@ -9,8 +9,9 @@ use std::alloc::AllocError;
 /// A trace with fewer lines than this is short.
 const SHORT: usize = 64;
 
-/// How many lines a long trace has room for. This much memory (128 KiB) comes from the system as whole pages: those
-/// that no line is written to cost nothing, and a trace that grows keeps its pages, so that its lines aren't copied.
+/// The number of lines for which a long trace has room. This much memory (128 KiB) comes from the system as whole
+/// pages: those to which no line is written cost nothing, and a trace that grows keeps its pages, so that its lines
+/// aren't copied.
 const LONG: usize = 4_096;
 
 /// Makes room for more lines, if there is none. A short trace gets room for four times its lines, since they are

@@ -1,4 +1,4 @@
--- Finding a program among those that stand in byte order of their names.
+-- Finding a program among those in byte order of their names.
 use Rattle.std.proofs.Common.{◌≡◌, ◌<◌, ◌≤◌, ◌+◌, ⊎_elim, ℕ, zero, suc, Bool, true, false, List, [], ◌∷◌, map, length}
 use Rattle.std.proofs.Common.{get_or, refl, sym, ap, ◌∙◌, arith, Some, None, String, Global, string_bytes, string_cmp}
 use Rattle.std.proofs.Common.{Ordering, Less, Equal, Greater, nat_cmp, is_eq, HoldsAt, BTreeMap}
@@ -68,7 +68,7 @@ rises ps i j d s lt there =
     (omega (arith, many)) in
     rw (name_at ps i d, name_at ps j d) at less
 
--- what is less than a name is less than an equal one
+-- an element less than a name is less than an equal one
 less_than_tied : (a b c : List ℕ) → slice_cmp nat_cmp a b ≡ Less → slice_cmp nat_cmp b c ≡ Equal
     → slice_cmp nat_cmp a c ≡ Less
 less_than_tied a b c less e = ap (λ (x : List ℕ). slice_cmp nat_cmp a x) (sym (same b c e)) ∙ less
@@ -145,7 +145,7 @@ names_are (e ∷ es) (p ∷ ps) r =
     let rest = names_are es ps r.2 in
     cc
 
--- programs read from a table stand in byte order of their names
+-- programs read from a table are in byte order of their names
 pub read_in_order : (m : BTreeMap (String Global) Value) (ps : List NamedProgram) → IsOrdered string_cmp m
     → AllRead (texts_of (table_view m)) (map named_tree ps) → AreInOrder ps
 read_in_order m ps ordered r = rw (names_are m.entries ps r) (bytes_in_order (keys_of m.entries) ordered)

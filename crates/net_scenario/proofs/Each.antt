@@ -94,7 +94,7 @@ tables_from vs i d o within is table = tables_after_item vs i d within
     ∙ ap (λ t. option_to_list t ++ tables_in (items_view (drop (i + 1) vs)))
     (sym (table ∙ ap (λ v. as_table (view v)) is))
 
--- what the tables give, after the item at i: a table, which gave b
+-- the result of the tables, after the item at i: a table, with the result b
 pub map_table : {B : Type 0} (g : Members → B) (vs : List Value) (i : ℕ) (d : Value) (ms : Members) (b : B)
     (all before after : List B) → i < length vs → d ≡ get_or vs i d → Some ms ≡ as_table (view d) → b ≡ g ms
     → after ≡ before ++ (b ∷ []) → all ≡ before ++ map g (tables_in (items_view (drop i vs)))
@@ -105,7 +105,7 @@ map_table g vs i d ms b all before after within is table gave pushed h =
     ∙ sym (append_assoc before (g ms ∷ []) rest)
     ∙ ap (λ bs. bs ++ rest) (sym (pushed ∙ ap (λ x. before ++ (x ∷ [])) gave))
 
--- the same, where it is no table
+-- the same, if it is no table
 pub map_no_table : {B : Type 0} (g : Members → B) (vs : List Value) (i : ℕ) (d : Value) (all before after : List B)
     → i < length vs → d ≡ get_or vs i d → None ≡ as_table (view d) → after ≡ before
     → all ≡ before ++ map g (tables_in (items_view (drop i vs)))
@@ -114,7 +114,7 @@ map_no_table g vs i d all before after within is table kept h =
     h ∙ ap (λ ts. before ++ map g ts) (tables_from vs i d None within is table)
     ∙ ap (λ bs. bs ++ map g (tables_in (items_view (drop (i + 1) vs)))) (sym kept)
 
--- the same, where no item is left
+-- the same, if no item is left
 pub map_all : {B : Type 0} (g : Members → B) (vs : List Value) (i : ℕ) (all bs : List B) → length vs ≤ i
     → all ≡ bs ++ map g (tables_in (items_view (drop i vs))) → bs ≡ all
 map_all g vs i all bs past h =

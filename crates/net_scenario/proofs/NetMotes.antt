@@ -19,7 +19,7 @@ none_cond : {Y : Type 0} (b : Bool) (e : Y) → cond b (Some e) None ≡ None �
 none_cond true e h = cc
 none_cond false e h = refl
 
--- where a program is found, counted from k
+-- the index of a program, counted from k
 pub record Found (ps : List NamedProgram) (name : List ℕ) (k i : ℕ) : Type 0 where
   pub place : ℕ
   pub is : i ≡ k + place

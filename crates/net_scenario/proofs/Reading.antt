@@ -1,4 +1,4 @@
--- What a text describes, from what its document makes.
+-- The meaning of a text, from that of its document.
 use Rattle.std.proofs.Common.{◌≡◌, ◌≤◌, ℕ, List, length, map, codes, ℤ, pos, Bool, unwrap_or, nat_lt, false, lit<}
 use Rattle.std.proofs.Common.{refl, sym, ap, ◌∙◌, arith, Result, Ok, Err, Option, Some, None}
 use Rattle.std.proofs.lemmas.Bool.Decides.{nat_tests}
@@ -30,7 +30,7 @@ use Rattle.mote_net.specs.Net.{MoteSetup, setup_of}
 use Rattle.net_scenario.specs.Net.{mote_of_table, place_told, radio_told}
 use Rattle.net_scenario.specs.Reading.{document_of, HasTrees, IsNetOf, MakesRadio, MakesNet, Answers}
 
--- a document makes what its text describes
+-- the result of a document is the meaning of its text
 pub answered : (text : List ℕ) (top : Members) (r : Result Net ScenarioError) → document_of text ≡ Ok top
     → MakesNet top r → Answers text r
 answered text top (Ok net) is m = (record { top = top; is = is }, m)

@@ -1,4 +1,4 @@
--- Tables and arrays of code beside the data that they stand for.
+-- Tables and arrays of code and the data that they mean.
 use Rattle.std.proofs.Common.{◌≡◌, ℕ, Bool, ◌&&◌, ◌||◌, nat_le, List, [], ◌∷◌, map, length, is_some, is_none, not}
 use Rattle.std.proofs.Common.{cond, true, false, Some, None, BTreeMap, if◌then◌else◌, String, Global, string_bytes}
 use Rattle.std.proofs.Common.{refl, ap, arith}

@@ -1,4 +1,4 @@
--- A document: its tables in the order in which their faults are reported, and what they hold.
+-- A document: its tables in the order in which their errors are reported, and their contents.
 use Rattle.std.specs.Prelude.{◌≡◌, ℕ, ℤ, pos, negsuc, ◌≤ℤ◌, List, [], ◌∷◌, ◌++◌, map, codes, Option, Some, None, String}
 use Rattle.std.specs.Prelude.{option_map, Bool, false, is_none, option_and_then, unwrap_or, if◌then◌else◌}
 use Rattle.std.specs.BTreeMap.{BTreeMap}

@@ -1,4 +1,4 @@
--- What a text describes: one net or one fault, and never both.
+-- The meaning of a text: one net or one error, and never both.
 use Rattle.std.specs.Prelude.{◌≡◌, ◌⊎◌, ℕ, List}
 use Rattle.program_tree.specs.Code.{Tree}
 use Rattle.program_tree.specs.Reading.{IsTreeOf, IsToldOf}

@@ -1,4 +1,4 @@
--- Scenarios: what a text describes.
+-- Scenarios: the meaning of a text.
 pub mod Document
 pub mod Errors
 pub mod Laws

@@ -1,4 +1,4 @@
--- The net of a document: what its motes and its medium are.
+-- The net of a document: its motes and its medium.
 use Rattle.std.specs.Prelude.{ℕ, List, map, codes, Option, Some, None, unwrap_or, find, is_none, if◌then◌else◌}
 use Rattle.std.specs.Option.{option_map_or}
 use Rattle.std.specs.Str.{bytes_eq}

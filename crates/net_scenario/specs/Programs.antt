@@ -18,16 +18,16 @@ pub record ProgramText : Type 0 where
   pub name : List ℕ
   pub text : List ℕ
 
--- the programs of a table, whose members stand in byte order of their names
+-- the programs of a table, whose members are in byte order of their names
 abbrev pub texts_of : Members → List ProgramText
 texts_of no_members = []
 texts_of (member k d ms) = record { name = k; text = unwrap_or (as_str d) [] } ∷ texts_of ms
 
--- programs that stand in byte order of their names, each name once
+-- programs in byte order of their names, each name once
 abbrev pub AreInOrder : List NamedProgram → Type 0
 AreInOrder ps = IsStrictlySortedBy (slice_cmp nat_cmp) (map (λ p. p.name) ps)
 
--- each program's text is that of the tree beside it
+-- each program's text is that of the tree next to it
 abbrev pub AllRead : List ProgramText → List NamedTree → Type 0
 AllRead [] [] = Unit {0}
 AllRead (p ∷ ps) (t ∷ ts) = (t.name ≡ p.name) × IsTreeOf p.text t.tree × AllRead ps ts

@@ -1,4 +1,4 @@
--- What a text describes: a net, or its first fault.
+-- The meaning of a text: a net, or its first error.
 use Rattle.std.specs.Prelude.{◌≡◌, ℕ, nat_lt, List, length, codes, Option, Some, None, if◌then◌else◌, Result, Ok, Err}
 use Rattle.std.specs.Prelude.{String}
 use Rattle.std.specs.BTreeMap.{BTreeMap}
@@ -90,7 +90,7 @@ MakesNet top (Err (Medium e)) = IsMediumFaultOf top e
 MakesNet top (Err Memory) = Unit {0}
 MakesNet top (Err e) = ⊥
 
--- what may be answered to a text: the net that it describes, its first fault, or out of memory
+-- the possible results for a text: its net, its first error, or out of memory
 abbrev pub Answers : List ℕ → Result Net ScenarioError → Type 0
 Answers text (Ok net) = TellsNet text (net_of net)
 Answers text (Err Memory) = Unit {0}

@@ -33,7 +33,7 @@ needed since name kind = record { since = since; name = name; kind = kind; is_ne
 abbrev pub optional : Version → List ℕ → Kind → Rule
 optional since name kind = record { since = since; name = name; kind = kind; is_needed = false }
 
--- what came in a version is in it and in later ones
+-- a key that came in a version is in it and in later ones
 abbrev pub has_come : (since now : Version) → Bool
 has_come First now = true
 has_come Second First = false
@@ -96,7 +96,7 @@ has_kind Text d = is_some (as_str d)
 has_kind Table d = is_some (as_table d)
 has_kind (Tables low high) d = option_map_or are_tables (as_array d) false
 
--- what has no range is in range
+-- a value without a range is in range
 abbrev pub is_in_range : Kind → Data → Bool
 is_in_range (Number low high) d = option_map_or (λ z. le_z low z && le_z z high) (as_integer d) true
 is_in_range Boolean d = true

@@ -21,7 +21,7 @@ use Rattle.process_kernel.specs.Call.{calls_of}
 use Rattle.process_kernel.specs.Views.{part_of}
 use Rattle.process_kernel.proofs.Depth.{run_opens}
 
--- writing an element back to where it was read changes nothing
+-- writing an element back to its place changes nothing
 written_back : {A : Type 0} (xs : List A) (i : ℕ) (x : A) → slice_get xs i ≡ Some x → slice_set xs i x ≡ xs
 written_back [] i x is = cc
 written_back (y ∷ ys) zero x is = let same : y ≡ x = cc in ap (λ z. z ∷ ys) (sym same)

@@ -13,7 +13,7 @@ use Rattle.process_kernel.specs.Operation.{run_of}
 use Rattle.process_kernel.specs.Call.{calls_of, call_of}
 use Rattle.process_kernel.specs.Views.{Tells}
 
--- what follows the rule of a call follows the calls that nest one deeper
+-- a step that follows the rule of a call follows the calls that nest one deeper
 pub deeper_call : (r : Result (Unit {0}) Stop) (new s : State) (p : Proc) (e : Event) →
     ((k : ℕ) → s.units ≤ k → Tells r new (call_of (calls_of k) s p e)) → (k : ℕ) → s.units < k
     → Tells r new ((calls_of k).call s p e)

@@ -1,4 +1,4 @@
--- What a mote is before it is booted.
+-- A mote before it is booted.
 use Rattle.std.proofs.Common.{ℕ, zero, suc, ◌≡◌, ◌+◌, ◌≤◌, ◌++◌, List, [], ◌∷◌, length, map, drop, Some, refl, ap, sym, ◌∙◌, arith, append_assoc}
 use Rattle.std.specs.Prelude.{slice_get, Option}
 use Rattle.std.specs.Global.{Box}

@@ -1,4 +1,4 @@
--- What a boot or a run of a kernel gives.
+-- The outcome of a boot or a run of a kernel.
 use Rattle.std.proofs.Common.{ℕ, ◌≡◌, ◌++◌, Bool, true, false, List, [], append-nil, Option, Some, None, Result, Ok}
 use Rattle.std.proofs.Common.{Err, refl, sym, ap, ◌∙◌}
 use Rattle.std.proofs.lemmas.List.{append_assoc}
@@ -89,7 +89,7 @@ machine_kept k1 k2 (Ok left) result closes = ap (λ (k : Kernel). k.machine) clo
 machine_kept k1 k2 (Err Halted) result closes = ap (λ (k : Kernel). k.machine) closes.1
 machine_kept k1 k2 (Err Memory) result closes = ap (λ (k : Kernel). k.machine) closes.1
 
--- what is written by now begins with what was written before
+-- the output by now begins with the output before
 pub begins_with : (old new : Out)
     → ((lines : List Line) (sends : List Sent) → Begins lines sends old → Begins lines sends new) → BeginsWith old new
 unfolding Begins
@@ -118,7 +118,7 @@ begins_further a b c h g = record {
   );
 }
 
--- a mote that had not failed has not failed by now, and what was written before is still there
+-- a mote that had not failed has not failed by now, and the output before is still there
 abbrev pub GoesOnSoFar : Option Mote → Out → Option Mote → Out → Type 0
 GoesOnSoFar None out now out' = (now ≡ None) × (out' ≡ out)
 GoesOnSoFar (Some m) out now out' = ((m' : Mote) × (now ≡ Some m')) × BeginsWith out out'

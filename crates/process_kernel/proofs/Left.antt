@@ -1,4 +1,4 @@
--- What is left to do after a boot or a run.
+-- The remaining work after a boot or a run.
 use Rattle.std.proofs.Common.{ℕ, ◌≡◌, ◌+◌, Bool, true, false, ◌||◌, List, length, if◌then◌else◌, refl, ◌∙◌, arith}
 use Rattle.std.specs.Prelude.{nat_lt}
 use Rattle.std.proofs.lemmas.Bool.{cond_both}

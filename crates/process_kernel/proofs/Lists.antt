@@ -64,7 +64,7 @@ length-lt m ms n are within away =
     let most : length (m ∷ ms) ≤ n = length-le (m ∷ ms) n (AreMembers-cons m ms n are within away) in
     omega (arith, most)
 
--- what stays on the list
+-- the members that stay on the list
 stands_in-filter : (f : Member → Bool) (ms : List Member) (p : Proc) → stands_in ms p ≡ false
     → stands_in (filter f ms) p ≡ false
 stands_in-filter f [] p h = refl
@@ -119,7 +119,7 @@ take_all : (ws rest : List Member) → take (length ws) (ws ++ rest) ≡ ws
 take_all [] rest = refl
 take_all (w ∷ ws) rest = ap (λ l. w ∷ l) (take_all ws rest)
 
--- a list that is overwritten completely is what was written
+-- a list that is overwritten completely consists of the elements written
 pub refill_same : (xs ws : List Member) → length ws ≡ length xs → refill (length xs) xs ws ≡ ws
 refill_same xs ws same = ap (λ n. take n (ws ++ drop (length ws) xs)) (sym same) ∙ take_all ws (drop (length ws) xs)
 
@@ -141,7 +141,7 @@ pub length-numbered : (k : ℕ) (ms : List Member) → length (numbered_from k m
 length-numbered k [] = refl
 length-numbered k (m ∷ ms) = ap suc (length-numbered (k + 1) ms)
 
--- numbering a numbered list anew changes nothing
+-- numbering a numbered list again changes nothing
 pub numbered_again : (k : ℕ) (ms : List Member) → numbered_from k (numbered_from k ms) ≡ numbered_from k ms
 numbered_again k [] = refl
 numbered_again k (m ∷ ms) = ap (λ xs. record { process = m.process; incarnation = k } ∷ xs) (numbered_again (k + 1) ms)

@@ -24,7 +24,7 @@ lower_is_away k (x ∷ ms) m low =
     let other : (m.incarnation == k) ≡ false = grind arith in
     rw (other, and_false (is_same m.process x.process)) (lower_is_away (k + 1) ms m (omega (arith, low)))
 
--- one with a number from k on stands at its place, or nowhere
+-- one with a number from k on is at its place, or nowhere
 held_from : (k i : ℕ) (ms : List Member) (m d : Member) → m.incarnation ≡ k + i → i < length ms
     → holds_member (numbered_from k ms) m ≡ is_same m.process (slice_index_or ms i d).process
 held_from k i [] m d is within = absurd (omega arith)

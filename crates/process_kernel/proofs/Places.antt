@@ -1,4 +1,4 @@
--- Places in a list where a test holds.
+-- Places in a list at which a test holds.
 use Rattle.std.proofs.Common.{ℕ, zero, suc, ◌≡◌, ◌+◌, ◌<◌, Bool, true, false, eqb, List, [], ◌∷◌, drop, Option}
 use Rattle.std.proofs.Common.{Some, None, refl, ap, sym, ◌∙◌, arith, ◌↔◌, IsTrue}
 use Rattle.std.specs.Prelude.{slice_get, Contains, unwrap_or}
@@ -59,7 +59,7 @@ to_contains : (i : ℕ) (ks : List ℕ) (b : Bool) → list_any (eqb i) ks ≡ b
 to_contains i ks b is =
     (λ h. Contains-from_any eqb-true i ks (is ∙ h), λ h. sym is ∙ list_any-from_Contains nat_eq_equiv i ks h)
 
--- the places of a list are those where the test holds
+-- the places of a list are those at which the test holds
 pub places_hold : {A : Type 0} (test : A → Bool) (xs : List A) (i : ℕ) (b : Bool)
     → b ≡ test_at test (slice_get xs i) → IsTrue b ↔ Contains (places_from test 0 xs) i
 places_hold test xs i b is =

@@ -1,4 +1,4 @@
--- What the threads of a mote have still to do, one by one.
+-- The remainders of the threads of a mote, one by one.
 use Rattle.std.proofs.Common.{ℕ, zero, suc, ◌≡◌, ◌<◌, ◌≤◌, List, [], ◌∷◌, length, Some, refl, ap, arith}
 use Rattle.std.specs.Prelude.{slice_get, slice_set, slice_index_or, unwrap_or, Option}
 use Rattle.std.specs.Global.{Box}

@@ -10,7 +10,7 @@ use Rattle.process_kernel.specs.Underway.{Underway, after, underway_in}
 use Rattle.process_kernel.specs.Runs.{follow, runs_of}
 use Rattle.process_kernel.proofs.Steps.{kernel_step, kernel_ran}
 
--- a state between kernel runs, from which the runs that are left lead to where all `most` runs lead from the first
+-- a state between kernel runs, from which the remaining runs lead to the same state as all `most` runs from the first
 pub record RunSoFar (most left moment : ℕ) (first : Underway) (by_now : Option Underway) : Type 0 where
   pub u : Underway
   pub is : by_now ≡ Some u

@@ -1,4 +1,4 @@
--- Steps of a turn under way that go on by their definitions.
+-- Steps of a turn under way that continue by their definitions.
 use Rattle.std.proofs.Common.{◌≡◌, List, Option, Some, None, Ok, refl, subst}
 use Rattle.process_kernel.specs.declared.kernel.Ran.{Ran}
 use Rattle.trace_lines.specs.declared.line.Line.{Line}
@@ -32,7 +32,7 @@ kernel_step gives None new out out' r h = from_none _ out new out'
 kernel_step gives (Some m) new out out' r (m', is, given) =
     from_some (λ u. after (gives u.mote u.lines u.sends)) m out new out' (rw (is, given) refl)
 
--- what the kernel answered
+-- the kernel's answer
 pub kernel_ran : (gives : Mote → List Line → List Sent → Given) (old new : Option Mote) (out out' : Out) (r : Ran)
     (u : Underway)
     → Tells gives old out (Ok r) new out' → underway_in old out ≡ Some u → (gives u.mote u.lines u.sends).ran ≡ r

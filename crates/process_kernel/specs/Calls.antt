@@ -19,7 +19,7 @@ told event word = record { number = system_number event; word = word; sender = 0
 abbrev pub is_system_event : SystemEvent → Event → Bool
 is_system_event event e = e.number == system_number event
 
--- the answer of a thread, and what it has still to do
+-- the answer of a thread, and its remainder
 abbrev pub Answer : Type 0
 Answer = PtState × Remainder
 

@@ -36,7 +36,7 @@ abbrev pub walks_of : ℕ → State → Went
 walks_of zero s = Goes tt s
 walks_of (suc k) s = walk_timers (walks_of k) s.timers.listed s
 
--- what etimer does when it is polled: each walk that begins again has one timer fewer on the list
+-- etimer when it is polled: each walk that begins again has one timer fewer on the list
 unfoldable pub pass_of : State → Went
 pass_of s = walks_of (length s.timers.listed) s
 

@@ -22,8 +22,8 @@ process_number Radio = 258
 unfoldable pub last_run_of : Calls → State → Proc → Went
 last_run_of calls s p = spend_of s >>= λ _ s1. react_of calls s1 p (told Exit 0) >>= λ _ s2. Goes tt s2
 
--- A process on the list is exited on behalf of another, or of itself: the others are told first, then it has its last
--- run, unless it asked for the exit itself, and then it leaves.
+-- A process on the list is exited on behalf of another, or of itself: the others are informed first, then it has its
+-- last run, unless it asked for the exit itself, and then it leaves.
 unfoldable pub exit_of : Calls → State → Proc → (behalf : Proc) → Went
 exit_of calls s p behalf =
     if is_listed s p then (walk_of calls (told Exited (process_number p)) p s.members (exiting_of s p) >>= λ _ s1.

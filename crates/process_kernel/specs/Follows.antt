@@ -1,4 +1,4 @@
--- What a step of the kernel promises.
+-- The promise of a step of the kernel.
 use Rattle.std.specs.Prelude.{ℕ, ◌<◌, OnOk, Result}
 use Rattle.program_tree.specs.declared.program.Program.{Program}
 use Rattle.program_tree.specs.Program.{tree_of}
@@ -10,7 +10,8 @@ use Rattle.process_kernel.specs.Call.{calls_of}
 use Rattle.process_kernel.specs.Views.{state_of, Tells, Spends, Grows}
 
 -- A step follows a rule: its answer and the state that it leaves are the outcome of the rule, whose calls nest deeper
--- than there are units of work; each start is paid for by a unit; and what was written before is still there.
+-- than there are units of work; each start is paid for by a unit; and everything that was written before is still
+-- there.
 pub record Follows {A : Type 0} (program : Program) (old : Machine) (result : Result A Stop) (new : Machine)
     (rule : Calls → State → Outcome A) : Type 0 where
   pub exact : (k : ℕ) → old.fuel < k

@@ -1,4 +1,4 @@
--- What a boot or a kernel run of a mote gives.
+-- The outcome of a boot or a kernel run of a mote.
 use Rattle.std.specs.Prelude.{ℕ, ◌+◌, true, false, List, if◌then◌else◌}
 use Rattle.trace_lines.specs.declared.line.Line.{Line}
 use Rattle.radio_packet.specs.declared.sent.Sent.{Sent}
@@ -10,7 +10,7 @@ use Rattle.process_kernel.specs.Call.{calls_of}
 use Rattle.process_kernel.specs.Run.{begun_of, kernel_of, most_units}
 use Rattle.process_kernel.specs.Boot.{boot_of}
 
--- what a boot or a run gives: its answer, the mote after it, and all that is written by then
+-- the outcome of a boot or a run: its answer, the mote after it, and everything that is written by then
 pub record Given : Type 0 where
   pub ran : Ran
   pub mote : Mote

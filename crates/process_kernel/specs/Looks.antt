@@ -1,4 +1,4 @@
--- What a protothread is shown of the kernel.
+-- The view of the kernel that a protothread gets.
 use Rattle.std.specs.Prelude.{ℕ, ◌+◌, Bool, true, false, if◌then◌else◌, List, [], ◌∷◌, drop, Some, None}
 use Rattle.protothread.specs.Looks.{Looks}
 use Rattle.mote_timers.specs.declared.timer.Timer.{Timer}
@@ -9,7 +9,7 @@ use Rattle.process_kernel.specs.State.{State}
 abbrev pub is_unowned : Timer → Bool
 is_unowned t = elim t.owner [ Some p ↦ false | None ↦ true ]
 
--- the places, counted from k on, where the test holds
+-- the places, counted from k on, at which the test holds
 abbrev pub places_from : {A : Type 0} → (A → Bool) → (k : ℕ) → List A → List ℕ
 places_from test k [] = []
 places_from test k (x ∷ xs) = if test x then k ∷ places_from test (k + 1) xs else places_from test (k + 1) xs

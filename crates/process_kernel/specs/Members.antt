@@ -1,4 +1,4 @@
--- What holds of every process list.
+-- The properties of every process list.
 use Rattle.std.specs.Prelude.{ℕ, ◌<◌, ◌==◌, Bool, true, not, ◌&&◌, IsTrue, List, [], ◌∷◌, All}
 use Rattle.std.specs.List.{list_any}
 use Rattle.program_tree.specs.declared.event.Proc.{Proc}

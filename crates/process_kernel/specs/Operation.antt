@@ -41,7 +41,7 @@ act_of calls s current (op.Print v) = write_of s (what.Print (Own current) v)
 act_of calls s current (op.Take k) = Goes tt (take_of s k)
 act_of calls s current (op.Signal k) = Goes tt (signal_of s k)
 
--- a thread is told whether the queue was full
+-- a thread learns whether the queue was full
 abbrev pub answered_with : Option (List ℕ) → State → Remainder → (process : ℕ) → (answer : ℕ) → Outcome Remainder
 answered_with (Some variables) s r p answer =
     let a = answered_of r variables answer in
@@ -56,7 +56,7 @@ unfoldable pub perform_of : Calls → State → Remainder → (current : ℕ) �
 perform_of calls s r current (op.Post t e w) = post_of s t (posted e w) >>= λ full s1. answer_of s1 r current full
 perform_of calls s r current o = act_of calls s current o >>= λ _ s1. Goes r s1
 
--- what follows a step of a thread
+-- the consequence of a step of a thread
 abbrev pub after_step : Calls → Code → (process : ℕ) → Event → Step → Remainder → State → Outcome Answer
 after_step calls code p e (step.Op o) r s = perform_of calls s r p o >>= λ r1 s1. calls.run s1 code r1 p e
 after_step calls code p e (step.Done answer) r s = Goes (answer, r) s

@@ -13,7 +13,7 @@ use Rattle.process_kernel.specs.State.{State, Went}
 use Rattle.process_kernel.specs.Processes.{with_state, with_exiting}
 use Rattle.process_kernel.specs.Writes.{write_of}
 
--- what the body of a process has still to do
+-- the remainder of the body of a process
 unfoldable pub put_remainder : State → (process : ℕ) → Remainder → State
 put_remainder s p r = record s { remainders = slice_set s.remainders p r }
 

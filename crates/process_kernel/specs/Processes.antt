@@ -11,7 +11,7 @@ use Rattle.process_kernel.specs.State.{State}
 abbrev pub state_at : List ProcessState → Proc → ProcessState
 state_at states p = unwrap_or (slice_get states (place_of p)) Off
 
--- what the list says of the process: false, if the mote has no such process
+-- the entry of the process in the list: false, if the mote has no such process
 abbrev pub at_process : List Bool → Proc → Bool
 at_process xs p = unwrap_or (slice_get xs (place_of p)) false
 

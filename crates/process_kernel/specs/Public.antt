@@ -1,4 +1,4 @@
--- What the calls of a `Kernel` promise.
+-- The promises of a `Kernel`'s calls.
 use Rattle.std.specs.Prelude.{ℕ, ◌≡◌, true, List, Option, Some, None, Result, Ok, Err, if◌then◌else◌}
 use Rattle.program_tree.specs.Code.{Tree}
 use Rattle.trace_lines.specs.declared.line.Line.{Line}
@@ -16,8 +16,8 @@ use Rattle.process_kernel.specs.Mote.{Mote}
 use Rattle.process_kernel.specs.Given.{Given}
 use Rattle.process_kernel.specs.Views.{mote_of}
 
--- The mote that a kernel with this program holds, even after the kernel has failed. What its threads have still to do
--- follows from the program.
+-- The mote that a kernel with this program holds, even after the kernel has failed. The remainders of its threads
+-- follow from the program.
 unfoldable pub held_in : Tree → Kernel → Mote
 held_in program k = mote_of program k.machine k.booted k.halted
 
@@ -25,7 +25,7 @@ held_in program k = mote_of program k.machine k.booted k.halted
 unfoldable pub mote_in : Tree → Kernel → Option Mote
 mote_in program k = if k.failed then None else Some (mote_of program k.machine k.booted k.halted)
 
--- A boot or a run gives what the definition gives, or it ran out of memory, and from then on there is no mote.
+-- A boot or a run has the outcome of the definition, or it ran out of memory, and from then on there is no mote.
 abbrev pub Tells : (Mote → List Line → List Sent → Given) → Option Mote → Out → Result Ran KernelError
     → Option Mote → Out → Type 0
 Tells gives None out result new out' = (result ≡ Err error.Failed) × (new ≡ None) × (out' ≡ out)
@@ -35,7 +35,7 @@ Tells gives (Some m) out (Ok r) new out' =
 Tells gives (Some m) out (Err e) new out' = (e ≡ error.Memory) × (new ≡ None) × BeginsWith out out'
 
 -- After an error: a kernel that had failed before says so, and changes nothing; otherwise it ran out of memory, from
--- then on there is no mote, and what was written before is still there.
+-- then on there is no mote, and everything that was written before is still there.
 abbrev pub FailsAs : Option Mote → Out → KernelError → Option Mote → Out → Type 0
 FailsAs None out e new out' = (e ≡ error.Failed) × (new ≡ None) × (out' ≡ out)
 FailsAs (Some m) out e new out' = (e ≡ error.Memory) × (new ≡ None) × BeginsWith out out'

@@ -1,4 +1,4 @@
--- What a process does with an event.
+-- The reaction of a process to an event.
 use Rattle.std.specs.Prelude.{ℕ, slice_get, unwrap_or, Some, None, if◌then◌else◌}
 use Rattle.program_tree.specs.declared.event.Proc.{Proc}
 use Rattle.program_tree.specs.declared.event.Proc.TheVariants.{Own, Etimer, Ctimer, Radio}
@@ -24,11 +24,11 @@ handler_of calls s code p e =
     then (calls.run s code (fresh_of code OnExit) p e >>= λ _ s1. Goes tt s1)
     else Goes tt s)
 
--- what the body has still to do
+-- the remainder of the body
 abbrev pub remainder_at : State → Code → (process : ℕ) → Remainder
 remainder_at s code p = unwrap_or (slice_get s.remainders p) (fresh_of code Body)
 
--- The body is resumed. While it runs, a fresh one stands in its place.
+-- The body is resumed. While it runs, a fresh one is in its place.
 unfoldable pub resume_of : Calls → State → Code → (process : ℕ) → Event → Outcome PtState
 resume_of calls s code p e =
     calls.run (with_fresh_body s p) code (remainder_at s code p) p e >>= λ a s1. Goes a.0 (put_remainder s1 p a.1)

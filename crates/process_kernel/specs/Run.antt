@@ -12,7 +12,7 @@ use Rattle.process_kernel.specs.Delivery.{deliver_of}
 abbrev pub most_units : ℕ
 most_units = 10000
 
--- the state in which a boot or a run begins: its work, the moment, and the incarnations numbered anew
+-- the state in which a boot or a run begins: its work, the moment, and the incarnations numbered again
 unfoldable pub begun_of : State → (moment : ℕ) → State
 begun_of s moment = record s {
   moment = moment;
@@ -30,7 +30,8 @@ abbrev pub deliver_front : Calls → List Posted → State → Went
 deliver_front calls [] s = Goes tt s
 deliver_front calls (x ∷ xs) s = deliver_of calls (record s { queue = without_front s.queue }) x
 
--- a kernel run: the polls, if one is requested, and then one event, if there is one; the answer is what is left
+-- a kernel run: the polls, if one is requested, and then one event, if there is one; the result is the number of units
+-- left
 unfoldable pub kernel_of : Calls → State → Outcome ℕ
 kernel_of calls s =
     polls_due_of calls s >>= λ _ s1. deliver_front calls s1.queue.events s1 >>= λ _ s2. Goes (left_of s2) s2

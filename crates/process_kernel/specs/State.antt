@@ -11,11 +11,11 @@ use Rattle.trace_lines.specs.declared.line.Line.{Line}
 use Rattle.radio_packet.specs.declared.sent.Sent.{Sent}
 
 -- The program and the number of the mote. For each process, the system processes first: its state, whether it is being
--- exited, and whether it needs a poll. For each process of the program: what its body has still to do, and its
--- variables. The process list, the newest first, and how many incarnations have a number. Whether a poll is requested;
--- the event queue; the counts of the semaphores; the timers with the timer list; the callback list; the packets in the
--- receive ring; how many packets were sent; the moment. And of the current run: the units of work that are left, and
--- the lines and packets so far.
+-- exited, and whether it needs a poll. For each process of the program: the remainder of its body, and its variables.
+-- The process list, the newest first, and how many incarnations have a number. Whether a poll is requested; the event
+-- queue; the counts of the semaphores; the timers with the timer list; the callback list; the packets in the receive
+-- ring; how many packets were sent; the moment. And of the current run: the units of work that are left, and the lines
+-- and packets so far.
 pub record State : Type 0 where
   pub program : Tree
   pub mote : ℕ
@@ -38,7 +38,7 @@ pub record State : Type 0 where
   pub lines : List Line
   pub sends : List Sent
 
--- how a step ends: the mote halts, or it goes on with an answer
+-- the end of a step: the mote halts, or it continues with an answer
 pub data Outcome (A : Type 0) : Type 0 where
   Ends : State → Outcome A
   Goes : A → State → Outcome A

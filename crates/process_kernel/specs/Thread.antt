@@ -10,7 +10,7 @@ use Rattle.protothread.specs.Step.{Advanced, advanced_of}
 use Rattle.process_kernel.specs.State.{State}
 use Rattle.process_kernel.specs.Looks.{looks_of}
 
--- a step of a thread, with what it has still to do and the state after it
+-- a step of a thread, with its remainder and the state after it
 pub record Stepped : Type 0 where
   pub step : Step
   pub remainder : Remainder
@@ -28,6 +28,6 @@ abbrev pub stepped_with : Option (List ℕ) → State → Code → Remainder →
 stepped_with (Some variables) s code r p e = stepped s p (advanced_of code e (looks_of s) r variables s.units)
 stepped_with None s code r p e = record { step = step.Done Ended; remainder = r; state = s }
 
--- a thread of a process goes on to its next operation or to its answer
+-- a thread of a process continues to its next operation or to its answer
 unfoldable pub stepped_of : State → Code → Remainder → (process : ℕ) → Event → Stepped
 stepped_of s code r p e = stepped_with (slice_get s.variables p) s code r p e

@@ -1,4 +1,4 @@
--- What a program does with its timers.
+-- The operations of a program on its timers.
 use Rattle.std.specs.Prelude.{ℕ, nat_lt, Bool, false, if◌then◌else◌, length, slice_get, Some, None}
 use Rattle.program_tree.specs.declared.event.Proc.{Proc}
 use Rattle.program_tree.specs.declared.event.Proc.TheVariants.{Own, Etimer, Ctimer}
@@ -16,7 +16,7 @@ is_callback program timer = elim (slice_get program.timers timer) [ Some t ↦ t
 abbrev pub has_timer : State → (timer : ℕ) → Bool
 has_timer s timer = nat_lt timer (length s.timers.timers)
 
--- who is told when the timer is due: the process that sets it, and for a callback timer the ctimer process
+-- the process that is informed when the timer is due: the one that sets it, and for a callback timer the ctimer process
 abbrev pub owner_of : Tree → (timer : ℕ) → (current : ℕ) → Proc
 owner_of program timer current = if is_callback program timer then Ctimer else Own current
 

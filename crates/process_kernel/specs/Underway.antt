@@ -1,4 +1,4 @@
--- A turn under way: a mote, with what it has written so far.
+-- A turn under way: a mote, with its output so far.
 use Rattle.std.specs.Prelude.{◌≡◌, List, Option, Some, option_map}
 use Rattle.trace_lines.specs.declared.line.Line.{Line}
 use Rattle.trace_lines.specs.declared.out.Out.{Out}
@@ -12,7 +12,7 @@ pub record Underway : Type 0 where
   pub lines : List Line
   pub sends : List Sent
 
--- what a boot or a kernel run leaves
+-- the result of a boot or a kernel run
 abbrev pub after : Given → Underway
 after g = record { mote = g.mote; lines = g.lines; sends = g.sends }
 
@@ -20,7 +20,7 @@ after g = record { mote = g.mote; lines = g.lines; sends = g.sends }
 abbrev pub underway_in : Option Mote → Out → Option Underway
 underway_in m out = option_map (λ x. record { mote = x; lines = out.lines.items; sends = out.sends.items }) m
 
--- a mote whose kernel has not failed goes on by this step
+-- a mote whose kernel has not failed continues by this step
 pub record GoesOn (step : Underway → Underway) (old : Option Mote) (out : Out) (new : Option Mote) (out' : Out)
     : Type 0 where
   pub leads : (u : Underway) → underway_in old out ≡ Some u → underway_in new out' ≡ Some (step u)

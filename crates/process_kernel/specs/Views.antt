@@ -1,4 +1,4 @@
--- What the types of `src/machine.rt` and `src/look.rt` stand for, in a mote with this program.
+-- The meaning of the types of `src/machine.rt` and `src/look.rt`, in a mote with this program.
 use Rattle.std.specs.Prelude.{ℕ, ◌≡◌, ◌+◌, ◌<◌, ◌≤◌, ◌++◌, ◌^◌, Bool, IsTrue, List, [], ◌∷◌, Result, Ok, Err}
 use Rattle.std.specs.Prelude.{Option, Some, None, if◌then◌else◌}
 use Rattle.std.specs.Global.{Box}
@@ -31,7 +31,7 @@ abbrev pub body_of : Code → Option (Box Thread) → Remainder
 body_of c None = fresh_of c Body
 body_of c (Some t) = remainder_of c t.value
 
--- what each body has still to do, by the code of its process
+-- the remainder of each body, by the code of its process
 abbrev pub remainders_of : List Code → List (Option (Box Thread)) → List Remainder
 remainders_of [] ts = []
 remainders_of (c ∷ cs) [] = []
@@ -74,7 +74,7 @@ Tells (Ok a) s o = o ≡ Goes a s
 Tells (Err Halted) s o = o ≡ Ends s
 Tells (Err Memory) s o = Unit {0}
 
--- the same of a thread, with what it has still to do
+-- the same of a thread, with its remainder
 abbrev pub told_answer : Code → Thread → Result PtState Stop → Result Answer Stop
 told_answer code thread (Ok answer) = Ok (answer, remainder_of code thread)
 told_answer code thread (Err e) = Err e
@@ -83,12 +83,12 @@ abbrev pub told_thread : Code → Thread → Result (Unit {0}) Stop → Result R
 told_thread code thread (Ok done) = Ok (remainder_of code thread)
 told_thread code thread (Err e) = Err e
 
--- what was written begins with these lines and packets
+-- the output begins with these lines and packets
 unfoldable pub Begins : List Line → List Sent → Out → Type 0
 Begins lines sends out =
     ((more : List Line) × (out.lines.items ≡ lines ++ more)) × ((more : List Sent) × (out.sends.items ≡ sends ++ more))
 
--- what was written before is still there, however the step ended
+-- everything that was written before is still there, however the step ended
 abbrev pub Grows : Out → Out → Type 0
 Grows old new = (lines : List Line) (sends : List Sent) → Begins lines sends old → Begins lines sends new
 

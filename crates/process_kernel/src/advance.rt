@@ -50,7 +50,7 @@ impl Machine {
         )
     }
 
-    /// Tells a thread whether the queue was full for what it posted.
+    /// Gives a thread the answer to its post: whether the queue was full.
     #[tactic(auto, unfolding(crate::specs::Operation::answer_of))]
     pub fn answer(&mut self, thread: &mut Thread, process: u8, is_full: bool)
         ensures exact { (t : Tree) (code : Code)

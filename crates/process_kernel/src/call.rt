@@ -1,4 +1,4 @@
-//! The call of a process, and what the process does with the event.
+//! The call of a process, and its reaction to the event.
 
 ghost use Rattle.std.specs.Prelude.{◌≡◌, Some, OnOk, slice_get};
 ghost use Rattle.program_tree.specs.Program.{tree_of, code_of};

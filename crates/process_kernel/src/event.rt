@@ -16,7 +16,7 @@ pub fn system_event(event: SystemEvent, word: u16) -> Event
     }
 }
 
-/// Whether it is this event of the kernel's own.
+/// Returns whether it is this event of the kernel's own.
 pub fn is_event(which: SystemEvent, event: &Event) -> bool
     ensures { result ≡ has_number_of which event.now }
 {

@@ -17,7 +17,7 @@ use trace_lines::Out;
 /// The end of a boot or of a kernel run.
 #[derive(Clone, Copy, Debug, PartialEq, Eq)]
 pub enum Ran {
-    /// What is left to do: the number of queued events, and one more if a poll is requested.
+    /// The work that is left: the number of queued events, and one more if a poll is requested.
     Left(u16),
     Halted,
 }
@@ -56,7 +56,7 @@ pub struct Kernel {
     machine: Machine,
 }
 
-/// By hand, so that a kernel is dropped by one call: the check of a function that owns one sees that call alone.
+/// By hand, so that a kernel is dropped by one call: the check of a function that owns one sees only that call.
 impl Drop for Kernel {
     fn drop(self) {
         let Kernel {

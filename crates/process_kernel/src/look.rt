@@ -1,4 +1,4 @@
-//! What a protothread is shown of the kernel.
+//! The view of the kernel that a protothread gets.
 
 ghost use Rattle.std.specs.Prelude.{◌≡◌, ◌<◌, ◌≤◌, slice_set, ◌↔◌, ◌%◌, ◌^◌, IsTrue, length};
 
@@ -7,8 +7,7 @@ use crate::table::{is_alive, state_at};
 use mote_timers::Timers;
 use protothread::{Look, Semaphore};
 
-/// What a protothread is shown: the moment, the mote's number, the timers, the states of the processes and the
-/// semaphores.
+/// A protothread's view: the moment, the mote's number, the timers, the states of the processes and the semaphores.
 #[derive(Drop)]
 pub struct Shown {
     pub(crate) moment: u64,

@@ -128,7 +128,8 @@ impl Machine {
         }
     }
 
-    /// Exits a process on behalf of another, or of itself: the others are told first (`exit_process` of `process.c`).
+    /// Exits a process on behalf of another, or of itself: the others are informed first (`exit_process` of
+    /// `process.c`).
     #[cycle(kernel)]
     #[tactic(auto, unfolding(crate::specs::Exit::exit_of))]
     pub fn exit(&mut self, program: &Program, process: Proc, behalf: Proc) -> Result<(), Stop>

@@ -14,7 +14,7 @@ use program_tree::{Event, Proc, Target};
 use radio_packet::Sent;
 use trace_lines::{Line, What};
 
-/// How many events a mote accepts, and how many packets it sends, before it halts.
+/// The number of events that a mote accepts, and of packets that it sends, before it halts.
 const LIMIT: u64 = 1 << 62;
 
 impl Machine {

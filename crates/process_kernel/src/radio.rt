@@ -80,7 +80,7 @@ impl Machine {
         Ok(())
     }
 
-    /// What the radio process does with an event.
+    /// The reaction of the radio process to an event.
     #[tactic(auto, unfolding(crate::specs::Radio::radio_of))]
     pub fn react_as_radio(&mut self, program: &Program, event: &Event) -> Result<(), Stop>
         ensures exact { Tells result (state_of (tree_of program.now) self.new)

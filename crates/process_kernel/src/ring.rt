@@ -8,7 +8,7 @@ use radio_packet::Arrival;
 use std::alloc::{AllocError, Global};
 use std::marker::Model;
 
-/// How many packets the ring holds.
+/// The number of packets for which the ring has room.
 const ROOM: usize = 8;
 
 /// The packets that a mote has received and its radio process hasn't handed on yet, the oldest first. All its memory

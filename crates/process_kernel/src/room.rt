@@ -51,7 +51,7 @@ fn first_semaphores(alloc: Global, program: &Program) -> Result<Vec<Semaphore>, 
     Ok(semaphores)
 }
 
-/// What a protothread of a mote with this number would be shown before the boot.
+/// The view that a protothread of a mote with this number would get before the boot.
 fn first_shown(alloc: Global, program: &Program, mote: u16) -> Result<Shown, AllocError>
     ensures mote { IfOk result (λ shown. (shown.mote ≡ mote) × (shown.moment ≡ 0)) }
     ensures timers { let n = length (tree_of program.now).timers in
@@ -112,8 +112,8 @@ impl Machine {
         })
     }
 
-    /// Makes the tables of the processes, none of which is listed, and room for a list of all of them. What a run
-    /// touches is allocated in a row, right after the timers and the states, so that it lies close together.
+    /// Makes the tables of the processes, none of which is listed, and room for a list of all of them. The data that a
+    /// run touches are allocated in a row, right after the timers and the states, so that they are close together.
     fn make_tables(&mut self, alloc: Global, program: &Program) -> Result<(), AllocError>
         ensures { let t = tree_of program.now in let n = length t.processes + 3 in
             OnOk result (state_of t self.new

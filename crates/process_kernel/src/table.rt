@@ -75,7 +75,7 @@ impl Machine {
             .unwrap_or(false)
     }
 
-    /// Whether its body or a handler of it is being executed, or it is being exited.
+    /// Returns whether its body or a handler of it is being executed, or it is being exited.
     pub fn is_busy(&self, process: Proc) -> bool
         ensures { result ≡ (is_called_state
             (state_of_process self.now.shown.states.items process) || at_process self.now.exiting.items process) }
@@ -96,14 +96,14 @@ impl Machine {
             .unwrap_or(false)
     }
 
-    /// Whether the mote has such a process.
+    /// Returns whether the mote has such a process.
     pub fn has_process(&self, process: Proc) -> bool
         ensures { result ≡ nat_lt (place_of process) (length self.now.shown.states.items) }
     {
         place_of(process) < self.shown.states.len()
     }
 
-    /// Whether this incarnation is on the process list. If they are numbered, it stands at its number or nowhere.
+    /// Returns whether this incarnation is on the process list. If they are numbered, it is at its number or nowhere.
     #[inline(always)]
     #[tactic(auto, using(crate::proofs::Numbered::held_there, crate::proofs::Numbered::held_past))]
     pub fn is_on_list(&self, member: Member) -> bool
@@ -116,7 +116,7 @@ impl Machine {
         place < self.members.len() && is_same(member.process, self.members[place].process)
     }
 
-    /// Whether this incarnation is on the process list, by looking at each member.
+    /// Returns whether this incarnation is on the process list, by looking at each member.
     #[inline(never)]
     fn is_among_all(&self, member: Member) -> bool
         ensures { result ≡ holds_member self.now.members.items member }
@@ -125,7 +125,7 @@ impl Machine {
             && place_of(member.process) == place_of(x.process))
     }
 
-    /// Whether some incarnation of the process is on the process list.
+    /// Returns whether some incarnation of the process is on the process list.
     pub fn is_listed(&self, process: Proc) -> bool
         ensures { result ≡ stands_in self.now.members.items process }
     {

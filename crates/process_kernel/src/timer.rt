@@ -1,4 +1,4 @@
-//! Timers: what a program does with them, and the etimer process.
+//! The timer operations of a program, and the etimer process.
 
 ghost use Rattle.std.specs.Prelude.{◌≡◌, ◌<◌, OnOk, if◌then◌else◌};
 ghost use Rattle.program_tree.specs.Code.{Tree};
@@ -169,7 +169,7 @@ impl Machine {
         }
     }
 
-    /// What the etimer process does with an event.
+    /// The reaction of the etimer process to an event.
     #[tactic(auto, unfolding(crate::specs::Etimer::etimer_of))]
     pub fn react_as_etimer(&mut self, event: &Event) -> Result<(), Stop>
         ensures exact { (t : Tree) → Tells result (state_of t self.new) (etimer_of (state_of t self.old) event.now) }

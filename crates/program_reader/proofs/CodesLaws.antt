@@ -89,7 +89,7 @@ pub codes_fail : (s m : Scope) (x : Name) (xs : List Name) (trees : List Code) (
     → tell s (codes_form s.names.processes more) old ≡ v
 codes_fail s m x xs trees old mid v more h e = h.goes_on more ∙ e
 
--- What a code leaves unchanged.
+-- The parts that a code leaves unchanged.
 
 pub behind_processes : (n : Names) (cs : List CodeShape) → (behind n cs).processes ≡ n.processes
 behind_processes n [] = refl

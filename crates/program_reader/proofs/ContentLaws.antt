@@ -1,4 +1,4 @@
--- What stands between the braces of a code, stage by stage.
+-- The text between the braces of a code, stage by stage.
 use Rattle.std.proofs.Common.{◌≡◌, ℕ, List, [], ◌∷◌, ◌++◌, map, Option, option_map, refl, ap, sym, subst, ◌∙◌}
 use Rattle.std.proofs.Common.{append_assoc}
 use Rattle.std.proofs.lemmas.List.{append-nil, append_cancel_left}

@@ -1,4 +1,4 @@
--- How the reading goes on from the words for events.
+-- The next steps of reading after the words for events.
 use Rattle.std.proofs.Common.{◌≡◌, List, [], ◌∷◌, drop, refl, sym, ap, ◌∙◌, Option, Some}
 use Rattle.program_tree.specs.Faults.{Scope}
 use Rattle.program_tree.specs.Forms as form

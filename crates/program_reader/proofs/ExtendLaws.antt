@@ -59,7 +59,7 @@ pub all_numbered-append : (n : Names) (bs : List (Body ℕ)) (b : Body ℕ) → 
 all_numbered-append n [] b h k = (k, tt)
 all_numbered-append n (c ∷ bs) b h k = (h.0, all_numbered-append n bs b h.1 k)
 
--- what is fixed while statements are read
+-- the parts that are fixed while statements are read
 abbrev names_of_fixed : Fixed → Names
 names_of_fixed s = record {
   events = s.events;

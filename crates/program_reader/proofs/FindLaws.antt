@@ -1,4 +1,4 @@
--- What `find` and `position` return, in terms of the lexer's definitions.
+-- The results of `find` and `position`, in terms of the lexer's definitions.
 use Rattle.std.proofs.Common.{◌≡◌, nat_lt, ◌≤◌, not, ℕ, List, [], ◌∷◌, length, map, Bool, true, false, cond, Option}
 use Rattle.std.proofs.Common.{Some, None, refl, ap, ◌∙◌, arith, bytes_eq}
 use Rattle.std.specs.Prelude.{find, option_map, unwrap_or, nat_eq}

@@ -1,4 +1,4 @@
--- How the reading goes on at a declaration.
+-- The next steps of reading at a declaration.
 use Rattle.std.proofs.Common.{◌≡◌, ◌<◌, ◌≤◌, nat_lt, arith, ℕ, suc, List, [], ◌∷◌, ◌++◌, length, drop, Bool, true}
 use Rattle.std.proofs.Common.{false, Option, Some, None, is_some, option_map, ◌+◌, refl, ap, sym, ◌∙◌, ◌||◌}
 use Rattle.std.proofs.Common.{append_assoc}
@@ -142,7 +142,7 @@ not_in_second xs ys x h = go (place_of xs x) refl
     go (Some i) e = let k : is_some (place_of (xs ++ ys) x) ≡ true = ap is_some (place_left xs ys x i e) in
         absurd (cc (k, h))
 
--- what a declaration adds
+-- the names that a declaration adds
 
 pub event_added : (s : Scope) (k : Kind) (x : Name) (xs : List Name) → k ≡ kind.Event → xs ≡ s.names.events ++ x ∷ []
     → record s { names = record s.names { events = xs } } ≡ with_names s (with_new s.names (class_of_kind k) x)

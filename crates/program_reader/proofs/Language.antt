@@ -1,4 +1,4 @@
--- What each symbol stands for, and how the machine's steps follow the grammar.
+-- The texts that each symbol derives, and the machine's steps as those of the grammar.
 use Rattle.std.proofs.Common.{◌≡◌, ℕ, List, [], ◌∷◌, ◌++◌, refl, sym, ap, ◌∙◌, Bool, true, false, if◌then◌else◌}
 use Rattle.std.proofs.Common.{Option, Some, None}
 use Rattle.std.specs.Str.{bytes_eq}
@@ -118,7 +118,7 @@ value_spelled c word.Running v after = refl
 value_spelled c word.Count v after = refl
 value_spelled c k v after = absurd v
 
--- The parts that a symbol stands for.
+-- The parts that a symbol derives.
 
 -- the codes of these processes
 abbrev pub CodesOf : List Name → Type 0
@@ -158,7 +158,7 @@ FromAutostart xs = List Name × (FromReceiver xs)
 abbrev pub FromComma : List Name → Type 0
 FromComma xs = List Process × (FromAutostart xs)
 
--- the first process, the others, what starts at boot and the receiver
+-- the first process, the others, the processes that start at boot and the receiver
 abbrev pub FromProcess : Type 0
 FromProcess = Process × (List Process × (List Name × (Option Name)))
 

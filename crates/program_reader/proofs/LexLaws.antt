@@ -1,4 +1,4 @@
--- What was read of a text, piece by piece.
+-- The part of a text that was read, piece by piece.
 use Rattle.std.proofs.Common.{◌≡◌, ◌≢◌, ◌<◌, ◌≤◌, ◌+◌, ◌-◌, ◌||◌, ℕ, List, [], ◌∷◌, ◌++◌, get_or, length, drop, Bool}
 use Rattle.std.proofs.Common.{true, false, cond, Option, Some, None, refl, ap, sym, ◌∙◌, subst, arith, codes, map}
 use Rattle.std.proofs.Common.{add-zero}
@@ -35,7 +35,7 @@ word_no_feed (x ∷ xs) h =
     let first : is_feed x ≡ false = grind (arith, nat_tests) in
     rw (first, word_no_feed xs parts.1) refl
 
--- bytes without LF, with what comes after
+-- bytes without LF, and the rest
 none_first : (xs rest : List ℕ) → xs ≢ [] → list_any is_feed xs ≡ false
     → count_by is_feed xs ≡ cond (is_feed (get_or (xs ++ rest) 0 0)) 1 0
 none_first [] rest some h = absurd (some refl)

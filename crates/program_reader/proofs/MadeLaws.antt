@@ -1,4 +1,4 @@
--- The text of a process from what was read of its code.
+-- The text of a process from the parts of its code that were read.
 use Rattle.std.proofs.Common.{◌≡◌, ℕ, ◌+◌, List, [], ◌∷◌, ◌++◌, length, map, Option, Some, None, option_map, refl, ap}
 use Rattle.std.proofs.Common.{sym, subst, ◌∙◌, ◌≤◌, arith}
 use Rattle.std.proofs.lemmas.List.{length-append, length-map}

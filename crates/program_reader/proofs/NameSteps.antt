@@ -1,4 +1,4 @@
--- How the reading goes on from a name that is looked up.
+-- The next steps of reading after a name that is looked up.
 use Rattle.std.proofs.Common.{◌≡◌, ℕ, List, [], ◌∷◌, drop, length, refl, sym, ap, ◌∙◌, Option, Some, None, Bool, true}
 use Rattle.std.proofs.Common.{false, not, ◌&&◌, ◌||◌}
 use Rattle.program_tree.specs.Faults.{Scope, scope_after, is_other, is_own}

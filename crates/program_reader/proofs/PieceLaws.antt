@@ -68,7 +68,7 @@ found_among p q (y ∷ ys) x all h =
     let parts = and_parts (q y) (list_all q ys) all in
     among_at q y (find p ys) x (p y) parts.0 h (found_among p q ys x parts.1)
 
--- what each of the signs is like
+-- the form of each of the signs
 begins_sign : ℕ → Bool
 begins_sign b = not (is_blank b) && not (is_word_byte b)
 
@@ -122,7 +122,7 @@ found_sign text bytes token h =
 pub comment_split : (text : List ℕ) → begins_comment text ≡ true → text ≡ codes "//" ++ drop 2 text
 comment_split text h = (starts_is Decides-eqb text (codes "//") (begins_comment text) refl).0 h
 
--- ---- what a text begins with, by its kind
+-- ---- the beginning of a text, by its kind
 
 pub blank_front : (s : List ℕ) → 0 < length s → is_blank (get_or s 0 0) ≡ true → BeginsWith s None 1
 blank_front [] l h = absurd (omega arith)

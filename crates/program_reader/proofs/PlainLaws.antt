@@ -1,4 +1,4 @@
--- Statements without a block, made of what was read after their keywords.
+-- Statements without a block, made of the operands read after their keywords.
 use Rattle.std.proofs.Common.{◌≡◌, ℕ, List, [], ◌∷◌, length, Option, Some, refl, sym, ap, subst}
 use Rattle.program_tree.specs.Faults.{Scope}
 use Rattle.program_tree.specs.Forms as form

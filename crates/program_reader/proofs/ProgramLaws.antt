@@ -52,7 +52,7 @@ map_itself : (xs : List Name) → map itself xs ≡ xs
 map_itself [] = refl
 map_itself (x ∷ xs) = ap (λ zs. x ∷ zs) (map_itself xs)
 
--- what the names are after the head
+-- the names after the head
 abbrev pub head_names : (events semaphores processes : List Name) → Names
 head_names events semaphores processes = record no_names {
   events = events;

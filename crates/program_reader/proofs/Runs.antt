@@ -43,7 +43,7 @@ then s s1 s' a b p q old mid new e r t = record {
   goes_on = λ f. r.goes_on (b f) ∙ t.goes_on f;
 }
 
--- an action: its keyword, and what the table asks for after it
+-- an action: its keyword, and the operands that the table requires after it
 pub action_reads : (s s1 s' : Scope) (c : Context) (k : Keyword) (g : Form) (marks : Names → List Mark → List Mark)
     (old m0 new : List Token) → beginning k ≡ action g → s1.names ≡ s.names → Begins s s1 c k old m0
     → Runs s1 s' (symbols_of c g) marks m0 new →
@@ -65,7 +65,7 @@ assign_reads s s1 s' c i marks old m0 new e t r = record {
   goes_on = λ f. t.goes_on f ∙ r.goes_on (items c ∷ f);
 }
 
--- what statements don't change
+-- the parts that statements don't change
 
 abbrev names_from : Fixed → Names
 names_from x = record {

@@ -1,4 +1,4 @@
--- A name that is found is in scope, and stands for the same thing whatever else is declared.
+-- A name that is found is in scope, and means the same thing whatever else is declared.
 use Rattle.std.proofs.Common.{◌≡◌, ℕ, ◌+◌, ◌-◌, List, [], ◌++◌, refl, sym, ap, ◌∙◌, arith, Option, Some, None}
 use Rattle.std.proofs.Common.{option_map, Bool, true, false, not, ◌&&◌, ◌||◌, is_some, slice_index_or}
 use Rattle.program_tree.specs.InScope.{Names, names_of, is_a, is_in_scope, number_in, name_in, or_zero}
@@ -70,7 +70,7 @@ pub found_other : (n : Names) (own : Option Name) (c : Class) (x : Name) → loo
     → IsFound n own c x found.Other
 found_other n own c x e h = (h, or_first _ _ (and_both _ _ h (none_is_a n c x e)))
 
--- The number of what is found, and the name with that number, in any names that extend these.
+-- The number of the name that is found, and the name with that number, in any names that extend these.
 
 number_timer : (n : Names) (x : Name) (i : ℕ) → look n a_timer x ≡ Some i → number_in n a_timer x ≡ i
 number_timer n x i e = let q = mapped (place_of n.timers x) n.first_timer i e in

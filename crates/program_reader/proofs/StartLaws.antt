@@ -1,4 +1,4 @@
--- What starts at boot, name by name, and the receiver.
+-- The processes that start at boot, name by name, and the receiver.
 use Rattle.std.proofs.Common.{◌≡◌, ◌<◌, nat_lt, ℕ, List, [], ◌∷◌, ◌++◌, length, drop, map, true, false, Option, Some}
 use Rattle.std.proofs.Common.{None, refl, ap, sym, subst, ◌∙◌, append_assoc}
 use Rattle.std.specs.List.{All}
@@ -211,7 +211,7 @@ no_receiver_read s old new other same = record {
 extends_itself : (n : Names) → Extends n n
 extends_itself n = record { front = λ c. ([], sym (append-nil (names_of n c))); first_timer = refl }
 
--- the numbers of processes stand for something; of other classes, any number does
+-- the numbers of processes have a meaning; of other classes, any number does
 within_processes : Names → Within
 within_processes n a_process i = nat_lt i (length n.processes)
 within_processes n c i = true

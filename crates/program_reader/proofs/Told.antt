@@ -147,7 +147,7 @@ on_marks s m Unexpected e = absurd cc
 on_marks s m NoProcess e = absurd cc
 on_marks s m k e = tt
 
--- the tokens are those of these marks, and what may come after them is what these symbols stand for, and nothing else
+-- the tokens are those of these marks, and the text after them may be one that these symbols derive, and no other
 pub record Reached (before : List Token) (ms : List Mark) (f : Pending) (s : Scope) : Type 0 where
   pub marks : tokens ms ≡ before
   pub here : (ps : Parts f) → (p : ProgramShape) × (program_marks p [] ≡ ms ++ spell_all f ps)
@@ -446,7 +446,7 @@ told_bad before ts clean = (
   },
 )
 
--- the end of the text, where `process` can follow and the text can't end
+-- the end of a text, if `process` can follow and the text can't end
 told_no_process : (before : List Token) → (CanFollow before [] → ⊥) → LacksProcess before [] → Clean before []
     → Judged (fault NoProcess 0) (before ++ [])
 told_no_process before bad lacks clean = (

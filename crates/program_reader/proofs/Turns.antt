@@ -1,5 +1,5 @@
--- The marks of what may come begin with the one mark that the step gives; so tokens have one list of marks, and marks
--- one shape.
+-- The marks of the remaining text begin with the one mark that the step gives; so tokens have one list of marks, and
+-- marks one shape.
 use Rattle.std.proofs.Common.{◌≡◌, List, [], ◌∷◌, ◌++◌, refl, sym, ap, subst, ◌∙◌, Bool, true, false, if◌then◌else◌}
 use Rattle.std.proofs.Common.{Some, None}
 use Rattle.std.specs.Str.{bytes_eq}
@@ -29,7 +29,7 @@ use Rattle.program_reader.proofs.Language.{codes_spelled, all_but_last, last, la
 use Rattle.program_reader.proofs.Language.{parts_of_code, more_spelled}
 use Rattle.program_tree.proofs.NameLaws.{bytes_same}
 
--- a step on: the marks begin with the mark that the step gives, and go on with those of parts for its symbols
+-- a step forward: the marks begin with the mark that the step gives, and continue with those of parts for its symbols
 abbrev pub On : Mark → List Mark → Step → Type 0
 On m ms unfit = ⊥
 On m ms (take m' f') = (m' ≡ m) × (ps : Parts f') × (spell_all f' ps ≡ ms)
@@ -42,7 +42,7 @@ abbrev pub Forth : Pending → List Mark → Type 0
 Forth f [] = IsDone f
 Forth f (m ∷ ms) = On m ms (step f m.token)
 
--- the same, where a step back leads to the parts again
+-- the same, if a step back leads to the parts again
 abbrev pub Again : (f : Pending) (m : Mark) → List Mark → Parts f → (s : Step) → Back f m.token s → Type 0
 Again f m ms ps unfit b = ⊥
 Again f m ms ps (take m' f') b = (m' ≡ m) × (ps' : Parts f') × (spell_all f' ps' ≡ ms) × ((b.1 ps').0 ≡ ps)
@@ -261,7 +261,7 @@ both_same : (f : Pending) (m : Mark) (ms : List Mark) (ps qs : Parts f) (s : Ste
 both_same f m ms ps qs unfit b ih p q = absurd p
 both_same f m ms ps qs (take m' f') b ih p q = sym p.3 ∙ ap (λ xs. (b.1 xs).0) (ih f' p.1 q.1 p.2 q.2) ∙ q.3
 
--- what may come has no two parts with the same marks
+-- the remaining text has no two parts with the same marks
 pub same_parts : (ms : List Mark) (f : Pending) (ps qs : Parts f) → spell_all f ps ≡ ms → spell_all f qs ≡ ms → ps ≡ qs
 same_parts [] [] ps qs p q = refl
 same_parts [] (s ∷ f) ps qs p q = absurd (subst (λ zs. Turns (s ∷ f) ps zs) p (turns (s ∷ f) ps))

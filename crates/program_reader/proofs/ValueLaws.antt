@@ -1,4 +1,4 @@
--- Expressions made of what was read: keywords with what follows them, and the two sides of an operator.
+-- Expressions made of the parts that were read: keywords with their operands, and the two sides of an operator.
 use Rattle.std.proofs.Common.{◌≡◌, ℕ, ◌<◌, List, [], ◌∷◌, drop, length, Option, Some, refl, sym, ap, subst, ◌∙◌}
 use Rattle.program_tree.specs.Faults.{Scope}
 use Rattle.program_tree.specs.Forms as form

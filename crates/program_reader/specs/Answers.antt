@@ -1,4 +1,4 @@
--- What a call of the reader returns: the part of a program that it read, or the first fault.
+-- The result of a call of the reader: the part of a program that it read, or the first error.
 use Rattle.std.specs.Prelude.{◌≡◌, ◌+◌, ◌<◌, ◌≤◌, length, Result, IfOk, OnOk}
 use Rattle.program_tree.specs.Grammar.{expression_marks, action_marks, statement_marks}
 use Rattle.program_tree.specs.InScope.{name_in, number_in}

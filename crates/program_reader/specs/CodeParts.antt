@@ -1,4 +1,4 @@
--- What reading a part of a code gives.
+-- The result of reading a part of a code.
 use Rattle.std.specs.Prelude.{◌≡◌, ℕ, List, [], ◌∷◌, ◌++◌, map, Option, Some, None, option_map}
 use Rattle.program_tree.specs.Code.{Code}
 use Rattle.program_tree.specs.Faults.{Scope}
@@ -106,11 +106,11 @@ pub record ReadsCode (x : Name) (process : ℕ) (code : Code) (s s' : Scope) (ol
   pub spelled : (ms : List Mark) → tokens ms ≡ new → old ≡ tokens (code_marks (x, shape) ms)
   pub goes_on : (xs : List Name) (f : Pending) → tell s (machine.codes x xs ∷ f) old ≡ tell s' (codes_form xs f) new
 
--- with these names of a code in place of its own
+-- with these names of a code instead of its own
 abbrev pub with_own : Names → (variables timers threads : List Name) → Names
 with_own n vs ts hs = record n { variables = vs; timers = ts; threads = hs }
 
--- What stands between the braces of a code is read, but for its last brace: the names of the event timers and callback
+-- The text between the braces of a code is read, but for its last brace: the names of the event timers and callback
 -- timers, the first values, and the blocks.
 pub record ReadsContent (own_etimers own_ctimers : List Name) (starts : List ℕ)
     (callbacks thread_bodies : List (Body ℕ)) (on_poll on_exit : Option (Body ℕ)) (body : Body ℕ)

@@ -1,4 +1,4 @@
--- What reading the codes of a program gives.
+-- The result of reading the codes of a program.
 use Rattle.std.specs.Prelude.{◌≡◌, ℕ, List, [], ◌∷◌, ◌++◌, length, map, replicate, false, true, Option}
 use Rattle.program_tree.specs.Code.{Code, Tree}
 use Rattle.program_tree.specs.Faults.{Scope}
@@ -31,7 +31,7 @@ pub record HasCodes (trees : List Code) (left : List Name) (s s' : Scope) (old r
   pub spelled : (ms : List Mark) → tokens ms ≡ rest → old ≡ tokens (codes_marks shapes ms)
   pub goes_on : (f : Pending) → tell s (codes_form s.names.processes f) old ≡ tell s' (codes_form left f) rest
 
--- what stands before the codes is read
+-- the text before the codes is read
 pub record ReadsHead (counts autostart : List ℕ) (receiver : Option ℕ) (s s' : Scope) (old new : List Token) : Type 0
   where
     pub s1 : Scope
@@ -56,7 +56,7 @@ abbrev pub all_timers : List Code → List Timer
 all_timers [] = []
 all_timers (c ∷ cs) = timers_of_code c ++ all_timers cs
 
--- the tree that the names in scope after a text and its parts stand for
+-- the tree of the names in scope after a text and its parts
 abbrev pub tree_with : ScopeRead → Parts → Tree
 tree_with s p = record {
   events = s.events;

@@ -1,4 +1,4 @@
--- What one step of the lexer finds at the front of a text.
+-- The result of one step of the lexer at the front of a text.
 use Rattle.std.specs.Prelude.{◌≡◌, ◌<◌, ℕ, ◌++◌, List, length, drop, slice_index, false, Option}
 use Rattle.std.specs.Borrow.{Bor}
 use Rattle.program_tree.specs.declared.token.Token.{Token as TokenRead}
@@ -6,7 +6,7 @@ use Rattle.program_tree.specs.Tokens.{Token, token_of}
 use Rattle.program_tree.specs.Words.{is_word_byte}
 use Rattle.program_tree.specs.Text.{Piece, bytes_of, token_at, FitsBefore, is_blank, begins_comment}
 
--- a text of a table, and the token beside it
+-- a text of a table, and its token
 abbrev pub entry_of : Bor (List ℕ) × TokenRead → List ℕ × Token
 entry_of entry = (entry.0.now, token_of entry.1)
 

@@ -1,4 +1,4 @@
--- What reading a part of the head of a program gives.
+-- The result of reading a part of the head of a program.
 use Rattle.std.specs.Prelude.{◌≡◌, ℕ, true, List, [], ◌∷◌, ◌++◌, length, map, ◌<◌, Option, Some, None, IfSome}
 use Rattle.std.specs.Prelude.{option_map, Result, Err}
 use Rattle.std.specs.List.{All}
@@ -140,7 +140,7 @@ pub record ReadsProcesses (s s' : Scope) (old new : List Token) : Type 0 where
   pub goes_on : (f : Pending) → tell s (machine.from_semaphores ∷ f) old
       ≡ tell s' (machine.from_autostart first others ∷ f) new
 
--- What starts at boot.
+-- The processes that start at boot.
 
 -- a name that may be listed in `autostart`: that of the process with this number
 pub record CanStart (s : Scope) (x : Name) (number : ℕ) : Type 0 where

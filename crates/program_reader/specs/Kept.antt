@@ -1,4 +1,4 @@
--- What is in scope between codes, and what of the scope is kept.
+-- The names in scope between codes, and those of them that are kept.
 use Rattle.std.specs.Prelude.{◌≡◌, []}
 use Rattle.program_reader.specs.declared.scope.Scope.{Scope}
 

@@ -1,5 +1,5 @@
--- What may still come, as a list of symbols, and what each token makes of it. A device of the proofs: the grammar and
--- its faults are defined without it. Each symbol stands for at least one token.
+-- The remaining text, as a list of symbols, and the effect of each token on it. A device of the proofs: the grammar and
+-- its errors are defined without it. Each symbol derives at least one token.
 use Rattle.std.specs.Prelude.{ℕ, suc, ◌+◌, List, [], ◌∷◌, ◌++◌, length, Bool, if◌then◌else◌, Option, Some, None}
 use Rattle.std.specs.Str.{bytes_eq}
 use Rattle.program_tree.specs.Faults.{Scope, scope_after, breaks}
@@ -42,8 +42,7 @@ pub data Symbol : Type 0 where
   -- a code, from its keyword on, and the codes of these processes after it
   codes : Name → List Name → Symbol
   this_name : Name → Symbol
-  -- what is left of a code: from the variables, the timers of either kind, the threads, `onpoll`, `onexit` or the body
-  -- on
+  -- the rest of a code: from the variables, the timers of either kind, the threads, `onpoll`, `onexit` or the body on
   from_variables : Symbol
   from_etimers : Symbol
   from_ctimers : Symbol
@@ -52,11 +51,11 @@ pub data Symbol : Type 0 where
   from_on_exit : Symbol
   from_body : Symbol
   last_brace : Symbol
-  -- what is left of a program: from the events, the semaphores or the first process on
+  -- the rest of a program: from the events, the semaphores or the first process on
   from_events : Symbol
   from_semaphores : Symbol
   first_process : Symbol
-  -- what is left of the process line, from after a name or from a name on, with the processes named so far
+  -- the rest of the process line, from after a name or from a name on, with the processes named so far
   from_comma : Name → List Name → Symbol
   more_process : Name → List Name → Symbol
   -- from `autostart` or `receiver` on
@@ -117,7 +116,7 @@ expression_step c f token.Open =
     take (opening token.Open (c.level + 1)) (expression (inner c) ∷ operator ∷ expression (inner c) ∷ close ∷ f)
 expression_step c f t = unfit
 
--- what a form asks for
+-- the symbols that a form requires
 abbrev pub symbols_of : Context → Form → Pending → Pending
 symbols_of c ends f = semicolon ∷ f
 symbols_of c tells f = into_end c ∷ f

@@ -1,5 +1,5 @@
--- The statements without a block that begin with a keyword, by what follows it: their keywords, and what they are in a
--- tree.
+-- The statements without a block that begin with a keyword, by the operands that follow it: their keywords, and their
+-- trees.
 use Rattle.std.specs.Prelude.{ℕ, Option, Some}
 use Rattle.program_tree.specs.Forms.{Beginning, action, beginning}
 use Rattle.program_reader.specs.Steps.{IsPlain}

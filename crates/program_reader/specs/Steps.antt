@@ -1,4 +1,4 @@
--- What reading one part of a program gives: its tokens are spelled by its marks, and the machine goes on after it,
+-- The result of reading one part of a program: its tokens are spelled by its marks, and the machine continues after it,
 -- whatever comes then.
 use Rattle.std.specs.Prelude.{◌≡◌, ℕ, ◌+◌, List, ◌∷◌, ◌++◌, Bool, true, false, ◌||◌, Option, Some, option_map, Result}
 use Rattle.std.specs.Prelude.{Err}
@@ -26,7 +26,7 @@ use Rattle.program_reader.specs.declared.scope.Found.{Found}
 use Rattle.program_reader.specs.declared.scope.Found.TheVariants as found
 use Rattle.program_reader.specs.declared.scope.Scope.{Scope as ScopeRead}
 
--- What the types of `src/scope.rt` and `src/cursor.rt` stand for.
+-- The meaning of the types of `src/scope.rt` and `src/cursor.rt`.
 
 abbrev pub scope_of : ScopeRead → Scope
 scope_of s = record {
@@ -76,24 +76,24 @@ abbrev pub is_own_thread : Option Name → Class → Name → Bool
 is_own_thread own a_thread x = is_own own x
 is_own_thread own c x = false
 
--- the name stands for this one, which isn't the thread that is being read
+-- the name has this number, and isn't that of the thread that is being read
 pub record Finds (n : Names) (own : Option Name) (c : Class) (x : Name) (i : ℕ) : Type 0 where
   pub found : look n c x ≡ Some i
   pub other : is_own_thread own c x ≡ false
 
--- the first token is a name that stands for this one
+-- the first token is a name with this number
 pub record IsNamed (n : Names) (own : Option Name) (c : Class) (i : ℕ) (old : List Token) : Type 0 where
   pub name : Name
   pub here : first old ≡ Some (token.Name name)
   pub finds : Finds n own c name i
 
--- what a name stands for, if one of this class is expected
+-- the number of a name, if one of this class is expected
 abbrev pub IsFound : Names → Option Name → Class → Name → Found → Type 0
 IsFound n own c x found.Unknown = is_in_scope n x ≡ false
 IsFound n own c x found.Other = (is_in_scope n x ≡ true) × ((is_other n c x || is_own_thread own c x) ≡ true)
 IsFound n own c x (found.Here i) = Finds n own c x i
 
--- what is in scope stays there, and more may be declared
+-- the names in scope stay there, and more may be declared
 abbrev pub IsFront : List Name → List Name → Type 0
 IsFront xs ys = (more : List Name) × (ys ≡ xs ++ more)
 
@@ -109,13 +109,13 @@ Covers n own w = (c : Class) (x : Name) (i : ℕ) → Finds n own c x i → w c 
 abbrev pub Numbered : {T : Type 0} → Names → (again : Names → T) → T → Type 0
 Numbered n again t = (n' : Names) → Extends n n' → again n' ≡ t
 
--- what the tree names is in scope
+-- the names of the tree are in scope
 abbrev pub Fits : Names → Option Name → (fits : Within → Bool) → Type 0
 Fits n own fits = (w : Within) → Covers n own w → fits w ≡ true
 
--- What is read.
+-- The parts that are read.
 
--- a sign that must stand there
+-- a sign that must be there
 pub record ReadsSign (y : Symbol) (t : Token) (old new : List Token) : Type 0 where
   pub spelled : old ≡ t ∷ new
   pub goes_on : (s : Scope) (f : Pending) → tell s (y ∷ f) old ≡ tell s f new
@@ -141,13 +141,13 @@ pub record ReadsStatement (s s' : Scope) (c : Context) (marks : Names → List M
   pub spelled : (n : Names) → Extends s.names n → (ms : List Mark) → tokens ms ≡ new → old ≡ tokens (marks n ms)
   pub goes_on : (f : Pending) → tell s (items c ∷ f) old ≡ tell s' (items c ∷ f) new
 
--- what follows the first block of an `if`
+-- the part after the first block of an `if`
 pub record ReadsElse (s s' : Scope) (c : Context) (marks : Names → List Mark → List Mark) (old new : List Token) : Type
     0 where
   pub spelled : (n : Names) → Extends s.names n → (ms : List Mark) → tokens ms ≡ new → old ≡ tokens (marks n ms)
   pub goes_on : (f : Pending) → tell s (items_else c ∷ f) old ≡ tell s' (items c ∷ f) new
 
--- what the first token of a statement asks for
+-- the kind of statement that the first token requires
 abbrev pub pending_of : Context → Beginning → Pending → Pending
 pending_of c no_statement f = f
 pending_of c (action g) f = symbols_of c g (items c ∷ f)
@@ -180,7 +180,7 @@ pub record IsTarget (s s' : Scope) (c : Context) (i : ℕ) (old new : List Token
   pub spelled : (n : Names) → Extends s.names n → old ≡ token.Name (name_in n a_variable i) ∷ new
   pub goes_on : (f : Pending) → tell s (items c ∷ f) old ≡ tell s' (equals ∷ expression c ∷ semicolon ∷ items c ∷ f) new
 
--- what statements don't change of the scope
+-- the part of the scope that statements don't change
 pub record Fixed : Type 0 where
   pub events : List Name
   pub semaphores : List Name

@@ -1,4 +1,4 @@
--- What the flattener adds, one statement or block after another.
+-- The instructions that the flattener adds, one statement or block after another.
 use Rattle.std.proofs.Common.{◌≡◌, ℕ, zero, suc, ◌+◌, ◌<◌, ◌≤◌, Some, zero-add, get_or, drop, map, List, [], ◌∷◌, ◌++◌, length, refl, ap, sym, ◌∙◌, subst, arith, append_assoc, length-append}
 use Rattle.std.specs.Prelude.{slice_get, Result, Ok, Err, OnOk}
 use Rattle.std.proofs.lemmas.List.{append-nil, get_or_past, get_or_at, drop_all, length-map}
@@ -259,7 +259,7 @@ pub size_here : (ss : List Stmt) (k : ℕ) (s : Stmt) → k < length ss → s �
     → size (body_of (drop k (map statement_of ss))) ≡ statement_size (statement_of s) + size (body_of (drop (k + 1) (map statement_of ss)))
 size_here ss k s within is = ap (λ l. size (body_of l)) (drop_here ss k s within is)
 
--- where the statements from the k-th on are entered
+-- the entry of the statements from the k-th on
 pub entry_some : (ss : List Stmt) (k : ℕ) (place after : ℕ) → k < length ss → entry_of (body_of (drop k (map statement_of ss))) place after ≡ place
 entry_some [] k place after within = absurd (omega arith)
 entry_some (x ∷ ss) zero place after within = refl

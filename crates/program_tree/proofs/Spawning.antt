@@ -1,4 +1,4 @@
--- What is spawned in a block, and in the rests of its flat code.
+-- The threads spawned in a block, and in the rests of its flat code.
 use Rattle.std.proofs.Common.{◌<◌, ◌≤◌}
 use Rattle.std.specs.List.{All}
 use Rattle.std.proofs.lemmas.Bool.{ltb-false}

@@ -1,4 +1,4 @@
--- The canonical text of tokens: how each is spelled, and what stands between it and the next.
+-- The canonical text of tokens: the spelling of each, and the space between it and the next.
 use Rattle.std.specs.Prelude.{ℕ, zero, suc, ◌+◌, ◌-◌, Bool, true, false, List, [], ◌∷◌, ◌++◌, codes, if◌then◌else◌}
 use Rattle.std.specs.Fmt.{decimal}
 use Rattle.program_tree.specs.Tokens as token
@@ -125,7 +125,7 @@ ends_line token.CloseBrace (token.Keyword word.Else ∷ rest) = false
 ends_line token.CloseBrace rest = true
 ends_line t rest = false
 
--- no space stands between the token and the next one
+-- there is no space between the token and the next one
 abbrev pub stands_close : Token → List Token → Bool
 stands_close token.Open rest = true
 stands_close token.Bang rest = true
@@ -145,7 +145,7 @@ abbrev pub indentation : ℕ → List ℕ
 indentation zero = []
 indentation (suc n) = codes "  " ++ indentation n
 
--- what stands after a token, with this many braces open
+-- the space after a token, with this many braces open
 abbrev pub gap : (braces : ℕ) → Token → (rest : List Token) → List ℕ
 gap braces t rest =
     if ends_line t rest then 10 ∷ indentation (line_depth braces rest)

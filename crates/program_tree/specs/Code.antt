@@ -3,9 +3,9 @@ use Rattle.std.specs.Prelude.{ℕ, ◌+◌, ◌-◌, nat_le, if◌then◌else◌
 use Rattle.program_tree.specs.Tree.{Body}
 use Rattle.program_tree.specs.declared.timer.Timer.{Timer}
 
--- What a process runs: its number; the names and first values of its variables, in order; the number of its first
+-- The code of a process: its number; the names and first values of its variables, in order; the number of its first
 -- timer, the names of its event timers and, after them, of its callback timers with their blocks; its threads with
--- their blocks; the blocks that are run before the body at POLL and EXIT, where it has them; and the body.
+-- their blocks; the blocks that are run before the body at POLL and EXIT, if it has them; and the body.
 pub record Code : Type 0 where
   pub number : ℕ
   pub variables : List (List ℕ)

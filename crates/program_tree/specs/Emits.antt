@@ -1,11 +1,11 @@
--- What the flattener adds to the code.
+-- The instructions that the flattener adds to the code.
 use Rattle.std.specs.Prelude.{◌≡◌, ℕ, ◌+◌, List, [], ◌∷◌, ◌++◌, length}
 use Rattle.program_tree.specs.declared.instruction.Instruction.{Instruction}
 use Rattle.program_tree.specs.Tree.{Statement, Body, Otherwise, end, next, nothing, otherwise, size, statement_size}
 use Rattle.program_tree.specs.Tree.{other_size}
 use Rattle.program_tree.specs.Flat.{rests, statement_rests, other_rests, rest_in, Leads}
 
--- where a block is entered: at the place of its first statement, or at `after` if it has none
+-- the entry of a block: the place of its first statement, or `after` if it has none
 abbrev pub entry_of : Body ℕ → (place after : ℕ) → ℕ
 entry_of end place after = after
 entry_of (next s b) place after = place
@@ -19,8 +19,8 @@ abbrev pub LeadFrom : (all : List (List (Statement ℕ))) → (place : ℕ) → 
 LeadFrom all place [] = Unit {0}
 LeadFrom all place (i ∷ is) = Leads (rest_in all) i (rest_in all place) × LeadFrom all (place + 1) is
 
--- `new` is `old` with instructions added: wherever their rests stand among all rests, they have the local property,
--- provided that the rest at `after` is what follows.
+-- `new` is `old` with instructions added: wherever their rests are among all rests, they have the local property,
+-- provided that the rest at `after` is the one that follows.
 pub record Adds (added : (rest : List (Statement ℕ)) → List (List (Statement ℕ))) (count after : ℕ)
     (old new : List Instruction) : Type 0 where
   pub more : List Instruction

@@ -1,5 +1,5 @@
--- Events as programs name them: by a keyword, or by the name of a declaration. The types say which of them may stand
--- where.
+-- Events as programs name them: by a keyword, or by the name of a declaration. The types say which of them is allowed
+-- at which place.
 use Rattle.std.specs.Prelude.{ℕ, ◌+◌}
 use Rattle.program_tree.specs.Events.{system_number}
 use Rattle.program_tree.specs.declared.event.SystemEvent.TheVariants as event
@@ -50,7 +50,7 @@ any_number poll = system_number event.Poll
 any_number exited = system_number event.Exited
 any_number timer = system_number event.Timer
 
--- what the types of `src/event_name.rt` stand for
+-- the meaning of the types of `src/event_name.rt`
 abbrev pub cast_of : CastRead → CastEvent ℕ
 cast_of cast_read.Continue = continue
 cast_of cast_read.Msg = msg

@@ -94,7 +94,7 @@ CanFollow before [] = (p : ProgramShape) × (tokens (program_marks p []) ≡ bef
 CanFollow before (t ∷ rest) =
     (p : ProgramShape) × (more : List Token) × (tokens (program_marks p []) ≡ before ++ (t ∷ more))
 
--- the text ends where `process` could stand
+-- the text ends at a place at which `process` is allowed
 abbrev pub LacksProcess : (before rest : List Token) → Type 0
 LacksProcess before [] = CanFollow before (token.Keyword Process ∷ [])
 LacksProcess before (t ∷ rest) = ⊥

@@ -1,13 +1,13 @@
--- What follows at each place of a block's flat code.
+-- The statements that follow each place of a block's flat code.
 use Rattle.std.specs.Prelude.{◌≡◌, ℕ, ◌≤◌, List, [], ◌∷◌, ◌++◌, length, Some, slice_get, slice_index_or}
 use Rattle.program_tree.specs.declared.instruction.Instruction.{Instruction}
 use Rattle.program_tree.specs.declared.instruction.Instruction.TheVariants.{Act, Branch, Loop}
 use Rattle.program_tree.specs.Tree.{Expression, Statement, Body, Otherwise, does, branch, while, end, next, nothing}
 use Rattle.program_tree.specs.Tree.{otherwise, listed, other_block, expression_of, action_of}
 
--- Each statement has a place, in the order of the text: the statements of an inner block stand after the one that it
--- belongs to. The rest at a place is what is left to do there: its statement, those after it in its block, and what
--- follows that block.
+-- Each statement has a place, in the order of the text: the statements of an inner block come after the one that it
+-- belongs to. The rest at a place is its remainder: its statement, those after it in its block, and those that follow
+-- that block.
 abbrev mutual
   pub rests : Body ℕ → (after : List (Statement ℕ)) → List (List (Statement ℕ))
   rests end after = []
@@ -30,7 +30,7 @@ rest_in all place = slice_index_or all place []
 unfoldable pub rest_at : Body ℕ → (place : ℕ) → List (Statement ℕ)
 rest_at b place = rest_in (rests b []) place
 
--- an `if` stands here, and leads to the rests that its two outcomes leave
+-- an `if` is here, and leads to the rests of its two outcomes
 abbrev pub Branches : (at : ℕ → List (Statement ℕ)) → Expression ℕ → (then other : ℕ) → (here : List (Statement ℕ))
     → Type 0
 Branches at c then other (branch d inner else ∷ after) =

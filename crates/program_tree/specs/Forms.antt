@@ -1,4 +1,4 @@
--- The tables of the grammar: what stands after each keyword of a statement or an expression.
+-- The tables of the grammar: the operands after each keyword of a statement or an expression.
 use Rattle.std.specs.Prelude.{Bool, true, false}
 use Rattle.program_tree.specs.Tree.{Class, a_semaphore, a_process, a_timer, a_thread}
 use Rattle.program_tree.specs.declared.keyword.Keyword.{Keyword}
@@ -17,7 +17,7 @@ pub data Operand : Type 0 where
   sent : Operand
   any : Operand
 
--- what follows the keyword of a statement
+-- the operands after the keyword of a statement
 pub data Form : Type 0 where
   -- `;`
   ends : Form
@@ -27,11 +27,11 @@ pub data Form : Type 0 where
   -- an expression, and more
   values : Form → Form
 
--- what a keyword is at the beginning of a statement
+-- the role of a keyword at the beginning of a statement
 pub data Beginning : Type 0 where
   no_statement : Beginning
   action : Form → Beginning
-  -- `if`, `while`, and `else`, which goes on with a statement
+  -- `if`, `while`, and `else`, which continues with a statement
   branches : Beginning
   loops : Beginning
   goes_on : Beginning
@@ -77,7 +77,7 @@ waits Pause = true
 waits Acquire = true
 waits k = false
 
--- what a keyword is in an expression: nothing, a value by itself, or one that asks about something in parentheses
+-- the role of a keyword in an expression: none, a value by itself, or a question about something in parentheses
 pub data Word : Type 0 where
   no_value : Word
   alone : Word

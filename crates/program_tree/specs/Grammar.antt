@@ -19,7 +19,7 @@ use Rattle.program_tree.specs.Tree.{Body, end, next, Otherwise, nothing, otherwi
 use Rattle.program_tree.specs.declared.keyword.Keyword.{Keyword}
 use Rattle.program_tree.specs.declared.keyword.Keyword.TheVariants as word
 
--- where a block or an expression stands: how many levels deep, in a simple block or not, and in the block of which
+-- the context of a block or an expression: how many levels deep, in a simple block or not, and in the block of which
 -- thread
 pub record Context : Type 0 where
   pub level : ℕ
@@ -45,19 +45,19 @@ pub data Role : Type 0 where
   plain : Role
   -- a new name of this class
   new : Class → Name → Role
-  -- a name that stands for something of this class
+  -- a name of something of this class
   uses : Class → Name → Role
   -- the thread that is spawned, in the block of a thread or not
   spawns : (own : Option Name) → Name → Role
   -- a process in `autostart`
   starts : Name → Role
   value : (number : ℕ) → Role
-  -- what opens a level
+  -- the sign that opens a level
   opens : (level : ℕ) → Role
   -- the last brace of a code
   leaves : Role
 
--- what begins with a token
+-- the part that begins with a token
 pub data Begun : Type 0 where
   none_begins : Begun
   statement : Begun
@@ -128,7 +128,7 @@ operand_mark c form.cast e = cast_mark e
 operand_mark c form.sent e = sent_mark e
 operand_mark c form.any e = any_mark e
 
--- what stands after a keyword of an expression; its parentheses don't count as a level
+-- the operands after a keyword of an expression; its parentheses don't count as a level
 abbrev pub word_marks : Context → (w : Word) → WordShape w → (after : List Mark) → List Mark
 word_marks c no_value v after = absurd v
 word_marks c alone v after = after
@@ -159,7 +159,7 @@ abbrev pub into_marks : Option Name → (after : List Mark) → List Mark
 into_marks None after = sign token.Semicolon ∷ after
 into_marks (Some x) after = key word.Into ∷ named x (uses a_variable x) ∷ sign token.Semicolon ∷ after
 
--- what stands after the keyword of a statement
+-- the operands after the keyword of a statement
 abbrev pub form_marks : Context → (f : Form) → FormShape f → (after : List Mark) → List Mark
 form_marks c ends v after = sign token.Semicolon ∷ after
 form_marks c tells v after = into_marks v after
@@ -268,7 +268,7 @@ abbrev pub codes_marks : List (Name × CodeShape) → (after : List Mark) → Li
 codes_marks [] after = after
 codes_marks (p ∷ ps) after = code_marks p (codes_marks ps after)
 
--- What stands before the codes.
+-- The text before the codes.
 
 abbrev pub event_marks : List Name → (after : List Mark) → List Mark
 event_marks [] after = after

@@ -1,4 +1,4 @@
--- The names in scope, by what they stand for.
+-- The names in scope, with their numbers.
 use Rattle.std.specs.Prelude.{ℕ, ◌+◌, ◌-◌, List, [], ◌∷◌, ◌++◌, length, Bool, ◌||◌, Option, Some, None, is_some}
 use Rattle.std.specs.Prelude.{slice_index_or}
 use Rattle.program_tree.specs.Names.{place_of}

@@ -1,4 +1,4 @@
--- What holds of every `Program`.
+-- The properties of every `Program`.
 use Rattle.std.specs.List.{All}
 use Rattle.std.specs.Option.{ForSome}
 use Rattle.std.specs.Prelude.{◌≡◌, ◌<◌, ◌≤◌, List, ℕ, length}

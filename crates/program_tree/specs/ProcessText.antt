@@ -1,4 +1,4 @@
--- What a process's text in `src/process_text.rt` stands for.
+-- The meaning of a process's text in `src/process_text.rt`.
 use Rattle.std.specs.Prelude.{map, option_map}
 use Rattle.program_tree.specs.Code.{Code}
 use Rattle.program_tree.specs.FlatBlock.{tree_in}

@@ -1,4 +1,4 @@
--- What a program in `src/program.rt` stands for.
+-- The meaning of a program in `src/program.rt`.
 use Rattle.std.specs.Prelude.{map}
 use Rattle.program_tree.specs.Code.{Tree}
 use Rattle.program_tree.specs.declared.program.Program.{Program}

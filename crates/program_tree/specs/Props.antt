@@ -1,4 +1,4 @@
--- What the ghost fields state has at most one proof.
+-- The statements of the ghost fields have at most one proof.
 use Rattle.std.specs.Prelude.{ℕ, List, [], ◌∷◌}
 use Rattle.std.proofs.Props.{props}
 use Rattle.program_tree.specs.EventNames.{CastEvent, SentEvent, AnyEvent}

@@ -21,7 +21,7 @@ pub record IsTreeOf (text : List ℕ) (tree : Tree) : Type 0 where
   pub lexed : IsLexed text tokens lines
   pub spelled : IsTreeOfTokens tokens tree
 
--- the text's reported error is of this kind, and its token, or the end, stands on this line
+-- the text's reported error is of this kind, and its token, or the end, is on this line
 pub record IsToldOf (text : List ℕ) (kind : ReadErrorKind) (line : ℕ) : Type 0 where
   pub tokens : List Token
   pub lines : List ℕ

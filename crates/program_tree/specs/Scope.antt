@@ -1,4 +1,4 @@
--- Trees whose numbers all stand for something, given which numbers of each class do.
+-- Trees whose numbers all have a meaning, given which numbers of each class have one.
 use Rattle.std.specs.Prelude.{ℕ, ◌+◌, nat_lt, Bool, true, ◌&&◌, List, [], ◌∷◌, Option, None, Some}
 use Rattle.program_tree.specs.EventNames as event
 use Rattle.program_tree.specs.EventNames.{CastEvent, SentEvent, AnyEvent}
@@ -9,7 +9,7 @@ use Rattle.program_tree.specs.Tree.{exit, pause, acquire, signal, post, broadcas
 use Rattle.program_tree.specs.Tree.{reset, restart_timer, stop, Statement, does, branch, while, Body, end, next}
 use Rattle.program_tree.specs.Tree.{Otherwise, nothing, otherwise}
 
--- which numbers of a class stand for something
+-- the numbers of a class that have a meaning
 abbrev pub Within : Type 0
 Within = Class → ℕ → Bool
 

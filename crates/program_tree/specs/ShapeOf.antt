@@ -1,4 +1,4 @@
--- The shape of a tree: each number replaced by the name that it stands for.
+-- The shape of a tree: each number replaced by its name.
 use Rattle.std.specs.Prelude.{ℕ, List, [], ◌++◌, map, drop, None, option_map, slice_index_or}
 use Rattle.std.specs.List.{zip}
 use Rattle.program_tree.specs.Canonical.{canonical_text}

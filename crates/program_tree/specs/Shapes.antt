@@ -17,7 +17,7 @@ Valued = Name × ℕ
 abbrev pub Named : Type 0
 Named = Name × (Body Name)
 
--- what stands between the braces of a code
+-- the part between the braces of a code
 pub record CodeShape : Type 0 where
   pub variables : List Valued
   pub etimers : List Name
@@ -27,7 +27,7 @@ pub record CodeShape : Type 0 where
   pub on_exit : Option (Body Name)
   pub body : Body Name
 
--- Each process of the line has its code; the list of those that start at boot is empty where there is no `autostart`.
+-- Each process of the line has its code; the list of those that start at boot is empty if there is no `autostart`.
 pub record ProgramShape : Type 0 where
   pub events : List Name
   pub semaphores : List Valued
@@ -36,7 +36,7 @@ pub record ProgramShape : Type 0 where
   pub autostart : List Name
   pub receiver : Option Name
 
--- what stands in the places that the tables speak of
+-- the parts at the places that the tables mention
 abbrev pub OperandShape : Operand → Type 0
 OperandShape (name c) = Name
 OperandShape cast = CastEvent Name

@@ -56,7 +56,7 @@ ends_line (b ∷ bs) = is_feed b
 
 pub data Piece : Type 0 where
   Blank : (byte : ℕ) → Piece
-  -- what stands after its `//`
+  -- the bytes after its `//`
   Comment : (bytes : List ℕ) → Piece
   Word : (bytes : List ℕ) → Piece
   Sign : (bytes : List ℕ) → (token : Token) → Piece

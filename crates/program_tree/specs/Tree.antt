@@ -1,5 +1,5 @@
--- The trees of a program over its names: names as they are written, or the numbers that they stand for. What the types
--- of `src/tree.rt` stand for are trees over numbers.
+-- The trees of a program over its names: names as they are written, or their numbers. The types of `src/tree.rt` mean
+-- trees over numbers.
 use Rattle.std.specs.Prelude.{ℕ, suc, ◌+◌, ◌≤◌, max, List, [], ◌∷◌, map, Option, Some, None, option_map}
 use Rattle.program_tree.specs.EventNames.{CastEvent, SentEvent, AnyEvent, cast_of, sent_of, any_of, cast_map, sent_map}
 use Rattle.program_tree.specs.EventNames.{any_map}
@@ -14,7 +14,7 @@ use Rattle.program_tree.specs.declared.tree.Stmt.TheOpen.{Stmt-F, Block-F}
 use Rattle.program_tree.specs.declared.tree.Stmt.TheFolds.{fold-Stmt}
 use Rattle.program_tree.specs.declared.tree.Block.{Block}
 
--- what a name can stand for
+-- the class of a name
 pub data Class : Type 0 where
   an_event : Class
   a_semaphore : Class
@@ -82,7 +82,7 @@ mutual
     next : Statement Name → Body Name → Body Name
     deriving IsSet as Body-set
 
-  -- what follows the block of an `if`
+  -- the part after the block of an `if`
   pub data Otherwise (Name : Type 0) : Type 0 where
     nothing : Otherwise Name
     otherwise : Body Name → Otherwise Name
@@ -117,7 +117,7 @@ abbrev mutual
   other_height nothing = 0
   other_height (otherwise b) = height b
 
--- how many statements stand in a block, those of inner blocks included
+-- the number of statements in a block, those of inner blocks included
 abbrev mutual
   pub size : {N : Type 0} → Body N → ℕ
   size end = 0
@@ -141,7 +141,7 @@ pub record IsWithinLimits {N : Type 0} (b : Body N) : Type 0 where
   pub shallow : height b ≤ 32
   pub small : size b ≤ 4096
 
--- what the types of `src/tree.rt` stand for
+-- the meaning of the types of `src/tree.rt`
 abbrev pub expression_of : Expr → Expression ℕ
 expression_of (Number n) = number n
 expression_of (Variable i) = variable i
@@ -187,7 +187,7 @@ abbrev pub otherwise_of : {N : Type 0} → Option (Body N) → Otherwise N
 otherwise_of None = nothing
 otherwise_of (Some b) = otherwise b
 
--- one layer of a statement or a block, each inner one replaced by what it stands for
+-- one layer of a statement or a block, each inner one replaced by its meaning
 abbrev pub statement_layer : Stmt-F (Statement ℕ) (Body ℕ) → Statement ℕ
 statement_layer (open_stmt.Do a) = does (action_of a)
 statement_layer (open_stmt.If e a b) = branch (expression_of e) a (otherwise_of b)
@@ -202,7 +202,7 @@ statement_of = fold-Stmt (Statement ℕ) (Body ℕ) statement_layer block_layer
 abbrev pub block_of : Block → Body ℕ
 block_of b = body_of (map statement_of b.statements.items)
 
--- the same tree with each name changed, by what it stands for
+-- the same tree with each name changed, by its meaning
 abbrev pub expression_map : {A B : Type 0} → (Class → A → B) → Expression A → Expression B
 expression_map f (number n) = number n
 expression_map f (variable x) = variable (f a_variable x)

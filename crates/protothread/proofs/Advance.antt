@@ -96,7 +96,7 @@ settled-at [] y s rest = refl
 settled-at (c ∷ []) y s rest = refl
 settled-at (c ∷ d ∷ cs) y s rest = ap (λ p. spawner_place c.thread p c.rest) (settled-at (d ∷ cs) y s rest)
 
--- after the end of a thread its spawner goes on
+-- after the end of a thread its spawner continues
 settled-end : (cs : List Caller) (c : Caller) → settled (nested (cs ++ c ∷ []) ended) ≡ settled (nested cs (before false c.rest))
 settled-end [] c = before_settled c.rest
   where
@@ -106,7 +106,7 @@ settled-end [] c = before_settled c.rest
 settled-end (d ∷ cs) c = ap (λ p. spawner_place d.thread p d.rest) (settled-end cs c)
 
 module _ (code : Code) (part : Part) (event : Event) (looks : Looks) where
-  -- what follows one statement that was paid for
+  -- the steps after one statement that was paid for
   abbrev follows : (vars : List ℕ) (units : ℕ) → Reached → Advanced
   follows vars units r =
       elim r [

@@ -28,7 +28,7 @@ pub length-callers_in : (code : Code) (b : Body ℕ) (cs : List Call) → length
 length-callers_in code b [] = refl
 length-callers_in code b (c ∷ cs) = ap (λ n. suc n) (length-callers_in code (thread_body code c.thread) cs)
 
--- what the innermost one can spawn
+-- the threads that the innermost one can spawn
 below_last-push : (n : ℕ) (cs : List Call) (c : Call) → below_last n (cs ++ c ∷ []) ≡ before_number c.thread
 below_last-push n [] c = refl
 below_last-push n (d ∷ cs) c = below_last-push (before_number d.thread) cs c

@@ -63,7 +63,7 @@ holds_true n h = grind (arith, common_steps)
 pub holds_false : (n : ℕ) → n ≡ 0 → holds n ≡ false
 holds_false n h = ap holds h
 
--- what the statements with blocks do, by their conditions
+-- the actions of the statements with blocks, by their conditions
 module _ (code : Code) (home : List (Statement ℕ)) (y : Bool) (vars : List ℕ) (event : Event) (looks : Looks) (s : Statement ℕ) (rest : List (Statement ℕ)) where
   pub takes_then : (c : Expression ℕ) (a : Body ℕ) (o : Otherwise ℕ) → s ≡ branch c a o → holds (value vars event looks c) ≡ true
       → statement_reached code home y vars event looks s rest ≡ goes_on vars (before false (listed a ++ rest))

@@ -1,4 +1,4 @@
--- What a text says, a run of it does.
+-- A run follows its text.
 use Rattle.std.proofs.Common.{◌≡◌, ℕ, suc, ◌+◌, ◌-◌, ◌<◌, Bool, true, false, if◌then◌else◌, nat_lt, List, [], ◌∷◌, ◌++◌, Option, None, Some, slice_set, refl, ap, sym, ◌∙◌, arith, append_assoc, subst, ◌==◌}
 use Rattle.std.proofs.lemmas.Bool.Decides.{nat_tests}
 use Rattle.std.proofs.lemmas.List.{append-nil}
@@ -105,7 +105,7 @@ module _ (code : Code) (part : Part) where
       at_live (at y s rest) l = refl
       at_live (within t r rest) l = refl
 
-  -- a statement after which the thread goes on
+  -- a statement after which the thread continues
   goes : (p q : Place) (now : Sight) (later : List Sight) (vars changed : List ℕ) (h : List Happening) (out : Completion)
       → IsLive p → reached code whole vars now.event now.looks p ≡ goes_on changed q
       → From q now later changed h out → From p now later vars h out
@@ -160,12 +160,12 @@ module _ (code : Code) (part : Part) where
       (gave_up_last _ (record { part = part; mark = AtRest; place = q }) vars vars now a
       (1, 0, steps p now vars 0 live ∙ ap (λ r. follows code part now.event now.looks vars 0 r) does_so) low))
 
-  -- what a run does after an `exit`: that of the whole thread ends so, that of a spawned one goes on after its spawn
+  -- a run after an `exit`: that of the whole thread ends, that of a spawned one continues after its spawn
   abbrev Left : Option Place → (now : Sight) → (later : List Sight) → List ℕ → List Happening → Completion → Type 0
   Left None now later vars h out = (h ≡ []) × (out ≡ exits now later vars)
   Left (Some p) now later vars h out = From p now later vars h out
 
-  -- where a thread with this block stands in the whole one, by where it stands in its own block
+  -- the position of a thread with this block in the whole one, by its position in its own block
   record Context (home : List (Statement ℕ)) (yields : PtState) : Type 0 where
     place : Place → Place
     behind : Option Place
@@ -228,7 +228,7 @@ module _ (code : Code) (part : Part) where
         (c.onward vars now (within t p rest) (before false rest) vars (ap (λ r. spawner_reached t rest vars r) e)) f;
   }
 
-  -- what a run does after statements with this completion
+  -- a run after statements with this completion
   abbrev Next : (home : List (Statement ℕ)) (y : PtState) → Context home y → (rest : List (Statement ℕ)) → Completion → List Happening → Completion → Type 0
   Next home y c rest (done now later vars) h out = From (c.place (before false rest)) now later vars h out
   Next home y c rest (restarts now later vars) h out = From (c.place (before false home)) now later vars h out
@@ -258,7 +258,7 @@ module _ (code : Code) (part : Part) where
       (1, 0, steps (c.place p) now vars 0 (c.live p live) ∙ ap (λ r. follows code part now.event now.looks vars 0 r) (c.operating vars now p (before false rest) o into e))
       (subst (λ (v : List ℕ). From (c.place (before false rest)) next later v h out) (heard into vars next.answer) f)
 
-  -- a statement after which the thread goes on, where it gives up control, and where no sight is left
+  -- a statement after which the thread continues, at which it yields control, or for which no sight is left
   past : (home : List (Statement ℕ)) (y : PtState) (c : Context home y) (p q : Place) (now : Sight) (later : List Sight) (vars changed : List ℕ) (h : List Happening) (out : Completion)
       → IsLive p → reached code home vars now.event now.looks p ≡ goes_on changed q
       → From (c.place q) now later changed h out → From (c.place p) now later vars h out
@@ -327,7 +327,7 @@ module _ (code : Code) (part : Part) where
       (λ now vars m. ap (λ b. performed code home vars (does pause) rest (passes_where b Yields)) (is_false (now.event.number == 0x85) m))
       a
 
-  -- the post of a `pause`, and what follows it at once
+  -- the post of a `pause`, and the immediate steps after it
   paused : (home : List (Statement ℕ)) (y : PtState) (c : Context home y) (rest : List (Statement ℕ)) (now next second : Sight) (later : List Sight) (vars : List ℕ) (h : List Happening) (out : Completion)
       → From (c.place (at true (does pause) rest)) second later vars h out
       → From (c.place (at false (does pause) rest)) now (next ∷ second ∷ later) vars (operates (Post (One (Own code.number)) 0x85 0) ∷ gives_up y ∷ h) out
@@ -366,7 +366,7 @@ module _ (code : Code) (part : Part) where
       (1, 0, steps (c.place (at false (does pause) rest)) now vars 0 (c.live (at false (does pause) rest) tt) ∙ ap (λ r. follows code part now.event now.looks vars 0 r) (c.pausing vars now (at false (does pause) rest) (at true (does pause) rest) (Post (One (Own code.number)) 0x85 0) refl))))
 
   mutual
-    -- what one statement leads to, in any place of that thread
+    -- the steps after one statement, in any place of that thread
     leads : {y : PtState} {s : Statement ℕ} {now : Sight} {later : List Sight} {vars : List ℕ} {h : List Happening} {out : Completion}
         → Reads code y s now later vars h out → (home : List (Statement ℕ)) (c : Context home y) (rest : List (Statement ℕ)) (k : List Happening) (o : Completion)
         → Next home y c rest out k o → From (c.place (at false s rest)) now later vars (h ++ k) o
@@ -449,7 +449,7 @@ module _ (code : Code) (part : Part) where
         (subst (λ (l : List (Statement ℕ)). From (c.place (before false l)) now later vars (h ++ (j ++ k)) o) (append-nil block)
         (leads_all all block c [] (j ++ k) o (leads_thread more c k o f)))
 
-  -- a thread comes to an end, or stands
+  -- a thread comes to an end, or waits
   pub comes_to_an_end : {y : PtState} {block : List (Statement ℕ)} {now : Sight} {later : List Sight} {vars : List ℕ} {h : List Happening} {out : Completion}
       → ReadsThread code y block now later vars h out → Restarts out → ⊥
   comes_to_an_end (once y block now later vars h out never_anew all) = never_anew

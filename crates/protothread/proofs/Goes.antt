@@ -17,19 +17,19 @@ use Rattle.protothread.specs.Runs.{Runs, operated, operated_last, gave_up, gave_
 use Rattle.protothread.proofs.Units.{follows, stepped, called}
 use Rattle.protothread.proofs.Follows.{IsLive, still}
 
--- how a run goes on after an answer that gives up control
+-- a run after an answer that yields control
 abbrev pub Again : (G : Place → Sight → List Sight → List ℕ → List Happening → Completion → Type 0) → PtState → Place → (later : List Sight) → List ℕ → List Happening → Completion → Type 0
 Again G a q [] vars h out = (h ≡ gives_up a ∷ []) × (out ≡ stands vars)
 Again G a q (next ∷ later) vars h out = (k : List Happening) × (h ≡ gives_up a ∷ k) × G q next later vars k out
 
--- how it goes on at a place, by the mark
+-- a run from a place, by the mark
 abbrev pub Held : (G : Place → Sight → List Sight → List ℕ → List Happening → Completion → Type 0) → Mark → Place → (now : Sight) → (later : List Sight) → List ℕ → List Happening → Completion → Type 0
 Held G AtRest q now later vars h out = G q now later vars h out
 Held G (UnderWay into) q now later vars h out = G q now later vars h out
 Held G Pausing q now later vars h out = Again G (yield_answer q) q later vars h out
 Held G RunAway q now later vars h out = ⊥
 
--- how it goes on after a statement
+-- a run after a statement
 abbrev pub Behind : (G : Place → Sight → List Sight → List ℕ → List Happening → Completion → Type 0) → Reached → (now : Sight) → (later : List Sight) → List ℕ → List Happening → Completion → Type 0
 Behind G (goes_on changed q) now later vars h out = G q now later changed h out
 Behind G (stops o mark q) now [] vars h out = (h ≡ operates o ∷ []) × (out ≡ stands vars)
@@ -65,7 +65,7 @@ module _ (code : Code) (part : Part) where
       at_live (at y s rest) l f = f
       at_live (within t u rest) l f = f
 
-  -- how it goes on after a step
+  -- a run after a step
   abbrev BehindStep : Step → Mark → Place → List ℕ → (now : Sight) → (later : List Sight) → List Happening → Completion → Type 0
   BehindStep (step.Op o) mark q vars now [] h out = (h ≡ operates o ∷ []) × (out ≡ stands vars)
   BehindStep (step.Op o) mark q vars now (next ∷ later) h out =
@@ -190,7 +190,7 @@ from_step code r now later vars units a h out e g =
     let Q : Part → Type 0 = λ x. BehindAll code x (advanced_of code now.event now.looks r vars units) now later h out in
     advanced_goes r.mark code r now later vars units h out (subst Q (same_part r.mark code r now vars units) (subst P (sym e) g))
 
--- a thread that was told an answer
+-- a thread that got an answer
 unmarked : (G : Place → Sight → List Sight → List ℕ → List Happening → Completion → Type 0) (m : Mark) (q : Place) (now : Sight) (later : List Sight) (vars : List ℕ) (h : List Happening) (out : Completion)
     → Held G (marked_answered m) q now later vars h out → Held G m q now later vars h out
 unmarked G AtRest q now later vars h out f = f

@@ -1,5 +1,5 @@
--- A program names its own processes alone: no operation of a thread is for a system process, and what goes to all is never
--- an exit.
+-- A program names only its own processes: no operation of a thread is for a system process, and no event for all is an
+-- exit.
 use Rattle.std.proofs.Common.{ℕ, zero, suc, ◌≡◌, ◌-◌, Bool, true, false, ◌&&◌, if◌then◌else◌, List, arith}
 use Rattle.std.specs.Prelude.{nat_lt, not, slice_index, ◌==◌}
 use Rattle.program_tree.specs.declared.event.Event.{Event}

@@ -1,4 +1,4 @@
--- What the innermost thread makes of those around it, and that the code does this.
+-- The effect of the innermost thread on those around it, which is that of the code.
 use Rattle.std.proofs.Common.{◌≡◌, ℕ, Bool, true, false, if◌then◌else◌, List, [], ◌∷◌, ◌++◌, length, refl, ap, sym, ◌∙◌, subst}
 use Rattle.std.proofs.lemmas.Bool.{ltb-true}
 use Rattle.program_tree.specs.declared.event.Event.{Event}
@@ -34,7 +34,7 @@ reached-nested code whole vars event looks [] p = refl
 reached-nested code whole vars event looks (c ∷ cs) p =
     ap (λ r. spawner_reached c.thread c.rest vars r) (reached-nested code (thread_block code c.thread) vars event looks cs p)
 
--- what becomes of the outermost thread
+-- the new state of the outermost thread
 pub made_of-goes_on : (cs : List Caller) (vars changed : List ℕ) (p : Place) → made_of cs vars (goes_on changed p) ≡ goes_on changed (nested cs p)
 made_of-goes_on [] vars changed p = refl
 made_of-goes_on (c ∷ cs) vars changed p = ap (λ r. spawner_reached c.thread c.rest vars r) (made_of-goes_on cs vars changed p)
@@ -61,7 +61,7 @@ pub nested-snoc : (cs : List Caller) (c : Caller) (p : Place) → nested (cs ++ 
 nested-snoc [] c p = refl
 nested-snoc (d ∷ cs) c p = ap (λ q. within d.thread q d.rest) (nested-snoc cs c p)
 
--- what the statement of the innermost thread makes of the outermost
+-- the effect of the innermost thread's statement on the outermost
 pub reached_here : (code : Code) (t : Thread) (vars : List ℕ) (event : Event) (looks : Looks) (s : Statement ℕ) (rest : List (Statement ℕ))
     → reached_at code t vars event looks s rest ≡ made_of (callers_of code t) vars (statement_reached code (listed (body_of_thread code t)) t.is_yielded vars event looks s rest)
 reached_here code t vars event looks s rest =
@@ -69,7 +69,7 @@ reached_here code t vars event looks s rest =
     ∙ ap (λ home. made_of (callers_of code t) vars (statement_reached code home t.is_yielded vars event looks s rest))
     (ap (λ whole. home_of code whole (callers_of code t)) (sym (listed-part code t.part)) ∙ home_of-calls code (part_body code t.part) t.calls)
 
--- a deed spawns what its statement does
+-- an action spawns the threads of its statement
 pub deed_can : (cs : List Call) (s : Statement ℕ) (d : Deed) → IsDoneBy s d → ((t : ℕ) → s ≡ does (spawn t) → CanSpawn cs t) → DeedCanSpawn cs d
 deed_can cs s Passes by can = tt
 deed_can cs s (Assigns i v) by can = tt
@@ -113,7 +113,7 @@ takes_loop left_at c body after code whole y vars event looks (while d a) rest h
     either true = sym h.2
     either false = sym h.1
 
--- where an instruction stands, a statement is left
+-- at an instruction, a statement is left
 pub stands_at : (left_at : ℕ → List (Statement ℕ)) (i : Instruction) (here : List (Statement ℕ)) → Leads left_at i here → (s : Statement ℕ) × (rest : List (Statement ℕ)) × (here ≡ s ∷ rest)
 stands_at left_at (Act a after) here h = (does (action_of a), left_at after, h)
 stands_at left_at (Branch c held failed) here h = by_cases _ here h
@@ -175,7 +175,7 @@ module _ (code : Code) (old : Thread) (s : Statement ℕ) (rest : List (Statemen
             ∙ ap (λ q. goes_on vars q) (sym (moves_so old.mark p new moved));
       }
 
-  -- the thread that was spawned has exited, and its spawner goes on
+  -- the thread that was spawned has exited, and its spawner continues
   pub exits_so : (cs : List Call) (c : Call) (new : Thread) (vars : List ℕ) (p : Place) → old.calls ≡ cs ++ c ∷ []
       → new ≡ record old { is_yielded = false; position = c.next; calls = cs }
       → made_of (callers_of code old) vars (answers Exited p) ≡ goes_on vars (thread_place code new)

@@ -1,4 +1,4 @@
--- What a run does, its text says.
+-- A text says the actions of its runs.
 use Rattle.std.proofs.Common.{◌≡◌, ℕ, zero, suc, ◌<◌, ◌≤◌, Bool, true, false, not, if◌then◌else◌, List, [], ◌∷◌, ◌++◌, Option, None, Some, slice_set, slice_index, refl, ap, sym, ◌∙◌, arith, append_assoc, subst, ◌==◌}
 use Rattle.std.proofs.lemmas.List.{append-nil}
 use Rattle.program_tree.specs.declared.event.Proc.TheVariants.{Own}
@@ -23,7 +23,7 @@ use Rattle.protothread.proofs.Follows.{IsLive, behind_end, is_true, is_false, he
 use Rattle.protothread.proofs.Goes.{Again, Behind, StepOf, Goes, entering, runs_go}
 use Rattle.protothread.specs.Runs.{Runs}
 
--- a run in two parts: statements with this completion, and what comes after them, within m statements
+-- a run in two parts: statements with this completion, and those after them, within m statements
 record Split (R : List Happening → Completion → Type 0) (N : ℕ → Completion → List Happening → Completion → Type 0) (n : ℕ) (h : List Happening) (out : Completion) : Type 0 where
   became : Completion
   m : ℕ
@@ -80,7 +80,7 @@ module _ (code : Code) (part : Part) where
   LeavesTo None vars now p = (q : Place) × (reached code whole vars now.event now.looks p ≡ answers Exited q)
   LeavesTo (Some b) vars now p = reached code whole vars now.event now.looks p ≡ goes_on vars b
 
-  -- where a thread with this block stands in the whole one
+  -- the position of a thread with this block in the whole one
   record Inside (home : List (Statement ℕ)) (yields : PtState) : Type 0 where
     place : Place → Place
     behind : Option Place
@@ -167,7 +167,7 @@ module _ (code : Code) (part : Part) where
   left_of (Some q) n p now later vars h out live e g = entering code part n p (goes_on vars q) now later vars h out live e g
 
   module _ (home : List (Statement ℕ)) (y : PtState) (c : Inside home y) (rest : List (Statement ℕ)) where
-    -- a statement that is done, or stands, at once
+    -- a statement that ends, or waits, at once
     simple : (Q : List Happening → Completion → Type 0) (n m : ℕ) (h a k : List Happening) (became out : Completion)
         → m ≤ n → h ≡ a ++ k → Q a became → NextTo home y c rest m became k out → Split Q (λ m b x o. NextTo home y c rest m b x o) n h out
     simple Q n m h a k became out low same r g = record { became = became; m = m; few = low; first = a; next = k; parts = same; reads = r; goes = g }
@@ -203,7 +203,7 @@ module _ (code : Code) (part : Part) where
                 (entering code part n (c.place (at true s rest)) (answers y (c.place (at true s rest))) now later vars h out (c.live (at true s rest) tt) (c.yielding vars now (at true s rest) (at true s rest) (failing now vars t)) g))
           ]) refl
 
-  -- what an action of an ordinary deed does
+  -- the effect of an ordinary action
   module _ (home : List (Statement ℕ)) (y : PtState) (c : Inside home y) (rest : List (Statement ℕ)) (k : ℕ) (one : OneAt k) (a : Action ℕ) where
     operates_so : (o : Op) (into : Option ℕ) (n : ℕ) (now : Sight) (later : List Sight) (vars : List ℕ) (h : List Happening) (out : Completion)
         → deed code a now vars ≡ Operates o into

@@ -1,4 +1,4 @@
--- How a step depends on the units of work, and where it gives up control.
+-- The dependence of a step on the units of work, and the places at which it yields control.
 use Rattle.std.proofs.Common.{◌≡◌, ℕ, zero, suc, ◌+◌, ◌-◌, ◌<◌, ◌≤◌, ◌⊎◌, inl, inr, Bool, true, false, if◌then◌else◌, List, refl, ap, sym, ◌∙◌, arith, subst}
 use Rattle.std.specs.Prelude.{nat_lt}
 use Rattle.std.proofs.lemmas.Bool.Decides.{nat_tests}
@@ -106,7 +106,7 @@ module _ (code : Code) (part : Part) (event : Event) (looks : Looks) where
         | within t p' rest ↦ after (reached code (whole_of code part) vars event looks (within t p' rest))
       ]
 
-  -- what a step pays
+  -- the units that a step pays
   pays : (units : ℕ) (p : Place) (vars : List ℕ)
       → PaysFor (continued code part event looks p vars units).step units (continued code part event looks p vars units).units
   pays zero p vars =

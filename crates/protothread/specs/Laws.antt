@@ -56,11 +56,11 @@ IsHeld code whole ended = whole ≡ []
 IsHeld code whole (at yielded s rest) = IsTrue (is_wait s) ⊎ (before false whole ≡ at yielded s rest)
 IsHeld code whole (within t p rest) = IsHeld code (thread_block code t) p
 
--- after the post of a `pause` a thread stands at a wait
+-- after the post of a `pause` a thread is at a wait
 abbrev pub IsSound : Code → Remainder → Type 0
 IsSound code r = r.mark ≡ Pausing → IsHeld code (whole_of code r.part) r.place
 
--- A step that gives up control leaves the thread at rest and held at its place, from which the next call goes on.
+-- A step that yields control leaves the thread at rest and held at its place, from which the next call continues.
 pub record GivesUpAtAWait (code : Code) (a : Advanced) : Type 0 where
   pub gives_up : (answer : PtState) → a.step ≡ Done answer → state_number answer < 2
       → (a.remainder.mark ≡ AtRest) × IsHeld code (whole_of code a.remainder.part) a.remainder.place

@@ -1,4 +1,4 @@
--- What a protothread can see of its mote.
+-- The view of its mote that a protothread has.
 use Rattle.std.specs.Prelude.{ℕ, List}
 
 -- the moment, the number of the mote, the timers that nobody owns, the processes that run or are called, and the

@@ -1,4 +1,4 @@
--- What the places of a thread mean.
+-- The meaning of the places of a thread.
 use Rattle.std.specs.Prelude.{ℕ, zero, suc, if◌then◌else◌, List, [], ◌∷◌, Option, None, Some, slice_get}
 use Rattle.program_tree.specs.declared.event.Event.{Event}
 use Rattle.program_tree.specs.Tree.{Expression, Statement, Body, end}
@@ -33,7 +33,7 @@ abbrev pub innermost : Code → Body ℕ → List Call → Body ℕ
 innermost code b [] = b
 innermost code b (c ∷ cs) = innermost code (thread_body code c.thread) cs
 
--- a thread that is spawned, and what is left after its spawn
+-- a thread that is spawned, and the rest after its spawn
 pub record Caller : Type 0 where
   pub thread : ℕ
   pub rest : List (Statement ℕ)
@@ -46,7 +46,7 @@ callers_in code b (c ∷ cs) = record {
   rest = rest_at b c.next;
 } ∷ callers_in code (thread_body code c.thread) cs
 
--- where a thread stands, given where the innermost of its spawned threads stands
+-- the position of a thread, given that of the innermost of its spawned threads
 abbrev pub nested : List Caller → Place → Place
 nested [] p = p
 nested (c ∷ cs) p = within c.thread (nested cs p) c.rest
@@ -62,7 +62,7 @@ body_of_thread code t = innermost code (part_body code t.part) t.calls
 abbrev pub callers_of : Code → Thread → List Caller
 callers_of code t = callers_in code (part_body code t.part) t.calls
 
--- where a thread stands: before the rest at its position in the block of the innermost thread
+-- the position of a thread: before the rest at its place in the block of the innermost thread
 abbrev pub thread_place : Code → Thread → Place
 thread_place code t = nested (callers_of code t) (before t.is_yielded (rest_at (body_of_thread code t) t.position))
 
@@ -70,6 +70,6 @@ thread_place code t = nested (callers_of code t) (before t.is_yielded (rest_at (
 abbrev pub remainder_of : Code → Thread → Remainder
 remainder_of code t = record { part = t.part; mark = t.mark; place = thread_place code t }
 
--- the place where a test leads
+-- the place to which a test leads
 abbrev pub place_by : (variables : List ℕ) → Event → Looks → Expression ℕ → (held failed : ℕ) → ℕ
 place_by vars event looks c held failed = if holds (value vars event looks c) then held else failed

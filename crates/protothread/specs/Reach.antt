@@ -1,4 +1,4 @@
--- What the code of a thread does at one statement.
+-- The effect of the code of a thread at one statement.
 use Rattle.std.specs.Prelude.{ℕ, ◌≡◌, ◌≤◌, List, [], ◌∷◌, Option, None, Some}
 use Rattle.program_tree.specs.declared.event.Event.{Event}
 use Rattle.program_tree.specs.declared.instruction.Instruction.{Instruction}
@@ -27,18 +27,18 @@ abbrev pub home_of : Code → (whole : List (Statement ℕ)) → List Caller →
 home_of code whole [] = whole
 home_of code whole (c ∷ cs) = home_of code (thread_block code c.thread) cs
 
--- what the innermost of the threads makes of the outermost
+-- the effect of the innermost of the threads on the outermost
 abbrev pub made_of : List Caller → (variables : List ℕ) → Reached → Reached
 made_of [] vars r = r
 made_of (c ∷ cs) vars r = spawner_reached c.thread c.rest vars (made_of cs vars r)
 
--- what a deed at the statement `s`, where a thread stands before the rest, makes of the thread
+-- the effect of an action at the statement `s`, before the rest, on the thread
 abbrev pub performed_at : Code → Thread → (variables : List ℕ) → (s : Statement ℕ) → (rest : List (Statement ℕ))
     → Deed → Reached
 performed_at code t vars s rest d =
     made_of (callers_of code t) vars (performed code (listed (body_of_thread code t)) vars s rest d)
 
--- what the statement `s`, where a thread stands before the rest, makes of it
+-- the effect of the statement `s`, before the rest, on the thread
 abbrev pub reached_at : Code → Thread → (variables : List ℕ) → Event → Looks → (s : Statement ℕ)
     → (rest : List (Statement ℕ)) → Reached
 reached_at code t vars event looks s rest =
@@ -49,17 +49,17 @@ abbrev pub IsDoneBy : Statement ℕ → Deed → Type 0
 IsDoneBy s (Spawns t) = s ≡ does (spawn t)
 IsDoneBy s d = Unit {0}
 
--- a deed spawns only what the innermost thread can spawn
+-- an action spawns only threads that the innermost thread can spawn
 abbrev pub DeedCanSpawn : List Call → Deed → Type 0
 DeedCanSpawn cs (Spawns t) = CanSpawn cs t
 DeedCanSpawn cs d = Unit {0}
 
--- a thread stands in this flat code, that of its innermost thread, which spawns only threads before itself
+-- a thread is in this flat code, that of its innermost thread, which spawns only threads before itself
 pub record StandsIn (code : Code) (t : Thread) (flat : List Instruction) : Type 0 where
   pub flat_of : IsFlat (body_of_thread code t) flat
   pub earlier : SpawnsSo t.calls (body_of_thread code t)
 
--- a thread that did a statement goes on where it now stands
+-- a thread that executed a statement continues from its new position
 pub record GoesOnAt (code : Code) (flat : List Instruction) (made : Reached) (old new : Thread)
     (after : List ℕ) : Type 0 where
   pub part : new.part ≡ old.part
@@ -80,13 +80,13 @@ pub record AnswersSo (code : Code) (made : Reached) (answer : PtState) (old new 
   pub variables : after ≡ vars
   pub made_so : made ≡ answers answer (thread_place code new)
 
--- what became of the statement that a thread stands at
+-- the fate of the statement at which a thread is
 abbrev pub Reaches : Code → (made : Reached) → Reach → (old new : Thread) → (vars after : List ℕ) → Type 0
 Reaches code made (GoesOn flat) old new vars after = GoesOnAt code flat.now made old new after
 Reaches code made (Operates o) old new vars after = OperatesSo code made o old new vars after
 Reaches code made (Answers a) old new vars after = AnswersSo code made a old new vars after
 
--- a call that comes back to where the thread stands, and has paid for the spawns that it passed
+-- a call that returns to the thread's position, and has paid for the spawns that it passed
 pub record GoesOnFrom (old new : Thread) (units left : ℕ) : Type 0 where
   pub same : new ≡ old
   pub none_made : left ≤ units

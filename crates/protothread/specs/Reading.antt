@@ -1,5 +1,5 @@
--- What a thread's block says, read by its structure: the reading knows statements, blocks, threads and what is seen,
--- and nothing of how a thread keeps its place.
+-- The meaning of a thread's block, read by its structure: the reading knows statements, blocks, threads and sights, and
+-- nothing of how a thread keeps its place.
 use Rattle.std.specs.Prelude.{ℕ, ◌≡◌, true, false, List, [], ◌∷◌, ◌++◌, slice_set, Option, None, Some, if◌then◌else◌}
 use Rattle.program_tree.specs.declared.event.Event.{Event}
 use Rattle.program_tree.specs.declared.event.Proc.TheVariants.{Own}
@@ -21,20 +21,20 @@ use Rattle.protothread.specs.Value.{value, holds}
 use Rattle.protothread.specs.Remainder.{thread_block}
 use Rattle.protothread.specs.Step.{deed_of, other_block}
 
--- What a thread is shown each time that it is advanced: what its last operation answered, the event, and what it sees
--- of its mote, which each operation may change.
+-- The sight of a thread each time that it is advanced: the answer to its last operation, the event, and its view of its
+-- mote, which each operation may change.
 pub record Sight : Type 0 where
   pub answer : ℕ
   pub event : Event
   pub looks : Looks
 
--- what a caller sees of a thread, in order: operations, and each time that it gives up control
+-- a thread as its caller sees it, in order: operations, and each time that it yields control
 pub data Happening : Type 0 where
   operates : Op → Happening
   gives_up : PtState → Happening
 
--- What became of statements: they were done, or were left since the thread restarts or exits, and the thread goes on
--- in the sight `now`, with the later ones after it; or the thread still stands in them, and no sight is left.
+-- The fate of statements: they were executed, or were left since the thread restarts or exits, and the thread continues
+-- in the sight `now`, with the later ones after it; or the thread is still in them, and no sight is left.
 pub data Completion : Type 0 where
   done : (now : Sight) → (later : List Sight) → (variables : List ℕ) → Completion
   restarts : (now : Sight) → (later : List Sight) → (variables : List ℕ) → Completion
@@ -54,19 +54,19 @@ abbrev pub with_answer : (into : Option ℕ) → (variables : List ℕ) → (ans
 with_answer None vars answer = vars
 with_answer (Some i) vars answer = slice_set vars i answer
 
--- a statement that goes on in the next sight
+-- a statement that continues in the next sight
 abbrev pub resumed : (into : Option ℕ) → (later : List Sight) → (variables : List ℕ) → Completion
 resumed into [] vars = stands vars
 resumed into (next ∷ later) vars = done next later (with_answer into vars next.answer)
 
--- what a statement that is reached does at once
+-- the immediate effect of a statement that is reached
 abbrev pub deed : Code → Action ℕ → Sight → (variables : List ℕ) → Deed
 deed code a now vars = deed_of code.number false vars now.event now.looks a
 
 abbrev pub meaning : Expression ℕ → Sight → (variables : List ℕ) → ℕ
 meaning e now vars = value vars now.event now.looks e
 
--- once it has yielded, a thread goes on in the first sight in which the condition holds, and yields in each before
+-- once it has yielded, a thread continues in the first sight in which the condition holds, and yields in each before
 pub data Awaits (yields : PtState) (c : Expression ℕ) : (now : Sight) → (later : List Sight) → (variables : List ℕ)
     → List Happening → Completion → Type 0 where
   met : (now : Sight) (later : List Sight) (vars : List ℕ) → holds (meaning c now vars) ≡ true
@@ -78,7 +78,7 @@ pub data Awaits (yields : PtState) (c : Expression ℕ) : (now : Sight) → (lat
       → Awaits yields c now [] vars (gives_up yields ∷ []) (stands vars)
 
 mutual
-  -- What one statement does. `yields` is the answer that the part's caller gets when the thread yields: YIELDED, or
+  -- The effect of one statement. `yields` is the answer that the part's caller gets when the thread yields: YIELDED, or
   -- WAITING from a spawned thread.
   pub data Reads (code : Code) : (yields : PtState) → Statement ℕ → (now : Sight) → (later : List Sight)
       → (variables : List ℕ) → List Happening → Completion → Type 0 where
@@ -119,7 +119,7 @@ mutual
     posts_last : (y : PtState) (now : Sight) (vars : List ℕ)
         → Reads code y (does pause) now [] vars
         (operates (Post (One (Own code.number)) (system_number Continue) 0) ∷ []) (stands vars)
-    -- the block of the thread, in the same call; its spawner goes on after the spawn if the thread ends or exits
+    -- the block of the thread, in the same call; its spawner continues after the spawn if the thread ends or exits
     spawn_ends : (y : PtState) (t : ℕ) (now : Sight) (later : List Sight) (vars : List ℕ) (h : List Happening)
         (call : Sight) (calls : List Sight) (changed : List ℕ)
         → ReadsThread code Waiting (thread_block code t) now later vars h (done call calls changed)
@@ -151,7 +151,7 @@ mutual
     leaves : (y : PtState) (c : Expression ℕ) (a : Body ℕ) (now : Sight) (later : List Sight) (vars : List ℕ)
         → holds (meaning c now vars) ≡ false → Reads code y (while c a) now later vars [] (done now later vars)
 
-  -- what statements do, one after another, up to one that isn't done
+  -- the effect of statements, one after another, up to one that isn't finished
   pub data ReadsAll (code : Code) : (yields : PtState) → List (Statement ℕ) → (now : Sight) → (later : List Sight)
       → (variables : List ℕ) → List Happening → Completion → Type 0 where
     nothing_left : (y : PtState) (now : Sight) (later : List Sight) (vars : List ℕ)
@@ -165,7 +165,7 @@ mutual
         (vars : List ℕ) (h : List Happening) (out : Completion)
         → (IsDone out → ⊥) → Reads code y s now later vars h out → ReadsAll code y (s ∷ ss) now later vars h out
 
-  -- what a thread with this block does: after a `restart` the whole block again
+  -- the effect of a thread with this block: after a `restart` the whole block again
   pub data ReadsThread (code : Code) : (yields : PtState) → List (Statement ℕ) → (now : Sight) → (later : List Sight)
       → (variables : List ℕ) → List Happening → Completion → Type 0 where
     once : (y : PtState) (block : List (Statement ℕ)) (now : Sight) (later : List Sight) (vars : List ℕ)

@@ -1,4 +1,4 @@
--- What a protothread has still to do.
+-- The remainder of a protothread: the statements that it has yet to execute.
 use Rattle.std.specs.Prelude.{ℕ, Bool, false, List, [], ◌∷◌, Option, None, Some, slice_get}
 use Rattle.program_tree.specs.Tree.{Statement, Body, listed}
 use Rattle.program_tree.specs.Code.{Code, callback_at}
@@ -7,8 +7,8 @@ use Rattle.protothread.specs.declared.part.Part.TheVariants as part
 use Rattle.protothread.specs.declared.thread.Mark.{Mark}
 use Rattle.protothread.specs.declared.thread.Mark.TheVariants.{AtRest}
 
--- Where a thread stands: at its end; at a statement, which may have yielded, with the others that are left after it,
--- those of the innermost block first; or at the spawn of a thread, which has a place of its own, with the others.
+-- The position of a thread: at its end; at a statement, which may have yielded, with the others that are left after it,
+-- those of the innermost block first; or at the spawn of a thread, which has a position of its own, with the others.
 pub data Place : Type 0 where
   ended : Place
   at : (is_yielded : Bool) → Statement ℕ → (rest : List (Statement ℕ)) → Place
@@ -19,7 +19,7 @@ abbrev pub before : (is_yielded : Bool) → List (Statement ℕ) → Place
 before yielded [] = ended
 before yielded (s ∷ rest) = at yielded s rest
 
--- the spawner of a thread that is at its end goes on after the spawn
+-- the spawner of a thread that is at its end continues after the spawn
 abbrev pub spawner_place : (thread : ℕ) → Place → (rest : List (Statement ℕ)) → Place
 spawner_place thread ended rest = before false rest
 spawner_place thread p rest = within thread p rest
@@ -28,7 +28,7 @@ abbrev pub settled : Place → Place
 settled (within t p rest) = spawner_place t (settled p) rest
 settled p = p
 
--- the part that the thread runs; whether it is at rest, under way, or run away; and where it stands
+-- the part that the thread runs; whether it is at rest, under way, or run away; and its position
 pub record Remainder : Type 0 where
   pub part : Part
   pub mark : Mark

@@ -26,7 +26,7 @@ Steps code now r vars answer next changed =
 
 pub data Runs (code : Code) : Remainder → (variables : List ℕ) → (now : Sight) → (later : List Sight) → List Happening
     → Completion → Type 0 where
-  -- An operation. The thread is told its answer before it is advanced again; only a variable after `into` gets it.
+  -- An operation. The thread gets its answer before it is advanced again; only a variable after `into` keeps it.
   operated : (r next : Remainder) (vars changed : List ℕ) (now resumed : Sight) (later : List Sight) (o : Op)
       (h : List Happening) (out : Completion)
       → Steps code now r vars (step.Op o) next changed
@@ -51,7 +51,7 @@ pub data Runs (code : Code) : Remainder → (variables : List ℕ) → (now : Si
   has_ended : (r next : Remainder) (vars changed : List ℕ) (now : Sight) (later : List Sight)
       → Steps code now r vars (step.Done Ended) next changed → Runs code r vars now later [] (done now later changed)
 
--- the runs of a fresh thread are what the text of its part says
+-- the runs of a fresh thread are those of the text of its part
 abbrev pub RunsAreTheText : Type 0
 RunsAreTheText =
     (code : Code) (part : Part) (vars : List ℕ) (now : Sight) (later : List Sight) (h : List Happening)

@@ -21,7 +21,7 @@ signalled [] = 0
 signalled (takes ∷ us) = signalled us
 signalled (signals ∷ us) = 1 + signalled us
 
--- the count is the first one and the signals, less what was taken, modulo 65,536
+-- the count is the first one plus the signals minus those taken, modulo 65,536
 abbrev pub CountsAreSignalsLessTakes : Type 0
 CountsAreSignalsLessTakes =
     (start : ℕ) (uses : List Use) (count : ℕ) → Counts start uses count

@@ -36,12 +36,12 @@ pub record Advanced : Type 0 where
   pub variables : List ℕ
   pub units : ℕ
 
--- goes on after the statement if the test holds, and else does the other
+-- continues after the statement if the test holds, and otherwise does the other action
 abbrev pub passes_where : Bool → (other : Deed) → Deed
 passes_where test other = if test then Passes else other
 
--- What a statement without blocks does in a process of this number, when it is reached, or when the thread is resumed
--- at it because it has yielded. A `pause` posts CONTINUE to its own process, and then waits for a CONTINUE.
+-- The effect of a statement without blocks in a process of this number, when it is reached, or when the thread is
+-- resumed at it because it has yielded. A `pause` posts CONTINUE to its own process, and then waits for a CONTINUE.
 abbrev pub deed_of : (process : ℕ) → (is_yielded : Bool) → (variables : List ℕ) → Event → Looks → Action ℕ → Deed
 deed_of process yielded vars event looks (assign i e) = Assigns i (value vars event looks e)
 deed_of process yielded vars event looks (print e) = Operates (op.Print (value vars event looks e)) None
@@ -74,14 +74,14 @@ deed_of process yielded vars event looks (reset t) = Operates (op.Reset t) None
 deed_of process yielded vars event looks (restart_timer t) = Operates (op.RestartTimer t) None
 deed_of process yielded vars event looks (stop t) = Operates (op.Stop t) None
 
--- what one statement makes of a thread: it goes on with these variables from a place, stops with an operation and this
--- mark, or gives up control
+-- the effect of one statement on a thread: it continues with these variables from a place, stops with an operation and
+-- this mark, or yields control
 pub data Reached : Type 0 where
   goes_on : (variables : List ℕ) → Place → Reached
   operates : Op → Mark → Place → Reached
   answers : PtState → Place → Reached
 
--- what a deed makes of the thread whose block is `whole`, at the statement `s` before the rest
+-- the effect of an action on the thread whose block is `whole`, at the statement `s` before the rest
 abbrev pub performed : Code → (whole : List (Statement ℕ)) → (variables : List ℕ) → (s : Statement ℕ)
     → (rest : List (Statement ℕ)) → Deed → Reached
 performed code whole vars s rest Passes = goes_on vars (before false rest)
@@ -104,8 +104,8 @@ statement_reached code whole yielded vars event looks (branch c a o) rest =
 statement_reached code whole yielded vars event looks (while c a) rest =
     goes_on vars (before false (if holds (value vars event looks c) then listed a ++ while c a ∷ rest else rest))
 
--- what the spawned thread makes of its spawner: while it answers 0 or 1 the spawner answers 0, and on 2 or 3 the
--- spawner goes on after the spawn
+-- the effect of the spawned thread on its spawner: while it answers 0 or 1 the spawner answers 0, and on 2 or 3 the
+-- spawner continues after the spawn
 abbrev pub spawner_reached : (thread : ℕ) → (rest : List (Statement ℕ)) → (variables : List ℕ) → Reached → Reached
 spawner_reached thread rest vars (goes_on changed p) = goes_on changed (within thread p rest)
 spawner_reached thread rest vars (operates o mark p) = operates o mark (within thread p rest)
@@ -114,14 +114,14 @@ spawner_reached thread rest vars (answers Yielded p) = answers Waiting (within t
 spawner_reached thread rest vars (answers Exited p) = goes_on vars (before false rest)
 spawner_reached thread rest vars (answers Ended p) = goes_on vars (before false rest)
 
--- what the statement at which a thread stands makes of it; its block is `whole`
+-- the effect of the statement at which a thread is; its block is `whole`
 abbrev pub reached : Code → (whole : List (Statement ℕ)) → (variables : List ℕ) → Event → Looks → Place → Reached
 reached code whole vars event looks ended = answers Ended ended
 reached code whole vars event looks (at yielded s rest) = statement_reached code whole yielded vars event looks s rest
 reached code whole vars event looks (within t p rest) =
     spawner_reached t rest vars (reached code (thread_block code t) vars event looks p)
 
--- A thread that goes on from this place: each statement that is reached costs a unit, and the end of a block or of a
+-- A thread that continues from this place: each statement that is reached costs a unit, and the end of a block or of a
 -- spawned thread costs none.
 abbrev pub continued : Code → Part → Event → Looks → Place → (variables : List ℕ) → (units : ℕ) → Advanced
 continued code part event looks place vars zero =
@@ -154,7 +154,7 @@ continued code part event looks place vars (suc units) =
       ]
     ]
 
--- how many spawns a call passes on its way to where the thread stands
+-- the number of spawns that a call passes on its way to the thread's position
 abbrev pub passed : Place → ℕ
 passed (within t p rest) = suc (passed p)
 passed p = 0
@@ -187,7 +187,7 @@ advanced_of code event looks r vars units =
       | RunAway ↦ record { step = step.Runaway; remainder = r; variables = vars; units = units }
     ]
 
--- a remainder and the variables once a thread was told the answer of a post
+-- a remainder and the variables once a thread knows the answer to a post
 pub record Answered : Type 0 where
   pub remainder : Remainder
   pub variables : List ℕ

@@ -41,7 +41,7 @@ applied Or a b = truth (holds a || holds b)
 abbrev pub is_event : Event → (number : ℕ) → (word : ℕ) → Bool
 is_event event n w = event.number == n && event.word == w
 
--- A variable is one of the code's, which the list has where it was made from that code.
+-- A variable is one of the code's, which the list has if it was made from that code.
 abbrev pub value : (variables : List ℕ) → Event → Looks → Expression ℕ → ℕ
 value variables event looks (number n) = n
 value variables event looks (variable i) = slice_index variables i

@@ -1,8 +1,8 @@
-//! What a protothread answers.
+//! The answer of a protothread.
 ghost use Rattle.std.specs.Prelude.{◌≡◌, ◌<◌, ◌↔◌, IsTrue};
 ghost use Rattle.protothread.specs.State.{state_number};
 
-/// What a protothread answers when it gives up control, as `pt.h` of Contiki has it.
+/// The answer of a protothread when it yields control, as in Contiki's `pt.h`.
 #[derive(Clone, Copy, Debug, PartialEq, Eq)]
 pub enum PtState {
     /// It waits for a condition (`PT_WAITING`).
@@ -28,7 +28,7 @@ impl PtState {
         }
     }
 
-    /// Whether the protothread is to be called again (`PT_SCHEDULE` of `pt.h`).
+    /// Returns whether the protothread is to be called again (`PT_SCHEDULE` of `pt.h`).
     pub fn scheduled(self) -> bool
         ensures { IsTrue result ↔ (state_number self < 2) }
     {

@@ -5,11 +5,11 @@ ghost use Rattle.protothread.specs.Calls.{CanSpawn, IsLast};
 use arrayvec::ArrayVec;
 use std::marker::Model;
 
-/// How deep spawned threads can be nested: the one that a part spawns, whatever its number, and those inside it, each
-/// one of the process's 7 and before the one around it.
+/// The greatest depth to which spawned threads can be nested: the one that a part spawns, whatever its number, and
+/// those inside it, each one of the process's 7 and before the one around it.
 const DEPTH: usize = 8;
 
-/// A thread that was spawned, and the place where its spawner goes on after the spawn.
+/// A thread that was spawned, and the place from which its spawner continues after the spawn.
 #[derive(Clone, Copy, Default)]
 pub(crate) struct Call {
     pub(crate) thread: u8,
@@ -44,7 +44,7 @@ impl Calls {
         }
     }
 
-    /// How many there are.
+    /// The number of these threads.
     pub(crate) fn len(&self) -> usize
         ensures { result ≡ length self.now }
     {

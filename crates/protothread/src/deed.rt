@@ -1,4 +1,4 @@
-//! What a statement without blocks does.
+//! The effect of a statement without blocks.
 ghost use Rattle.std.specs.Prelude.{◌≡◌};
 ghost use Rattle.program_tree.specs.Tree.{action_of};
 ghost use Rattle.protothread.specs.Step.{deed_of, passes_where as by_test};
@@ -9,10 +9,10 @@ use crate::value::{evaluate, evaluate_by_call};
 use crate::vars::Vars;
 use program_tree::{Action, Event, Proc, SystemEvent, Target};
 
-/// What a statement does to the thread that stands at it.
+/// The effect of a statement on the thread that is at it.
 #[derive(Clone, Copy)]
 pub(crate) enum Deed {
-    /// Nothing; the thread goes on after it.
+    /// Nothing; the thread continues after it.
     Passes,
     /// A variable gets a value.
     Assigns(u8, u16),
@@ -32,14 +32,14 @@ pub(crate) enum Deed {
     Exits,
 }
 
-/// Goes on if the test holds, and else does the other.
+/// Continues if the test holds, and otherwise does the other action.
 fn passes_where(test: bool, other: Deed) -> Deed
     ensures { result ≡ by_test test other }
 {
     if test { Deed::Passes } else { other }
 }
 
-/// What a statement does in a process of this number.
+/// The effect of a statement in a process of this number.
 pub(crate) fn done_by<L: Look>(
     action: &Action,
     process: u8,

@@ -20,21 +20,21 @@ pub fn operations_cost_work()
     ensures { OperationsCostWork }
 {}
 
-/// A step answers 0 or 1 only where the thread, or the innermost of those that it spawned, waits or has restarted, and
-/// the next call goes on from there.
+/// A step answers 0 or 1 only if the thread, or the innermost of those that it spawned, waits or has restarted, and the
+/// next call continues from there.
 pub fn control_is_given_up_at_waits()
     ensures { ControlIsGivenUpAtWaits }
 {}
 
-/// A semaphore's count is the first one and the signals, less what was taken, modulo 65,536.
+/// A semaphore's count is the first one plus the signals minus those taken, modulo 65,536.
 pub fn counts_are_signals_less_takes()
     ensures { CountsAreSignalsLessTakes }
 {}
 
-/// The runs of a fresh thread are exactly what the block of its part says, read by its structure: the same operations
-/// and answers in the same order, over whatever it is shown each time that it is advanced. Spawned threads are read as
-/// blocks of their own: a `restart` or `exit` is that thread's alone, and while it yields or waits its spawner answers
-/// WAITING. The reading knows statements, blocks and threads, and nothing of how a thread keeps its place.
+/// The runs of a fresh thread are exactly those of the block of its part, read by its structure: the same operations
+/// and answers in the same order, over the sights that it gets each time that it is advanced. Spawned threads are read
+/// as blocks of their own: a `restart` or `exit` is that thread's alone, and while it yields or waits its spawner
+/// answers WAITING. The reading knows statements, blocks and threads, and nothing of how a thread keeps its place.
 pub fn runs_are_the_text()
     ensures { RunsAreTheText }
 {}

@@ -1,8 +1,8 @@
-//! What a protothread can see of its mote.
+//! A protothread's view of its mote.
 ghost use Rattle.std.specs.Prelude.{◌≡◌, ◌%◌, ◌^◌, ◌↔◌, IsTrue, Contains, slice_index};
 ghost use Rattle.protothread.specs.Looks.{Looks};
 
-/// What a protothread can see of its mote. All five answers are of one fixed state of the kernel, the record `looks`.
+/// A protothread's view of its mote. All five answers are of one fixed state of the kernel, the record `looks`.
 pub trait Look {
     ghost looks: { Self → Looks };
 
@@ -14,11 +14,11 @@ pub trait Look {
     fn mote(&self) -> u16
         ensures { result ≡ (looks self.now).mote };
 
-    /// Whether a timer has expired: nobody owns it.
+    /// Returns whether a timer has expired: nobody owns it.
     fn expired(&self, timer: u16) -> bool
         ensures { IsTrue result ↔ Contains (looks self.now).expired timer };
 
-    /// Whether a process is running or called.
+    /// Returns whether a process is running or called.
     fn running(&self, process: u8) -> bool
         ensures { IsTrue result ↔ Contains (looks self.now).running process };
 

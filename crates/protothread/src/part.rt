@@ -66,7 +66,7 @@ impl Part {
         }
     }
 
-    /// Whether the part has no statement.
+    /// Returns whether the part has no statement.
     pub fn is_empty(self, text: &ProcessText) -> bool
         ensures { IsTrue result ↔ (whole_of (code_of text.now) self ≡ []) }
     {

@@ -1,4 +1,4 @@
-//! What a thread answers when it is advanced.
+//! The answer of a thread that is advanced.
 use crate::answer::PtState;
 use program_tree::{Proc, Target};
 
@@ -33,7 +33,7 @@ pub enum Op {
     Signal(u8),
 }
 
-/// What a thread answers when it is advanced.
+/// The answer of a thread that is advanced.
 #[derive(Clone, Copy, Debug, PartialEq, Eq)]
 pub enum Step {
     /// An operation, after which it is advanced again with the same event.

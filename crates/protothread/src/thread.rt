@@ -20,7 +20,7 @@ use crate::value::evaluate;
 use crate::vars::Vars;
 use program_tree::{Event, Expr, Instruction, ProcessText};
 
-/// What a thread did last.
+/// The last action of a thread.
 #[derive(Clone, Copy)]
 enum Mark {
     /// It answered `Done`, or is fresh.
@@ -33,8 +33,8 @@ enum Mark {
     RunAway,
 }
 
-/// A thread: the part that it runs, and where it stands. The position is a place in the flat code of the innermost of
-/// the threads that it has spawned, and each of these keeps the place where its spawner goes on.
+/// A thread: the part that it runs, and its position. The position is a place in the flat code of the innermost of the
+/// threads that it has spawned, and each of these keeps the place from which its spawner continues.
 #[derive(Drop)]
 pub struct Thread {
     part: Part,
@@ -44,7 +44,7 @@ pub struct Thread {
     calls: Calls,
 }
 
-/// What became of a statement: the thread goes on in this code, or stops.
+/// The fate of a statement: the thread continues in this code, or stops.
 #[derive(Clone, Copy)]
 enum Reach<'a> {
     GoesOn(&'a [Instruction]),
@@ -52,7 +52,7 @@ enum Reach<'a> {
     Answers(PtState),
 }
 
-/// The place where a test leads.
+/// The place to which a test leads.
 #[inline(always)]
 fn chosen<L: Look>(test: &Expr, vars: &Vars, event: &Event, look: &L, holds: u16, fails: u16) -> u16
     ensures { result ≡ place_by vars.now event.now (L.looks look.now) (expression_of test.now) holds fails }
@@ -98,7 +98,7 @@ impl Thread {
         }
     }
 
-    /// Goes on at a place.
+    /// Continues at a place.
     fn go_on(&mut self, position: u16)
         ensures { self.new ≡ record self.old { is_yielded = false; position = position } }
     {
@@ -124,7 +124,7 @@ impl Thread {
         self.is_yielded = is_yielded;
     }
 
-    /// Does the statement without blocks at the thread's position, after which the thread goes on at `next`.
+    /// Executes the statement without blocks at the thread's position, after which the thread continues at `next`.
     fn perform<'a>(
         &mut self,
         text: &'a ProcessText,
@@ -233,9 +233,9 @@ impl Thread {
         }
     }
 
-    /// Comes back to where the thread stands, and pays for the spawns that a new call passes. The step ends here if
-    /// they can't be paid for, after the post of a `pause`, and if the thread has run away. A thread that goes on after
-    /// an operation, or is called without spawned threads, has nothing to pay, and is most often the one.
+    /// Returns to the thread's position, and pays for the spawns that a new call passes. The step ends here if they
+    /// can't be paid for, after the post of a `pause`, and if the thread has run away. A thread that continues after an
+    /// operation, or is called without spawned threads, has nothing to pay, and this is the most frequent case.
     #[inline(always)]
     #[tactic(auto, unfolding(crate::specs::Step::advanced_of))]
     fn resume(&mut self, fuel: &mut Fuel) -> Option<Step>
@@ -252,7 +252,7 @@ impl Thread {
         self.come_back(fuel)
     }
 
-    /// Does what `resume` does, for any mark.
+    /// The same as `resume`, for any mark.
     #[inline(never)]
     #[tactic(auto, unfolding(crate::specs::Step::advanced_of))]
     fn come_back(&mut self, fuel: &mut Fuel) -> Option<Step>
@@ -275,9 +275,9 @@ impl Thread {
         }
     }
 
-    /// Goes on up to the next operation or answer. Each statement that the thread reaches costs a unit of work, and so
-    /// do each further test of a `while`, each spawn that a call passes on its way to where the thread stands, and the
-    /// statement where it stands when it is resumed, each time. After the answers `Exited` and `Ended` the thread is
+    /// Continues up to the next operation or answer. Each statement that the thread reaches costs a unit of work, and
+    /// so do each further test of a `while`, each spawn that a call passes on its way to the thread's position, and the
+    /// statement at which it is when it is resumed, each time. After the answers `Exited` and `Ended` the thread is
     /// fresh; once it has run away, it answers `Runaway` for good.
     ///
     /// The text is the same at each call, and the variables are made from it.

@@ -33,21 +33,21 @@ fn apply(operator: Operator, left: u16, right: u16) -> u16
     }
 }
 
-/// Whether this is the event with this word.
+/// Returns whether this is the event with this word.
 fn is_event(event: &Event, system: SystemEvent, word: u8) -> bool
     ensures { result ≡ has_number_and_word event.now (system_number system) word }
 {
     event.number == system.number() && event.word == u16::from(word)
 }
 
-/// Whether a timer has expired; the contract states it by the list of those that have.
+/// Returns whether a timer has expired; the contract states it by the list of those that have.
 fn has_expired<L: Look>(look: &L, timer: u8) -> bool
     ensures { result ≡ list_any (λ t. timer == t) (L.looks look.now).expired }
 {
     look.expired(u16::from(timer))
 }
 
-/// Whether a process is running or called; the contract states it by the list of those that are.
+/// Returns whether a process is running or called; the contract states it by the list of those that are.
 fn is_running<L: Look>(look: &L, process: u8) -> bool
     ensures { result ≡ list_any (λ p. process == p) (L.looks look.now).running }
 {
@@ -82,7 +82,7 @@ fn plain_or_word(operand: &Expr, vars: &Vars, event: &Event) -> Option<u16>
 }
 
 /// The value of an expression with at most one operator, by the variables and the event alone. It is inlined, so that
-/// what most statements evaluate costs little.
+/// the tests and assignments of most statements cost little.
 #[inline(always)]
 fn short_value(expression: &Expr, vars: &Vars, event: &Event) -> Option<u16>
     ensures { (looks : Looks) → IfSome result

@@ -6,7 +6,7 @@ use arrayvec::ArrayVec;
 use program_tree::ProcessText;
 use std::marker::Model;
 
-/// How many variables a process has at most.
+/// The greatest number of variables of a process.
 const ROOM: usize = 64;
 
 /// The values of a process's variables, by the numbers of their declarations. They outlive each run of the body.

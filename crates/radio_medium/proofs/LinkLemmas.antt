@@ -153,7 +153,7 @@ unfolding fate loses
 fates_of radio sent [] = refl
 fates_of radio sent (r ∷ rs) = ap (λ all. fate radio sent r ∷ all) (fates_of radio sent rs)
 
--- what becomes of a packet on the links from its sender
+-- the fates of a packet on the links from its sender
 pub fates-links : (radio : Radio) (sent : Sent) → map (fate_by sent) (links_of radio (every_of radio.losses) sent.sender) ≡ fates radio sent
 unfolding fates links_of
 fates-links radio sent = fates_of radio sent (receivers radio sent.sender)

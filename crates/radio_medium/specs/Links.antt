@@ -1,4 +1,4 @@
--- What a medium keeps to find the copies of a packet: for each mote, who hears it.
+-- The data that a medium keeps to find the copies of a packet: for each mote, those that hear it.
 use Rattle.std.specs.Prelude.{◌≡◌, ℕ, ◌+◌, ◌<◌, ◌^◌, min, ◌==◌, ◌&&◌, true, false, if◌then◌else◌, cond, ◌⊎◌}
 use Rattle.std.specs.Prelude.{List, filter, map, Option, Some, None, IsSome, Result, Ok, Err}
 use Rattle.std.specs.List.{range_with_len, reduce}
@@ -81,7 +81,7 @@ abbrev pub with_least : Option ℕ → ℕ → Option ℕ
 with_least None x = Some x
 with_least (Some best) x = Some (min best x)
 
--- what holds of every `Medium`
+-- the properties of every `Medium`
 pub record IsMedium (radio : Radio) (all_links : List (List Link)) (least_delay : Option ℕ) : Type 0 where
   pub limits : IsWithinLimits radio
   pub fault : medium_fault radio ≡ None

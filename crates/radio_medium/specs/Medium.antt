@@ -12,8 +12,8 @@ use Rattle.radio_packet.specs.declared.fate.Fate.{Fate}
 use Rattle.radio_medium.specs.declared.losses.Loss.{Loss}
 use Rattle.radio_medium.specs.declared.place.Place.{Place}
 
--- where each mote stands, how far a packet is heard, how long it takes, and which copies are lost;
--- a contract sees a `Medium` as this record
+-- the place of each mote, the range of a packet, its delay, and the copies that are lost; a contract sees a `Medium` as
+-- this record
 pub record Radio : Type 0 where
   pub places : List Place
   pub range : ℕ
@@ -46,7 +46,7 @@ is_mote radio k = nat_lt k (length radio.places)
 abbrev pub place_at : Radio → ℕ → Place
 place_at radio k = slice_index_or radio.places k (record { x = pos 0; y = pos 0 })
 
--- mote r hears mote s: they are two motes, and r stands within the range of s
+-- mote r hears mote s: they are two motes, and r is within the range of s
 unfoldable pub hears : Radio → (r s : ℕ) → Bool
 hears radio r s =
     is_mote radio r && (is_mote radio s && (not (r == s)
@@ -83,7 +83,7 @@ is_lost n every = option_map_or (λ k. (n + 1) % k == 0) every false
 unfoldable pub loses : Radio → (s r n : ℕ) → Bool
 loses radio s r n = is_lost n (every_of radio.losses s r)
 
--- what becomes of the copy for mote r
+-- the fate of the copy for mote r
 unfoldable pub fate : Radio → Sent → (r : ℕ) → Fate
 fate radio sent r = record {
   to = r;

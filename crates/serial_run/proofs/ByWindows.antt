@@ -1,4 +1,4 @@
--- A net has a report, and what the windows leave is that report.
+-- A net has a report, and the windows lead to that report.
 use Rattle.std.proofs.Common.{◌≡◌, ℕ, ◌+◌, ◌<◌, ◌≤◌, Bool, true, eqb, List, [], ◌∷◌, length, map, refl, sym, ap, ◌∙◌, subst, inl, inr, arith}
 use Rattle.std.specs.List.{filter, AllByRecursion}
 use Rattle.std.specs.List.Sorted.{IsPermutation}
@@ -45,7 +45,7 @@ at_least k (x ∷ xs) h =
     let le : k ≤ x.number = omega arith in
     (le, every_weaker _ _ (λ y g. omega arith) xs (at_least (k + 1) xs (number_rest k x xs h)))
 
--- what all that pass have, each has if it passes
+-- a property of all that pass is one of each that passes
 of_passed : (P : Sent → Type 0) (p : Sent → Bool) (xs : List Sent) → AllByRecursion P (filter p xs) → AllByRecursion (λ x. p x ≡ true → P x) xs
 of_passed P p [] h = tt
 of_passed P p (x ∷ xs) h =

@@ -21,7 +21,7 @@ use Rattle.serial_run.specs.NetRun.{packet_with_fates, IsReportOf}
 use Rattle.window_laws.specs.NetStep.{NetState, Run, Done, Turn, sends_of, turned_at, turn_at, boot}
 use Rattle.serial_run.specs.Counted.{is_after, is_late, LateCopiesStay, LeftIsCounted, FatesTellLeft}
 
--- a turn adds a wake, and the copies of what it sent
+-- a turn adds a wake, and the copies of its packets
 packets-added : (m : ℕ) (wake : Option ℕ) (cs : List RadioCopy) → packets (wake_items m wake ++ map Packet cs) ≡ cs
 packets-added m (Some t) cs = packets_map cs
 packets-added m None cs = packets_map cs
@@ -55,7 +55,7 @@ module _ {S L : Type 0} (system : System S L) where
   abbrev pub HasAll : (RadioCopy → Bool) → NetState S L → Type 0
   HasAll p net = filter p (packets net.agenda) ≡ filter p (flat_map system.copies net.log)
 
-  -- the copies of what a turn sends
+  -- the copies of a turn's packets
   abbrev pub more : (t m : ℕ) → NetState S L → List RadioCopy
   more t m net = flat_map system.copies (sends_of t m (turned_at system t m net))
 

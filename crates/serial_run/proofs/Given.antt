@@ -24,7 +24,7 @@ due_is_by end t m at to h e = grind (arith, nat_tests)
 late_is_not_by : (end at : ℕ) → end < at → not (ltb end at) ≡ false
 late_is_not_by end at h = grind (arith, nat_tests)
 
--- what is due, and what is left
+-- the due events, and the others
 split : (end t m : ℕ) (items : List Item) → t ≤ end
     → IsPermutation (filter (is_by end) (packets items)) (packets (filter (comes_at t m) items) ++ filter (is_by end) (packets (filter (is_left t m) items)))
 split end t m [] h = IsPermutation-refl []

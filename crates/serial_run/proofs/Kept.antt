@@ -1,4 +1,4 @@
--- What a turn keeps of a net: each mote's own wake is in the agenda, and no event is for a mote that doesn't exist.
+-- An invariant of turns: each mote's own wake is in the agenda, and no event is for a mote that doesn't exist.
 use Rattle.std.proofs.Common.{◌≡◌, ℕ, ◌<◌, true, false, not, ◌&&◌, ◌||◌, eqb, List, [], ◌∷◌, ◌++◌, length, map, refl, sym, ap, ◌∙◌, subst, inl, inr, arith, append-nil, Option, Some, None}
 use Rattle.std.specs.List.{filter, flat_map, AllByRecursion}
 use Rattle.std.proofs.lemmas.Bool.{cases_eq, cases_Bool, eq-eqb, ne_eqb}

@@ -69,7 +69,7 @@ module _ (n : NetTold) where
     reached : at ≤ t
     reached = any_every (at ≤ t) (comes_at t m) (λ item. at ≤ moment_of item) (λ item e h. let q = eqb-true (moment_of item) t (and_parts (eqb (moment_of item) t) (eqb (mote_of item) m) e).0 in omega arith) net.agenda least.is_there on_time.coming
 
-    -- what comes to another mote than the one that turns
+    -- events for another mote than the one that turns
     abbrev IsAheadElsewhere : Item → Type 0
     IsAheadElsewhere item = (mote_of item ≡ m → ⊥) → is_past (moment_of item) (net.states (mote_of item)).last ≡ false
 

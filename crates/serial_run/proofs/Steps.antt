@@ -30,7 +30,7 @@ use Rattle.net_agenda.specs.Traces.{AddsLines}
 use Rattle.window_laws.proofs.Lists.{filter_filter, filter_both}
 use Rattle.serial_run.proofs.Kept.{wake_later}
 
--- what a turn gave, and where it led
+-- the outcome of a turn, and the state to which it led
 record Tells (o : Option Node) (out : TurnOut) (t : node.TurnGiven) : Type 0 where
   node : o ≡ Some t.node
   lines : out.lines.items ≡ t.lines
@@ -131,6 +131,6 @@ module _ (n : NetTold) (t m : ℕ) (state : NetState Node Line) where
       ∙ (wake_later t m (wake_of (state.states m))
       ∙ ap (wake_items m) (ap (wake_but_at t) (sym (ap wake_in (at.nodes m there d)) ∙ sym (wakes (tree_at n m) d)) ∙ sym is)))
 
--- what holds of equals
+-- equals have the same properties
 pub sent_of : {R S : Type 0} (P : R → S → Type 0) {r r' : R} {s s' : S} → r ≡ r' → s ≡ s' → P r s → P r' s'
 sent_of P {r} {r'} {s} {s'} e f h = subst (λ x. P x s') e (subst (P r) f h)

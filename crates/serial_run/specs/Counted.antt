@@ -1,5 +1,4 @@
--- What becomes of the copies that the medium doesn't lose: each is given in a turn at its moment, or left after the
--- end.
+-- The fate of the copies that the medium doesn't lose: each is given in a turn at its moment, or left after the end.
 use Rattle.std.specs.Prelude.{◌≡◌, ℕ, nat_lt, ◌==◌, Bool, false, not, ◌&&◌, List}
 use Rattle.std.specs.Prelude.{[], ◌∷◌, length, count_by, None, IsPermutation}
 use Rattle.std.specs.List.{filter, flat_map, AllByRecursion}

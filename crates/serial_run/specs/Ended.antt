@@ -9,7 +9,8 @@ use Rattle.window_laws.specs.NetStep.{NetState, Run, boot}
 use Rattle.serial_run.specs.OnTime.{IsOnTime}
 use Rattle.serial_run.specs.Stands.{StandsAt, KeepsWakes}
 
--- The engine is where a prefix of the run leads: each run that goes on from there is the rest of a run from boot.
+-- The engine's state is one to which a prefix of the run leads: each run that continues from there is the rest of a run
+-- from boot.
 pub record HasReached (n : NetTold) (engine : Engine) : Type 0 where
   pub state : NetState Node Line
   pub stands : StandsAt n engine state
@@ -19,7 +20,7 @@ pub record HasReached (n : NetTold) (engine : Engine) : Type 0 where
   pub led : (last : NetState Node Line) → Run (system_of n) n.end state last
       → Run (system_of n) n.end (boot (system_of n)) last
 
--- the engine is where the run ends
+-- the engine's state is the end of the run
 pub record HasEnded (n : NetTold) (engine : Engine) : Type 0 where
   pub last : NetState Node Line
   pub stands : StandsAt n engine last

@@ -1,4 +1,4 @@
--- Where a run of the engine stands.
+-- The state of a run of the engine.
 use Rattle.std.specs.Prelude.{ℕ, ◌≡◌, ◌<◌, ◌++◌, List, length, map, Vec, Option, Some, option_map}
 use Rattle.std.specs.Prelude.{slice_index_or, slice_set}
 use Rattle.std.specs.List.{filter, AllByRecursion}
@@ -45,7 +45,7 @@ pub record KeepsWakes (n : NetTold) (net : NetState Node Line) : Type 0 where
   pub wakes : (k : ℕ) → k < length n.motes → filter (is_wake_of k) net.agenda ≡ wake_items k (wake_of (net.states k))
   pub inside : AllByRecursion (λ item. mote_of item < length n.motes) net.agenda
 
--- wherever the net stood, it stands after this turn
+-- in whatever state the net was, its next one is that after this turn
 abbrev pub TurnLeads : NetTold → (moment mote : ℕ) → Engine → Engine → Type 0
 TurnLeads n moment mote old new = (state : NetState Node Line) → StandsAt n old state → KeepsWakes n state
     → StandsAt n new (turn_at (system_of n) moment mote state)

@@ -28,7 +28,7 @@ pub struct Engine {
     pub agenda: Agenda,
     /// The packets of the last turn; the next turn reuses their memory.
     pub arrivals: Vec<Arrival>,
-    /// What the last turn gave; the next turn reuses its memory.
+    /// The output of the last turn; the next turn reuses its memory.
     pub out: Out,
 }
 

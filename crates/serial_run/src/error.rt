@@ -1,4 +1,4 @@
-//! Why there is no report.
+//! The reason why there is no report.
 
 ghost use Rattle.std.specs.Prelude.{◌≡◌, Some};
 ghost use Rattle.serial_run.specs.declared.error.RunError.TheVariants.{Memory};
@@ -7,7 +7,7 @@ use std::alloc::AllocError;
 use std::error::Error;
 use std::fmt;
 
-/// Why a run gives no report.
+/// The reason why a run has no report.
 #[derive(Clone, Copy, Debug, PartialEq, Eq)]
 pub enum RunError {
     /// The number of workers isn't from 1 to 16.

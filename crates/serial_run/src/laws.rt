@@ -35,10 +35,10 @@ pub fn traces_hand_on()
     ensures { TracesHandOn }
 {}
 
-/// The items that are in the buckets of an agenda, read back from one bucket after another, are those of the net's one
-/// list: the same packets, each as often, and a wake of a mote at a moment where the list has one; so they are a
-/// permutation of the list if no mote has two wakes at one moment. The map is asked for its length since it then says
-/// that its keys rise: no two buckets are of one moment.
+/// The items in the buckets of an agenda, read back from one bucket after another, are those of the net's one list: the
+/// same packets, each as often, and a wake of a mote at a moment if the list has one; so they are a permutation of the
+/// list if no mote has two wakes at one moment. The map is asked for its length since it then says that its keys rise:
+/// no two buckets are of one moment.
 pub fn buckets_hold_items(agenda: &Agenda)
     ensures { BucketsHoldItems agenda.now.buckets }
 {
@@ -73,7 +73,7 @@ pub fn copies_are_given()
     ensures { CopiesAreGiven }
 {}
 
-/// What a turn is given are copies for its mote that arrive at its moment.
+/// A turn is given copies for its mote that arrive at its moment.
 pub fn copies_come_in_time()
     ensures { CopiesComeInTime }
 {}

@@ -38,7 +38,7 @@ fn run_to_end(engine: &mut Engine, net: &Net) -> Result<(), AllocError>
 /// of a turn in the order of sender and number.
 ///
 /// # Errors
-/// `Memory` alone.
+/// Only `Memory`.
 pub fn run_serial(alloc: Global, net: &Net) -> Result<Report, RunError>
     ensures report { IfOk result (λ r. IsReportOf (net_of net.now) (report_of r)) }
     // There is a trace for each mote.

@@ -1,4 +1,4 @@
--- What the runs of a kernel have given.
+-- The output of the runs of a kernel.
 use Rattle.std.specs.Prelude.{◌≡◌, ◌++◌, List}
 use Rattle.radio_packet.specs.declared.sent.Sent.{Sent}
 use Rattle.trace_lines.specs.declared.line.Line.{Line}

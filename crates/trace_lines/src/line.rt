@@ -2,10 +2,10 @@
 
 use program_tree::{Proc, Target};
 
-/// What a line of a trace tells.
+/// The event that a line of a trace reports.
 #[derive(Clone, Copy, Debug, PartialEq, Eq)]
 pub enum What {
-    /// A process goes on the process list.
+    /// A process enters the process list.
     Start(Proc),
     /// A process leaves the process list.
     Leave(Proc),
@@ -35,7 +35,7 @@ pub enum What {
     Collide(u16, u64),
 }
 
-/// A line of a trace: its moment (a tick of the simulated clock), and what it tells.
+/// A line of a trace: its moment (a tick of the simulated clock), and its event.
 #[derive(Clone, Copy, Debug, PartialEq, Eq)]
 pub struct Line {
     pub at: u64,

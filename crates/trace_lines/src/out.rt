@@ -1,4 +1,4 @@
-//! What the runs of a kernel give.
+//! The output of the runs of a kernel.
 
 ghost use Rattle.std.specs.Prelude.{◌≡◌, []};
 
@@ -6,7 +6,7 @@ use crate::line::Line;
 use radio_packet::Sent;
 use std::alloc::Global;
 
-/// What the runs of a kernel give, in order.
+/// The output of the runs of a kernel, in order.
 #[derive(Debug, Drop)]
 pub struct Out {
     pub lines: Vec<Line>,

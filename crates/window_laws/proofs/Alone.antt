@@ -1,4 +1,4 @@
--- A mote alone in a window does what the history says.
+-- A mote alone in a window follows the history.
 use Rattle.std.proofs.Common.{◌≡◌, ℕ, suc, zero, ◌+◌, ◌-◌, ◌<◌, ◌≤◌, ◌⊎◌, Bool, true, false, cond, not, ◌&&◌, ◌||◌, ltb, eqb, List, [], ◌∷◌, ◌++◌, map, refl, sym, ap, ◌∙◌, subst, inl, inr, arith, Option, Some, None, append-nil, zero-le}
 use Rattle.std.specs.List.{filter, flat_map, list_any, AllByRecursion}
 use Rattle.std.proofs.lemmas.Bool.{cases_eq, cases_Bool, cases_lt, or_parts, false≢true, eq-eqb, ne_eqb, eqb-false, cases_order, lt-ltb, le-ltb, ltb-true}
@@ -155,12 +155,12 @@ module _ {S L : Type 0} (system : System S L) (fine : RunsForward system) where
       again : cond (ltb s system.motes) (copies_by system (history system moment) s) [] ≡ copies_by system (history system moment) s
       again = elim (cases_Bool (ltb s system.motes)) [ inl e ↦ rw e refl | inr e ↦ rw e refl ]
 
-  -- what a mote is given, from each sender
+  -- the copies that a mote is given, from each sender
   pub from_given : (p : RadioCopy → Bool) (moment s : ℕ) → filter (is_from_sender s) (filter p (pool system (history system moment))) ≡ filter p (copies_by system (history system moment) s)
   from_given p moment s = filter_filter (is_from_sender s) p (pool system (history system moment)) ∙ ap (filter p) (from_pool moment s)
 
   module _ (number from bound : ℕ) (short : bound ≤ from + system.lookahead) where
-    -- what is left of the copies given, at a moment of the window
+    -- the rest of the copies given, at a moment of the window
     abbrev pub Holds : ℕ → List RadioCopy → Type 0
     Holds t given = (u s : ℕ) → filter (is_from_sender s) (filter (is_at u) given) ≡ filter (is_at u) (filter (is_within number t bound) (copies_by system (history system from) s))
 

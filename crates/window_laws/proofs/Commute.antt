@@ -1,4 +1,4 @@
--- Windows commute: both runs do what the history says.
+-- Windows commute: both runs follow the history.
 use Rattle.std.proofs.Common.{◌≡◌, ℕ, suc, ◌+◌, ◌<◌, not, ◌&&◌, ◌||◌, ltb, eqb, List, [], ◌∷◌, map, refl, sym, ap, ap₂, subst, ◌∙◌, arith, zero-le}
 use Rattle.std.specs.List.{filter, AllByRecursion}
 use Rattle.window_laws.proofs.Lists.{every_weaker}

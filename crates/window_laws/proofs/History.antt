@@ -1,4 +1,4 @@
--- What every mote has done before each moment, defined moment by moment, apart from both the serial run and the
+-- The actions of every mote before each moment, defined moment by moment, apart from both the serial run and the
 -- windows.
 use Rattle.std.proofs.Common.{◌≡◌, ℕ, suc, zero, ◌+◌, ◌<◌, ◌≤◌, Bool, true, false, cond, ◌||◌, ltb, List, [], ◌∷◌, ◌++◌, map, refl, sym, ap, ◌∙◌, ⊎_elim, inl, inr, arith, append-nil, add-suc, add-zero}
 use Rattle.std.specs.List.{filter, flat_map, AllByRecursion}
@@ -18,7 +18,7 @@ module _ {S L : Type 0} (system : System S L) where
   unfoldable pub pool : (ℕ → LoneMote S L) → List RadioCopy
   pool motes = flat_map (copies_by system motes) (up_to system.motes)
 
-  -- what a mote is given at a moment
+  -- the copies that a mote is given at a moment
   unfoldable pub given_at : ℕ → (ℕ → LoneMote S L) → ℕ → List RadioCopy
   given_at moment motes number = in_order (filter (is_within number moment (suc moment)) (pool motes))
 
@@ -50,7 +50,7 @@ module _ {S L : Type 0} (system : System S L) where
       (cases_Bool (is_busy moment (history moment) number))
 
   module _ (fine : RunsForward system) where
-    -- copies of what is sent at a moment come no sooner than the lookahead
+    -- copies of packets sent at a moment arrive no sooner than the lookahead
     abbrev pub ComesLater : (number moment : ℕ) → RadioCopy → Type 0
     ComesLater number moment copy = (copy.sender ≡ number) × (copy.to < system.motes) × (moment + system.lookahead ≤ copy.at)
 

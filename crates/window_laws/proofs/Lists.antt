@@ -66,7 +66,7 @@ module _ {X : Type 0} where
   every_weaker P Q f [] h = tt
   every_weaker P Q f (x ∷ xs) h = (f x h.0, every_weaker P Q f xs h.1)
 
-  -- what holds of each element that passes
+  -- a property of each element that passes
   pub every_filter : (P Q : X → Type 0) (p : X → Bool) → ((x : X) → P x → p x ≡ true → Q x) → (xs : List X) → AllByRecursion P xs → AllByRecursion Q (filter p xs)
   every_filter P Q p f [] h = tt
   every_filter P Q p f (x ∷ xs) h =
@@ -94,7 +94,7 @@ module _ {X : Type 0} where
       (λ t. let e' : list_any p xs ≡ false = rw t at e in (f x h.0 t, every_not_any P Q p f xs e' h.1))
       (cases_Bool (p x))
 
-  -- an element that passes has what all have
+  -- an element that passes has a property of all
   pub any_every : (R : Type 0) (p : X → Bool) (Q : X → Type 0) → ((x : X) → p x ≡ true → Q x → R) → (xs : List X) → list_any p xs ≡ true → AllByRecursion Q xs → R
   any_every R p Q f [] e h = absurd (false≢true e)
   any_every R p Q f (x ∷ xs) e h =

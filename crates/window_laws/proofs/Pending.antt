@@ -1,4 +1,4 @@
--- What all workers and inboxes hold together at the start of a window, in any mixture of the senders.
+-- The copies that all workers and inboxes hold together at the start of a window, in any mixture of the senders.
 use Rattle.std.proofs.Common.{◌+◌, zero, false, ◌<◌, ◌≡◌, ℕ, suc, ◌≤◌, true, not, ◌&&◌, ltb, eqb, List, ◌++◌, refl, sym, ap, ap₂, ◌∙◌, subst, Option, Some, None, arith}
 use Rattle.std.specs.List.{filter, AllByRecursion}
 use Rattle.std.proofs.lemmas.Bool.{le-ltb}

@@ -1,4 +1,4 @@
--- The serial run does what the history says.
+-- The serial run follows the history.
 use Rattle.std.proofs.Common.{◌≡◌, ℕ, suc, zero, ◌+◌, ◌<◌, ◌≤◌, ◌⊎◌, Bool, true, false, cond, not, ◌&&◌, ◌||◌, ltb, eqb, List, [], ◌∷◌, ◌++◌, map, refl, sym, ap, ap₂, ◌∙◌, subst, inl, inr, arith, Option, Some, None, append-nil, zero-le}
 use Rattle.std.specs.List.{filter, flat_map, list_any, AllByRecursion}
 use Rattle.std.proofs.lemmas.Bool.{cases_Bool, cases_lt, false≢true, eq-eqb, ne_eqb, eqb-true, cases_eq, cases_order, lt-ltb, le-ltb, ltb-true}
@@ -119,7 +119,7 @@ module _ {S L : Type 0} (system : System S L) (fine : RunsForward system) where
         | inr k ↦ ap (filter p) (sent_same (mix t m) (history system t) s (λ e. mix_from t m s k))
       ]
 
-  -- the serial turn is given what the history gives
+  -- the serial turn is given the copies of the history
   given_same : (t m : ℕ) (net : NetState S L) → Meets t m net → in_order (packets (filter (comes_at t m) net.agenda)) ≡ given_at system t (history system t) m
   unfolding given_at
   given_same t m net meets =
@@ -352,7 +352,7 @@ module _ {S L : Type 0} (system : System S L) (fine : RunsForward system) where
       same : turn_at system t m net ≡ after_turn system t m net (system.turn m (history system t m).state t (given_at system t (history system t) m))
       same = ap₂ (λ s g. after_turn system t m net (system.turn m s t g)) (meets.states m h ∙ ap (λ x. x.state) (mix_from t m m (le_self m))) (given_same t m net meets)
 
-  -- a serial run from here ends where the history ends
+  -- a serial run from here ends in the end of the history
   abbrev pub Ends : ℕ → NetState S L → Type 0
   Ends end net = (last : NetState S L) × Run system end net last × Meets (suc end) 0 last
 

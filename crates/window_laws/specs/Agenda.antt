@@ -34,7 +34,7 @@ abbrev pub wake_items : (mote : ℕ) → Option ℕ → List Item
 wake_items mote None = []
 wake_items mote (Some moment) = Wake moment mote ∷ []
 
--- what stays when this mote takes its turn at this moment: all that isn't due, except the mote's wake
+-- the events that stay when this mote takes its turn at this moment: all that aren't due, except the mote's wake
 abbrev pub is_left : (moment mote : ℕ) → Item → Bool
 is_left moment mote item = not (comes_at moment mote item || is_wake_of mote item)
 

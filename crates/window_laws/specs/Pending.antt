@@ -1,4 +1,4 @@
--- What is on its way between two windows.
+-- The copies on their way between two windows.
 use Rattle.std.specs.Prelude.{◌≡◌, ℕ, Bool, not, nat_lt, List}
 use Rattle.std.specs.List.{filter}
 use Rattle.radio_packet.specs.declared.copy.RadioCopy.{RadioCopy}

@@ -4,7 +4,7 @@ use Rattle.std.specs.List.{AllByRecursion}
 use Rattle.radio_packet.specs.declared.sent.Sent.{Sent}
 use Rattle.radio_packet.specs.declared.copy.RadioCopy.{RadioCopy}
 
--- what a turn leaves
+-- the outcome of a turn
 pub record Turned (S L : Type 0) : Type 0 where
   pub state : S
   pub lines : List L

@@ -84,15 +84,15 @@ is_from_sender sender copy = copy.sender == sender
 abbrev pub is_within : (number from bound : ℕ) → RadioCopy → Bool
 is_within number from bound copy = (copy.to == number) && (not (nat_lt copy.at from) && nat_lt copy.at bound)
 
--- What a mote is given for a window: at each moment of the window, of each sender, the copies for it that earlier
--- windows sent, in the order of sending, otherwise mixed in any way; and nothing at other moments.
+-- The copies that a mote is given for a window: at each moment of the window, of each sender, the copies for it that
+-- earlier windows sent, in the order of sending, otherwise mixed in any way; and nothing at other moments.
 abbrev pub IsGiven : {S L : Type 0} → System S L → (from bound : ℕ) → (motes : (number : ℕ) → LoneMote S L)
     → (number : ℕ) → List RadioCopy → Type 0
 IsGiven system from bound motes number given = (moment sender : ℕ)
     → filter (is_from_sender sender) (filter (is_at moment) given)
     ≡ filter (is_at moment) (filter (is_within number from bound) (copies_by system motes sender))
 
--- what a window makes of one mote: it runs alone, on copies that it may be given
+-- the effect of a window on one mote: it runs alone, on copies that it may be given
 pub record RunsAlone {S L : Type 0} (system : System S L) (from bound : ℕ) (motes next : (number : ℕ) → LoneMote S L)
     (number : ℕ) : Type 0 where
   pub given : List RadioCopy

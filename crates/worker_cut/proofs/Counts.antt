@@ -6,7 +6,7 @@ use Rattle.std.proofs.lemmas.Bool.{cases_Bool, cases_order, eq-eqb, ne_eqb}
 use Rattle.radio_packet.specs.declared.copy.RadioCopy.{RadioCopy}
 use Rattle.worker_cut.specs.Crossed.{is_own, is_to}
 
--- the sum of what each worker below n has
+-- the sum of the numbers of all workers below n
 abbrev pub total : (ℕ → ℕ) → (n : ℕ) → ℕ
 total f zero = 0
 total f (suc n) = total f n + f n

@@ -1,4 +1,4 @@
--- What each worker gathered is what crossed to it.
+-- The copies that each worker gathered are those that crossed to it.
 use Rattle.std.proofs.Common.{◌≡◌, ◌⊎◌, ℕ, Bool, true, false, cond, not, ◌&&◌, eqb, List, [], ◌∷◌, ◌++◌, refl, sym, ap, ◌∙◌, subst, inl, inr, append_assoc}
 use Rattle.std.specs.Prelude.{IsPermutation}
 use Rattle.std.specs.List.{filter, flat_map, AllByRecursion}
@@ -93,7 +93,7 @@ module _ {S L : Type 0} (system : System S L) (fine : RunsForward system) where
       of_one (inl e) = rw e (ap (λ l. l ++ flat_map system.copies (filter (is_sent_by s) xs)) (filter_every (is_from_sender s) (system.copies x) (every_weaker _ _ (λ c h. ap (λ k. eqb k s) h.sender ∙ e) (system.copies x) (fine.copies_later x))))
       of_one (inr e) = rw e (ap (λ l. l ++ flat_map system.copies (filter (is_sent_by s) xs)) (filter_none (is_from_sender s) (system.copies x) (every_weaker _ _ (λ c h. ap (λ k. eqb k s) h.sender ∙ e) (system.copies x) (fine.copies_later x))))
 
-  -- what was gathered, sender by sender, is what crossed
+  -- the copies gathered, sender by sender, are those that crossed
   pub crossed_once : (of : List ℕ) (motes : ℕ → LoneMote S L) (v : ℕ) (gathered : List RadioCopy) (joined : List Sent)
       → ((s : ℕ) → AllByRecursion (λ copy. copy.sender ≡ s) (copies_by system motes s)) → IsJoined system motes joined
       → ((s : ℕ) → filter (is_from_sender s) gathered ≡ crossed system of motes v s)

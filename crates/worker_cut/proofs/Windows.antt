@@ -1,4 +1,4 @@
--- The windows so far, and what is on its way after them.
+-- The windows so far, and the copies on their way after them.
 use Rattle.std.proofs.Common.{◌≡◌, ℕ, suc, ◌+◌, ◌-◌, ◌<◌, ◌≤◌, true, cond, ltb, List, [], ◌∷◌, map, length, refl, sym, ap, ◌∙◌, subst, arith, inl, inr}
 use Rattle.std.specs.List.{filter, flat_map, AllByRecursion}
 use Rattle.std.proofs.lemmas.Bool.{cases_Bool, ltb-true, ltb-false, not-true}
@@ -85,7 +85,7 @@ module _ {S L : Type 0} (system : System S L) (fine : RunsForward system) where
       → ((k : ℕ) → k < system.motes → RunsAlone system from bound motes next k) → LedTo bound next
   one_more from bound motes next led before short each = windows_then 0 from bound (first_mote system) motes next led (Window bound next before short each Last)
 
-  -- at the end what the motes have is the report
+  -- at the end the motes' traces and packets are the report
   pub at_the_end : (end : ℕ) (motes : ℕ → LoneMote S L) → LedTo (suc end) motes → (joined : List Sent) → IsJoined system motes joined
       → IsReport system end (map (λ number. (motes number).lines) (up_to system.motes)) (as_log joined) (length (coming (suc end) motes))
   at_the_end end motes led joined is =

@@ -1,4 +1,4 @@
--- Which worker has which mote, and what crosses from one worker to another.
+-- The partition of the motes among workers, and the copies that cross from one worker to another.
 use Rattle.std.specs.Prelude.{ℕ, ◌≡◌, ◌≤◌, Bool, true, false, not, ◌==◌, if◌then◌else◌, List, []}
 use Rattle.std.specs.List.{filter, slice_get}
 use Rattle.std.specs.Option.{option_map_or}
@@ -30,7 +30,7 @@ abbrev pub crossed : {S L : Type 0} → System S L → (of : List ℕ) → (mote
 crossed system of motes worker sender =
     if is_own of worker sender then [] else filter (is_to of worker) (copies_by system motes sender)
 
--- what a worker has seen of what this mote sent: all of it if the mote is its own, else what it took
+-- the copies of this mote that a worker has seen: all of them if the mote is its own, else those that it took
 abbrev pub copies_seen : {S L : Type 0} → System S L → (own : ℕ → Bool) → (motes : (number : ℕ) → LoneMote S L)
     → (taken : List RadioCopy) → (sender : ℕ) → List RadioCopy
 copies_seen system own motes taken sender =

@@ -1,4 +1,4 @@
-//! Cuts of the motes of a net among workers, and what crosses from one worker to another.
+//! Partitions of the motes of a net among workers, and the copies that cross from one worker to another.
 #![tactic(auto)]
 
 mod cut;

@@ -3,7 +3,7 @@
 ghost use Rattle.std.specs.Prelude.{◌≡◌};
 ghost use Rattle.worker_cut.specs.Crossed.{is_own};
 
-/// Whether a mote is one of this worker's; `of` is the worker of each mote.
+/// Returns whether a mote is one of this worker's; `of` is the worker of each mote.
 pub fn is_own(of: &[u16], worker: u16, mote: u16) -> bool
     ensures { result ≡ is_own of.now worker mote }
 {

@@ -59,7 +59,8 @@ decreases-run_last l = 7 * l.self.now.fuel + 0
 abbrev pub decreases-walk : goal.decreases-walk
 decreases-walk l = 7 * l.self.now.fuel + 1
 
--- the run of the whole thread from the state at the start gives what the run of its rest from the current state gives
+-- the run of the whole thread from the state at the start has the same result as the run of its rest from the current
+-- state
 abbrev pub invariant-run-loop-op : goal.invariant-run-loop-op
 invariant-run-loop-op l =
     Spends 0 l.fn.self l.self

@@ -13,7 +13,7 @@ none_below t n h =
     let no : leb 139 n ≡ false = grind (arith, nat_tests) in
     rw no refl
 
--- any other has what stands at its place, if anything
+-- any other has the element at its place, if any
 name_of : (t : Tree) (n place i : ℕ) (o : Option (List ℕ)) → (139 ≤ n) × (place ≡ n - 139)
     → i ≡ place → slice_get t.events i ≡ o → o ≡ declared_name t n
 name_of t n place i o h e is =
