@@ -173,6 +173,11 @@ class Warnings(unittest.TestCase):
         self.assertIn('a.toml, line %d:' % (text.split('\n').index('[[loss]]') + 1), shown)
         self.assertIn('  [[loss]]', shown)
 
+    def test_losses_of_motes_that_nobody_hears_have_no_warning_of_their_own(self) -> None:
+        text = scenario(program=CODE % 'send 1;', x=50) + '[[loss]]\nfrom = 0\nto = 1\nevery = 2\n'
+        self.assertEqual([it.text for it in warnings(Scenario.parse(text)) if 'mote 0' in it.text or 'loss' in it.text], [
+            'mote 0 sends, and nobody hears it: no mote is within `range`; the same goes for 1 more mote: 1'])
+
     def test_explain_shows_them(self) -> None:
         text = scenario(program='process a; code a { body { print 1; } }')
         report = b'mote 0 source\n0 start etimer\nmote 1 source\n0 start etimer\nmedium\nleft 0\n'

@@ -109,13 +109,14 @@ def of_net(scenario: Scenario, programs: dict[str, Program], report: Report | No
             yield Warned('no mote runs the program `%s`' % name, name, programs[name].tokens[0])
     alone = [number for number in range(scenario.motes) if not scenario.hearers(number)]
     speaks = [number for number in alone if 'send' in programs[scenario.places[number].program].words]
+    lonely = [number for number in alone if number in speaks or 'packet' in programs[scenario.places[number].program].words]
     if scenario.motes > 1:
-        for number in alone:
+        for number in lonely:
             what = 'sends, and nobody hears it' if number in speaks else 'hears nobody'
-            if number in speaks or 'packet' in programs[scenario.places[number].program].words:
-                yield Warned('mote %d %s: no mote is within `range`' % (number, what), mote=number, cause='range: ' + what)
+            yield Warned('mote %d %s: no mote is within `range`' % (number, what), mote=number, cause='range: ' + what)
     for number, (s, r) in enumerate(scenario.losses):
-        if not scenario.hears(r, s):
+        # (a mote that nobody is near to has a warning of its own)
+        if not scenario.hears(r, s) and not {s, r} & set(lonely):
             what = 'a loss from mote %d to mote %d, which doesn\'t hear it, loses nothing' % (s, r)
             yield Warned(what, loss=number, cause='loss')
     if report is not None:
