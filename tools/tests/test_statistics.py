@@ -110,6 +110,10 @@ class Crossings(unittest.TestCase):
         # (the mean of six shifts has the standard error 0.07, so twice 1.96 of it are 0.27, or 2.7 of x)
         self.assertAlmostEqual(together.high - together.low, 2.7, delta=0.4)
         self.assertLess(alone.high - alone.low, 2.2)
+        # (a run that one point lacks changes little)
+        partly = crossing([(0.0, curve[0][1][:-1]), *curve[1:]], 1.0, 0.95, [keys[0][:-1], *keys[1:]])
+        assert partly
+        self.assertAlmostEqual(partly.high - partly.low, 2.7, delta=0.4)
 
     def test_the_order_of_runs_does_not_matter_and_other_runs_are_drawn_alone(self) -> None:
         curve = [(0.0, [0.0, 0.2]), (1.0, [1.0, 1.2])]

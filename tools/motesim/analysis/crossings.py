@@ -1,9 +1,9 @@
 """Where a curve crosses a threshold, with the interval of that place.
 
 The curve has the mean of the runs at each value of the parameter, and straight lines between. For the interval the runs
-are drawn again with replacement (the bootstrap): each time the curve crosses somewhere else, or not. If all values have
-runs with the same seeds, it is the seeds that are drawn, the same for the whole curve, since runs of one seed have
-much in common; otherwise the runs of each value are drawn by themselves.
+are drawn again with replacement (the bootstrap): each time the curve crosses somewhere else, or not. If values have runs
+with the same seeds, it is the seeds that are drawn, the same for the whole curve, since runs of one seed have much in
+common; otherwise the runs of each value are drawn by themselves.
 """
 from __future__ import annotations
 
@@ -35,26 +35,26 @@ def place(points: Sequence[tuple[float, float]], threshold: float) -> tuple[floa
     return None
 
 
-def in_step(curve: Curve, keys: Sequence[Sequence[Key]]) -> list[list[float]] | None:
-    """The values of each point in one order of the runs, if all points have the same runs; else None."""
-    if len(keys) != len(curve) or not keys or not keys[0]:
+def by_run(curve: Curve, keys: Sequence[Sequence[Key]]) -> list[dict[Key, float]] | None:
+    """The values of each point by their runs, if the points have runs in common; else None."""
+    if len(keys) != len(curve) or any(len(set(its)) != len(values) for its, (_, values) in zip(keys, curve)):
         return None
-    order = list(keys[0])
-    places = [{key: place for place, key in enumerate(its)} for its in keys]
-    if len(set(order)) != len(order) or any(len(its) != len(order) or set(its) != set(order) for its in keys):
-        return None
-    return [[values[its[key]] for key in order] for (_, values), its in zip(curve, places)]
+    points = [dict(zip(its, values)) for its, (_, values) in zip(keys, curve)]
+    return points if sum(map(len, points)) > len(set().union(*points)) else None
 
 
 def drawn_curves(curve: Curve, keys: Sequence[Sequence[Key]], count: int) -> Iterator[list[tuple[float, float]]]:
     """Curves of runs that are drawn again."""
-    chance, rows = Chance(SEED), in_step(curve, keys)
+    chance, points = Chance(SEED), by_run(curve, keys)
+    names = list(dict.fromkeys(key for its in keys for key in its))
     for _ in range(count):
-        if rows is None:
-            yield [(x, statistics.fmean(resampled(values, chance))) for x, values in curve]
-        else:
-            drawn = resampled(range(len(rows[0])), chance)
-            yield [(x, statistics.fmean(values[at] for at in drawn)) for (x, _), values in zip(curve, rows)]
+        drawn = resampled(names, chance) if points else []
+        found = []
+        for place, (x, values) in enumerate(curve):
+            own = [points[place][key] for key in drawn if key in points[place]] if points else []
+            # (a point that has none of the drawn runs is drawn by itself)
+            found.append((x, statistics.fmean(own or resampled(values, chance))))
+        yield found
 
 
 def crossing(curve: Curve, threshold: float, confidence: float, keys: Sequence[Sequence[Key]] = ()) -> Crossing | None:

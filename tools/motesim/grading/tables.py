@@ -37,7 +37,7 @@ def below(marked: Sequence[Marks], sentences: Sequence[str]) -> list[str]:
 
 def pointer(marked: Sequence[Marks]) -> list[str]:
     """What shows the errors of refused solutions."""
-    refused = [it.name for it in marked if it.fix]
+    refused = [it.name for it in marked if any(line.startswith('Hint: ') for line in it.fix)]
     return ['', '--why %s shows where its error is, and how to put it right' % refused[0]] if refused else []
 
 
