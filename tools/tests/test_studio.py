@@ -233,13 +233,14 @@ class Running(unittest.TestCase):
         self.assertEqual((got.status, got.report, got.fault), (1, b'', b'motesim: medium fault 2\n'))
 
     def test_each_limit_stops_a_run_and_says_how_to_raise_it(self):
-        for word, limits, said in [('never_ends', {'seconds': 1}, 'after 1 second. Start tools/studio with --seconds 6'),
-                                   ('long_report', {'output': 1}, 'after 1 megabyte of report. Start tools/studio with --report'),
-                                   ('much_memory', {'memory': 400}, 'at 400 megabytes of memory. Start tools/studio with --memory')]:
+        for word, limits, limit, option in [
+                ('never_ends', {'seconds': 1}, 'after 1 second', '--seconds 6'),
+                ('long_report', {'output': 1}, 'after 1 megabyte of report', '--report'),
+                ('much_memory', {'memory': 400}, 'at 400 megabytes of memory', '--memory')]:
             begin = time.monotonic()
             with self.assertRaises(LimitMet, msg=word) as caught:
                 self.run_text('# %s\n%s' % (word, NET), **limits)
-            self.assertIn(said, str(caught.exception))
+            self.assertIn('%s. Start tools/studio with %s' % (limit, option), str(caught.exception))
             self.assertLess(time.monotonic() - begin, 20)
 
     def test_a_newer_text_stops_the_run_before_and_none_run_at_once(self):

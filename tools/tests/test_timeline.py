@@ -393,7 +393,8 @@ class Pages(unittest.TestCase):
         for name in 'mote 999', 'moment':
             self.assertTrue(self.value(wide % name), name)
         for name in 'arrows', 'now', 'speed':
-            tops = ['document.querySelector("%s").getBoundingClientRect().top' % it for it in ('#' + name, '[for=%s]' % name)]
+            tops = ['document.querySelector("%s").getBoundingClientRect().top' % it
+                    for it in ('#' + name, '[for=%s]' % name)]
             self.assertLess(abs(self.value('%s - %s' % tuple(tops))), 20)
 
     def test_forms_are_drawn_light_dark_narrow_and_for_print(self):

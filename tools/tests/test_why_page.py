@@ -28,7 +28,7 @@ def small_run() -> Run:
 
 class Data(unittest.TestCase):
     def test_causes_are_those_of_the_chains(self) -> None:
-        """Of the lines of both motes, how far back each cause is; 0 at the head. Mote 1's `recv` is line 22 of them."""
+        """Of the lines of both motes, the distance of each cause; 0 at the head. Mote 1's `recv` is line 22."""
         causes = Causes(Source('small', test_why.REPORT.encode(), Scenario.parse(test_why.SCENARIO)))
         wanted = [0 if cause < 0 else 2 * (place - cause) for place, cause in enumerate(test_why.CAUSES)]
         self.assertEqual(list(causes.causes)[:18], wanted)
@@ -44,7 +44,8 @@ class Notes(unittest.TestCase):
     def note(self, sentence: str) -> Note:
         run = small_run()
         assert run.scenario
-        return note_of(run, sentence, Judge(run.report, run.scenario).broken(read_sentence(sentence, names_of(run.scenario))))
+        broken = Judge(run.report, run.scenario).broken(read_sentence(sentence, names_of(run.scenario)))
+        return note_of(run, sentence, broken)
 
     def test_the_line_that_breaks_a_sentence(self) -> None:
         note = self.note('mote 1 prints h at most 0 times')
@@ -52,7 +53,7 @@ class Notes(unittest.TestCase):
 
     def test_what_came_near_a_line_that_is_missing(self) -> None:
         note = self.note('mote 1 prints h 9')
-        self.assertEqual(note.why, 'mote 1 has 0 such lines; wanted: at least 1. What came near:')
+        self.assertEqual(note.why, 'mote 1 has 0 such lines; wanted: at least 1. The nearest:')
         self.assertIn(Line('mote 1: it prints 1 value: 8 at 7', 28), note.lines)
         self.assertEqual(note.mote, 1)
 
@@ -115,8 +116,8 @@ class Pages(unittest.TestCase):
             wanted = ['mote %d: %s' % (hop.where.mote, hop.because) for hop in chain(source, where)]
             self.open(small_run(), '#line=%d' % row)
             self.ask()
-            self.assertEqual(self.script("[...document.querySelectorAll('#why-chain .what')].map(it => it.textContent)"),
-                             wanted)
+            shown = "[...document.querySelectorAll('#why-chain .what')].map(it => it.textContent)"
+            self.assertEqual(self.script(shown), wanted)
 
     def test_the_chart_is_an_svg(self) -> None:
         self.open(small_run(), '#line=28')
@@ -141,9 +142,10 @@ class Pages(unittest.TestCase):
                       str(self.script("document.getElementById('why-chain').innerText")))
 
     def test_plots_have_the_values_of_the_summary(self) -> None:
-        scenario = Scenario.parse(test_summary.SCENARIO.replace('talker = ""', 'talker = "process t; code t { body { } }"'
-                                                                ).replace('hearer = ""',
-                                                                          'hearer = "process t; code t { body { } }"'))
+        text, program = test_summary.SCENARIO, '"process t; code t { body { } }"'
+        for name in 'talker', 'hearer':
+            text = text.replace('%s = ""' % name, '%s = %s' % (name, program))
+        scenario = Scenario.parse(text)
         self.open(Run('sums', Report.parse(test_summary.REPORT), scenario))
         rows = list(Series(Traces(test_summary.REPORT.encode()), 5, 10).rows())
         script = '(() => {const its = %s; return %s;})()'

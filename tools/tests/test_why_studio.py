@@ -90,11 +90,16 @@ class Page(unittest.TestCase):
 
     def write(self, field: str, text: str) -> None:
         """Writes into a field, and sends its form."""
-        self.browser.run("(() => {const it = document.getElementById('%s'); it.value = %s; it.form.requestSubmit();})()"
-                         % (field, json.dumps(text)))
+        self.browser.run("((it, text) => { it.value = text; it.form.requestSubmit(); })"
+                         "(document.getElementById('%s'), %s)" % (field, json.dumps(text)))
 
     def tab(self, name: str) -> None:
         self.browser.run("document.getElementById('tab-%s').click()" % name)
+
+    def press_step(self, name: str) -> None:
+        """Presses a button of the tab *Steps*."""
+        self.browser.run("[...document.querySelectorAll('#steps button')].find(it => it.textContent === %s).click()"
+                         % json.dumps(name))
 
     def text(self, name: str) -> str:
         return str(self.browser.run("document.getElementById('%s').innerText" % name))
@@ -124,11 +129,10 @@ class Page(unittest.TestCase):
         """Mote 3 takes message 1 at 49, in line 113; the step after it changes `newest`, which line 114 prints."""
         self.tab('steps')
         self.browser.run("document.getElementById('stop-at').value = 'mote 3 prints 1'")
-        self.browser.run("[...document.querySelectorAll('#steps button')].find(it => it.textContent === 'On ›').click()")
+        self.press_step('On ›')
         self.wait('state-cards', 'newest = 1')
         self.assertEqual(self.browser.run("document.querySelectorAll('#state-cards .changed').length"), 0)
-        self.browser.run(
-            "[...document.querySelectorAll('#steps button')].find(it => it.textContent === '‹ call').click()")
+        self.press_step('‹ call')
         self.wait('state-cards', 'newest = 1 (changed)')
         self.wait('step-at', 'take 0 flood')
         self.browser.run("document.getElementById('values-asked').value = 'newest';"
@@ -140,10 +144,11 @@ class Page(unittest.TestCase):
             self.skipTest('the editor is not installed')
         self.tab('steps')
         self.browser.run("document.getElementById('stop-at').value = 'mote 3 prints 2'")
-        self.browser.run("[...document.querySelectorAll('#steps button')].find(it => it.textContent === 'On ›').click()")
+        self.press_step('On ›')
         self.wait('state-cards', 'newest = 2')
         self.browser.run('''(() => {
-          const {mirror} = motesim.editor(), row = mirror.getValue().split('\\n').findIndex(it => /send newest/.test(it));
+          const {mirror} = motesim.editor(), rows = mirror.getValue().split('\\n');
+          const row = rows.findIndex(it => /send newest/.test(it));
           mirror.scrollIntoView({line: row, ch: 0});
           const column = mirror.getLine(row).indexOf('newest') + 2, at = mirror.charCoords({line: row, ch: column});
           const event = new MouseEvent('mousemove', {clientX: at.left, clientY: at.top + 5, bubbles: true});

@@ -1,4 +1,4 @@
-"""What the page shows of a run: its error, its differences from another, which sentences hold, and its sums."""
+"""The results of a run for the page: its error, its differences from another, which sentences hold, its sums."""
 from __future__ import annotations
 
 import re
@@ -81,7 +81,7 @@ def stretch16(text: str, place: Place) -> list[int]:
 
 
 def warned(done: Finished) -> list[dict[str, Any]]:
-    """The warnings of tools/explain: what is legal, but probably not meant."""
+    """The warnings of tools/explain, about code that is legal, but probably not meant."""
     found = []
     for it in warnings(done.scenario, done.run.report)[:MOST_WARNINGS]:
         place = None
@@ -94,7 +94,7 @@ def warned(done: Finished) -> list[dict[str, Any]]:
 
 
 def prints_of_programs(scenario: Scenario) -> dict[str, dict[str, list[str]]]:
-    """What each process of each program prints, as expressions of the text."""
+    """The expressions that each process of each program prints."""
     found = {}
     for name, source in scenario.programs.items():
         process = ''
@@ -109,8 +109,8 @@ def prints_of_programs(scenario: Scenario) -> dict[str, dict[str, list[str]]]:
 
 
 def difference(before: Finished, after: Finished, is_pinned: bool) -> dict[str, Any]:
-    """How a run differs from another one: the lines of tools/compare, and as data the first difference (`first`), the
-    moment of the first one in each trace (`parts`), and the motes that run another program (`motes`)."""
+    """The differences of a run from another one: the lines of tools/compare, and as data the first difference (`first`),
+    the moment of the first one in each trace (`parts`), and the motes that run another program (`motes`)."""
     one = before.named('the pinned run' if is_pinned else 'the run before')
     lines, first, is_same = compared(one, after.named('this run'), MOST_ROWS)
     reports = before.run.report, after.run.report
@@ -127,8 +127,8 @@ def difference(before: Finished, after: Finished, is_pinned: bool) -> dict[str, 
 
 
 def side(report: Report, it: Difference) -> dict[str, Any]:
-    """What a report has at a difference: its row, its text, and what that is about. Without a text it has no such mote
-    (`has_mote`), or ends before."""
+    """The line of a report at a difference: its row, its text, and its origin. Without a text there is no such
+    mote (`has_mote`), or its trace ends before."""
     lines = lists_of(report).get(it.mote)
     if lines is None or it.place >= len(lines):
         return {'row': None, 'text': None, 'why': '', 'has_mote': lines is not None}

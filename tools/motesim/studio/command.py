@@ -24,7 +24,7 @@ NO_EDITOR = "The editor isn't installed (Debian's package libjs-codemirror): the
 
 
 def has_screen() -> bool:
-    """True if a browser can open a window of its own. One in the terminal would take the terminal over."""
+    """True if a browser can open a window of its own. One in the terminal would hide the terminal."""
     return sys.platform in ('darwin', 'win32') or bool(os.environ.get('DISPLAY') or os.environ.get('WAYLAND_DISPLAY'))
 
 
@@ -53,7 +53,7 @@ def opened(address: str, wanted: bool) -> Iterator[None]:
 
 def serve(server: Server, is_open: bool) -> None:
     """Serves until Ctrl-C, which it leaves to its caller."""
-    # (if the terminal is closed, or the process is asked to end, it ends as by Ctrl-C)
+    # (if the terminal is closed, or a signal ends the process, it ends as by Ctrl-C)
     for number in (signal.SIGTERM, signal.SIGHUP):
         signal.signal(number, signal.default_int_handler)
     print(server.address, flush=True)
@@ -64,7 +64,7 @@ def serve(server: Server, is_open: bool) -> None:
 
 
 def status_of(asked: argparse.Namespace) -> int:
-    """Does what tools/studio is asked for."""
+    """Runs tools/studio with its arguments."""
     # (the studio runs for hours, other commands for seconds)
     gc.enable()
     program_path()

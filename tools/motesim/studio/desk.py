@@ -163,7 +163,7 @@ class Desk:
         return self.read('folder', self.mine) if self.mine else self.read('example', 'flooding.toml')
 
     def stamp(self, where: str, name: str) -> str:
-        """The stamp of a file as it is now."""
+        """The present stamp of a file."""
         return stamp_of(self.data(self.path(where, name)))
 
     def expectations(self, where: str, name: str) -> tuple[str, str] | None:
@@ -176,7 +176,7 @@ class Desk:
         return document['where'] == 'folder' and document['name'] in self.written
 
     def save(self, document: dict[str, Any], over: bool = False) -> str:
-        """Writes a document into its file, and returns the stamp of what is there now."""
+        """Writes a document into its file, and returns the new stamp."""
         name = document['name']
         if not self.may_save(document):
             raise Fault('the studio writes only the file that it was started with, and new ones that you name')

@@ -73,7 +73,7 @@ def blocks(rows: list[str]) -> list[dict[str, Any]]:
 
 
 def shows(page: str, name: str) -> str:
-    """What an example shows, from the table of small examples."""
+    """The purpose of an example, from the table of small examples."""
     found = re.search(r'^\| `%s` \| (.*?) \|$' % re.escape(name), page, re.M)
     return found[1] if found else ''
 

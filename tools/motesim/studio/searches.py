@@ -24,14 +24,14 @@ from motesim.studio.runs import MEGABYTE, Limits
 TOOLS = Path(__file__).resolve().parent.parent.parent
 SEARCH = 'from motesim.commands.search import main; main()'
 SHRINK = 'from motesim.commands.shrink import main; main()'
-# (two kinds take values, which the page doesn't ask for)
+# (two kinds need values, which the page doesn't ask for)
 OF_PAGE = [kind for kind in KINDS if kind not in ('values', 'parameters')]
 MOST_FAULTS, NAME = 3, 'scenario.toml'
 GONE = 'The studio no longer has this search. Search again.'
 
 
 class Wanted(NamedTuple):
-    """What is to be searched: a text with sentences, kinds of faults, and how many at once."""
+    """A search: a text with sentences, kinds of faults, and how many at once."""
     text: str
     sentences: list[str]
     kinds: list[str]
@@ -39,13 +39,14 @@ class Wanted(NamedTuple):
 
 
 def wanted_of(text: str, sentences: list[str], kinds: object, at_most: object) -> Wanted:
-    """What the page asks for."""
+    """The search that the page asks for."""
     if type(kinds) is not list or not kinds or not all(it in OF_PAGE for it in kinds):
         raise Fault('Choose at least one kind of fault.')
     if type(at_most) is not int or not 1 <= at_most <= MOST_FAULTS:
         raise Fault('The page combines up to three faults; tools/search combines more.')
     if not sentences:
-        raise Fault('There are no expectations for this scenario. Write sentences into NAME.expect.toml next to NAME.toml.')
+        raise Fault('There are no expectations for this scenario. Write sentences into NAME.expect.toml, next to '
+                    'NAME.toml.')
     return Wanted(text, sentences, kinds, at_most)
 
 

@@ -57,7 +57,7 @@ def style() -> bytes:
 
 
 class Handler(BaseHTTPRequestHandler):
-    """Answers one request."""
+    """Handles one request."""
     protocol_version = 'HTTP/1.1'
     server_version = 'motesim'
     sys_version = ''

@@ -1,6 +1,6 @@
-"""What the page asks for, and the answers.
+"""Answers the questions of the page.
 
-`Session(desk, runs).answer('run', {...})` gives an `Answered`, or raises a `Fault` whose text the page shows.
+`Session(desk, runs).answer('run', {...})` returns an `Answered`, or raises a `Fault` whose text the page shows.
 """
 from __future__ import annotations
 
@@ -95,7 +95,7 @@ class Session:
         return here and it.name in self.desk.names('example')
 
     def begin(self, asked: dict[str, Any]) -> Answered:
-        """What the page shows when it opens."""
+        """The content of the page when it opens."""
         examples = [{'name': name, 'title': guides.title(name)} for name in self.desk.names('example')]
         files = [] if self.desk.folder == self.desk.examples else self.desk.names('folder')
         opened = json.loads(self.opened(self.desk.first()).data)
@@ -108,7 +108,7 @@ class Session:
         return self.opened(self.desk.read(_text(asked, 'where'), _text(asked, 'name')))
 
     def alive(self, asked: dict[str, Any]) -> Answered:
-        """The stamp of the open file as it is now, and with it that the studio is there."""
+        """The present stamp of the open file: a sign, too, that the studio is there."""
         try:
             stamp = self.desk.stamp(_text(asked, 'where'), _text(asked, 'name'))
         except Fault:

@@ -146,7 +146,7 @@ class Columns:
         return b''.join([*map(packer.compress, self.parts()), packer.flush()])
 
     def table(self) -> list[list[Any]]:
-        """What the page needs to find the columns: name, kind of number, length."""
+        """The name, the kind of number and the length of each column."""
         return [[name, kind, len(self.columns[name])] for name, kind in self.names.items()]
 
 
@@ -158,7 +158,7 @@ def _last_moment(report: Report) -> int:
 
 
 def _of_scenario(scenario: Scenario | None) -> dict[str, Any]:
-    """What the page shows of a scenario: places, range, losses."""
+    """The parts of a scenario that the page shows: places, range, losses."""
     if scenario is None:
         return {'places': None}
     return {
@@ -179,6 +179,6 @@ def table_of(run: Run, columns: Columns) -> dict[str, Any]:
 
 
 def data_of(run: Run) -> tuple[dict[str, Any], bytes]:
-    """What a page has of a run: a table of names and numbers, and packed columns."""
+    """The data of a run for a page: a table of names and numbers, and packed columns."""
     columns = Columns(run.report)
     return table_of(run, columns), columns.packed()

@@ -52,12 +52,12 @@ def note_of(run: Run, sentence: str, broken: Broken | None, more: tuple[str, ...
         row = source.traces.row(found.where)
         return Note(sentence, found.remark or broken.why, (Line(_text(source, row), row),))
     lines = _near(asker, found)
-    return Note(sentence, '%s. What came near:' % found.remark if lines else found.remark, lines,
+    return Note(sentence, '%s. The nearest:' % found.remark if lines else found.remark, lines,
                 last_of(found.span, source), found.motes[0])
 
 
 def _near(asker: Asker, missing: Missing) -> tuple[Line, ...]:
-    """What came near a missing line. A report that no kernel writes has nothing near."""
+    """The lines that came near a missing one. In a report that no kernel writes there are none."""
     try:
         lines = [Line('mote %d: %s' % (mote, it.words), it.row) for mote, its in misses(asker, missing) for it in its]
     except Fault:

@@ -53,7 +53,7 @@ function checkItem(it) {
   } else if (it.holds) inside.append(element('span', it.sentence));
   else {
     const button = makeButton(it.sentence, () => askQuestion(it.sentence));
-    button.title = 'Show what came near';
+    button.title = 'Show how near the run came';
     inside.append(button);
   }
   if (!it.holds) inside.append(Object.assign(element('span', it.more.join('\n')), {className: 'why'}));

@@ -3,7 +3,7 @@
 /** `number` is the run that is shown, `before` the one that it is compared with unless one is `pinned`; `asked` counts
     the runs that were asked for, and `judged` is the last run whose results are shown. */
 export const studio = {document: null, saved: '', maySave: false, folder: '', number: 0, before: 0, pinned: 0,
-  asked: 0, changedAt: 0, programs: {}, knownStamp: '', fresh: true, timer: 0, asks: true, tab: 'guide', latency: [], judged: 0,
-  editor: null};
+  asked: 0, changedAt: 0, programs: {}, knownStamp: '', fresh: true, timer: 0, asks: true, tab: 'guide', latency: [],
+  judged: 0, editor: null};
 
 export const isDirty = () => studio.document && studio.editor.text !== studio.saved;

@@ -47,7 +47,7 @@ async function answerWhy() {
     return chooseLine(pane, Math.max(0, hops[0].line), true);
   }
   const items = answer.motes.flatMap(({mote, misses}) => misses.map(it => missButton(mote, it)));
-  sayWhy(`${answer.about}. What came near:`, items);
+  sayWhy(`${answer.about}. The nearest:`, items);
 }
 
 /** Something that came near, as a button if a row of the report shows it. */
