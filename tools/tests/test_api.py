@@ -39,7 +39,7 @@ MOTE = 'process a;\nautostart a;\ncode a { body { print ${first}; } }\n'
 
 
 class Calls(unittest.TestCase):
-    def setUp(self):
+    def setUp(self) -> None:
         room = tempfile.TemporaryDirectory()
         self.addCleanup(room.cleanup)
         self.room = Path(room.name)
@@ -48,17 +48,17 @@ class Calls(unittest.TestCase):
         patch.start()
         self.addCleanup(patch.stop)
 
-    def test_a_text_is_run(self):
+    def test_a_text_is_run(self) -> None:
         run = motesim.run(SCENARIO.encode())
         self.assertEqual([str(mote.lines[-1]) for mote in run.report.motes], ['7 print a 7', '14 print a 7', '21 print a 7'])
-        self.assertEqual(run.scenario.motes, 3)
+        self.assertEqual(run.scenario and run.scenario.motes, 3)
 
-    def test_a_file_is_run(self):
+    def test_a_file_is_run(self) -> None:
         path = self.room / 'net.toml'
         path.write_text(SCENARIO)
         self.assertEqual(motesim.run(path).report.text(), motesim.run(str(path)).report.text())
 
-    def test_a_plan_is_run_with_its_parameters(self):
+    def test_a_plan_is_run_with_its_parameters(self) -> None:
         (self.room / 'net.plan.toml').write_text(PLAN)
         (self.room / 'a.mote').write_text(MOTE)
         plan = motesim.Plan.read(self.room / 'net.plan.toml')
@@ -67,7 +67,7 @@ class Calls(unittest.TestCase):
         with self.assertRaisesRegex(motesim.Fault, 'parameters are for plans'):
             motesim.run(SCENARIO.encode(), {'first': 5})
 
-    def test_sentences_are_judged(self):
+    def test_sentences_are_judged(self) -> None:
         run = motesim.run(SCENARIO.encode())
         kept = motesim.expect(run, ['mote 1 prints a 7 by 14', 'mote 2 prints a 7 by 20'])
         self.assertEqual([(it.holds, bool(it), it.row) for it in kept], [(True, True, None), (False, False, 18)])
@@ -78,14 +78,14 @@ class Calls(unittest.TestCase):
         with self.assertRaisesRegex(motesim.Fault, 'needs the scenario'):
             motesim.expect(run._replace(scenario=None), 'no mote halts')
 
-    def test_runs_are_compared(self):
+    def test_runs_are_compared(self) -> None:
         one, other = (motesim.run(SCENARIO.replace('print 7', 'print %d' % n).encode()) for n in (7, 5))
         self.assertEqual((motesim.compare(one, one).same, motesim.compare(one, one).at), (True, None))
         found = motesim.compare(one, other)
         self.assertEqual((found.same, found.at), (False, 5))
         self.assertIn('The reports differ.', found.text)
 
-    def test_limits_and_faults(self):
+    def test_limits_and_faults(self) -> None:
         with self.assertRaisesRegex(motesim.Fault, 'no answer in 0.2 seconds'):
             motesim.run(SCENARIO.replace('{ body', '{ // wait\\nbody').encode(), limits=motesim.Limits(0.2))
         with self.assertRaisesRegex(motesim.Fault, 'no TOML'):
@@ -93,7 +93,7 @@ class Calls(unittest.TestCase):
         with self.assertRaises(AttributeError):
             motesim.nothing
 
-    def test_nothing_is_imported_before_it_is_asked_for(self):
+    def test_nothing_is_imported_before_it_is_asked_for(self) -> None:
         source = 'import sys; sys.path.insert(0, %r); import motesim; print(len(sys.modules)); motesim.run' % str(TOOLS)
         done = subprocess.run([sys.executable, '-B', '-S', '-c', source + '; print("motesim.judge.judge" in sys.modules)'],
                               capture_output=True, text=True, check=True)
@@ -102,7 +102,7 @@ class Calls(unittest.TestCase):
 
 
 class Installed(unittest.TestCase):
-    def test_pip_installs_it_with_its_pages(self):
+    def test_pip_installs_it_with_its_pages(self) -> None:
         """The package is built and installed into a folder, and used from there; without a network."""
         # (Debian's packages are for Debian's own interpreter)
         python = next((it for it in (sys.executable, packages.SYSTEM) if not subprocess.run(

@@ -6,13 +6,13 @@ from project.asked import asked_by
 
 
 class Words(unittest.TestCase):
-    def test_they_are_the_programs_but_for_unproved(self):
+    def test_they_are_the_programs_but_for_unproved(self) -> None:
         asked = asked_by(['--unproved', 'a.toml', '--cut', 'stripe', '--sync=marks', '--workers', '+016'])
         self.assertEqual(asked.words, ['a.toml', '--cut', 'stripe', '--sync=marks', '--workers', '+016'])
         self.assertEqual((asked.file, asked.is_unproved, asked.wants_help, asked.refusal), ('a.toml', True, False, None))
         self.assertEqual(asked_by([]), ([], None, False, False, None))
 
-    def test_a_word_that_stands_for_another_is_no_option(self):
+    def test_a_word_that_stands_for_another_is_no_option(self) -> None:
         asked = asked_by(['--', '--unproved'])
         self.assertEqual((asked.words, asked.file, asked.is_unproved), (['--', '--unproved'], '--unproved', False))
         asked = asked_by(['--cut', '--unproved'])
@@ -20,12 +20,12 @@ class Words(unittest.TestCase):
         self.assertEqual(asked_by(['--workers', '2', '--', '-x']).file, '-x')
         self.assertEqual(asked_by(['-']).file, '-')
 
-    def test_help_is_asked_for_by_either_word(self):
+    def test_help_is_asked_for_by_either_word(self) -> None:
         for word in '--help', '-h', '-hx':
             self.assertTrue(asked_by(['a.toml', word]).wants_help, word)
         self.assertFalse(asked_by(['--', '-h']).wants_help)
 
-    def test_what_the_program_would_refuse(self):
+    def test_what_the_program_would_refuse(self) -> None:
         for words, why in [
             (['--wrokers'], "unexpected argument '--wrokers' found"),
             (['-x'], "unexpected argument '-x' found"),
@@ -41,7 +41,7 @@ class Words(unittest.TestCase):
         for number in '0', '17', '-1', '1 ', '1\n', '++1', '100':
             self.assertEqual(asked_by(['--workers', number]).refusal, "invalid value '%s' for '--workers'" % number)
 
-    def test_the_first_refusal_is_told(self):
+    def test_the_first_refusal_is_told(self) -> None:
         self.assertEqual(asked_by(['a', 'b', '--cut', 'x', '--y']).refusal, "invalid value 'x' for '--cut'")
 
 

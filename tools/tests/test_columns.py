@@ -1,6 +1,9 @@
 """Reports read in large pieces, against the same texts read line by line."""
+from __future__ import annotations
+
 import random
 import unittest
+from typing import Any
 from unittest import mock
 
 import here  # (it puts tools/ on the path)
@@ -39,7 +42,7 @@ WORDS = ['', ' ', '\n', '-', '0', '00', '1', '65535', '65536', '4611686018427387
          'send', 'all', 'true', 'null', '1@6', '@', '1@lost', 'medium', 'left 0', 'mote 3 x', 'mote 1 hearer', '\t', '\r', 'é']
 
 
-def read_strictly(data):
+def read_strictly(data: bytes) -> strict.Read | None:
     """What the reader line by line finds, or None."""
     try:
         return strict.read(strict.text_of(data))
@@ -48,11 +51,11 @@ def read_strictly(data):
 
 
 class Reading(unittest.TestCase):
-    def check(self, data):
+    def check(self, data: bytes) -> bool:
         """Compares both readers, and returns whether the text is a report."""
         found, wanted = fast.read(data), read_strictly(data)
         self.assertEqual(found is None, wanted is None, data)
-        if found is None:
+        if found is None or wanted is None:
             return False
         report = Report(*found)
         self.assertEqual(report.text().encode(), data)
@@ -60,10 +63,10 @@ class Reading(unittest.TestCase):
         self.assertEqual((list(report.medium), report.left, report.medium_row), wanted[1:], data)
         return True
 
-    def test_every_kind_of_line_is_read(self):
+    def test_every_kind_of_line_is_read(self) -> None:
         self.assertTrue(self.check(SMALL.encode()))
 
-    def test_texts_that_are_changed_at_random(self):
+    def test_texts_that_are_changed_at_random(self) -> None:
         """What one reader refuses the other refuses, and what both read is the same; in pieces of any size."""
         chance = random.Random(5)
         kept = 0
@@ -91,27 +94,27 @@ class Reading(unittest.TestCase):
         # (not all changes make the text a wrong one)
         self.assertGreater(kept, 200)
 
-    def test_a_trace_in_pieces_has_its_order_and_its_end(self):
+    def test_a_trace_in_pieces_has_its_order_and_its_end(self) -> None:
         for size in 1, 16, 40:
             with mock.patch.object(fast, 'PIECE', size):
                 self.assertTrue(self.check(SMALL.encode()))
                 self.assertFalse(self.check(SMALL.replace('9 drop', '3 drop').encode()))
                 self.assertFalse(self.check(SMALL.replace('7 deaf', '7 halt\n7 deaf').encode()))
 
-    def test_names_with_digits_stay_apart(self):
+    def test_names_with_digits_stay_apart(self) -> None:
         text = SMALL.replace('4 full all msg', '4 full a1 a1').replace('4 take 0 talk', '4 take 0 a11').replace(
             '4 print talk', '4 print a_1').replace('0 start busy', '0 start b').replace('9 drop 1 busy', '9 drop 1 b2')
         self.assertTrue(self.check(text.encode()))
         self.assertFalse(self.check(text.replace('a_1', 'a_1' + 'x' * 14).encode()))
 
-    def test_more_names_than_a_byte_has_numbers(self):
+    def test_more_names_than_a_byte_has_numbers(self) -> None:
         for count in 255, 256, 300:
             rows = ['%d start %s%s' % (at, chr(97 + at % 26), chr(97 + at // 26)) for at in range(count)]
             rows = [row.replace('start is', 'start xis').replace('start if', 'start xif') for row in rows]
             text = '\n'.join(['mote 0 p', *rows, 'medium', 'left 0', ''])
             self.assertTrue(self.check(text.encode()), count)
 
-    def test_numbers_at_their_limits(self):
+    def test_numbers_at_their_limits(self) -> None:
         for number, is_one in ((2 ** 62 - 1, True), (2 ** 62, False), (2 ** 64 - 1, False), (10 ** 18, True)):
             for form in '7 deaf 0 %d', '7 lost 0 %d':
                 text = SMALL.replace('7 deaf 0 4611686018427387903', form % number)
@@ -121,14 +124,14 @@ class Reading(unittest.TestCase):
         for moment, is_one in ((1_000_000, True), (1_000_001, False)):
             self.assertEqual(self.check(SMALL.replace('8 halt', '%d halt' % moment).encode()), is_one)
 
-    def test_a_log_in_pieces_has_its_order(self):
+    def test_a_log_in_pieces_has_its_order(self) -> None:
         for size in 1, 12, 25:
             with mock.patch.object(fast, 'PIECE', size):
                 self.assertTrue(self.check(SMALL.encode()))
                 self.assertFalse(self.check(SMALL.replace('9 0 1 3 1@12', '4 2 0 3 1@12').encode()))
                 self.assertFalse(self.check(SMALL.replace('9 0 1 3 1@12', '3 0 1 3 1@12').encode()))
 
-    def test_several_processes_read_the_same(self):
+    def test_several_processes_read_the_same(self) -> None:
         rows = ['mote %d p%s' % (mote, '\n%d start %s' % (mote, 'abcdef'[mote % 6])) for mote in range(40)]
         text = '\n'.join([*rows, 'medium', 'left 0', ''])
         with mock.patch.object(fast, 'MANY', 10), mock.patch.object(fast, 'PIECE', 60), \
@@ -138,10 +141,10 @@ class Reading(unittest.TestCase):
 
 
 class Columns(unittest.TestCase):
-    def setUp(self):
+    def setUp(self) -> None:
         self.report = Report.parse(SMALL)
 
-    def test_the_columns_are_those_of_the_lines(self):
+    def test_the_columns_are_those_of_the_lines(self) -> None:
         report, trace = self.report, self.report.trace
         lines = [line for mote in report.motes for line in mote.lines]
         self.assertEqual((len(trace), list(trace.starts)), (len(lines), [0, 13, 20, 20]))
@@ -153,14 +156,14 @@ class Columns(unittest.TestCase):
             self.assertEqual(trace.value[index], line.word or line.value or 0, line)
             self.assertEqual((trace.line(index), trace.mote_of(index)), (line, line.mote))
 
-    def test_rows_of_a_kind(self):
+    def test_rows_of_a_kind(self) -> None:
         trace = self.report.trace
         self.assertEqual(trace.rows(0, 'start'), [0, 1, 2, 3, 4])
         self.assertEqual((trace.rows(1, 'start'), trace.rows(2, 'start')), ([13], []))
         self.assertEqual(trace.place(1, 'start'), slice(5, 6))
         self.assertEqual(list(trace.all_rows('start')), [0, 1, 2, 3, 4, 13])
 
-    def test_lines_of_a_mote_are_a_sequence(self):
+    def test_lines_of_a_mote_are_a_sequence(self) -> None:
         lines = self.report.motes[0].lines
         self.assertEqual([str(it) for it in lines[4:6]], ['0 start busy', '4 post 0 talk timer 1'])
         self.assertEqual([str(it) for it in lines[::6]], ['0 start etimer', '4 full all msg 65535', '9 busy busy'])
@@ -172,7 +175,7 @@ class Columns(unittest.TestCase):
         self.assertEqual(lines, list(lines))
         self.assertNotEqual(lines, self.report.motes[1].lines)
 
-    def test_the_log(self):
+    def test_the_log(self) -> None:
         log = self.report.log
         self.assertEqual((list(log.at), list(log.first), list(log.to)), ([4, 4, 9], [0, 2, 2, 3], [1, 2, 1]))
         self.assertEqual(list(log.arrival), [6, LOST, 12])

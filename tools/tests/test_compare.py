@@ -1,4 +1,6 @@
 """How compare finds where two reports part. The reports are worked out by hand."""
+from __future__ import annotations
+
 import random
 import subprocess
 import sys
@@ -10,6 +12,7 @@ from pathlib import Path
 from here import TOOLS
 from motesim.comparison import reports as compare
 from motesim.comparison import scenarios as scenario_differences
+from motesim.comparison.columns import MEDIUM
 from motesim.report import Report, ReportFault
 from motesim.runner.run import Run
 from motesim.scenario import Scenario
@@ -65,22 +68,23 @@ left 0
 '''
 
 
-def compared(a, b):
+def compared(a: str, b: str) -> tuple[str, compare.Difference | None, bool]:
     lines, first, is_same = compare.compared(Run('a', Report.parse(a), None), Run('b', Report.parse(b), None), 20)
     return '\n'.join(lines), first, is_same
 
 
-def counted_naively(a, b):
+def counted_naively(a: Report, b: Report) -> tuple[list[tuple[int, int]], compare.Counts]:
     """Where the lists of two reports part, and how many lines only one of them has, line by line."""
-    places, counts = [], (Counter(), Counter())
-    lists = [{it.number: list(map(str, it.lines)) for it in report.motes} | {compare.MEDIUM: list(map(str, report.medium))}
+    places: list[tuple[int, int]] = []
+    counts: compare.Counts = Counter(), Counter()
+    lists = [{it.number: list(map(str, it.lines)) for it in report.motes} | {MEDIUM: list(map(str, report.medium))}
              for report in (a, b)]
     for mote in sorted(lists[0] | lists[1]):
         one, other = (its.get(mote, []) for its in lists)
         if one == other:
             continue
         places.append((mote, next((at for at, (x, y) in enumerate(zip(one, other)) if x != y), min(len(one), len(other)))))
-        kinds = [Counter(('medium' if mote == compare.MEDIUM else it.split(' ')[1], it) for it in its) for its in (one, other)]
+        kinds = [Counter(('medium' if mote == MEDIUM else it.split(' ')[1], it) for it in its) for its in (one, other)]
         for side in 0, 1:
             for (kind, _), count in (kinds[side] - kinds[1 - side]).items():
                 counts[side][mote, kind] += count
@@ -88,7 +92,7 @@ def counted_naively(a, b):
 
 
 class Differences(unittest.TestCase):
-    def test_columns_differ_where_lines_do(self):
+    def test_columns_differ_where_lines_do(self) -> None:
         """Reports that are changed at random, against a comparison line by line."""
         chance, found = random.Random(3), 0
         for _ in range(600):
@@ -118,16 +122,16 @@ class Differences(unittest.TestCase):
             self.assertEqual(compare.only_in((a, b), differences), counts, texts)
         self.assertGreater(found, 200)
 
-    def test_the_first_difference_is_by_moments(self):
+    def test_the_first_difference_is_by_moments(self) -> None:
         found = compare.differences(Report.parse(A), Report.parse(B))
-        self.assertEqual([tuple(it) for it in found], [(5, 2, 1), (5, compare.MEDIUM, 2), (8, 1, 3)])
+        self.assertEqual([tuple(it) for it in found], [(5, 2, 1), (5, MEDIUM, 2), (8, 1, 3)])
 
-    def test_equal_reports_are_the_same(self):
+    def test_equal_reports_are_the_same(self) -> None:
         text, first, is_same = compared(A, A)
         self.assertEqual((first, is_same), (None, True))
         self.assertIn('The reports are the same: 3 motes, 24 lines.', text)
 
-    def test_the_first_difference_is_told_with_what_led_to_it(self):
+    def test_the_first_difference_is_told_with_what_led_to_it(self) -> None:
         text, first, is_same = compared(A, B)
         self.assertFalse(is_same)
         self.assertIn('''
@@ -138,7 +142,7 @@ Before it, the last packets and events of mote 2:
   0 start etimer
 ''', text)
 
-    def test_the_first_collision_is_told(self):
+    def test_the_first_collision_is_told(self) -> None:
         self.assertIn('''
 The first collision that only B has:
   B: at moment 8 mote 1 loses packet 1 of mote 0 (sent at 5) and packet 0 of mote 2 (sent at 5)
@@ -148,7 +152,7 @@ The first collision that only B has:
         self.assertIn('The first collision that only B has, which is the first difference:\n', text)
         self.assertNotIn('collision', compared(A, A.replace('take 2', 'drop 2'))[0])
 
-    def test_differing_lines_are_counted(self):
+    def test_differing_lines_are_counted(self) -> None:
         # mote 1: six lines against two; mote 2: post, take and send at another moment; a packet at another moment
         self.assertIn('''
 Lines that differ: 10 only in A, 6 only in B
@@ -163,20 +167,20 @@ Lines that differ: 10 only in A, 6 only in B
   collide         0         2
   medium          1         1''', compared(A, B)[0])
 
-    def test_lines_of_a_moment_may_stand_in_another_order(self):
+    def test_lines_of_a_moment_may_stand_in_another_order(self) -> None:
         text, first, is_same = compared(A, A.replace('0 start etimer\n0 send 0 1\n', '0 send 0 1\n0 start etimer\n'))
-        self.assertEqual((tuple(first), is_same), ((0, 0, 0), False))
+        self.assertEqual((first and tuple(first), is_same), ((0, 0, 0), False))
         self.assertTrue(text.endswith('\nBoth have the same lines, in another order within a moment.'))
 
-    def test_only_the_kind_of_a_line_may_differ(self):
+    def test_only_the_kind_of_a_line_may_differ(self) -> None:
         text, first, _ = compared(A, A.replace('9 take 2', '9 drop 2'))
-        self.assertEqual(tuple(first), (9, 1, 8))
+        self.assertEqual(first and tuple(first), (9, 1, 8))
         self.assertIn('  A, line 14: 9 take 2 hearer\n      (event 2 was posted at 9: packet 7)\n', text)
 
-    def test_a_packet_may_be_lost_on_its_way(self):
+    def test_a_packet_may_be_lost_on_its_way(self) -> None:
         lost = A.replace('1@9', '1@lost').replace('9 recv 2 0 7\n9 post 2 hearer packet 7\n9 take 2 hearer\n', '')
         text, first, _ = compared(A, lost)
-        self.assertEqual(tuple(first), (6, compare.MEDIUM, 2))
+        self.assertEqual(first and tuple(first), (6, MEDIUM, 2))
         self.assertIn('''
 The first difference is at moment 6, in the log of the medium:
   A, line 23: 6 2 0 7 1@9
@@ -192,17 +196,17 @@ The first difference in a trace is at moment 9, in the trace of mote 1:
   B has no line more of it
 ''', text)
 
-    def test_motes_and_programs_may_differ(self):
+    def test_motes_and_programs_may_differ(self) -> None:
         text, first, _ = compared(A, A.replace('mote 2 talker', 'mote 2 other'))
         self.assertIsNone(first)
         self.assertIn('  mote 2 runs talker in A and runs other in B', text)
         text, first, _ = compared('mote 0 a\nmedium\nleft 0\n', 'mote 0 a\nmote 1 b\n4 halt\nmedium\nleft 2\n')
-        self.assertEqual(tuple(first), (4, 1, 0))
+        self.assertEqual(first and tuple(first), (4, 1, 0))
         for line in ['  mote 1 is not in A and runs b in B', '  A has no such mote', '  B, line 3: 4 halt',
                      'Copies that would come after the end: 0 in A, 2 in B']:
             self.assertIn(line + '\n', text + '\n')
 
-    def test_what_came_before_has_packets_and_events(self):
+    def test_what_came_before_has_packets_and_events(self) -> None:
         rows = ['%d send %d 0' % (at, at) for at in range(4)] + ['%d take %d p' % (at, at) for at in range(9, 15)]
         lines = Report.parse('mote 0 a\n%s\nmedium\nleft 0\n' % '\n'.join(rows)).motes[0].lines
         self.assertEqual([line.at for line in compare.before(lines)], [1, 2, 3, 11, 12, 13, 14])
@@ -235,13 +239,13 @@ to = 1
 every = 2
 """
 
-    def told(self, *changes):
+    def told(self, *changes: tuple[str, str]) -> list[str]:
         text = self.A
         for change in changes:
             text = text.replace(*change)
         return scenario_differences.differences(Scenario.parse(self.A), Scenario.parse(text))
 
-    def test_each_part_is_told(self):
+    def test_each_part_is_told(self) -> None:
         self.assertEqual(self.told(), [])
         self.assertEqual(self.told(('end = 20', 'end = 30'), ('collide = true', 'collide = false')), [
             'end is 20 in A and 30 in B', 'collide of medium is true in A and false in B'])
@@ -255,7 +259,7 @@ every = 2
         self.assertEqual(self.told(('[[loss]]', '[[mote]]\nx = 1\ny = 1\nprogram = "p"\n[[loss]]')), [
             'there are 2 motes in A and 3 in B'])
 
-    def test_only_so_many_are_shown(self):
+    def test_only_so_many_are_shown(self) -> None:
         a, b = Scenario.parse(self.A), Scenario.parse(self.A.replace('end = 20', 'end = 21').replace('per = 100', 'per = 9'))
         self.assertEqual(scenario_differences.in_words(a, a, 5), ['The scenarios are the same.'])
         self.assertEqual(scenario_differences.in_words(a, b, 1), [
@@ -264,7 +268,7 @@ every = 2
 
 
 class Command(unittest.TestCase):
-    def test_the_status_is_that_of_diff(self):
+    def test_the_status_is_that_of_diff(self) -> None:
         with tempfile.TemporaryDirectory() as folder:
             paths = [Path(folder) / name for name in ('a', 'b', 'c')]
             for path, text in zip(paths, (A, B, 'no report\n')):
@@ -276,12 +280,12 @@ class Command(unittest.TestCase):
                 self.assertEqual(done.stderr.count('\n'), int(status == 2))
                 self.assertEqual(bool(done.stdout), status != 2)
 
-    def test_standard_input_is_one_of_them_alone(self):
+    def test_standard_input_is_one_of_them_alone(self) -> None:
         done = subprocess.run([str(TOOLS / 'compare'), '-', '-'], input=A, capture_output=True, text=True)
         self.assertEqual((done.returncode, done.stdout), (2, ''))
         self.assertEqual(done.stderr, "compare: A and B can't both be standard input: one of them is a file\n")
 
-    def test_a_page_shows_both(self):
+    def test_a_page_shows_both(self) -> None:
         with tempfile.TemporaryDirectory() as folder:
             paths = [Path(folder) / name for name in ('a', 'b', 'page.html')]
             for path, text in zip(paths, (A, B)):

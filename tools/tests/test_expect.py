@@ -1,4 +1,6 @@
 """Which sentences are read, what holds of a report, and what is told of a file of expectations."""
+from __future__ import annotations
+
 import contextlib
 import io
 import os
@@ -17,7 +19,9 @@ from motesim.judge.judge import Judge
 from motesim.report import Report
 from motesim.runner import LimitMet, Limits
 from motesim.scenario import Scenario
-from motesim.judge.sentences import Count, Names, Refused, SentenceFault, names_of, read_sentence
+from motesim.judge.sentences import (
+    Copies, Count, Does, Names, Refused, Sentence, SentenceFault, names_of, read_sentence,
+)
 
 # Four motes in a row, each in range of those beside it; mote 2 loses all that mote 3 sends.
 SCENARIO = """
@@ -159,30 +163,30 @@ FAULTS = [
 ]
 
 
-def judge():
+def judge() -> Judge:
     return Judge(Report.parse(REPORT), Scenario.parse(SCENARIO))
 
 
 class Sentences(unittest.TestCase):
-    def setUp(self):
+    def setUp(self) -> None:
         self.judge, self.names = judge(), names_of(Scenario.parse(SCENARIO))
 
-    def test_a_program_has_these_names(self):
+    def test_a_program_has_these_names(self) -> None:
         self.assertEqual(self.names, Names(('etimer', 'ctimer', 'radio', 'flood', 'hears'), 4))
 
-    def test_what_holds(self):
+    def test_what_holds(self) -> None:
         for sentence in HOLDS:
             with self.subTest(sentence):
                 self.assertIsNone(self.judge.broken(read_sentence(sentence, self.names)))
 
-    def test_what_is_broken_and_by_which_line(self):
+    def test_what_is_broken_and_by_which_line(self) -> None:
         for sentence, row in BROKEN:
             with self.subTest(sentence):
                 broken = self.judge.broken(read_sentence(sentence, self.names))
-                self.assertIsNotNone(broken)
+                assert broken is not None
                 self.assertEqual(broken.row, row, broken.why)
 
-    def test_what_may_stand_is_told(self):
+    def test_what_may_stand_is_told(self) -> None:
         for sentence, word, wanted in FAULTS:
             with self.subTest(sentence), self.assertRaises(SentenceFault) as caught:
                 read_sentence(sentence, self.names)
@@ -190,13 +194,13 @@ class Sentences(unittest.TestCase):
             self.assertEqual(sentence[fault.place:].split(' ')[0], word)
             self.assertTrue(any(it.startswith(wanted) or wanted in it for it in fault.wanted), fault.wanted)
 
-    def test_counting_finds_what_the_lines_show(self):
+    def test_counting_finds_what_the_lines_show(self) -> None:
         """Sentences that only count, judged by the columns alone and by the lines."""
         class ByLines(Judge):
-            def is_plainly_kept(self, it, motes):
+            def is_plainly_kept(self, it: Does, motes: tuple[int, ...]) -> bool:
                 return False
 
-            def count_copies(self, it):
+            def count_copies(self, it: Copies) -> int:
                 return len(self.of_copies(it))
         by_lines = ByLines(self.judge.report, self.judge.scenario)
         deeds = ['mote 1 %s', 'every mote %s', 'motes 1 to 3 together %s', 'some mote %s', 'at least 2 motes %s']
@@ -216,7 +220,7 @@ class Sentences(unittest.TestCase):
             holds += broken is None
         self.assertTrue(200 < holds < len(found) - 200, (holds, len(found)))
 
-    def test_counts_have_ends(self):
+    def test_counts_have_ends(self) -> None:
         for compare, least, most in [
             ('at least', 3, None), ('at most', 0, 3), ('exactly', 3, 3), ('more than', 4, None), ('fewer than', 0, 2),
         ]:
@@ -236,7 +240,7 @@ esac
 
 
 class Files(unittest.TestCase):
-    def setUp(self):
+    def setUp(self) -> None:
         room = tempfile.TemporaryDirectory()
         self.addCleanup(room.cleanup)
         self.room = Path(room.name)
@@ -249,7 +253,7 @@ class Files(unittest.TestCase):
         patch.start()
         self.addCleanup(patch.stop)
 
-    def said(self, text, *words):
+    def said(self, text: str, *words: str) -> tuple[str, str, object]:
         """What the command prints on both streams, and its status."""
         self.expected.write_text(text)
         out, err = io.StringIO(), io.StringIO()
@@ -259,24 +263,24 @@ class Files(unittest.TestCase):
                     command.main()
         return out.getvalue(), err.getvalue(), end.exception.code
 
-    def test_what_holds_and_what_does_not(self):
+    def test_what_holds_and_what_does_not(self) -> None:
         out, err, code = self.said('expect = ["mote 0 sends twice", "no mote halts"]')
         self.assertEqual(out.splitlines(), [
             'holds   mote 0 sends twice', 'broken  no mote halts', '          mote 3 does',
             '          line 22: 90 halt', '1 passed, 1 failed'])
         self.assertEqual((err, code), ('', 1))
 
-    def test_all_hold(self):
+    def test_all_hold(self) -> None:
         said = self.said('expect = ["mote 0 sends twice"]', str(self.expected))
         self.assertEqual(said, ('holds   mote 0 sends twice\n1 passed, 0 failed\n', '', 0))
 
-    def test_a_run_that_meets_a_limit_is_told_of_the_scenario(self):
+    def test_a_run_that_meets_a_limit_is_told_of_the_scenario(self) -> None:
         with mock.patch.object(expectations, 'answer', side_effect=LimitMet('report', Limits())):
             out, err, code = self.said('expect = ["no mote halts"]')
         self.assertEqual((out, code), ('', 2))
         self.assertEqual(err, 'expect: %s: the run was ended: the report is longer than 1,073,741,824 bytes\n' % self.scenario)
 
-    def test_a_change_is_refused_as_expected(self):
+    def test_a_change_is_refused_as_expected(self) -> None:
         text = """expect = ["mote 0 sends"]
             [[change]]
             about = "a late end"
@@ -290,7 +294,7 @@ class Files(unittest.TestCase):
         # (what tools/explain would say is of the scenario as it is)
         self.assertNotIn('explain', out)
 
-    def test_where_the_scenario_is_refused_tools_explain_is_named(self):
+    def test_where_the_scenario_is_refused_tools_explain_is_named(self) -> None:
         self.scenario.write_text(self.scenario.read_text().replace('end = 100', 'end = 2000000'))
         out, _, code = self.said('expect = ["some mote halts", "no mote halts"]')
         self.assertEqual(out.splitlines()[-2:], [
@@ -300,7 +304,7 @@ class Files(unittest.TestCase):
         out, _, code = self.said('expect = ["the scenario is refused with \'scenario fault 5\'"]')
         self.assertEqual((out.count('explain'), code), (0, 0))
 
-    def test_a_whole_report(self):
+    def test_a_whole_report(self) -> None:
         whole = 'report = """\n%s"""'
         self.assertEqual(self.said(whole % REPORT)[2], 0)
         out, _, code = self.said(whole % REPORT.replace('90 halt', '91 halt'))
@@ -308,13 +312,13 @@ class Files(unittest.TestCase):
         self.assertEqual(code, 1)
         self.assertIn('expected: the end', self.said(whole % REPORT.replace('left 1\n', ''))[0])
 
-    def test_a_file_of_expectations_that_is_not_there_is_told(self):
+    def test_a_file_of_expectations_that_is_not_there_is_told(self) -> None:
         self.scenario = self.scenario.rename(self.scenario.with_name('other.toml'))
         told = 'expect: there is no file %s beside %s: name another, tools/expect SCENARIO EXPECTATIONS\n' % (
             self.scenario.with_name('other.expect.toml'), self.scenario)
         self.assertEqual(self.said('expect = ["mote 0 sends"]'), ('', told, 2))
 
-    def test_faults_have_status_2(self):
+    def test_faults_have_status_2(self) -> None:
         change = 'expect = ["mote 0 sends"]\n[[change]]\nexpect = ["mote 0 sends"]\n'
         for text, told in [
             ('expect = ["mote 9 halts"]', 'sentence 1 is not known'),
@@ -331,17 +335,17 @@ class Files(unittest.TestCase):
             self.assertIn(told, err)
             self.assertEqual(code, 2)
 
-    def test_a_sentence_that_cannot_be_read_is_marked(self):
+    def test_a_sentence_that_cannot_be_read_is_marked(self) -> None:
         err = self.said('expect = ["mote 0 sends", "mote 0 hops"]')[1].splitlines()
         self.assertRegex(err[0], '^expect: /.*/a.expect.toml: sentence 2 is not known$')
         self.assertEqual(err[1].index('hops'), err[2].index('^'))
 
-    def test_no_program_and_no_file(self):
+    def test_no_program_and_no_file(self) -> None:
         with mock.patch.dict(os.environ, MOTESIM=str(self.room / 'none')):
             self.assertEqual(self.said('expect = ["mote 0 sends"]')[2], 2)
         self.assertEqual(self.said('expect = ["mote 0 sends"]', str(self.room / 'b.expect.toml'))[2], 2)
 
-    def test_quietly_only_what_is_broken_is_told(self):
+    def test_quietly_only_what_is_broken_is_told(self) -> None:
         self.expected.write_text('expect = ["mote 0 sends", "no mote halts"]')
         out = io.StringIO()
         with contextlib.redirect_stdout(out):
@@ -350,20 +354,20 @@ class Files(unittest.TestCase):
 
 
 class Page(unittest.TestCase):
-    def setUp(self):
+    def setUp(self) -> None:
         self.page = (TOOLS.parent / 'docs/use/EXPECTATIONS.md').read_text('utf-8')
 
-    def forms(self, title):
+    def forms(self, title: str) -> list[str]:
         """What stands as code in the first column of a table, by a part of its page and the title of that column."""
         table = self.page.split('| %s |' % title)[1].split('\n\n')[0]
         rows = re.findall(r'^\| (`.*?`) \|', table, re.M)
         return [form for row in rows for form in re.findall(r'`([^`]+)`', row)]
 
-    def read(self, sentence):
+    def read(self, sentence: str) -> Sentence:
         with self.subTest(sentence):
             return read_sentence(sentence, Names(('P',), 25))
 
-    def test_each_form_of_the_page_can_be_read(self):
+    def test_each_form_of_the_page_can_be_read(self) -> None:
         for form in self.forms('MOTES'):
             self.read(form + (' halt' if 'motes' in form else ' halts'))
         for form in self.forms('DEED'):
@@ -380,7 +384,7 @@ class Page(unittest.TestCase):
 
 
 class Examples(unittest.TestCase):
-    def test_each_example_has_expectations_that_can_be_read(self):
+    def test_each_example_has_expectations_that_can_be_read(self) -> None:
         examples = TOOLS.parent / 'examples'
         scenarios = [path for path in examples.glob('*.toml') if not path.name.endswith('.expect.toml')]
         for path in scenarios:

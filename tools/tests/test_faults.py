@@ -1,4 +1,6 @@
 """How a command ends: one line and status 2, whatever goes wrong; 130 after Ctrl-C."""
+from __future__ import annotations
+
 import os
 import re
 import signal
@@ -6,6 +8,7 @@ import subprocess
 import sys
 import unittest
 from pathlib import Path
+from typing import Any
 
 from here import TOOLS, TOP
 from motesim.version import KIT, VERSION
@@ -26,34 +29,36 @@ main()
 
 
 class Ends(unittest.TestCase):
-    def ended(self, work, **how):
+    def ended(self, work: str, **how: Any) -> subprocess.CompletedProcess[str]:
         words = [sys.executable, '-B', '-c', COMMAND % (str(TOOLS), work)]
-        return subprocess.run(words, **{'capture_output': True, 'text': True, 'timeout': 60, **how})
+        keywords: dict[str, Any] = {'capture_output': True, 'timeout': 60, **how}
+        done: subprocess.CompletedProcess[str] = subprocess.run(words, text=True, **keywords)
+        return done
 
-    def test_what_goes_wrong_is_one_line(self):
+    def test_what_goes_wrong_is_one_line(self) -> None:
         for work, told in [("raise Fault('no such thing')", 'thing: no such thing\n'), ('raise MemoryError', 'thing: out of memory\n'),
                            ("open('/nowhere/a')", 'thing: /nowhere/a: No such file or directory\n')]:
             done = self.ended(work)
             self.assertEqual((done.returncode, done.stdout, done.stderr), (2, '', told))
 
-    def test_a_status_is_handed_on(self):
+    def test_a_status_is_handed_on(self) -> None:
         self.assertEqual(self.ended('return 1').returncode, 1)
 
     @unittest.skipUnless(Path('/dev/full').exists(), 'there is no /dev/full here')
-    def test_a_full_disk_is_told(self):
+    def test_a_full_disk_is_told(self) -> None:
         for work in "print('x')", "print('x' * 100000)":
             with open('/dev/full', 'w') as full:
                 done = self.ended(work, capture_output=False, stdout=full, stderr=subprocess.PIPE)
             self.assertEqual((done.returncode, done.stderr), (2, 'thing: standard output: No space left on device\n'))
 
-    def test_a_closed_pipe_is_told(self):
+    def test_a_closed_pipe_is_told(self) -> None:
         ours, its = os.pipe()
         os.close(ours)
         done = self.ended("print('x' * 100000)", capture_output=False, stdout=its, stderr=subprocess.PIPE)
         os.close(its)
         self.assertEqual((done.returncode, done.stderr), (2, 'thing: standard output was closed before all of it was written\n'))
 
-    def test_a_stream_that_is_closed_from_the_start_is_told(self):
+    def test_a_stream_that_is_closed_from_the_start_is_told(self) -> None:
         report = TOP / 'tests/cases/nets/two_senders.expected'
         for words, status, told in [
                 ('%s %s >&-' % (TOOLS / 'summary', report), 2, 'summary: standard output is closed\n'),
@@ -63,31 +68,32 @@ class Ends(unittest.TestCase):
             done = subprocess.run(['sh', '-c', words], capture_output=True, text=True)
             self.assertEqual((done.returncode, done.stdout, done.stderr), (status, '', told), words)
 
-    def test_an_interrupt_ends_with_130(self):
+    def test_an_interrupt_ends_with_130(self) -> None:
         words = [sys.executable, '-B', '-c', COMMAND % (str(TOOLS), "print('begun', flush=True); time.sleep(60)")]
         with subprocess.Popen(words, stdout=subprocess.PIPE, stderr=subprocess.PIPE, text=True) as running:
+            assert running.stdout and running.stderr
             running.stdout.readline()
             running.send_signal(signal.SIGINT)
             self.assertEqual((running.wait(20), running.stderr.read()), (130, ''))
 
 
 class Tools(unittest.TestCase):
-    def test_the_version_is_told(self):
+    def test_the_version_is_told(self) -> None:
         told = 'motesim %s, proved with %s\n' % (VERSION, KIT)
         for command in TOOLS / 'compare', TOOLS / 'dev/check_format', TOP / 'run':
             done = subprocess.run([str(command), '--version'], stdin=subprocess.DEVNULL, capture_output=True, text=True)
             self.assertEqual((done.returncode, done.stdout, done.stderr), (0, told, ''))
         changes = (TOP / 'CHANGES.md').read_text('utf-8')
-        self.assertEqual(re.search(r'^## (\S+),', changes, re.M)[1], VERSION)
+        self.assertEqual(re.findall(r'^## (\S+),', changes, re.M)[0], VERSION)
 
     @unittest.skipUnless(Path('/dev/full').exists(), 'there is no /dev/full here')
-    def test_a_tool_on_a_full_disk(self):
+    def test_a_tool_on_a_full_disk(self) -> None:
         report = TOP / 'tests/cases/nets/two_senders.expected'
         with open('/dev/full', 'w') as full:
             done = subprocess.run([str(TOOLS / 'summary'), str(report)], stdout=full, stderr=subprocess.PIPE, text=True)
         self.assertEqual((done.returncode, done.stderr), (2, 'summary: standard output: No space left on device\n'))
 
-    def test_each_command_has_no_more_than_its_lines(self):
+    def test_each_command_has_no_more_than_its_lines(self) -> None:
         for path in sorted(TOOLS.iterdir()):
             if path.is_file() and not path.suffix:
                 lines = path.read_text('utf-8').splitlines()

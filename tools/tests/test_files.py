@@ -1,4 +1,6 @@
 """Files that are written whole, names that are no UTF-8, and errors of the tools themselves."""
+from __future__ import annotations
+
 import os
 import stat
 import subprocess
@@ -6,6 +8,7 @@ import sys
 import tempfile
 import threading
 import unittest
+from collections.abc import Iterator
 from pathlib import Path
 from unittest import mock
 
@@ -34,23 +37,23 @@ program = "p"
 
 
 class Room(unittest.TestCase):
-    def setUp(self):
+    def setUp(self) -> None:
         room = tempfile.TemporaryDirectory()
         self.addCleanup(room.cleanup)
         self.room = Path(room.name)
 
 
 class Whole(Room):
-    def names(self):
+    def names(self) -> list[str]:
         return sorted(os.listdir(self.room))
 
-    def test_a_new_file_has_the_mode_of_new_files(self):
+    def test_a_new_file_has_the_mode_of_new_files(self) -> None:
         write_whole(self.room / 'a', [b'one', b'two'])
         (self.room / 'b').write_bytes(b'')
         self.assertEqual((self.room / 'a').read_bytes(), b'onetwo')
         self.assertEqual(*(stat.S_IMODE((self.room / name).stat().st_mode) for name in 'ab'))
 
-    def test_a_file_that_is_there_keeps_its_mode_and_its_links(self):
+    def test_a_file_that_is_there_keeps_its_mode_and_its_links(self) -> None:
         (self.room / 'a').write_bytes(b'old')
         (self.room / 'a').chmod(0o640)
         (self.room / 'link').symlink_to('a')
@@ -58,8 +61,8 @@ class Whole(Room):
         self.assertEqual(((self.room / 'a').read_bytes(), stat.S_IMODE((self.room / 'a').stat().st_mode)), (b'new', 0o640))
         self.assertTrue((self.room / 'link').is_symlink())
 
-    def test_what_fails_half_way_leaves_the_file_and_nothing_else(self):
-        def parts():
+    def test_what_fails_half_way_leaves_the_file_and_nothing_else(self) -> None:
+        def parts() -> Iterator[bytes]:
             yield b'half'
             raise OSError(28, 'No space left on device')
         for name in 'old', 'new':
@@ -69,10 +72,12 @@ class Whole(Room):
                 write_whole(self.room / name, parts())
         self.assertEqual((self.names(), (self.room / 'old').read_bytes()), (['old'], b'kept'))
 
-    def test_two_at_once_both_end(self):
+    def test_two_at_once_both_end(self) -> None:
         texts = [b'a' * 1_000_000, b'b' * 1_000_000]
-        threads = [threading.Thread(target=lambda text=text: [write_whole(self.room / 'a', [text]) for _ in range(10)])
-                   for text in texts]
+        def write(text: bytes) -> None:
+            for _ in range(10):
+                write_whole(self.room / 'a', [text])
+        threads = [threading.Thread(target=write, args=(text,)) for text in texts]
         for it in threads:
             it.start()
         for it in threads:
@@ -80,7 +85,7 @@ class Whole(Room):
         self.assertIn((self.room / 'a').read_bytes(), texts)
         self.assertEqual(self.names(), ['a'])
 
-    def test_what_is_no_plain_file_is_written_as_it_is(self):
+    def test_what_is_no_plain_file_is_written_as_it_is(self) -> None:
         os.mkfifo(self.room / 'pipe')
         got = []
         reader = threading.Thread(target=lambda: got.append((self.room / 'pipe').read_bytes()))
@@ -89,11 +94,11 @@ class Whole(Room):
         reader.join()
         self.assertEqual((got, self.names()), ([b'text'], ['pipe']))
 
-    def test_a_folder_that_is_not_there(self):
+    def test_a_folder_that_is_not_there(self) -> None:
         with self.assertRaisesRegex(Fault, 'none/a: No such file or directory$'):
             write_whole(self.room / 'none/a', [b''])
 
-    def test_a_page_that_can_not_be_made_leaves_the_one_before(self):
+    def test_a_page_that_can_not_be_made_leaves_the_one_before(self) -> None:
         page = self.room / 'page.html'
         page.write_text('before')
         run = Run('run', Report.parse(REPORT), None)
@@ -106,13 +111,13 @@ class Whole(Room):
 class OddNames(Room):
     """File names that are no UTF-8, or that the terminal can't show."""
 
-    def run_it(self, *words, **here):
+    def run_it(self, *words: str | Path | bytes, **here: str) -> tuple[int, bytes]:
         env = {**os.environ, 'MOTESIM': str(write_stub(self.room)), **here}
         done = subprocess.run([sys.executable, '-B', *words], cwd=self.room, env=env, capture_output=True)
         self.assertNotIn(b'Traceback', done.stderr)
         return done.returncode, done.stdout
 
-    def test_each_tool_takes_them(self):
+    def test_each_tool_takes_them(self) -> None:
         name = b'net\xff.toml'
         Path(os.fsdecode(os.fsencode(self.room) + b'/' + name)).write_text(SCENARIO)
         Path(os.fsdecode(os.fsencode(self.room) + b'/net\xff.expect.toml')).write_text('expect = ["no mote halts"]\n')
@@ -124,7 +129,7 @@ class OddNames(Room):
         self.assertIn(b'net\\udcff.toml', said)
         self.assertEqual(self.run_it(str(TOOLS / 'export'), name, '--to', 'csv')[0], 0)
 
-    def test_a_terminal_without_the_letters(self):
+    def test_a_terminal_without_the_letters(self) -> None:
         (self.room / 'n\u00e9t.toml').write_text(SCENARIO)
         status, said = self.run_it(str(TOOLS / 'timeline'), 'n\u00e9t.toml', PYTHONIOENCODING='ascii')
         self.assertEqual((status, said), (0, b'n\\xe9t.html\n'))
@@ -134,7 +139,7 @@ class OwnErrors(unittest.TestCase):
     SOURCE = ('import sys\nsys.path.insert(0, %r)\nfrom motesim.faults import command\n@command("tool")\n'
               'def main():\n    return {}["key"]\nmain()\n' % str(TOOLS))
 
-    def test_an_error_of_the_tool_is_one_line(self):
+    def test_an_error_of_the_tool_is_one_line(self) -> None:
         here = {name: value for name, value in os.environ.items() if name != SHOW}
         done = subprocess.run([sys.executable, '-B', '-c', self.SOURCE], env=here, capture_output=True, text=True)
         said = "tool: an error in the tool itself: KeyError: 'key' (MOTESIM_TRACEBACK=1 shows where)\n"
@@ -144,7 +149,7 @@ class OwnErrors(unittest.TestCase):
 
 
 class Pages(unittest.TestCase):
-    def test_what_a_browser_opens_is_where_it_can_read(self):
+    def test_what_a_browser_opens_is_where_it_can_read(self) -> None:
         """Browsers that are installed as snaps read no folder for scratch files, and none whose name begins with a dot."""
         from motesim.studio.command import room
         with tempfile.TemporaryDirectory() as home, mock.patch.dict(os.environ, HOME=home):

@@ -1,10 +1,13 @@
 """The chronological log. What is expected comes from the report's lines, put in order by Python's own sort."""
+from __future__ import annotations
+
 import csv
 import io
 import json
 import subprocess
 import sys
 import unittest
+from typing import Any
 
 from here import TOOLS, TOP
 import skips
@@ -39,7 +42,7 @@ def lines(log: Log) -> list[tuple[int, int, int, str]]:
 
 
 class Logs(unittest.TestCase):
-    def of(self, **changes: object) -> list[int]:
+    def of(self, **changes: Any) -> list[int]:
         """The lines of the report that a filter leaves, in the order of the log."""
         return [it[2] for it in lines(filtered(Traces(REPORT.encode()), ALL._replace(**changes)))]
 

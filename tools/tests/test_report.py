@@ -1,4 +1,6 @@
 """What the reader makes of reports and scenarios, and what it says of texts that are none."""
+from __future__ import annotations
+
 import os
 import random
 import stat
@@ -38,7 +40,7 @@ left 1
 '''
 
 
-def report_in(page):
+def report_in(page: str) -> str:
     """The first report that a page of docs/ shows."""
     begin = page.index('\nmote 0 ') + 1
     return page[begin:page.index('```', begin)]
@@ -50,7 +52,7 @@ EXAMPLE_REPORT = report_in((TOP / 'docs/use/REPORT.md').read_text(encoding='utf-
 
 
 class Reports(unittest.TestCase):
-    def test_each_report_of_the_cases_comes_back_byte_for_byte(self):
+    def test_each_report_of_the_cases_comes_back_byte_for_byte(self) -> None:
         count = 0
         for path in (TOP / 'tests/cases').rglob('*.expected'):
             data = path.read_bytes()
@@ -59,7 +61,7 @@ class Reports(unittest.TestCase):
                 count += 1
         self.assertGreater(count, 30)
 
-    def test_lines_have_their_parts(self):
+    def test_lines_have_their_parts(self) -> None:
         report = Report.parse(SMALL)
         talker, hearer = report.motes
         self.assertEqual((talker.number, talker.program, talker.row, hearer.row), (0, 'talker', 1, 9))
@@ -76,25 +78,25 @@ class Reports(unittest.TestCase):
         self.assertEqual(report.packets[0, 1], Packet(3, 0, 1, 8, (Copy(1, None),)))
         self.assertEqual(SMALL.split('\n')[report.medium_row:report.medium_row + 4], [str(it) for it in report.medium])
 
-    def test_lines_of_different_kinds_are_never_the_same(self):
+    def test_lines_of_different_kinds_are_never_the_same(self) -> None:
         taken, dropped = (Report.parse(SMALL.replace('take', kind)).motes[0].lines[3] for kind in ('take', 'drop'))
         self.assertNotEqual(taken, dropped)
         self.assertEqual(taken, Report.parse(SMALL).motes[0].lines[3])
 
-    def test_each_line_stands_on_its_row(self):
+    def test_each_line_stands_on_its_row(self) -> None:
         rows = EXAMPLE_REPORT.split('\n')
         for mote in Report.parse(EXAMPLE_REPORT).motes:
             for index, line in enumerate(mote.lines):
                 self.assertEqual(rows[mote.row + index], str(line))
 
-    def test_what_became_of_each_copy(self):
+    def test_what_became_of_each_copy(self) -> None:
         found = [(it.packet.number, it.copy.to, it.what) for it in Report.parse(SMALL).outcomes()]
         self.assertEqual(found, [(0, 1, 'received'), (1, 1, 'lost'), (2, 1, 'halted'), (3, 1, 'left')])
         found = [(it.packet.sender, it.packet.number, it.what) for it in Report.parse(EXAMPLE_REPORT).outcomes()]
         self.assertEqual(found, [(0, 0, 'collided'), (2, 0, 'collided'), (0, 1, 'lost'), (0, 2, 'received'),
                                  (2, 1, 'left')])
 
-    def fault(self, text):
+    def fault(self, text: str | bytes) -> tuple[int, str]:
         with self.assertRaises(ReportFault) as raised:
             Report.parse(text)
         return raised.exception.row, str(raised.exception)
@@ -130,7 +132,7 @@ class Reports(unittest.TestCase):
                 found = {(it.packet.number, it.copy.to): it.what for it in Report.parse(text).outcomes()}
             self.assertEqual(found, wanted, text)
 
-    def test_a_changed_line_has_its_fault(self):
+    def test_a_changed_line_has_its_fault(self) -> None:
         for row, line, expected in [
                 (1, 'mote 1 talker', "'mote 0' and the name of its program"),
                 (1, 'mote 0 two words', "'mote 0' and the name of its program"),
@@ -164,13 +166,13 @@ class Reports(unittest.TestCase):
                 self.assertEqual(where, row, said)
             self.assertIn('expected ' + expected, said)
 
-    def test_a_text_that_is_cut_off_or_goes_on_has_its_fault(self):
+    def test_a_text_that_is_cut_off_or_goes_on_has_its_fault(self) -> None:
         self.assertEqual(self.fault('')[0], 1)
         self.assertEqual(self.fault('mote 0 a\n')[0], 2)
         self.assertEqual(self.fault(SMALL[:-1]), (21, 
                          "the report is cut off at line 21: expected a line end behind 'left', but the text ends"))
 
-    def test_a_report_that_is_cut_off_is_told_so(self):
+    def test_a_report_that_is_cut_off_is_told_so(self) -> None:
         for cut in range(SMALL.index('\n') + 1, len(SMALL)):
             self.assertIn('the report is cut off at line ', self.fault(SMALL[:cut])[1])
         self.assertEqual(self.fault(SMALL[:SMALL.index('left')])[0], 20)
@@ -181,7 +183,7 @@ class Reports(unittest.TestCase):
         for cut in range(len(SMALL)):
             self.fault(SMALL[:cut])
 
-    def test_what_is_taken_comes_back_whatever_was_changed(self):
+    def test_what_is_taken_comes_back_whatever_was_changed(self) -> None:
         taken = 0
         for at in range(len(SMALL)):
             for changed in (SMALL[:at] + SMALL[at + 1:], *(SMALL[:at] + it + SMALL[at:] for it in '0 \n@\r')):
@@ -194,7 +196,7 @@ class Reports(unittest.TestCase):
 
 
 class Scenarios(unittest.TestCase):
-    def test_the_example_has_its_tables(self):
+    def test_the_example_has_its_tables(self) -> None:
         for mark in '', '\ufeff':
             found = Scenario.parse((mark + EXAMPLE).encode())
             self.assertEqual((found.version, found.end, found.range, found.base, found.per), (2, 20, 5, 2, 100))
@@ -203,7 +205,7 @@ class Scenarios(unittest.TestCase):
                              [(0, 0, 'sender'), (5, 0, 'listener'), (10, 0, 'sender')])
             self.assertTrue(found.programs['sender'].startswith('process sender;\n'))
 
-    def test_who_hears_whom_and_when(self):
+    def test_who_hears_whom_and_when(self) -> None:
         found = Scenario.parse(EXAMPLE)
         self.assertEqual([found.hearers(it) for it in range(3)], [[1], [0, 2], [1]])
         self.assertEqual(list(found.links()), [(0, 1), (1, 2)])
@@ -216,7 +218,7 @@ class Scenarios(unittest.TestCase):
         near = Scenario.parse(EXAMPLE.replace('x = 5\ny = 0', 'x = 3\ny = 4').replace('per = 100', 'per = 10'))
         self.assertEqual((near.hearers(0), near.delay(0, 1), near.lookahead), ([1], 4, 4))
 
-    def test_the_medium_of_the_cases_is_the_scenarios(self):
+    def test_the_medium_of_the_cases_is_the_scenarios(self) -> None:
         for path in (TOP / 'tests/cases/nets').glob('*.toml'):
             noted = path.with_suffix('.expected')
             if not (noted.is_file() and noted.read_bytes().startswith(b'mote ')):
@@ -229,7 +231,7 @@ class Scenarios(unittest.TestCase):
                     is_lost = scenario.loses(packet.sender, copy.to, packet.number)
                     self.assertEqual(copy.at, None if is_lost else packet.at + scenario.delay(packet.sender, copy.to))
 
-    def test_a_text_that_is_no_scenario_has_its_fault(self):
+    def test_a_text_that_is_no_scenario_has_its_fault(self) -> None:
         for change, said in [(('end = 20', 'end ='), 'no TOML'), (('end = 20', ''), 'the scenario has no key end'),
                              (('end = 20', 'end = 2.0'), 'end of the scenario is not a whole number'),
                              (('range = 5', 'range = true'), 'range of medium is not a whole number'),
@@ -239,12 +241,12 @@ class Scenarios(unittest.TestCase):
         with self.assertRaisesRegex(ScenarioFault, 'UTF-8'):
             Scenario.parse(b'\xff')
 
-    def test_a_report_of_other_motes_has_a_fault(self):
+    def test_a_report_of_other_motes_has_a_fault(self) -> None:
         with self.assertRaisesRegex(ScenarioFault, 'the scenario has 3 motes, the report 2'):
             check_scenario(Report.parse(SMALL), Scenario.parse(EXAMPLE))
 
 
-    def test_a_report_of_another_medium_has_a_fault(self):
+    def test_a_report_of_another_medium_has_a_fault(self) -> None:
         for change, said in [(('range = 5', 'range = 10'), 'in the scenario mote 2 hears mote 0'),
                              (('range = 5', 'range = 4'), 'in the scenario mote 1 does not hear mote 0'),
                              (('base = 2', 'base = 3'), 'the scenario has 1@'), (('every = 2', 'every = 1'), 'has 1@lost in the'),
@@ -255,39 +257,40 @@ class Scenarios(unittest.TestCase):
 
 
 class Runs(unittest.TestCase):
-    def setUp(self):
+    def setUp(self) -> None:
         self.folder = tempfile.TemporaryDirectory()
         self.addCleanup(self.folder.cleanup)
 
-    def write(self, name, text, mode=0o644):
+    def write(self, name: str, text: str, mode: int = 0o644) -> Path:
         path = Path(self.folder.name) / name
         path.write_text(text, encoding='utf-8')
         path.chmod(mode)
         return path
 
-    def as_program(self, text):
+    def as_program(self, text: str) -> mock._patch_dict:
         """As if the program were this script."""
         path = self.write('motesim', text, stat.S_IRWXU)
         return mock.patch.dict(os.environ, {'MOTESIM': str(path)})
 
-    def test_a_report_is_read_and_a_scenario_is_run(self):
+    def test_a_report_is_read_and_a_scenario_is_run(self) -> None:
         report = self.write('a.report', EXAMPLE_REPORT)
         scenario = self.write('a.toml', EXAMPLE)
         found = read_run(report)
         self.assertEqual((found.report.text(), found.scenario), (EXAMPLE_REPORT, None))
         found = read_run(report, scenario)
-        self.assertEqual(found.scenario.end, 20)
+        self.assertEqual(found.scenario and found.scenario.end, 20)
         with self.as_program('#!/bin/sh\ncat >/dev/null\ncat %s\n' % report):
             found = read_run(scenario)
-        self.assertEqual((found.report.text(), found.scenario.end), (EXAMPLE_REPORT, 20))
+        self.assertEqual((found.report.text(), found.scenario and found.scenario.end), (EXAMPLE_REPORT, 20))
 
-    def test_a_scenario_and_a_report_are_told_by_their_first_line(self):
+    def test_a_scenario_and_a_report_are_told_by_their_first_line(self) -> None:
         report = self.write('r.toml', EXAMPLE_REPORT)
         self.assertIsNone(read_run(report).scenario)
         with self.as_program('#!/bin/sh\ncat >/dev/null\ncat %s\n' % report):
             for begin in '', '# A net\n', '\n\n  ', '\ufeff':
                 for name in 'net', 'net.txt', 'net.toml':
-                    self.assertEqual(read_run(self.write(name, begin + EXAMPLE)).scenario.end, 20)
+                    scenario = read_run(self.write(name, begin + EXAMPLE)).scenario
+                    self.assertEqual(scenario and scenario.end, 20)
         for text in '[medium]\n', '"end" = 5\n', 'end=5\n':
             with self.assertRaisesRegex(ScenarioFault, r'net.txt: the scenario has no key .* \(tools/explain '):
                 read_run(self.write('net.txt', text))
@@ -302,7 +305,7 @@ class Runs(unittest.TestCase):
         with self.assertRaisesRegex(Fault, 'net.txt is empty: a report or a scenario is wanted'):
             read_run(self.write('net.txt', '\n'))
 
-    def test_what_can_not_be_run_or_read_has_a_fault(self):
+    def test_what_can_not_be_run_or_read_has_a_fault(self) -> None:
         scenario = self.write('a.toml', EXAMPLE)
         with self.as_program('#!/bin/sh\necho motesim: medium fault 2 >&2\nexit 1\n'):
             with self.assertRaisesRegex(ProgramFault, 'a.toml: the scenario has no report: motesim: medium fault 2'):

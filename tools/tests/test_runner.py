@@ -1,5 +1,8 @@
 """Runs within limits, answers that are kept, and many pieces of work by worker processes."""
+from __future__ import annotations
+
 import contextlib
+import math
 import os
 import signal
 import subprocess
@@ -8,6 +11,7 @@ import tempfile
 import threading
 import time
 import unittest
+from collections.abc import Callable, Iterator
 from pathlib import Path
 
 from here import TOOLS
@@ -16,7 +20,7 @@ from motesim.runner import Cache, LimitMet, Limits, NoReport, ProgramFault, Runn
 from motesim.runner.batch import each_part
 
 
-def is_alive(number):
+def is_alive(number: int) -> bool:
     """Whether a process is there, and has not ended."""
     try:
         return Path('/proc/%d/stat' % number).read_text().rsplit(')', 1)[1].split()[0] not in 'ZX'
@@ -24,7 +28,7 @@ def is_alive(number):
         return False
 
 
-def within(seconds, holds):
+def within(seconds: float, holds: Callable[[], bool]) -> bool:
     """Whether something holds within so many seconds."""
     end = time.monotonic() + seconds
     while time.monotonic() < end:
@@ -35,12 +39,12 @@ def within(seconds, holds):
 
 
 class Room(unittest.TestCase):
-    def setUp(self):
+    def setUp(self) -> None:
         room = tempfile.TemporaryDirectory()
         self.addCleanup(room.cleanup)
         self.room = Path(room.name)
 
-    def program(self, text, shell='/bin/sh'):
+    def program(self, text: str, shell: str = '/bin/sh') -> Path:
         path = self.room / 'program'
         path.write_text('#!%s\n%s\n' % (shell, text))
         path.chmod(0o755)
@@ -48,23 +52,23 @@ class Room(unittest.TestCase):
 
 
 class Runs(Room):
-    def test_an_answer_has_status_report_and_fault(self):
+    def test_an_answer_has_status_report_and_fault(self) -> None:
         runner = Runner(self.program('cat; echo "$@" >&2; exit 3'))
         self.assertEqual(runner.answer(b'abc', '--workers', '2'), (3, b'abc', b'--workers 2\n'))
 
-    def test_a_long_scenario_and_a_long_report_pass(self):
+    def test_a_long_scenario_and_a_long_report_pass(self) -> None:
         data = b'x' * 5_000_000
         self.assertEqual(Runner(self.program('cat')).report(data), data)
         # (one that is not read is no fault)
         self.assertEqual(Runner(self.program('echo done')).report(data), b'done\n')
 
-    def test_a_refused_scenario_has_no_report(self):
+    def test_a_refused_scenario_has_no_report(self) -> None:
         with self.assertRaisesRegex(NoReport, '^the scenario has no report: motesim: no$'):
             Runner(self.program('echo motesim: no >&2; exit 1')).report(b'')
         with self.assertRaisesRegex(NoReport, 'status -15'):
             Runner(self.program('kill -15 $$')).report(b'')
 
-    def test_a_run_ends_at_its_time_with_all_that_it_started(self):
+    def test_a_run_ends_at_its_time_with_all_that_it_started(self) -> None:
         # (the shell ends at once by the signal, its child would hold the pipes for a minute)
         runner = Runner(self.program('sleep 60 & echo $! > "$0.child"; wait'), Limits(seconds=0.3))
         began = time.monotonic()
@@ -75,61 +79,61 @@ class Runs(Room):
         child = int((self.room / 'program.child').read_text())
         self.assertTrue(within(5, lambda: not is_alive(child)))
 
-    def test_what_outlives_the_program_holds_nothing_up(self):
+    def test_what_outlives_the_program_holds_nothing_up(self) -> None:
         began = time.monotonic()
         self.assertEqual(Runner(self.program('sleep 60 & echo done')).report(b''), b'done\n')
         self.assertLess(time.monotonic() - began, 10)
 
-    def test_a_report_that_is_too_long_ends_the_run(self):
+    def test_a_report_that_is_too_long_ends_the_run(self) -> None:
         with self.assertRaisesRegex(LimitMet, '^the report is longer than 100,000 bytes$') as met:
             Runner(self.program('yes'), Limits(report=100_000)).answer(b'')
         self.assertEqual(met.exception.limit, 'report')
         self.assertEqual(len(Runner(self.program('head -c 100000 /dev/zero'), Limits(report=100_000)).report(b'')), 100_000)
 
-    def test_a_fault_without_an_end_is_cut(self):
+    def test_a_fault_without_an_end_is_cut(self) -> None:
         with self.assertRaises(LimitMet):
             Runner(self.program('yes >&2'), Limits(seconds=0.3)).answer(b'')
         self.assertEqual(len(Runner(self.program('head -c 1000000 /dev/zero >&2')).answer(b'').fault), 1 << 16)
 
-    def test_a_run_that_takes_too_much_memory_ends(self):
+    def test_a_run_that_takes_too_much_memory_ends(self) -> None:
         text = 'import time\nkept = bytearray(300 << 20)\nkept[::4096] = kept[::4096]\ntime.sleep(60)'
         with self.assertRaisesRegex(LimitMet, '^the run needs more than 100 megabytes of memory$') as met:
             Runner(self.program(text, sys.executable), Limits(60, 100 << 20)).answer(b'')
         self.assertEqual(met.exception.limit, 'memory')
 
-    def test_each_run_has_limits_that_leave_the_machine_alive(self):
+    def test_each_run_has_limits_that_leave_the_machine_alive(self) -> None:
         physical = os.sysconf('SC_PHYS_PAGES') * os.sysconf('SC_PAGE_SIZE')
         self.assertLessEqual(Limits().memory, physical // 2)
         self.assertEqual((Limits().seconds, Limits().report), (600, 1 << 30))
 
-    def test_another_thread_stops_a_run(self):
+    def test_another_thread_stops_a_run(self) -> None:
         running = Runner(self.program('sleep 60')).start(b'')
         threading.Timer(0.2, running.stop).start()
         with self.assertRaises(Stopped):
             running.wait()
 
-    def test_stopping_a_run_that_has_ended_changes_nothing(self):
+    def test_stopping_a_run_that_has_ended_changes_nothing(self) -> None:
         running = Runner(self.program('echo done')).start(b'')
         self.assertEqual(running.wait().report, b'done\n')
         running.stop()
 
-    def test_a_program_that_is_not_there_or_can_not_be_run(self):
+    def test_a_program_that_is_not_there_or_can_not_be_run(self) -> None:
         for path in self.room / 'none', self.room:
             for cache in None, Cache(1000):
                 with self.assertRaisesRegex(ProgramFault, "can't be run: "):
                     Runner(path, cache=cache).answer(b'')
 
-    def test_an_argument_with_a_zero_is_refused(self):
+    def test_an_argument_with_a_zero_is_refused(self) -> None:
         with self.assertRaisesRegex(ProgramFault, "can't be run: "):
             Runner(self.program('true')).answer(b'', 'a\0b')
 
 
 class Kept(Room):
-    def counting(self):
+    def counting(self) -> Path:
         """A program whose answers say how often it has run."""
         return self.program('echo x >> "$0.runs"; cat; wc -l < "$0.runs"; echo "$@"')
 
-    def test_a_scenario_that_was_run_is_not_run_again(self):
+    def test_a_scenario_that_was_run_is_not_run_again(self) -> None:
         runner = Runner(self.counting(), cache=Cache(1000))
         first = runner.answer(b'a')
         self.assertEqual(runner.answer(b'a'), first)
@@ -138,45 +142,45 @@ class Kept(Room):
         self.assertEqual(runner.answer(b'a', '--workers').report.split(), [b'a3', b'--workers'])
         self.assertEqual(runner.answer(b'a'), first)
 
-    def test_another_program_is_run(self):
+    def test_another_program_is_run(self) -> None:
         runner = Runner(self.counting(), cache=Cache(1000))
         runner.answer(b'a')
         self.program('echo other')
         self.assertEqual(runner.answer(b'a').report, b'other\n')
 
-    def test_the_oldest_goes_first(self):
+    def test_the_oldest_goes_first(self) -> None:
         runner = Runner(self.program('echo x >> "$0.runs"; cat'), cache=Cache(250))
         for scenario in b'a' * 100, b'b' * 100, b'a' * 100, b'c' * 100, b'a' * 100, b'b' * 100:
             self.assertEqual(runner.answer(scenario).report, scenario)
         # (a, b, c and b again: c took the place of b, which was used longer ago than a)
         self.assertEqual((self.room / 'program.runs').read_text(), 'x\n' * 4)
 
-    def test_what_is_larger_than_the_cache_is_not_kept(self):
+    def test_what_is_larger_than_the_cache_is_not_kept(self) -> None:
         runner = Runner(self.counting(), cache=Cache(3))
         self.assertEqual([runner.answer(b'abc').report.split()[0] for _ in range(2)], [b'abc1', b'abc2'])
 
 
-def squared(item):
+def squared(item: int) -> int:
     return item * item
 
 
 class Batches(Room):
-    def test_each_item_has_its_result(self):
+    def test_each_item_has_its_result(self) -> None:
         for workers in 0, 1, 3:
             found = list(run_each(squared, range(200), workers=workers))
             self.assertEqual(sorted((it.item, it.result, it.fault) for it in found), [(n, n * n, '') for n in range(200)])
 
-    def test_in_order_where_that_is_asked(self):
-        def work(item):
+    def test_in_order_where_that_is_asked(self) -> None:
+        def work(item: int) -> int:
             time.sleep(0.03 if item % 7 == 0 else 0)
             return item
         self.assertEqual([it.result for it in run_each(work, range(60), workers=3, ordered=True)], list(range(60)))
 
-    def test_no_items(self):
+    def test_no_items(self) -> None:
         self.assertEqual(list(run_each(squared, [], workers=2)), [])
 
-    def test_whatever_an_item_raises_is_its_fault(self):
-        def work(item):
+    def test_whatever_an_item_raises_is_its_fault(self) -> None:
+        def work(item: int) -> object:
             if item == 1:
                 raise Fault('in a line')
             if item == 2:
@@ -195,8 +199,8 @@ class Batches(Room):
                          ['', 'in a line', 'ValueError: of two lines', 'SystemExit: 4', 'out of memory', 'out of memory', '', ''])
         self.assertIn('pickle', found[5])
 
-    def test_what_catches_everything_is_ended_at_its_time_and_the_others_go_on(self):
-        def work(item):
+    def test_what_catches_everything_is_ended_at_its_time_and_the_others_go_on(self) -> None:
+        def work(item: int) -> int:
             while item == 3:
                 try:
                     time.sleep(60)
@@ -206,8 +210,8 @@ class Batches(Room):
         found = {it.item: (it.result, it.fault) for it in run_each(work, range(40), workers=2, seconds=0.5)}
         self.assertEqual(found, {n: (n, '') if n != 3 else (None, 'no end in 0.5 seconds') for n in range(40)})
 
-    def test_a_worker_that_dies_costs_one_item(self):
-        def work(item):
+    def test_a_worker_that_dies_costs_one_item(self) -> None:
+        def work(item: int) -> int:
             if item in (0, 21, 39):
                 os.kill(os.getpid(), signal.SIGKILL)
             return item
@@ -216,19 +220,19 @@ class Batches(Room):
         self.assertEqual([n for n, fault in found.items() if fault], sorted([0, 21, 39], key=list(found).index))
         self.assertIn('ended by the system', found[21])
 
-    def test_large_items_and_results_pass(self):
+    def test_large_items_and_results_pass(self) -> None:
         found = list(run_each(lambda it: it + it, [b'x' * 3_000_000] * 8, workers=2))
-        self.assertEqual([len(it.result) for it in found], [6_000_000] * 8)
+        self.assertEqual([len(it.result or b'') for it in found], [6_000_000] * 8)
 
-    def test_items_are_read_as_workers_become_free(self):
+    def test_items_are_read_as_workers_become_free(self) -> None:
         given = []
 
-        def items():
+        def items() -> Iterator[int]:
             for number in range(1_000_000):
                 given.append(number)
                 yield number
 
-        def work(item):
+        def work(item: int) -> int:
             time.sleep(0.01)
             return item
         with contextlib.closing(run_each(work, items(), workers=2)) as found:
@@ -236,10 +240,10 @@ class Batches(Room):
                 next(found)
         self.assertLess(len(given), 200)
 
-    def test_leaving_the_loop_ends_the_workers_and_their_runs(self):
+    def test_leaving_the_loop_ends_the_workers_and_their_runs(self) -> None:
         program = self.program('echo $$ > "%s/$$.run"; exec sleep 60' % self.room)
 
-        def work(item):
+        def work(item: int) -> int:
             if item == 0:
                 return os.getpid()
             return Runner(program).answer(b'').status
@@ -249,23 +253,27 @@ class Batches(Room):
         for path in self.room.glob('*.run'):
             self.assertTrue(within(5, lambda: not is_alive(int(path.stem))))
 
-    def test_stop_begins_nothing_more(self):
+    def test_stop_begins_nothing_more(self) -> None:
         stop = threading.Event()
         found = []
-        for done in run_each(lambda it: time.sleep(0.05) or it, range(1000), workers=2, stop=stop):
+
+        def work(item: int) -> int:
+            time.sleep(0.05)
+            return item
+        for done in run_each(work, range(1000), workers=2, stop=stop):
             found.append(done.result)
             stop.set()
         self.assertLess(len(found), 10)
         self.assertEqual(list(run_each(squared, range(9), workers=0, stop=stop)), [])
 
-    def test_items_that_fail_end_the_loop_with_their_fault(self):
-        def items():
+    def test_items_that_fail_end_the_loop_with_their_fault(self) -> None:
+        def items() -> Iterator[int]:
             yield 1
             raise Fault('no more')
         with self.assertRaisesRegex(Fault, 'no more'):
             list(run_each(squared, items(), workers=2))
 
-    def test_ctrl_c_is_for_the_tool_alone(self):
+    def test_ctrl_c_is_for_the_tool_alone(self) -> None:
         source = ('import sys, time; sys.path.insert(0, %r)\n'
                   'from motesim.runner import run_each\n'
                   'try:\n'
@@ -275,17 +283,18 @@ class Batches(Room):
                   '    print("stopped")\n' % str(TOOLS))
         with subprocess.Popen([sys.executable, '-B', '-c', source], stdout=subprocess.PIPE, stderr=subprocess.PIPE,
                               start_new_session=True, text=True) as ran:
+            assert ran.stdout
             ran.stdout.readline()
             os.killpg(ran.pid, signal.SIGINT)
             said, fault = ran.communicate(timeout=30)
         self.assertEqual((said.splitlines()[-1], fault, ran.returncode), ('stopped', '', 0))
 
-    def test_with_threads_about_workers_are_not_forked(self):
+    def test_with_threads_about_workers_are_not_forked(self) -> None:
         done = threading.Event()
         other = threading.Thread(target=done.wait)
         other.start()
         try:
-            self.assertEqual(sorted(it.result for it in run_each(abs, [-1, 2], workers=1)), [1, 2])
+            self.assertEqual(sorted(it.result or 0 for it in run_each(math.isqrt, [1, 4], workers=1)), [1, 2])
         finally:
             done.set()
             other.join()

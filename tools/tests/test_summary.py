@@ -1,4 +1,6 @@
 """What summary counts. The values are worked out by hand from the reports."""
+from __future__ import annotations
+
 import csv
 import io
 import json
@@ -103,13 +105,13 @@ SILENT = {'copies': 0, 'received': 0, 'lost': 0, 'ring': 0, 'collided': 0, 'halt
 
 
 class Counts(unittest.TestCase):
-    def test_motes_net_and_links(self):
+    def test_motes_net_and_links(self) -> None:
         motes, net, links = summary.summary(Run('', Report.parse(REPORT), None))
         self.assertEqual(motes, MOTES)
         self.assertEqual(net, NET)
         self.assertEqual(links, LINKS)
 
-    def test_a_scenario_shows_silent_links_and_their_delays(self):
+    def test_a_scenario_shows_silent_links_and_their_delays(self) -> None:
         # (with all three in one another's range, motes 1 and 2 at one place)
         near = SCENARIO.replace('x = 20', 'x = 10')
         cases = (SCENARIO, {(1, 0): 3, (1, 2): 3}), (near, {(0, 2): 3, (1, 0): 3, (1, 2): 2, (2, 0): 3})
@@ -120,28 +122,28 @@ class Counts(unittest.TestCase):
             for pair, delay in pairs.items():
                 self.assertEqual(found[pair], {'from': pair[0], 'to': pair[1], **SILENT, 'delay': delay})
 
-    def test_nothing_sent_is_no_ratio(self):
+    def test_nothing_sent_is_no_ratio(self) -> None:
         motes, net, links = summary.summary(Run('', Report.parse('mote 0 a\nmedium\nleft 0\n'), None))
         self.assertEqual((net['copies'], net['ratio'], links), (0, None, []))
 
 
 class Forms(unittest.TestCase):
-    def setUp(self):
+    def setUp(self) -> None:
         self.folder = tempfile.TemporaryDirectory()
         self.addCleanup(self.folder.cleanup)
         self.path = Path(self.folder.name) / 'report'
         self.path.write_text(REPORT, encoding='ascii')
 
-    def say(self, *words):
+    def say(self, *words: str) -> str:
         done = self.run_it(*words)
         self.assertEqual((done.returncode, done.stderr), (0, ''))
         return done.stdout
 
-    def run_it(self, *words):
-        words = [sys.executable, '-B', str(TOOLS / 'summary'), str(self.path), *words]
-        return subprocess.run(words, capture_output=True, text=True)
+    def run_it(self, *words: str) -> subprocess.CompletedProcess[str]:
+        command = [sys.executable, '-B', str(TOOLS / 'summary'), str(self.path), *words]
+        return subprocess.run(command, capture_output=True, text=True)
 
-    def test_text_has_columns(self):
+    def test_text_has_columns(self) -> None:
         self.assertEqual(self.say('--links'), '''\
 from to copies received lost ring collided halted late ratio delay
    0  1      6        1    1    1        1      1    1 0.200     3
@@ -152,19 +154,19 @@ from to copies received lost ring collided halted late ratio delay
         self.assertEqual(rows[4].split(), 'net 7 7 1 1 1 2 1 1 0.167 2 3 1 1 2 1'.split())
         self.assertEqual(self.say('--motes'), '\n'.join(rows[:5]) + '\n')
 
-    def test_csv_is_a_table(self):
+    def test_csv_is_a_table(self) -> None:
         rows = list(csv.DictReader(io.StringIO(self.say('--csv'))))
         for row, wanted in zip(rows, [*MOTES, NET], strict=True):
             self.assertEqual(row, {name: '' if value is None else str(value) for name, value in wanted.items()})
         rows = list(csv.DictReader(io.StringIO(self.say('--csv', '--links'))))
         self.assertEqual([row['delay'] for row in rows], ['3', '4'])
 
-    def test_json_has_all(self):
+    def test_json_has_all(self) -> None:
         net = {name: value for name, value in NET.items() if name not in ('mote', 'program')}
         self.assertEqual(json.loads(self.say('--json')), {'motes': MOTES, 'net': net, 'links': LINKS})
         self.assertEqual(json.loads(self.say('--json', '--links')), {'links': LINKS})
 
-    def test_a_flow_that_shows_nothing_says_why(self):
+    def test_a_flow_that_shows_nothing_says_why(self) -> None:
         for words, told in [
                 ('print hearr', '`print hearr V`, so nothing was delivered; did you mean hearer?'),
                 ('print Hearer', '`print Hearer V`, so nothing was delivered; did you mean hearer?'),
@@ -175,7 +177,7 @@ from to copies received lost ring collided halted late ratio delay
             self.assertTrue(done.stdout.startswith('origin sent'))
         self.say('--flow', 'recv')
 
-    def test_the_net_is_searched_once_for_each_origin(self):
+    def test_the_net_is_searched_once_for_each_origin(self) -> None:
         """Mote 0 sends thirty messages, all heard by mote 1: one origin, and so one search for its row and one for the net."""
         sends = ''.join('%d send %d %d\n' % (at, at, at) for at in range(30))
         prints = ''.join('%d print hearer %d\n' % (at + 3, at) for at in range(30))
@@ -186,7 +188,7 @@ from to copies received lost ring collided halted late ratio delay
                 'hearer = ""', 'hearer = "process hearer; code hearer { body { } }"')), 'print hearer')
         self.assertEqual((rows[0]['sent'], rows[0]['copies'], searched.call_count), (30, 30, 2))
 
-    def test_a_flow_of_a_process_that_the_scenario_lacks_is_refused(self):
+    def test_a_flow_of_a_process_that_the_scenario_lacks_is_refused(self) -> None:
         programs = 'talker = "process a, b; code a"', 'hearer = "process hearer; // process no;"'
         scenario = Scenario.parse(SCENARIO.replace('talker = ""', programs[0]).replace('hearer = ""', programs[1]))
         for words, told in [('print haerer', '; did you mean hearer?'), ('print xyz', '; it has: a, b, hearer'),
@@ -200,7 +202,7 @@ from to copies received lost ring collided halted late ratio delay
         with self.assertRaisesRegex(Fault, 'has no process talker; talker is a program, with: a, b$'):
             flow_rows(talker, scenario, 'print talker')
 
-    def test_what_is_no_report_has_status_2(self):
+    def test_what_is_no_report_has_status_2(self) -> None:
         self.path.write_text(REPORT[:-2], encoding='ascii')
         done = self.run_it()
         self.assertEqual((done.returncode, done.stdout), (2, ''))

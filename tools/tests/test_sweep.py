@@ -1,6 +1,7 @@
 """Sweeps: what is measured, what the rows say, what is run again, faults, Ctrl-C, and a Dask cluster."""
 from __future__ import annotations
 
+import contextlib
 import csv
 import gc
 import os
@@ -21,7 +22,7 @@ from here import TOOLS
 from motesim.experiments import packages, runs
 from motesim.faults import Fault
 from motesim.experiments.measures import Bench, Cell, MeasureFault, read_measure
-from motesim.experiments.one_run import run_job
+from motesim.experiments.one_run import Job, Result, run_job
 from motesim.plan.plan import Plan
 from motesim.report import Report
 from motesim.experiments.results import CsvFile, SqliteFile, cell, read_results
@@ -322,7 +323,7 @@ class SweepTest(Bed):
         self.assertEqual(sorted(row['prints'] for row in rows if row['name'] == 'a'), ['1', '2', '3', '4'])
 
     @unittest.skipUnless(Path('/dev/full').exists(), 'there is no /dev/full here')
-    def test_results_that_find_the_disk_full_are_named(self):
+    def test_results_that_find_the_disk_full_are_named(self) -> None:
         with self.assertRaisesRegex(Fault, '^/dev/full: No space left on device$'):
             CsvFile(Path('/dev/full'), ['a'])
 
@@ -336,7 +337,8 @@ class SweepTest(Bed):
         self.assertTrue(gc.isenabled())
 
     def test_two_sweeps_do_not_write_one_file(self) -> None:
-        for kind, name in (CsvFile, 'both.csv'), (SqliteFile, 'both.sqlite'):
+        kinds: list[tuple[type[CsvFile] | type[SqliteFile], str]] = [(CsvFile, 'both.csv'), (SqliteFile, 'both.sqlite')]
+        for kind, name in kinds:
             file = kind(self.folder / name, ['a'])
             with self.assertRaisesRegex(Fault, 'another sweep'):
                 kind(self.folder / name, ['a'])
@@ -440,10 +442,10 @@ class DaskTest(Bed):
 class Future:
     """A task of a cluster that does it when its result is asked for."""
 
-    def __init__(self, work: Callable[[list[runs.Job]], list[runs.Result]], jobs: list[runs.Job]) -> None:
+    def __init__(self, work: Callable[[list[Job]], list[Result]], jobs: list[Job]) -> None:
         self.work, self.jobs = work, jobs
 
-    def result(self) -> list[runs.Result]:
+    def result(self) -> list[Result]:
         return self.work(self.jobs)
 
 
@@ -469,7 +471,7 @@ class Cluster:
     def scheduler_info(self) -> dict[str, dict[str, None]]:
         return {'workers': {str(it): None for it in range(self.workers)}}
 
-    def submit(self, work: Callable[[list[runs.Job]], list[runs.Result]], jobs: list[runs.Job], pure: bool) -> Future:
+    def submit(self, work: Callable[[list[Job]], list[Result]], jobs: list[Job], pure: bool) -> Future:
         self.tasks.append(Future(work, jobs))
         return self.tasks[-1]
 
@@ -489,26 +491,25 @@ class Cluster:
 class JobsAhead(unittest.TestCase):
     """How many jobs a sweep makes before they are run."""
 
-    def jobs(self, count: int) -> Iterator[runs.Job]:
+    def jobs(self, count: int) -> Iterator[Job]:
         for place in range(count):
             self.made += 1
-            yield runs.Job(place, (), (), cast(Any, None))
+            yield Job(place, (), (), cast(Any, None))
 
     def setUp(self) -> None:
         self.made = 0
-        done = mock.patch.object(runs, 'run_job', lambda job: runs.Result(job.place, {}, '', '', ''))
+        done = mock.patch.object(runs, 'run_job', lambda job: Result(job.place, {}, '', '', ''))
         done.start()
         self.addCleanup(done.stop)
 
-    def by(self, cluster: Cluster, count: int) -> Iterator[runs.Result]:
+    def by(self, cluster: Cluster, count: int) -> Iterator[Result]:
         with mock.patch.object(packages, 'load', return_value=cluster):
             yield from runs.run_by_dask(self.jobs(count), count, 'tcp://there')
 
     def test_processes_here_are_given_jobs_as_they_begin(self) -> None:
-        results = runs.run_here(self.jobs(10_000), 2, 60)
-        next(results)
-        self.assertLess(self.made, 500)
-        results.close()
+        with contextlib.closing(runs.run_here(self.jobs(10_000), 2, 60)) as results:
+            next(results)
+            self.assertLess(self.made, 500)
 
     def test_a_cluster_is_given_few_jobs_ahead_and_many_runs_in_a_task(self) -> None:
         cluster = Cluster(2)
@@ -525,7 +526,7 @@ class JobsAhead(unittest.TestCase):
         self.assertEqual((len(cluster.cancelled), cluster.is_closed), (runs.TASKS_AHEAD, True))
 
     def test_a_cluster_without_workers_is_reported(self) -> None:
-        with self.assertRaisesRegex(runs.Fault, 'has no workers'):
+        with self.assertRaisesRegex(Fault, 'has no workers'):
             list(self.by(Cluster(0), 5))
 
 

@@ -5,7 +5,7 @@ import signal
 import tempfile
 import threading
 import zipfile
-from collections.abc import Iterable, Iterator
+from collections.abc import Generator, Iterable, Iterator
 from itertools import islice
 from pathlib import Path
 from types import FrameType
@@ -56,7 +56,7 @@ class Break:
             signal.signal(number, handler)
 
 
-def run_here(jobs: Iterable[Job], processes: int, seconds: float) -> Iterator[Result]:
+def run_here(jobs: Iterable[Job], processes: int, seconds: float) -> Generator[Result, None, None]:
     """The results of the jobs, as they come, by so many processes.
 
     A job that doesn't end by itself, long after its own time, is ended with its process; that is its fault.

@@ -14,7 +14,7 @@ import sys
 import threading
 import time
 from collections import deque
-from collections.abc import Callable, Iterable, Iterator
+from collections.abc import Callable, Generator, Iterable, Iterator
 from dataclasses import dataclass
 from typing import TYPE_CHECKING, Any, Generic, TypeVar
 
@@ -226,7 +226,7 @@ def _in_order(found: Iterable[tuple[int, Done[Item, Result]]]) -> Iterator[Done[
 
 def run_each(work: Callable[[Item], Result], items: Iterable[Item], *, workers: int | None = None,
              seconds: float = 600.0, ordered: bool = False,
-             stop: threading.Event | None = None) -> Iterator[Done[Item, Result]]:
+             stop: threading.Event | None = None) -> Generator[Done[Item, Result], None, None]:
     """Does a piece of work on each item, in worker processes, and gives what is done as it comes.
 
     workers  how many processes; None for as many as there are processors, 0 for this process
