@@ -1,8 +1,12 @@
 pub mod Crossing
 pub mod Digits
+pub mod NamedCases
 pub mod Pieces
 pub mod Puts
+pub mod ReportParts
 pub mod Rounds
+pub mod Separated
+pub mod Shares
 pub mod ShortNumbers
 pub mod TraceLines
 pub mod Written

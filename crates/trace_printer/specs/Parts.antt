@@ -1,5 +1,5 @@
 -- The text of the traces and the medium in parts.
-use Rattle.std.specs.Prelude.{◌≡◌, ℕ, ◌+◌, List, [], ◌∷◌, ◌++◌, length, map}
+use Rattle.std.specs.Prelude.{◌≡◌, ◌≤◌, ℕ, ◌+◌, ◌/◌, List, [], ◌∷◌, ◌++◌, length, map}
 use Rattle.mote_net.specs.Net.{net_of}
 use Rattle.mote_net.specs.Report.{lines_in, told_line}
 use Rattle.trace_printer.specs.TraceLines.{lines_of, medium_lines, part_text}
@@ -22,6 +22,10 @@ lines_told t = traces_told t ++ medium_lines (map told_line t.medium.now)
 abbrev pub Adjoin : (first : ℕ) → List Part → (last : ℕ) → Type 0
 Adjoin first [] last = first ≡ last
 Adjoin first (p ∷ ps) last = (p.skip ≡ first) × (p.page ≡ []) × Adjoin (first + p.count) ps last
+
+-- of so many lines a part has as many as each of so many workers, or one more
+abbrev pub IsShare : (count workers : ℕ) → Part → Type 0
+IsShare count workers p = (count / workers ≤ p.count) × (p.count ≤ count / workers + 1)
 
 -- its lines are put on its page
 abbrev pub IsPut : Traces → (old new : Part) → Type 0

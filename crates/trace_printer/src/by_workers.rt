@@ -22,7 +22,7 @@ use std::sync::Wait;
 use std::thread::Threads;
 use trace_lines::Line;
 
-/// How many lines the workers put in one round, all together. Their text takes some mebibytes.
+/// The number of lines that all workers together format in one round. Their text has some mebibytes.
 const ROUND: usize = 65_536;
 
 /// The least number of lines for which workers are started.
@@ -52,8 +52,8 @@ fn write_traces<R: Threads + Wait + Sync, W: Write>(
     Ok(())
 }
 
-/// How many lines the traces have, if workers are to put them and those of the medium: if these are two or more, and
-/// the lines of the traces `MANY` or more.
+/// The number of lines of the traces, if workers are to format them and those of the medium: if there are two workers
+/// or more, and `MANY` lines or more.
 fn many_lines(workers: u16, traces: &[Vec<Line>], log: &[LogLine]) -> Option<usize>
     ensures lines { (net : NetTold) → length traces.now ≡ length net.motes
         → IfSome result (λ count. length (lines_of net (map lines_in traces.now)) ≡ count) }
@@ -68,7 +68,7 @@ fn many_lines(workers: u16, traces: &[Vec<Line>], log: &[LogLine]) -> Option<usi
     }
 }
 
-/// Writes a report by workers, where its traces have `lines` lines. The page for its last line is made first.
+/// Writes a report by workers, whose traces have `lines` lines. The page for its last line is made first.
 fn write_by<R: Threads + Wait + Sync, W: Write>(
     rt: &R,
     alloc: Global,
@@ -97,14 +97,14 @@ fn write_by<R: Threads + Wait + Sync, W: Write>(
     write_end(writer, &mut page, report.left)
 }
 
-/// Writes the report of a net as text, the same as `write_report`. If its traces have many lines, the workers put them
-/// and the log of the medium on pages, each in a thread of its own, and this thread writes the pages; it puts the last
-/// line itself.
+/// Writes the report of a net as text, the same as `write_report`. If its traces have many lines, the workers write
+/// them and the log of the medium to pages, each in a thread of its own, and this thread writes the pages; it appends
+/// the last line itself.
 ///
 /// This thread waits for the workers, so the promise holds if the call returns.
 ///
 /// # Errors
-/// `Write` where the writer failed or took no byte, `Memory` where an allocation failed. A proper prefix of the text
+/// `Write` if the writer failed or took no byte, `Memory` if an allocation failed. A proper prefix of the text
 /// has then been written.
 pub fn write_report_by<R: Threads + Wait + Sync, W: Write>(
     rt: &R,

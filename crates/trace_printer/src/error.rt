@@ -1,11 +1,11 @@
-//! Why a report wasn't written whole.
+//! The errors of writing a report.
 ghost use Rattle.std.specs.Prelude.{◌≡◌};
 ghost use Rattle.trace_printer.specs.declared.error.PrintError.TheVariants as fault;
 
 use crate::output::WriteFault;
 use std::alloc::AllocError;
 
-/// Why a report wasn't written whole, with the numbers that are printed.
+/// The reason why a report wasn't written whole, with the numbers that are printed.
 #[derive(Clone, Copy, Debug, PartialEq, Eq)]
 pub enum PrintError {
     /// The writer failed, or took no byte.

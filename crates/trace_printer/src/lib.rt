@@ -3,6 +3,7 @@
 
 mod by_workers;
 mod error;
+pub mod laws;
 mod lines;
 mod names;
 mod numbered;

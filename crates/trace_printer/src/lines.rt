@@ -18,7 +18,10 @@ use trace_lines::{Line, What};
 /// Room for all of a line but its keyword, its names and its fates.
 const LINE: usize = 128;
 
-/// Puts the line that begins the trace of a mote with this number and the name of its program.
+/// Appends the line that begins the trace of a mote with this number and the name of its program.
+///
+/// # Errors
+/// If an allocation failed.
 pub fn put_head(page: &mut Page, mote: u16, name: &str) -> Result<(), AllocError>
     ensures { OnOk result (page.new ≡ page.old ++ line_of (codes "mote") (decimal mote ∷ name.now ∷ [])) }
 {
@@ -31,7 +34,10 @@ pub fn put_head(page: &mut Page, mote: u16, name: &str) -> Result<(), AllocError
     Ok(())
 }
 
-/// Puts the line that begins the log of the medium.
+/// Appends the line that begins the log of the medium.
+///
+/// # Errors
+/// If an allocation failed.
 pub fn put_medium(page: &mut Page) -> Result<(), AllocError>
     ensures { OnOk result (page.new ≡ page.old ++ line_of (codes "medium") []) }
 {
@@ -42,7 +48,10 @@ pub fn put_medium(page: &mut Page) -> Result<(), AllocError>
     Ok(())
 }
 
-/// Puts `left N`, the count of copies on their way.
+/// Appends `left N`, the count of copies on their way.
+///
+/// # Errors
+/// If an allocation failed.
 pub fn put_left(page: &mut Page, left: u64) -> Result<(), AllocError>
     ensures { OnOk result (page.new ≡ page.old ++ left_text left) }
 {
@@ -54,7 +63,7 @@ pub fn put_left(page: &mut Page, left: u64) -> Result<(), AllocError>
     Ok(())
 }
 
-/// Puts a line of a keyword and a name.
+/// Appends a line of a keyword and a name.
 #[inline(always)]
 fn put_named(page: &mut Page, at: u64, keyword: &str, name: &str) -> Result<(), AllocError>
     ensures { OnOk result (page.new ≡ page.old ++ line_of (decimal at) (keyword.now ∷ name.now ∷ [])) }
@@ -69,7 +78,7 @@ fn put_named(page: &mut Page, at: u64, keyword: &str, name: &str) -> Result<(), 
     Ok(())
 }
 
-/// Puts a line of a keyword, an event's number and a name.
+/// Appends a line of a keyword, an event's number and a name.
 #[inline(always)]
 fn put_event(
     page: &mut Page,
@@ -91,7 +100,7 @@ fn put_event(
     Ok(())
 }
 
-/// Puts a line of a keyword and two numbers.
+/// Appends a line of a keyword and two numbers.
 #[inline(always)]
 fn put_numbers(
     page: &mut Page,
@@ -207,7 +216,10 @@ fn put_recv(page: &mut Page, at: u64, from: u16, number: u64, value: u16) -> Res
     Ok(())
 }
 
-/// Puts a line of the trace of a mote with this program.
+/// Appends a line of the trace of a mote with this program.
+///
+/// # Errors
+/// If an allocation failed.
 pub fn put_trace_line(page: &mut Page, program: &Program, line: &Line) -> Result<(), AllocError>
     ensures { OnOk result (page.new ≡ page.old ++ line_text (tree_of program.now) line.now) }
 {
@@ -242,7 +254,7 @@ pub fn put_trace_line(page: &mut Page, program: &Program, line: &Line) -> Result
     }
 }
 
-/// Puts a space, the receiver of a copy, and when the copy arrives.
+/// Appends a space, the receiver of a copy, and when the copy arrives.
 fn put_fate(page: &mut Page, fate: Fate) -> Result<(), AllocError>
     ensures { OnOk result (page.new ≡ page.old ++ 32 ∷ fate_word fate) }
 {
@@ -263,7 +275,7 @@ fn put_fates(page: &mut Page, fates: &[Fate]) -> Result<(), AllocError>
     Ok(())
 }
 
-/// Puts the words of a packet before the fates of its copies: when it was sent, by whom, its number and its value.
+/// Appends the words of a packet before the fates of its copies: when it was sent, by whom, its number and its value.
 fn put_sent(page: &mut Page, sent: Sent) -> Result<(), AllocError>
     ensures { OnOk result (page.new ≡ page.old ++ decimal sent.at
         ++ flat_map (λ w. 32 ∷ w) (decimal sent.sender ∷ decimal sent.number ∷ decimal sent.value ∷ [])) }
@@ -285,7 +297,10 @@ fn put_line_feed(page: &mut Page) -> Result<(), AllocError>
     Ok(())
 }
 
-/// Puts a line of the medium.
+/// Appends a line of the medium.
+///
+/// # Errors
+/// If an allocation failed.
 pub fn put_packet(page: &mut Page, line: &LogLine) -> Result<(), AllocError>
     ensures { OnOk result (page.new ≡ page.old ++ packet_text (told_line line.now)) }
 {

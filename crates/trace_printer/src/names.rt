@@ -36,6 +36,7 @@ fn own_word(program: &Program, number: u8) -> &str
     }
 }
 
+/// The name of a process, or the empty word if the program doesn't have it.
 pub fn process_word(program: &Program, process: Proc) -> &str
     ensures { result.now ≡ process_word (tree_of program.now) process }
 {
@@ -47,6 +48,7 @@ pub fn process_word(program: &Program, process: Proc) -> &str
     }
 }
 
+/// The name of an event's receiver, or `all`.
 pub fn target_word(program: &Program, target: Target) -> &str
     ensures { result.now ≡ target_word (tree_of program.now) target }
 {
@@ -56,6 +58,7 @@ pub fn target_word(program: &Program, target: Target) -> &str
     }
 }
 
+/// The word of an event, or the empty word if the program doesn't declare it.
 pub fn event_word(program: &Program, event: u8) -> &str
     ensures { result.now ≡ event_word (tree_of program.now) event }
 {

@@ -17,8 +17,8 @@ use program_tree::Program;
 use std::alloc::AllocError;
 use trace_lines::Line;
 
-/// How many lines the motes with these traces show: those of each trace, and one before them. `None` if the count
-/// overflows.
+/// The number of lines that the motes with these traces show: those of each trace, and one before them. `None` if the
+/// count overflows.
 pub fn count_lines(traces: &[Vec<Line>]) -> Option<usize>
     ensures { (net : NetTold) → length traces.now ≡ length net.motes
         → IfSome result (λ count. length (lines_of net (map lines_in traces.now)) ≡ count) }
@@ -38,7 +38,7 @@ fn some_of<T>(lines: &[T], skip: usize, count: usize) -> &[T]
     &rest[..count.min(rest.len())]
 }
 
-/// Puts lines of the trace of a mote with this program.
+/// Appends lines of the trace of a mote with this program.
 fn put_lines(page: &mut Page, program: &Program, lines: &[Line]) -> Result<(), AllocError>
     ensures { OnOk result (page.new ≡ page.old ++ flat_map (line_text (tree_of program.now)) lines.now) }
 {
@@ -48,7 +48,7 @@ fn put_lines(page: &mut Page, program: &Program, lines: &[Line]) -> Result<(), A
     Ok(())
 }
 
-/// Puts at most `count` of the lines that a mote shows, after the first `skip`.
+/// Appends at most `count` of the lines that a mote shows, after the first `skip`.
 fn put_mote_part(
     page: &mut Page,
     mote: u16,
@@ -72,7 +72,10 @@ fn put_mote_part(
     put_lines(page, program, some_of(trace, 0, count - 1))
 }
 
-/// Puts at most `count` of the lines that the motes show, after the first `skip`.
+/// Appends at most `count` of the lines that the motes show, after the first `skip`.
+///
+/// # Errors
+/// If an allocation failed.
 pub fn put_part(
     page: &mut Page,
     net: &Net,
@@ -105,7 +108,7 @@ pub fn put_part(
     Ok(())
 }
 
-/// Puts lines of the medium.
+/// Appends lines of the medium.
 fn put_packets(page: &mut Page, log: &[LogLine]) -> Result<(), AllocError>
     ensures { OnOk result (page.new ≡ page.old ++ flat_map packet_text (map told_line log.now)) }
 {
@@ -115,7 +118,7 @@ fn put_packets(page: &mut Page, log: &[LogLine]) -> Result<(), AllocError>
     Ok(())
 }
 
-/// Puts at most `count` of the lines of the medium, after the first `skip`.
+/// Appends at most `count` of the lines of the medium, after the first `skip`.
 fn put_medium_part(
     page: &mut Page,
     log: &[LogLine],
@@ -134,8 +137,11 @@ fn put_medium_part(
     put_packets(page, some_of(log, 0, count - 1))
 }
 
-/// Puts at most `count` of all lines, after the first `skip`: of those that the motes show, and then of those of the
+/// Appends at most `count` of all lines, after the first `skip`: of those that the motes show, and then of those of the
 /// medium.
+///
+/// # Errors
+/// If an allocation failed.
 pub fn put_all_part(
     page: &mut Page,
     traces: &Traces<'_>,

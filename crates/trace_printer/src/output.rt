@@ -8,6 +8,9 @@ use std::io::Write;
 pub struct WriteFault;
 
 /// Writes all of the bytes. At an error a proper prefix of them has been written.
+///
+/// # Errors
+/// If the writer failed, or took no byte.
 pub fn write_bytes<W: Write>(writer: &mut W, bytes: &[u8]) -> Result<(), WriteFault>
     ensures { Writes (W.contents writer.old) (W.contents writer.new) result bytes.now }
 {

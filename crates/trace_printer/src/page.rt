@@ -7,7 +7,7 @@ use std::alloc::{AllocError, Global};
 use std::io::Write;
 use std::marker::Model;
 
-/// How many bytes a page has room for without growing.
+/// The number of bytes that a page has room for without growing.
 const ROOM: usize = 65_536;
 
 /// The number of bytes from which on a page is written. After them there is still room for a line half as long as the
@@ -33,6 +33,9 @@ impl Model for Page {
 
 /// Makes room for `room` bytes after the first `len`, which stay. A page that grows gets twice what it needs, so it
 /// seldom grows.
+///
+/// # Errors
+/// If an allocation failed.
 #[inline(always)]
 pub fn make_room(bytes: &mut Vec<u8>, len: usize, room: usize) -> Result<(), AllocError>
     requires { len ≤ length bytes.old.items }
@@ -48,6 +51,10 @@ pub fn make_room(bytes: &mut Vec<u8>, len: usize, room: usize) -> Result<(), All
 }
 
 impl Page {
+    /// An empty page with room for its text.
+    ///
+    /// # Errors
+    /// If an allocation failed.
     pub fn new(alloc: Global) -> Result<Page, AllocError>
         ensures { IfOk result (λ page. page ≡ []) }
     {
@@ -55,7 +62,7 @@ impl Page {
         Ok(Page { bytes, len: 0 })
     }
 
-    /// Whether it is time to write the page.
+    /// Returns `true` if it is time to write the page.
     pub fn is_full(&self) -> bool {
         self.len >= FULL
     }
@@ -71,6 +78,9 @@ impl Page {
     }
 
     /// Writes the page. At an error a proper prefix of it has been written.
+    ///
+    /// # Errors
+    /// If the writer failed, or took no byte.
     pub fn write<W: Write>(&self, writer: &mut W) -> Result<(), WriteFault>
         ensures { Writes (W.contents writer.old) (W.contents writer.new) result self.now }
     {
@@ -78,6 +88,9 @@ impl Page {
     }
 
     /// Writes the page, and empties it. At an error a proper prefix of it has been written.
+    ///
+    /// # Errors
+    /// If the writer failed, or took no byte.
     pub fn write_to<W: Write>(&mut self, writer: &mut W) -> Result<(), WriteFault>
         ensures written { Writes (W.contents writer.old) (W.contents writer.new) result self.old }
         ensures emptied { OnOk result (self.new ≡ []) }

@@ -1,4 +1,4 @@
-//! A part of the text of the traces and the medium, which one worker puts on a page.
+//! A part of the text of the traces and the medium, which one worker writes to a page.
 ghost use Rattle.std.specs.Prelude.{◌≡◌, []};
 
 use crate::numbered::put_all_part;
@@ -8,7 +8,7 @@ use mote_net::{LogLine, Net};
 use std::alloc::Global;
 use trace_lines::Line;
 
-/// A part of the text: `count` of its lines, after the first `skip`, and the page on which they are put.
+/// A part of the text: `count` of its lines, after the first `skip`, and the page that they are written to.
 #[derive(Drop)]
 pub struct Part {
     pub skip: usize,

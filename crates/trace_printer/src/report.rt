@@ -126,7 +126,10 @@ fn print_medium<W: Write>(
     print_packets(writer, page, log)
 }
 
-/// Puts the last line, and writes all that waits.
+/// Appends the last line, and writes all that waits.
+///
+/// # Errors
+/// `Write` if the writer failed or took no byte, `Memory` if an allocation failed.
 pub fn write_end<W: Write>(writer: &mut W, page: &mut Page, left: u64) -> Result<(), PrintError>
     ensures { Writes (W.contents writer.old) (W.contents writer.new) result (page.old ++ left_text left) }
 {
@@ -136,6 +139,9 @@ pub fn write_end<W: Write>(writer: &mut W, page: &mut Page, left: u64) -> Result
 
 /// Writes what waits on the page, and what comes after the traces in a report: the log of the medium, and the count of
 /// copies still on their way.
+///
+/// # Errors
+/// `Write` if the writer failed or took no byte, `Memory` if an allocation failed.
 pub fn write_medium<W: Write>(
     writer: &mut W,
     page: &mut Page,
@@ -153,8 +159,8 @@ pub fn write_medium<W: Write>(
 /// their way. The text is gathered on a page of 64 KiB, which is made first.
 ///
 /// # Errors
-/// `Write` where the writer failed or took no byte, `Memory` where an allocation failed, for the page or for a line
-/// longer than half of it. A proper prefix of the text has then been written.
+/// `Write` if the writer failed or took no byte, `Memory` if an allocation failed, for the page or for a line longer
+/// than half of it. A proper prefix of the text has then been written.
 pub fn write_report<W: Write>(
     alloc: Global,
     net: &Net,

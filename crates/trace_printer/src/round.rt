@@ -1,10 +1,10 @@
-//! One round: lines are cut into a part for each worker, each worker puts its part on a page, and the pages are
+//! One round: lines are divided into a part for each worker, each worker writes its part to a page, and the pages are
 //! written.
 ghost use Rattle.std.specs.Prelude.{◌≡◌, ◌<◌, ◌≤◌, ◌+◌, ◌^◌, [], IfOk};
-ghost use Rattle.std.specs.List.{flat_map};
+ghost use Rattle.std.specs.List.{flat_map, AllByRecursion as Each};
 ghost use Rattle.trace_printer.specs.Page.{Prints};
 ghost use Rattle.trace_printer.specs.TraceLines.{part_text};
-ghost use Rattle.trace_printer.specs.Parts.{Adjoin, HasTraces, lines_told, page_of};
+ghost use Rattle.trace_printer.specs.Parts.{Adjoin, HasTraces, IsShare, lines_told, page_of};
 
 use crate::error::PrintError;
 use crate::numbered::put_all_part;
@@ -17,11 +17,13 @@ use std::io::Write;
 use std::sync::Wait;
 use std::thread::Threads;
 
-/// Cuts `count` lines, after the first `skip`, into a part for each worker. The parts' lengths differ by one at most.
+/// Divides `count` lines, after the first `skip`, into a part for each worker. The parts' lengths differ by at most
+/// one.
 fn cut(alloc: Global, workers: u16, skip: usize, count: usize) -> Result<Vec<Part>, AllocError>
     requires some { 1 ≤ workers }
     requires there { skip + count < 2 ^ 64 }
-    ensures { IfOk result (λ parts. Adjoin skip parts.items (skip + count)) }
+    ensures adjoin { IfOk result (λ parts. Adjoin skip parts.items (skip + count)) }
+    ensures even { IfOk result (λ parts. Each (IsShare count workers) parts.items) }
 {
     let mut parts = Vec::with_capacity(alloc, usize::from(workers))?;
     let mut begin = skip;
@@ -35,7 +37,7 @@ fn cut(alloc: Global, workers: u16, skip: usize, count: usize) -> Result<Vec<Par
     Ok(parts)
 }
 
-/// The parts, each put on its page in a thread of its own.
+/// The parts, each written to its page in a thread of its own.
 fn put<R: Threads + Wait + Sync>(
     rt: &R,
     alloc: Global,
@@ -63,7 +65,7 @@ fn write_pages<W: Write>(writer: &mut W, parts: &[Part]) -> Result<(), WriteFaul
     Ok(())
 }
 
-/// Puts the lines on one page, and writes it, without another thread.
+/// Writes the lines to one page, and the page to the writer, without another thread.
 fn write_alone<W: Write>(
     alloc: Global,
     traces: &Traces<'_>,
@@ -82,6 +84,9 @@ fn write_alone<W: Write>(
 
 /// Writes `count` lines of the traces and the medium, after the first `skip`. If an allocation of a worker fails, or
 /// its thread can't be started, this thread writes them all itself.
+///
+/// # Errors
+/// `Write` if the writer failed or took no byte, `Memory` if an allocation failed.
 pub fn write_round<R: Threads + Wait + Sync, W: Write>(
     rt: &R,
     alloc: Global,

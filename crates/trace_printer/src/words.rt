@@ -1,10 +1,11 @@
-//! Words put into a slice that has room for them, from a place on. Each call returns the place after its word.
+//! Words written into a slice that has room for them, from a place on. Each call returns the place after its word.
 ghost use Rattle.std.specs.Prelude.{◌≡◌, ◌<◌, ◌≤◌, ◌+◌, ◌/◌, ◌%◌, [], ◌∷◌, ◌++◌, length, take, decimal};
 ghost use Rattle.trace_printer.specs.Words.{arrival_word};
 
 use crate::short::SHORT;
 use itoa::write_digits;
 
+/// Writes a byte.
 #[inline(always)]
 pub fn put_byte(room: &mut [u8], at: usize, byte: u8) -> usize
     requires { at + 1 ≤ length room.old }
@@ -15,7 +16,7 @@ pub fn put_byte(room: &mut [u8], at: usize, byte: u8) -> usize
     at + 1
 }
 
-/// Puts a text of `N` to twice `N` bytes: its first `N` and its last `N`, which may overlap.
+/// Writes a text of `N` to twice `N` bytes: its first `N` and its last `N`, which may overlap.
 #[inline(always)]
 fn put_ends<const N: usize>(room: &mut [u8], at: usize, text: &[u8]) -> usize
     requires size { (N ≤ length text.now) × (length text.now ≤ N + N) }
@@ -29,7 +30,7 @@ fn put_ends<const N: usize>(room: &mut [u8], at: usize, text: &[u8]) -> usize
     end
 }
 
-/// Puts a text. A short one is copied without a call, which would take longer than the copy.
+/// Writes a text. A short one is copied without a call, which would take longer than the copy.
 #[inline(always)]
 pub fn put_text(room: &mut [u8], at: usize, text: &str) -> usize
     requires { at + length text.now ≤ length room.old }
@@ -50,7 +51,7 @@ pub fn put_text(room: &mut [u8], at: usize, text: &str) -> usize
     }
 }
 
-/// How many digits a number has.
+/// The number of digits of a number.
 fn digits(number: u64) -> usize
     ensures value { result ≡ length (decimal number) }
     ensures few { result ≤ 20 }
@@ -64,7 +65,7 @@ fn digits(number: u64) -> usize
     count
 }
 
-/// Puts a number of `count` digits.
+/// Writes a number of `count` digits.
 #[inline(always)]
 fn put_digits(room: &mut [u8], at: usize, number: u64, count: usize) -> usize
     requires count { count ≡ length (decimal number) }
@@ -77,7 +78,7 @@ fn put_digits(room: &mut [u8], at: usize, number: u64, count: usize) -> usize
     end
 }
 
-/// Puts a number below a thousand: all four bytes of its entry in the table. Those after its digits lie beyond the
+/// Writes a number below a thousand: all four bytes of its entry in the table. Those after its digits lie beyond the
 /// place that is returned.
 #[inline(always)]
 fn put_short_number(room: &mut [u8], at: usize, number: u64) -> usize
@@ -104,7 +105,7 @@ fn last_digit(number: u64) -> u8
     b'0' + (number % 10) as u8
 }
 
-/// Puts a number of four digits: the first three by the table, and the last after them. As there are always three, it
+/// Writes a number of four digits: the first three by the table, and the last after them. As there are always three, it
 /// needn't wait for the table to say how many.
 #[inline(always)]
 fn put_four_digits(room: &mut [u8], at: usize, number: u64) -> usize
@@ -117,8 +118,8 @@ fn put_four_digits(room: &mut [u8], at: usize, number: u64) -> usize
     put_byte(room, at + 3, last_digit(number))
 }
 
-/// Puts the last three digits of a number, leading zeros included. The table has no leading zeros, so the last two
-/// digits come from the entry of a hundred more, after a 1; the first of the three is then put in place of the 1.
+/// Writes the last three digits of a number, leading zeros included. The table has no leading zeros, so the last two
+/// digits come from the entry of a hundred more, after a 1; the first of the three then replaces the 1.
 #[inline(always)]
 fn put_last_three(room: &mut [u8], at: usize, number: u64) -> usize
     requires { at + 4 ≤ length room.old }
@@ -131,7 +132,7 @@ fn put_last_three(room: &mut [u8], at: usize, number: u64) -> usize
     at + 3
 }
 
-/// Puts a number of four to six digits: its thousands by the table, and the last three digits after them.
+/// Writes a number of four to six digits: its thousands by the table, and the last three digits after them.
 #[inline(always)]
 fn put_thousands(room: &mut [u8], at: usize, number: u64) -> usize
     requires size { (1000 ≤ number) × (number < 1000000) }
@@ -143,7 +144,7 @@ fn put_thousands(room: &mut [u8], at: usize, number: u64) -> usize
     put_last_three(room, end, number)
 }
 
-/// Puts a number from a thousand on.
+/// Writes a number from a thousand on.
 #[inline(never)]
 fn put_long_number(room: &mut [u8], at: usize, number: u64) -> usize
     requires { (1000 ≤ number) × (at + 20 ≤ length room.old) }
@@ -159,8 +160,8 @@ fn put_long_number(room: &mut [u8], at: usize, number: u64) -> usize
     }
 }
 
-/// Puts a number. Most are below a thousand, and are put inline. (If longer ones were too, the code that puts a line
-/// of a trace would be too large to be inlined itself.)
+/// Writes a number. Most are below a thousand, and are written inline. (If longer ones were too, the code that appends
+/// a line of a trace would be too large to be inlined itself.)
 #[inline(always)]
 pub fn put_number(room: &mut [u8], at: usize, number: u64) -> usize
     requires { at + 20 ≤ length room.old }
@@ -174,7 +175,7 @@ pub fn put_number(room: &mut [u8], at: usize, number: u64) -> usize
     }
 }
 
-/// When a copy arrives, if it does.
+/// Writes the moment at which a copy arrives, if it does.
 pub fn put_arrival(room: &mut [u8], at: usize, arrival: Option<u64>) -> usize
     requires { at + 20 ≤ length room.old }
     ensures put { take result room.new ≡ take at room.old ++ arrival_word arrival }
@@ -186,7 +187,7 @@ pub fn put_arrival(room: &mut [u8], at: usize, arrival: Option<u64>) -> usize
     }
 }
 
-/// A space, and a text.
+/// Writes a space and a text.
 #[inline(always)]
 pub fn put_spaced(room: &mut [u8], at: usize, text: &str) -> usize
     requires { at + 1 + length text.now ≤ length room.old }
@@ -197,7 +198,7 @@ pub fn put_spaced(room: &mut [u8], at: usize, text: &str) -> usize
     put_text(room, at, text)
 }
 
-/// A space, and a number.
+/// Writes a space and a number.
 #[inline(always)]
 pub fn put_spaced_number(room: &mut [u8], at: usize, number: u64) -> usize
     requires { at + 21 ≤ length room.old }

@@ -1,11 +1,16 @@
-use Rattle.std.proofs.Common.{◌≡◌, ◌+◌}
-use Rattle.trace_printer.specs.Parts.{Adjoin}
+use Rattle.std.proofs.Common.{◌≡◌, ◌+◌, ◌-◌, ◌*◌, ◌/◌, ◌≤◌}
+use Rattle.std.specs.List.{AllByRecursion as Each}
+use Rattle.trace_printer.specs.Parts.{Adjoin, IsShare}
 use Rattle.trace_printer.proofs.round.cut.Given as goal
 
--- the parts adjoin, what is left comes after them, and nothing is left after the last worker's
+-- the parts adjoin, what is left comes after them, and nothing is left after the last worker's; each part has its
+-- share, and what is left are the shares of the others
 abbrev pub invariant-loop-others : goal.invariant-loop-others
 invariant-loop-others l = record {
   adjoin : Adjoin l.skip l.parts.items l.begin;
   sum : l.begin + l.left ≡ l.skip + l.count;
   last : l.others ≡ l.workers → l.left ≡ 0;
+  shares : Each (IsShare l.count l.workers) l.parts.items;
+  low : l.count / l.workers * (l.workers - l.others) ≤ l.left;
+  high : l.left ≤ (l.count / l.workers + 1) * (l.workers - l.others);
 }

@@ -1,0 +1,46 @@
+-- A small program whose names differ, and two reports that only names would tell apart.
+use Rattle.std.specs.Prelude.{◌≡◌, ℕ, List, [], ◌∷◌, codes, None, false}
+use Rattle.program_tree.specs.Code.{Tree}
+use Rattle.program_tree.specs.declared.event.Proc.TheVariants.{Own}
+use Rattle.trace_lines.specs.declared.line.What.TheVariants.{Start}
+use Rattle.mote_net.specs.Net.{NetTold}
+use Rattle.mote_net.specs.Report.{ReportTold}
+use Rattle.trace_printer.specs.Named.{NamesDiffer}
+use Rattle.trace_printer.specs.ReportText.{report_text}
+
+-- a program with these processes, and nothing else
+abbrev pub tree_with : (processes : List (List ℕ)) → Tree
+tree_with processes = record {
+  events = [];
+  semaphores = [];
+  counts = [];
+  processes = processes;
+  autostart = [];
+  receiver = None;
+  codes = [];
+  timers = [];
+}
+
+abbrev pub OneProcessDiffers : Type 0
+OneProcessDiffers = NamesDiffer (tree_with (codes "a" ∷ []))
+
+-- one mote, which runs that program
+abbrev pub one_mote : NetTold
+one_mote = record {
+  end = 0;
+  collide = false;
+  radio = record { places = []; range = 0; base = 1; per = 1; losses = [] };
+  motes = record { program = codes "p"; tree = tree_with (codes "a" ∷ []); queue = 1 } ∷ [];
+}
+
+-- it starts a process with this number
+abbrev pub starts : (process : ℕ) → ReportTold
+starts process = record {
+  traces = (record { at = 0; what = Start (Own process) } ∷ []) ∷ [];
+  log = [];
+  left = 0;
+}
+
+-- Processes 1 and 2, which the program doesn't have, have no name: so the reports of their starts have one text.
+abbrev pub TextsMeetWithoutNames : Type 0
+TextsMeetWithoutNames = (report_text one_mote (starts 1) ≡ report_text one_mote (starts 2)) × (starts 1 ≡ starts 2 → ⊥)
