@@ -156,7 +156,7 @@ fn write_in_one_thread<R: Wait>(
     Ok(())
 }
 
-/// What is known and taken when senders push and are gathered, all in one thread.
+/// The copies that are known and taken when senders push and are gathered, all in one thread.
 #[test]
 fn in_one_thread(rt: HostRuntime) -> Result<(), Fail> {
     let mut text = String::new(rt.alloc());

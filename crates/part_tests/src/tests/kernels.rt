@@ -17,7 +17,7 @@ const RUNAWAY: &str =
 const RECEIVER: &str = "process r; autostart r; receiver r; code r { body { while 1 { yield; \
      if is(packet) { print from; print data; } } } }";
 
-/// What is done to a kernel.
+/// The calls of a kernel.
 #[derive(Clone, Copy)]
 enum Act {
     /// Its readers are asked: its number, and whether it is booted, halted and pending.
@@ -48,7 +48,7 @@ fn run_out(
     kernel.run(program, u64::from(now), out)
 }
 
-/// How many of `count` packets the ring takes.
+/// The number of packets, of `count`, that the ring takes.
 fn packets_taken(kernel: &mut Kernel, count: u16) -> u32 {
     let mut taken = 0u32;
     for number in 0..count {
@@ -172,7 +172,7 @@ const CASES: &[(&str, &[Act], &str)] = &[
     ),
 ];
 
-/// What kernels answer and write.
+/// The results and the lines of kernels.
 #[test]
 fn kernels_by_hand(rt: HostRuntime) -> Result<(), Fail> {
     for (program, acts, want) in CASES {

@@ -91,7 +91,7 @@ fn write_four_motes(alloc: Global, text: &mut String) -> Result<(), MediumError>
     Ok(())
 }
 
-/// What is lost of mote 0's packets.
+/// The losses among mote 0's packets.
 const EACH_SECOND: Loss = Loss {
     sender: 0,
     to: 1,
@@ -106,7 +106,7 @@ fn write_fault(text: &mut String, fault: Option<MediumError>) {
     };
 }
 
-/// Each loss that is refused, beside one that isn't.
+/// Each loss that is refused, next to one that isn't.
 fn write_bad_losses(alloc: Global, text: &mut String) {
     for (sender, to, every) in [(2, 1, 1), (0, 2, 1), (1, 1, 1), (1, 0, 0), (0, 1, 3)] {
         let losses = [EACH_SECOND, Loss { sender, to, every }];
@@ -114,7 +114,7 @@ fn write_bad_losses(alloc: Global, text: &mut String) {
     }
 }
 
-/// Which of several faults is reported.
+/// Tests which of several faults is reported.
 fn write_first_faults(alloc: Global, text: &mut String) {
     for (base, per) in [(0, 0), (1, 0), (1, 1)] {
         write_fault(

@@ -57,12 +57,12 @@ impl Look for Fixed {
     }
 }
 
-/// What is done with a thread of a program's first process.
+/// The calls of a thread of a program's first process.
 #[derive(Clone, Copy)]
 enum Act {
     /// It is advanced with an event of this number and word, which mote 3 sent.
     Event(u8, u16),
-    /// What it asked for is answered.
+    /// The operation that it asked for gets its result.
     Answer(u16),
     /// A thread of this part, at its beginning, takes its place.
     Begin(Part),
@@ -188,7 +188,7 @@ const CASES: &[(&str, u32, &[Act], &str)] = &[
         &[INIT; 5],
         "Done(Yielded) 8|Op(Print(6)) 6|Done(Ended) 6|Done(Yielded) 4|Op(Print(7)) 2|",
     ),
-    // It goes on where it stood, in a loop of a loop that waits inside an `if`, three levels deep.
+    // It continues at its place, in a loop of a loop that waits inside an `if`, three levels deep.
     (
         "process a; code a { var i = 0; body { while (i < 2) { i = (i + 1); if (i == 2) { print 8; } else { while \
          data { yield; print i; } } print 9; } } }",
@@ -262,7 +262,7 @@ const CASES: &[(&str, u32, &[Act], &str)] = &[
     ),
 ];
 
-/// What threads do, call by call.
+/// The steps of threads, call by call.
 #[test]
 fn steps_of_threads(rt: HostRuntime) -> Result<(), Fail> {
     for (program, units, acts, want) in CASES {

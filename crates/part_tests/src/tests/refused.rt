@@ -1,6 +1,6 @@
-//! What kernels and motes answer once an allocation has failed. `tools/refuse_memory` has each allocation of this test
-//! fail in turn: each time it passes if each call answers as it has to, or ends as out of memory if it got no kernel
-//! or no mote.
+//! The results of kernels and motes once an allocation has failed. `tools/dev/refuse_memory` has each allocation of
+//! this test fail in turn: each time it passes if each call answers as it has to, or ends as out of memory if it got
+//! no kernel or no mote.
 
 use mote_node::{Mote, MoteError};
 use mote_program::read;
@@ -24,7 +24,7 @@ const BEFORE: Line = Line {
     what: What::Lost(1, 2),
 };
 
-/// How many lines the starter may write without an allocation.
+/// The number of lines that the starter may write without an allocation.
 const LINES: usize = 1000;
 
 /// Calls a kernel: a boot at 0, and then runs one by one and in a row by turns.
@@ -49,7 +49,7 @@ fn first_error(program: &Program, kernel: &mut Kernel, out: &mut Out) -> Option<
     None
 }
 
-/// Whether each call answers that the kernel has failed, and nothing more is written.
+/// Tests whether each call returns that the kernel has failed, and nothing more is written.
 fn has_failed(program: &Program, kernel: &mut Kernel, out: &mut Out) -> bool {
     let lines = out.lines.len();
     let mut all = true;
@@ -59,8 +59,8 @@ fn has_failed(program: &Program, kernel: &mut Kernel, out: &mut Out) -> bool {
     all && out.lines.len() == lines
 }
 
-/// Whether a kernel fails for good once it is out of memory, and what was written before is kept. One with room for
-/// all its lines makes no allocation, neither for these nor for its process list.
+/// Tests whether a kernel fails for good once it is out of memory, and what was written before is kept. One with room
+/// for all its lines makes no allocation, neither for these nor for its process list.
 fn kernel_fails_for_good(program: &Program, kernel: &mut Kernel, out: &mut Out) -> bool {
     let has_room = out.lines.capacity() >= LINES;
     let fails = match first_error(program, kernel, out) {
@@ -71,7 +71,7 @@ fn kernel_fails_for_good(program: &Program, kernel: &mut Kernel, out: &mut Out) 
     fails && out.lines.first().copied() == Some(BEFORE)
 }
 
-/// Whether that is so of a new kernel with room for this many lines, of which one is written.
+/// Tests that for a new kernel with room for this many lines, of which one is written.
 fn new_kernel_fails(alloc: Global, program: &Program, room: usize) -> Result<bool, Fail> {
     let mut out = Out {
         lines: Vec::with_capacity(alloc, room)?,
@@ -92,7 +92,7 @@ fn first_error_of_turns(program: &Program, mote: &mut Mote) -> Option<MoteError>
     None
 }
 
-/// Whether a mote fails for good once it is out of memory, and then asks for no more turns.
+/// Tests whether a mote fails for good once it is out of memory, and then asks for no more turns.
 fn mote_fails_for_good(program: &Program, mote: &mut Mote) -> bool {
     match first_error_of_turns(program, mote) {
         Some(MoteError::Memory) => {
@@ -103,7 +103,7 @@ fn mote_fails_for_good(program: &Program, mote: &mut Mote) -> bool {
     }
 }
 
-/// Whether kernels and motes of these programs fail for good.
+/// Tests whether kernels and motes of these programs fail for good.
 fn all_fail_for_good(alloc: Global, busy: &Program, starter: &Program) -> Result<bool, Fail> {
     let mut mote = Mote::new(alloc, 7, busy, 32)?;
     Ok(

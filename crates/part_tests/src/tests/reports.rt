@@ -84,7 +84,7 @@ fn write_trace(
     write_report(alloc, net, &report, output)
 }
 
-/// What happens at which moment, by its kind.
+/// Events with their moments, by their kind.
 const KINDS: &[&[(u64, What)]] = &[
     // Lines of processes.
     &[
@@ -137,10 +137,10 @@ fn write_of_one_mote(alloc: Global, output: &mut Vec<u8>) -> Result<(), Fail> {
     Ok(())
 }
 
-/// What happens to a mote that halts.
+/// The trace of a mote that halts.
 const FIRST_TRACE: [(u64, What); 2] = [(0, What::Start(A)), (0, What::Halt)];
 
-/// What happens to one that ends.
+/// The trace of one that ends.
 const SECOND_TRACE: [(u64, What); 3] = [
     (0, What::Print(A, 65535)),
     (1_000_000, What::Leave(A)),

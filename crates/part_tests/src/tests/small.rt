@@ -29,8 +29,8 @@ fn post(queue: &mut EventQueue) -> Result<u64, Full>
     queue.post(Target::All, EVENT)
 }
 
-/// Whether a queue with room for one event refuses the second of two, and accepts one more once the first is taken.
-/// Serials count what was accepted: a refused event has none.
+/// Tests whether a queue with room for one event refuses the second of two, and accepts one more once the first is
+/// taken. Serials count what was accepted: a refused event has none.
 fn refuses_the_second(queue: &mut EventQueue) -> bool
     requires { queue.old.accepted ≡ 0 }
 {
@@ -42,8 +42,9 @@ fn refuses_the_second(queue: &mut EventQueue) -> bool
 
 const OWN: Proc = Proc::Own(0);
 
-/// Whether timer 1, whose event is refused at moment 1, stays and is followed by timer 0, comes before timer 0 again
-/// once it was restarted and is due, and is gone once it was stopped. A new timer was never set, so it has expired.
+/// Tests whether timer 1, whose event is refused at moment 1, stays and is followed by timer 0, comes before timer 0
+/// again once it was restarted and is due, and is gone once it was stopped. A new timer was never set, so it has
+/// expired.
 fn refused_one_stays(timers: &mut Timers) -> bool
     requires { length timers.old.timers ≡ 2 }
 {
@@ -67,7 +68,7 @@ fn refused_one_stays(timers: &mut Timers) -> bool
         && [behind, at_5, at_6, at_the_end] == [own, own, Some((1, OWN)), own]
 }
 
-/// Whether two new callbacks answer as they should: each is looked up, the second is put twice, both are looked up
+/// Tests whether two new callbacks work: each is looked up, the second is put twice, both are looked up
 /// again, the first is removed, and the second is removed twice and looked up.
 fn come_and_go(callbacks: &mut Callbacks) -> bool
     requires { callbacks.old.limit ≡ 2 }
@@ -89,7 +90,7 @@ fn come_and_go(callbacks: &mut Callbacks) -> bool
     answers == [false, false, false, true, false, true, false, false]
 }
 
-/// Whether each part does as it should.
+/// Tests each part.
 fn parts_do(alloc: Global) -> Result<[bool; 3], Fail> {
     let queue = refuses_the_second(&mut EventQueue::new(alloc, 1)?);
     let timers = refused_one_stays(&mut Timers::new(alloc, 2)?);

@@ -21,11 +21,11 @@ struct AddTen {
     stopped: u64,
     /// The worker with this number isn't allowed to start.
     shut_out: u64,
-    /// Whether each worker waits until it is told to give up.
+    /// `true` if each worker waits until it has to give up.
     waits: bool,
-    /// How many workers were asked for.
+    /// The number of workers that were asked for.
     asked: AtomicU64,
-    /// How often it was told to give up.
+    /// The number of times that it had to give up.
     given_up: AtomicU64,
 }
 
@@ -56,7 +56,7 @@ fn add_ten(no_memory: u64, no_thread: u64, stopped: u64, shut_out: u64, waits: b
 }
 
 impl AddTen {
-    /// Why this worker gives up, if it does.
+    /// The reason why this worker gives up, if it does.
     fn refusal(&self, worker: u64) -> Option<Refused> {
         if worker == self.no_memory {
             return Some(Refused::Memory);
