@@ -11,7 +11,7 @@
 
     run       runs a scenario: a `Run` with `report` and `scenario`        Limits    what a run may use
     expect    which sentences hold of a run: a list of `Kept`              Fault     what can go wrong, in words
-    compare   where two runs diverge: a `Comparison`                       Plan      scenarios by rule
+    compare   how two runs diverge: a `Comparison`                         Plan      scenarios by rule
     Scenario  motes, places, who hears whom, losses                        Report    traces and the log of the medium
 
 The packages below are for the commands in tools/: report, scenario, runner, judge, summary, comparison, timeline,
@@ -21,7 +21,7 @@ import sys
 from typing import TYPE_CHECKING
 
 if sys.version_info < (3, 11):
-    sys.stderr.write('motesim: the tools take Python 3.11 or newer, and this is %d.%d\n' % sys.version_info[:2])
+    sys.stderr.write('motesim: the tools need Python 3.11 or newer, and this is %d.%d\n' % sys.version_info[:2])
     sys.exit(2)
 
 if TYPE_CHECKING:

@@ -42,11 +42,11 @@ class Kept:
 
 @dataclass(frozen=True)
 class Comparison:
-    """Two runs beside one another.
+    """Two runs next to each other.
 
     same    whether their reports are the same
     at      the first moment at which the traces or the logs of the medium diverge, or None
-    text    what tools/compare prints
+    text    the output of tools/compare
     """
     same: bool
     at: int | None
@@ -87,6 +87,6 @@ def expect(found: Run, sentences: Sequence[str] | str) -> list[Kept]:
 
 
 def compare(one: Run, other: Run) -> Comparison:
-    """Whether two runs have the same report, and else where they diverge first."""
+    """Compares the reports of two runs."""
     lines, first, is_same = compared(one, other, MOST_ROWS)
     return Comparison(is_same, first.at if first else None, '\n'.join(lines))

@@ -1,7 +1,7 @@
-"""What the user is told in one line, and how each command ends.
+"""Errors that are reported in one line, and the end of each command.
 
-A command's module has `@command('compare')` above its `main`, which returns the status. Whatever goes wrong with what
-the user gave, with files or with memory is one line on standard error and status 2.
+A command's module has `@command('compare')` above its `main`, which returns the status. Each error of the
+input, of files or of memory is one line on standard error, with status 2.
 """
 from __future__ import annotations
 
@@ -22,23 +22,23 @@ OF_ALL = 'motesim %s, proved with %s' % (VERSION, KIT)
 
 
 class Fault(Exception):
-    """Something that the user is told in one line."""
+    """An error that is reported in one line."""
 
 
 def in_words(fault: OSError) -> str:
-    """What the system says of a file, or of standard output where it names none."""
+    """The message of the system, with the file, or standard output if it names none."""
     where = 'standard output' if fault.filename is None else os.fsdecode(fault.filename)
     return '%s: %s' % (where, fault.strerror or fault)
 
 
 def drop_output() -> None:
-    """Lets what is left of standard output go: Python would complain of it at its end."""
+    """Discards the rest of standard output: Python would complain about it when it ends."""
     with open(os.devnull, 'wb') as nothing:
         os.dup2(nothing.fileno(), 1)
 
 
 def check_streams() -> None:
-    """Whether there is a standard output; a standard error that was closed takes what it is told."""
+    """Raises a `Fault` if standard output is closed; replaces a closed standard error by one that discards all."""
     if sys.stderr is None:
         sys.stderr = open(os.devnull, 'w', encoding='utf-8')
     if sys.stdout is None:
@@ -49,7 +49,7 @@ def check_streams() -> None:
 
 
 def status_of(tool: str, work: Callable[[], int]) -> int:
-    """The status that `work` gives, or that of an error, whose message is printed."""
+    """The status that `work` returns, or that of an error, whose message is printed."""
     try:
         check_streams()
         status = work()
@@ -77,8 +77,8 @@ def status_of(tool: str, work: Callable[[], int]) -> int:
 
 
 def finish(tool: str, work: Callable[[], int], version: str) -> NoReturn:
-    """Ends a command with the status that `work` gives, or with 2 and one line on standard error."""
-    # (looking for cycles among millions of lines would take longer than the work)
+    """Ends a command with the status that `work` returns, or with 2 and one line on standard error."""
+    # (a search for cycles among millions of lines lasts longer than the work)
     gc.disable()
     sys.exit(status_of(tool, (lambda: say(version)) if sys.argv[1:] == ['--version'] else work))
 
@@ -89,7 +89,7 @@ def say(line: str) -> int:
 
 
 def command(tool: str, version: str = OF_ALL) -> Callable[[Callable[[], int]], Callable[[], NoReturn]]:
-    """Makes a command of a function that returns its status. With the one word --version it says a line."""
+    """Makes a command of a function that returns its status. With the argument --version it prints the version."""
     def made(work: Callable[[], int]) -> Callable[[], NoReturn]:
         @functools.wraps(work)
         def main() -> NoReturn:

@@ -11,10 +11,10 @@ from motesim.faults import Fault
 
 
 def write_whole(path: str | Path, parts: Iterable[bytes]) -> None:
-    """Writes a file under another name, and gives it its own name at the end; what was there before stays until then.
+    """Writes a file under another name, and renames it at the end; an earlier file stays until then.
 
-    A file that is there keeps its mode. What is no plain file, as /dev/stdout, is written as it is. Raises a `Fault` if
-    the file can't be written.
+    A file that exists keeps its mode. Something else than a plain file, such as /dev/stdout, is written directly. Raises
+    a `Fault` if the file can't be written.
     """
     path = Path(path)
     try:

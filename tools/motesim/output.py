@@ -1,4 +1,4 @@
-"""Where a tool writes if no `-o` says so."""
+"""The place of a tool's output without `-o`."""
 from __future__ import annotations
 
 from pathlib import Path

@@ -106,7 +106,7 @@ SENTENCES: list[tuple[str, str | None, int | None]] = [
     ('all copies arrive at motes 1 to 2', None, None),
     # Counts beside others: mote 1 sends 2, mote 0 sends 3, mote 1 receives 2.
     ('mote 1 sends at least 66 % as often as mote 0', None, None),
-    ('mote 1 sends at least 67 % as often as mote 0', 'mote 1: 2 lines beside 3; wanted: at least 67 % as many', 12),
+    ('mote 1 sends at least 67 % as often as mote 0', 'mote 1: 2 lines, compared with 3; wanted: at least 67 % as many', 12),
     ('mote 1 sends exactly 100 % as often as it receives', None, None),
     ('mote 1 sends exactly 100 % as often as receiving', None, None),
     ('mote 2 receives at least 2 times as often as mote 1 prints a', None, None),

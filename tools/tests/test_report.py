@@ -249,7 +249,7 @@ class Scenarios(unittest.TestCase):
     def test_a_report_of_another_medium_has_a_fault(self) -> None:
         for change, said in [(('range = 5', 'range = 10'), 'in the scenario mote 2 hears mote 0'),
                              (('range = 5', 'range = 4'), 'in the scenario mote 1 does not hear mote 0'),
-                             (('base = 2', 'base = 3'), 'the scenario has 1@'), (('every = 2', 'every = 1'), 'has 1@lost in the'),
+                             (('base = 2', 'base = 3'), 'the scenario has 1@'), (('every = 2', 'every = 1'), 'has 1@lost instead of'),
                              (('end = 20', 'end = 10'), 'the scenario ends at 10'),
                              (('program = "listener"', 'program = "sender"'), 'mote 1 runs sender in the scenario')]:
             with self.assertRaisesRegex(ScenarioFault, said):
@@ -297,7 +297,7 @@ class Runs(unittest.TestCase):
         for text in 'mote 1 a\n', '0 start etimer\n':
             with self.assertRaisesRegex(ReportFault, 'net.txt: line 1: expected'):
                 read_run(self.write('net.txt', text))
-        with self.assertRaisesRegex(ReportFault, 'net.txt: line 1: .* ends with LF alone, and not as on Windows'):
+        with self.assertRaisesRegex(ReportFault, 'net.txt: line 1: .* ends with only LF, not as on Windows'):
             read_run(self.write('net.txt', EXAMPLE_REPORT.replace('\n', '\r\n')))
         self.write('net.txt', '').write_bytes(EXAMPLE_REPORT.encode('utf-16'))
         with self.assertRaisesRegex(Fault, 'net.txt looks like a text in UTF-16, .* as UTF-8: iconv -f UTF-16'):

@@ -421,7 +421,7 @@ class Runs(unittest.TestCase):
                 ('every mote but 0 prints flood within 0 of receiving', '24: 64 print flood 1', True, 'mote 24 is the last'),
                 ('mote 0 sends after mote 3 sends', '0: 40 send 0 1', False, 'is not after the first `mote 3 sends`'),
                 ('mote 3 sends at least 80 % as often as mote 2', '3: 49 send 0 1', True, ''),
-                ('mote 3 sends more than 2 times as often as mote 2', '3: 129 send 2 3', False, '3 lines beside 3')):
+                ('mote 3 sends more than 2 times as often as mote 2', '3: 129 send 2 3', False, '3 lines, compared with 3')):
             with self.subTest(question):
                 asked = asker.about(question)
                 assert isinstance(asked, Asked)

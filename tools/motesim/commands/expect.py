@@ -28,7 +28,7 @@ def main() -> int:
     scenario = Path(asked.scenario)
     expectations = Path(asked.expectations) if asked.expectations else beside(scenario)
     if not asked.expectations and scenario.exists() and not expectations.exists():
-        raise Fault('there is no file %s beside %s: name another, tools/expect SCENARIO EXPECTATIONS' % (
+        raise Fault('there is no file %s next to %s: name another one, tools/expect SCENARIO EXPECTATIONS' % (
             expectations, scenario))
     passed, failed = expect(scenario, expectations)
     print('%d passed, %d failed' % (passed, failed))

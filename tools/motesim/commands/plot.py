@@ -31,7 +31,7 @@ SHOWS, MEANS = ('median', 'mean', 'points', 'cdf', 'heat'), ('t', 'bootstrap')
 def arguments() -> argparse.Namespace:
     words = words_of(__doc__)
     words.add_argument('results', metavar='RESULTS', help='a file that tools/sweep wrote')
-    words.add_argument('--measure', metavar='NAME', help='what is shown')
+    words.add_argument('--measure', metavar='NAME', help='the measure')
     words.add_argument('--against', metavar='NAME', help='the parameter, or the measure, from left to right')
     words.add_argument('--by', metavar='NAME', help='a parameter with a line for each value')
     words.add_argument('--show', choices=SHOWS, default='median', help='what is shown of the runs (median)')

@@ -38,7 +38,7 @@ SECONDS, BYTES = 10.0, 16_000_000
 def arguments() -> argparse.ArgumentParser:
     words = words_of(__doc__)
     words.add_argument('scenario', nargs='?', metavar='SCENARIO', help='a scenario, NAME.toml, or a plan')
-    words.add_argument('expectations', nargs='?', metavar='EXPECTATIONS', help='else NAME.expect.toml beside it')
+    words.add_argument('expectations', nargs='?', metavar='EXPECTATIONS', help='else NAME.expect.toml next to it')
     words.add_argument('--expect', action='append', default=[], metavar='SENTENCE',
                        help='an expectation, instead of those of a file')
     words.add_argument('--faults', default='', metavar='KINDS',

@@ -29,7 +29,7 @@ def main() -> int:
                        help='begin at the first difference from the run of this scenario')
     words.add_argument('--no-open', action='store_true', help='print the address, and open no browser')
     words.add_argument('--seconds', type=positive, default=SECONDS, metavar='N',
-                       help='how long a run may take (%(default)s)')
+                       help='how many seconds a run may last (%(default)s)')
     words.add_argument('--memory', type=positive, default=MEMORY, metavar='N',
                        help='how many megabytes of memory a run may use (%(default)s)')
     words.add_argument('--report', type=positive, default=REPORT, metavar='N',

@@ -37,7 +37,7 @@ def main() -> int:
     words = words_of(__doc__)
     words.add_argument('plan', metavar='PLAN', help='a plan, a TOML file')
     words.add_argument('--vary', action='append', default=[], metavar='NAME=VALUES', help='values of a parameter')
-    words.add_argument('--measure', action='append', default=[], metavar='MEASURE', help='what is measured of a run')
+    words.add_argument('--measure', action='append', default=[], metavar='MEASURE', help='a measure of a run')
     words.add_argument('-o', dest='output', metavar='FILE', help='the results; else NAME.csv, next to NAME.plan.toml')
     words.add_argument('--jobs', type=int, default=os.cpu_count() or 1, metavar='N', help='how many runs at a time')
     words.add_argument('--seconds', type=float, metavar='N', help='the limit of a run, else that of the plan, or 60')

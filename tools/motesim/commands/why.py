@@ -14,11 +14,12 @@ def main() -> int:
     words.add_argument('file', metavar='FILE', help='a scenario, or a report; - is standard input')
     words.add_argument('question', metavar='QUESTION', nargs='?', help='a sentence, or a line of the report')
     words.add_argument('--scenario', metavar='FILE', help="the report's scenario")
-    words.add_argument('--other', metavar='FILE', help='a second run: shows where it leaves the chain of the first')
+    words.add_argument('--other', metavar='FILE',
+                       help='a second run: shows at which line it leaves the chain of the first')
     words.add_argument('--other-scenario', metavar='FILE', help='the scenario of a second report')
     words.add_argument('--watch', metavar='WORD', nargs='+',
                        help='shows the values of variables over time: --watch mote 3 newest, distance')
-    words.add_argument('--replay', action='store_true', help='takes the values from the replay, without added prints')
+    words.add_argument('--replay', action='store_true', help='shows the values of the replay, without added prints')
     words.add_argument('--state', metavar='WORD', nargs='+',
                        help='shows the state of a mote: --state mote 3 at 46, or after a line: --state 3:114')
     words.add_argument('--json', action='store_true', help='for programs')

@@ -1,1 +1,1 @@
-"""Two runs beside one another: where reports diverge, and in what scenarios differ."""
+"""Two runs next to each other: the first difference of their reports, and all differences of their scenarios."""

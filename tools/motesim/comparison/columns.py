@@ -9,7 +9,7 @@ from itertools import compress
 
 from motesim.report import KINDS, MASKS, Report
 
-# The log of the medium, where else a mote's number is.
+# The log of the medium, in the place of a mote's number.
 MEDIUM = -1
 # As many numbers are compared at once.
 CHUNK = 1 << 12
@@ -37,7 +37,7 @@ class Both:
         self.places = None if ours == others else [known[name] for name in others]
 
     def length(self, side: int, mote: int) -> int:
-        """How many lines of a mote, or packets, a side has."""
+        """The number of lines of a mote, or of packets, on one side."""
         report = self.reports[side]
         if mote == MEDIUM:
             return len(report.log)
@@ -75,7 +75,7 @@ class Both:
         same = min((it for it in found if it is not None), default=min(len(at), len(other_at)))
         for code, kind in enumerate(KINDS):
             if kinds.count(code, 0, same):
-                # (up to there both have the same kinds, so the fields of each are beside those of the other)
+                # (up to there both have the same kinds, so their fields correspond)
                 rows = list(compress(range(same), kinds.translate(MASKS[code])))
                 for one, other in zip(self.fields(0, mote, kind), self.fields(1, mote, kind)):
                     place = first_unequal(one[:len(rows)], other[:len(rows)])
@@ -87,12 +87,12 @@ class Both:
         found = [first_unequal(one, other) for one, other in zip(a.packets(), b.packets())]
         copy = [first_unequal(one, other) for one, other in ((a.to, b.to), (a.arrival, b.arrival))]
         found += [bisect_right(a.first, it) - 1 for it in copy if it is not None]
-        # (the copies of a packet end where those of the next one begin)
+        # (the copies of a packet end at the beginning of the next packet's)
         ends = first_unequal(a.first[1:], b.first[1:])
         return min((it for it in (*found, ends) if it is not None), default=None)
 
     def lines(self, side: int, mote: int, kind: str, start: int) -> list[tuple[int, ...]]:
-        """What the lines of a kind say that a mote has from one of its lines on: their moments and fields."""
+        """The moments and fields of a mote's lines of one kind, from one of its lines on."""
         if self.length(side, mote) <= start:
             return []
         at, kinds = self.moments(side, mote, start)
@@ -100,7 +100,7 @@ class Both:
         return list(zip(moments, *self.fields(side, mote, kind, start)))
 
     def only_lines(self, mote: int, kind: str, start: int) -> tuple[int, int]:
-        """How many lines of a kind only the one and only the other side has of a mote, from one of its lines on."""
+        """The numbers of a mote's lines of one kind that only one side has, from one of its lines on."""
         left, right = (self.lines(side, mote, kind, start) for side in (0, 1))
         ours, others = set(left), set(right)
         if len(ours) == len(left) and len(others) == len(right):
@@ -108,7 +108,7 @@ class Both:
         return (Counter(left) - Counter(right)).total(), (Counter(right) - Counter(left)).total()
 
     def only_packets(self, start: int) -> tuple[int, int]:
-        """How many lines of the log only the one and only the other side has, from one on. Logs are in order."""
+        """The numbers of packets that only one side has, from one of them on."""
         left, right = (list(self._packets(side, start)) for side in (0, 1))
         same = len(set(left).intersection(right))
         return len(left) - same, len(right) - same

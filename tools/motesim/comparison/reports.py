@@ -18,13 +18,13 @@ PACKETS_BEFORE, EVENTS_BEFORE = 3, 4
 OF_PACKETS = ('send', 'recv', 'lost', 'collide', 'deaf')
 
 Pair = tuple[Report, Report]
-# How many lines, by mote and kind, only the one and only the other has.
+# The numbers of lines that only one report has, by mote and kind.
 Counts = tuple[Counter[tuple[int, str]], Counter[tuple[int, str]]]
 Met = dict[tuple[int, int], list[tuple[int, int]]]
 
 
 class Difference(NamedTuple):
-    """Where two lists of lines part: the moment, the mote or MEDIUM, and the place in the lists."""
+    """The first difference of two lists of lines: the moment, the mote or MEDIUM, and the place in the lists."""
     at: int
     mote: int
     place: int
@@ -49,7 +49,7 @@ def lists_of(report: Report) -> dict[int, Sequence[Any]]:
 
 
 def differences(a: Report, b: Report) -> list[Difference]:
-    """Where the traces of each mote part, and the logs of the medium, in the order of moments.
+    """The first difference of each mote's traces, and of the logs of the medium, in the order of moments.
 
     At one moment the motes are in their order, and the medium comes behind them.
     """
@@ -105,7 +105,7 @@ def joined(texts: list[str]) -> str:
 
 
 def collision_in_words(found: Collision, reports: Pair, first: Difference) -> list[str]:
-    """What a collision loses, and whether it is the first difference or comes behind it."""
+    """The packets of a collision, and whether it is the first difference or a later one."""
     sides = [side for side in (0, 1) if found.packets[side]]
     whose = 'only %s has' % LETTERS[sides[0]] if len(sides) == 1 else 'is another in A than in B'
     is_first = (found.at, found.mote) == (first.at, first.mote)
@@ -117,7 +117,7 @@ def collision_in_words(found: Collision, reports: Pair, first: Difference) -> li
 
 
 def origin(line: Line | Packet, report: Report) -> str:
-    """Where what a line tells comes from: the packet's way, or the post of the event."""
+    """The origin of a line: the sending of its packet, or the post of its event."""
     if isinstance(line, Packet):
         return ''
     packet = report.packet(*line.packet) if line.packet and line.kind != 'send' else None
@@ -136,7 +136,7 @@ def row_of(report: Report, mote: int, index: int) -> int:
 
 
 def side_in_words(letter: str, report: Report, it: Difference) -> list[str]:
-    """What one side has where they part."""
+    """The line of one side at the first difference."""
     lines = lists_of(report).get(it.mote)
     if lines is None:
         return ['  %s has no such mote' % letter]
@@ -168,7 +168,7 @@ def packet_of(reports: Pair, it: Difference) -> Packet:
 
 
 def led_to(reports: Pair, it: Difference) -> list[str]:
-    """What a mote did before a difference, the same on both sides. In the log of the medium the mote is the sender."""
+    """The last lines of a mote before a difference; for the log of the medium, of the sender."""
     mote, index, report = it.mote, it.place, reports[0]
     if mote == MEDIUM:
         packet = packet_of(reports, it)
@@ -204,7 +204,7 @@ def few(numbers: list[int]) -> str:
 
 
 def only_in(reports: Pair, found: list[Difference]) -> Counts:
-    """How many lines only the one and only the other has, by mote (or MEDIUM) and kind."""
+    """The numbers of lines that only one report has, by mote (or MEDIUM) and kind."""
     counts: Counts = (Counter(), Counter())
     columns = Both(*reports)
     for it in found:
@@ -218,7 +218,7 @@ def only_in(reports: Pair, found: list[Difference]) -> Counts:
 
 
 def table(name: str, rows: list[tuple[str, int, int]], most: int) -> Iterator[str]:
-    """A table of what only A and only B has, and at most so many rows of it."""
+    """A table of the lines that only A or only B has, with at most so many rows."""
     shown = rows[:most]
     if len(rows) > most:
         rest = rows[most:]
@@ -230,7 +230,7 @@ def table(name: str, rows: list[tuple[str, int, int]], most: int) -> Iterator[st
 
 
 def counted(counts: Counts, most: int) -> Iterator[str]:
-    """How many lines differ, by mote and by kind."""
+    """Tables of the lines that differ, by mote and by kind."""
     by_mote: dict[int, list[int]] = {}
     by_kind: dict[str, list[int]] = {}
     for side, counter in enumerate(counts):
@@ -288,7 +288,7 @@ def write_html(path: str, a: Run, b: Run, first: Difference | None) -> None:
 
 
 def status_of(asked: argparse.Namespace) -> int:
-    """Does what tools/compare is asked for."""
+    """Prints the comparison; returns the status."""
     if asked.a == asked.b == '-':
         raise Fault('A and B can\'t both be standard input: one of them is a file')
     a, b = read_run(asked.a), read_run(asked.b)

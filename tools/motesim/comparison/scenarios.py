@@ -1,4 +1,4 @@
-"""In what two scenarios differ, in lines for people."""
+"""The differences of two scenarios, in words."""
 from __future__ import annotations
 
 from collections.abc import Iterator
@@ -19,7 +19,7 @@ def both(what: str, one: object, other: object) -> str:
 
 
 def of_keys(a: Scenario, b: Scenario) -> Iterator[str]:
-    """The keys that stand once in a scenario."""
+    """The keys that a scenario has once."""
     for name in 'version', 'end':
         if getattr(a, name) != getattr(b, name):
             yield both(name, getattr(a, name), getattr(b, name))
@@ -67,7 +67,7 @@ def of_losses(a: Scenario, b: Scenario) -> Iterator[str]:
 
 
 def differences(a: Scenario, b: Scenario) -> list[str]:
-    """The lines that say in what two scenarios differ; none where a run can't tell them apart."""
+    """The differences of two scenarios; none if their runs can't differ."""
     return [*of_keys(a, b), *of_motes(a, b), *of_losses(a, b), *of_programs(a, b)]
 
 

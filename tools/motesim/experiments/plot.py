@@ -156,7 +156,7 @@ def sides_of(asked: argparse.Namespace, rows: list[Row]) -> tuple[list[Row], lis
 
 
 def status_of(asked: argparse.Namespace) -> int:
-    """Does what tools/plot is asked for."""
+    """The work of tools/plot; returns the status."""
     wanted = wishes(asked)
     if any(wish.file for wish in wanted):
         packages.hand_on('plot', 'matplotlib', sys.argv)

@@ -141,7 +141,7 @@ def said(sweeper: Sweeper, ran: int) -> int:
 
 
 def status_of(asked: argparse.Namespace) -> int:
-    """Does what tools/sweep is asked for."""
+    """The work of tools/sweep; returns the status."""
     if asked.dask:
         packages.hand_on('sweep', 'distributed', sys.argv)
         packages.load('distributed')

@@ -37,7 +37,7 @@ def export_program_files(path: str, folder: str | None, with_host: bool) -> int:
 
 
 def status_of(asked: argparse.Namespace) -> int:
-    """Does what tools/export is asked for."""
+    """The work of tools/export; returns the status."""
     if asked.form:
         return export_program_files(asked.report, asked.output, asked.host)
     name = 'run' if asked.report == '-' else Path(asked.report).stem

@@ -80,7 +80,7 @@ def pictures_of(path: Path) -> Path:
 
 
 def status_of(asked: argparse.Namespace) -> int:
-    """Does what tools/grade is asked for."""
+    """The work of tools/grade; returns the status."""
     program_path()
     pages = [path for path in asked.output if path.suffix == '.html']
     pictures = pictures_of(pages[0]) if pages else None

@@ -1,1 +1,1 @@
-"""Expectations: sentences on a run, and whether a report shows what they say."""
+"""Expectations: sentences about a run, and whether they hold for a report."""

@@ -23,7 +23,7 @@ from motesim.toml import NoToml, read_toml
 
 LONGEST_SHOWN = 150
 REFUSED = 'the scenario is refused'
-WHOLE = 'the report is as it is written down'
+WHOLE = 'the report is the expected one'
 KEYS = {'expect': list, 'report': str, 'change': list, 'about': str, 'replace': dict}
 # What each key contains, and how it is written.
 WRITTEN = {

@@ -108,7 +108,7 @@ TABLES = (MOTES, DEED, VALUE, TIMES, WHEN, ORDER, OTHER)
 
 
 def written(page: str) -> str:
-    """The page with the tables as they are here."""
+    """The page with these tables."""
     rows = page.split('\n')
     for table in TABLES:
         begin = next(at for at, row in enumerate(rows) if row.startswith('| %s |' % table.name))

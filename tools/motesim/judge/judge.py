@@ -1,6 +1,6 @@
-"""Whether a report shows what a sentence says.
+"""Decides whether a sentence holds for a report.
 
-`Judge(report, scenario).broken(sentence)` is None, or what breaks the sentence.
+`Judge(report, scenario).broken(sentence)` is None if it holds, and else explains why not.
 """
 from __future__ import annotations
 
@@ -26,7 +26,7 @@ Span = tuple[int, int | None]
 
 
 class Broken(NamedTuple):
-    """Why a sentence doesn't hold, and the row of the report that shows it first, counted from 1, or None."""
+    """The reason why a sentence doesn't hold, and the first row of the report that shows it, from 1, or None."""
     why: str
     row: int | None = None
 
@@ -64,7 +64,7 @@ def _first_spare(rows: list[int], count: Count) -> int | None:
 
 
 class Judge:
-    """A report beside its scenario."""
+    """A report with its scenario."""
 
     def __init__(self, report: Report, scenario: Scenario):
         self.report, self.scenario = report, scenario
@@ -82,7 +82,7 @@ class Judge:
         return map(tuple.__new__, repeat(Event), found)
 
     def hears(self, r: int, s: int) -> bool:
-        """Whether mote r hears mote s by a link that doesn't lose all."""
+        """True if mote r hears mote s by a link that doesn't lose everything."""
         return self.scenario.hears(r, s) and self.scenario.losses.get((s, r)) != 1
 
     def heard(self, r: int) -> set[int]:
@@ -145,7 +145,7 @@ class Judge:
         return sorted(set(found), key=lambda event: event.row)
 
     def tally(self, pattern: Pattern, mote: int, span: Span) -> int:
-        """How many lines of a mote have this pattern, in these moments."""
+        """The number of lines of a mote with this pattern, in these moments."""
         trace, kind = self.report.trace, str(pattern[0])
         found = self.fits(pattern, mote)
         if span == (0, None):
@@ -155,14 +155,14 @@ class Judge:
         return sum(found[bisect_left(moments, span[0]):end])
 
     def is_plainly_kept(self, it: Does, motes: tuple[int, ...]) -> bool:
-        """Whether a sentence that only counts lines of one pattern holds, which its counts show without the lines."""
+        """True if a sentence only counts lines of one pattern, and the counts show that it holds."""
         if it.than or it.relation or it.deed.way != 'any' or len(it.deed.patterns) != 1:
             return False
         return all(it.count.admits(sum(self.tally(it.deed.patterns[0], mote, span) for mote in motes))
                    for span in self.spans(it.window, motes))
 
     def spans(self, window: Window, motes: tuple[int, ...]) -> list[Span]:
-        """The moments that a window stands for, of these motes."""
+        """The moments of a window, for these motes."""
         begin, end, every = window.begin, window.end, window.every
         if every and end is not None:
             return [(at, min(at + every - 1, end)) for at in range(begin, end + 1, every)]
@@ -180,7 +180,7 @@ class Judge:
         return 'the motes together'
 
     def counted(self, events: list[Event], count: Count, motes: tuple[int, ...], span: Span) -> Broken | None:
-        """Whether so many events are in a span."""
+        """Checks the number of events in a span."""
         inside = [event for event in events if _within(event.line.at, span)]
         if count.admits(len(inside)):
             return None
@@ -192,10 +192,10 @@ class Judge:
         return Broken(why + '; the next is', later[0].row) if later else Broken(why)
 
     def ordered(self, deed: Deed, events: list[Event], motes: tuple[int, ...]) -> Broken | None:
-        """Whether the values of all lines are those of a list, in its order."""
+        """Checks that the values of all lines are those of a list, in its order."""
         for event, wanted in zip(events, deed.values):
             if event.line.value != wanted:
-                why = '%s prints %s in the place of %d' % (self.name(motes), event.line.value, wanted)
+                why = '%s prints %s instead of %d' % (self.name(motes), event.line.value, wanted)
                 return Broken(why, event.row)
         if len(events) > len(deed.values):
             return Broken('%s prints one value more' % self.name(motes), events[len(deed.values)].row)
@@ -204,7 +204,7 @@ class Judge:
         return None
 
     def in_any_order(self, deed: Deed, events: list[Event], motes: tuple[int, ...]) -> Broken | None:
-        """Whether the values of all lines are those of a list, in any order."""
+        """Checks that the values of all lines are those of a list, in any order."""
         left = list(deed.values)
         for event in events:
             if event.line.value not in left:
@@ -213,7 +213,7 @@ class Judge:
         return Broken('%s never prints %s' % (self.name(motes), ', '.join(map(str, left)))) if left else None
 
     def last(self, deed: Deed, events: list[Event], motes: tuple[int, ...]) -> Broken | None:
-        """Whether the last line has the value."""
+        """Checks the value of the last line."""
         allowed = self.values(deed.value, motes[0]) if deed.value else set()
         if not events:
             return Broken('%s has no such line' % self.name(motes))
@@ -223,20 +223,20 @@ class Judge:
         return Broken('the last such line of %s; wanted: %s' % (self.name(motes), shown), events[-1].row)
 
     def than(self, it: Does, events: list[Event], motes: tuple[int, ...]) -> Broken | None:
-        """Whether there are so many times as many lines as of the others."""
+        """Compares the number of lines with that of the others."""
         assert it.than
         beside = motes if it.than.motes is None else self.chosen(it.than.motes)
         other = self.done(it.than.deed or it.deed, beside)
         one, two = self.within(events, it.window, motes), self.within(other, it.than.window, motes)
         if it.count.admits(len(one), len(two)):
             return None
-        why = '%s: %d lines beside %d; wanted: %s%s as many' % (
+        why = '%s: %d lines, compared with %d; wanted: %s%s as many' % (
             self.name(motes), len(one), len(two), it.count, '' if it.count.is_part else ' times')
         most = it.count.number * len(two) // (100 if it.count.is_part else 1)
         return Broken(why, one[most].row if len(one) > most else one[-1].row if one else None)
 
     def related(self, it: Does, events: list[Event], motes: tuple[int, ...]) -> Broken | None:
-        """Whether lines are before, after or near others."""
+        """Checks that lines are before, after or near others."""
         assert it.relation
         others = motes if it.relation.motes is None else (
             self.chosen(it.relation.motes))
@@ -245,7 +245,7 @@ class Judge:
         return Broken(*why) if why else None
 
     def of_unit(self, it: Does, motes: tuple[int, ...]) -> Broken | None:
-        """Whether a mote, or several together, does what is said."""
+        """Checks a sentence for one mote, or for several together."""
         try:
             if self.is_plainly_kept(it, motes):
                 return None
@@ -275,7 +275,7 @@ class Judge:
         return tuple(mote for mote in numbers if mote not in motes.but)
 
     def shown_by(self, it: Does, mote: int) -> int | None:
-        """The row of the line by which a mote does what is said."""
+        """The row of the line that shows that a mote does it."""
         events = self.within(self.done(it.deed, (mote,)), it.window, (mote,))
         return events[min(max(it.count.least, 1), len(events)) - 1].row if events else None
 
@@ -302,14 +302,14 @@ class Judge:
 
     def part_of_motes(self, count: Count, doing: list[int], chosen: tuple[int, ...],
                       broken: dict[int, Broken | None]) -> Broken:
-        """Why a part of the motes is too small or too great, with the first mote that doesn't, and why."""
+        """The reason why a part of the motes is too small or too great, with the first mote that doesn't do it."""
         why = '%d of %d motes do; wanted: %s' % (len(doing), len(chosen), count)
         first = next((mote for mote in chosen if mote not in doing), None)
         more = broken[first] if first is not None and count.least else None
         return Broken('%s; the first that doesn\'t is\n%s' % (why, more.why), more.row) if more else Broken(why)
 
     def part_of_copies(self, it: Copies) -> Broken | None:
-        """Whether such a part of the copies that were due has an outcome."""
+        """Checks which part of the copies that were due has an outcome."""
         motes = set(range(len(self.report.motes)) if it.motes is None else it.motes)
         log, end = self.report.log, self.scenario.end
         due = sum(at == LOST or at <= end for to, at in zip(log.to, log.arrival) if to in motes)
@@ -320,7 +320,7 @@ class Judge:
         return Broken('%d of %d copies that were due do%s; wanted: %s' % (found, due, part, it.count))
 
     def count_copies(self, it: Copies) -> int:
-        """How many copies have this outcome, whenever that was."""
+        """The number of copies with this outcome, at any moment."""
         motes = set(range(len(self.report.motes)) if it.motes is None else it.motes)
         if it.outcome == 'lost':
             return sum(map(motes.__contains__, compress(self.report.log.to, map(LOST.__eq__, self.report.log.arrival))))
@@ -328,7 +328,7 @@ class Judge:
         return sum(place.stop - place.start for place in places)
 
     def of_copies(self, it: Copies) -> list[Row]:
-        """The rows that tell this outcome of copies, each as often as it does."""
+        """The rows that show this outcome, one for each copy."""
         motes = set(range(len(self.report.motes)) if it.motes is None else it.motes)
         if it.outcome == 'lost':
             log, rows = self.report.log, self.of_packets()
@@ -342,7 +342,7 @@ class Judge:
         return list(map(Row, counting(self.report.medium_row + 1), log.at, log.sender))
 
     def rows_in(self, what: str, found: list[Row], count: Count, window: Window) -> Broken | None:
-        """Whether so many of the rows are in a window, or in each of its parts."""
+        """Checks the number of rows in a window, or in each of its parts."""
         parts: dict[int, list[int]] = {index: [] for index in range(len(self.spans(window, (window.root or 0,))))}
         try:
             for row in found:
@@ -367,7 +367,7 @@ class Judge:
         return Broken('there are %d such copies; wanted: %s' % (self.report.left, count), len(self.rows))
 
     def broken(self, it: Sentence) -> Broken | None:
-        """What breaks a sentence, or None."""
+        """The reason why a sentence doesn't hold, or None."""
         if isinstance(it, Does):
             return self.does(it)
         if isinstance(it, Copies):

@@ -1,4 +1,4 @@
-"""Lines before, after and near other lines: what breaks a sentence that puts two events in order.
+"""Lines before, after and near other lines: why a sentence about the order of two events is broken.
 
     mote 3 prints hops 2 after mote 0 sends        each such line is after the first event
     mote 1 sends before mote 2                     each such line is before the first event
@@ -32,7 +32,7 @@ class Found(Protocol):
     def line(self) -> At: ...
 
 
-# Why a sentence is broken, and the row that shows it.
+# The reason why a sentence is broken, and the row that shows it.
 Why = tuple[str, int | None]
 By = Callable[[Found], tuple[int, int]]
 
@@ -42,7 +42,7 @@ def in_time(event: Found) -> tuple[int, int]:
 
 
 def _is_after(line: Found, event: Found) -> bool:
-    """Whether a line is later than an event; at the same moment, whether it is further down in the same trace."""
+    """True if a line is later than an event, or at the same moment further down in the same trace."""
     if line.line.at != event.line.at:
         return line.line.at > event.line.at
     return line.line.mote == event.line.mote and line.row > event.row
@@ -80,7 +80,7 @@ class Order:
 
 
 def _holds(relation: Relation, line: Found, order: Order) -> bool:
-    """Whether a line stands to the events as the relation says."""
+    """True if a line has this relation to the events."""
     first = order.first()
     if relation.kind == 'after':
         return first is not None and _is_after(line, first)
@@ -91,7 +91,7 @@ def _holds(relation: Relation, line: Found, order: Order) -> bool:
 
 
 def _why_not(relation: Relation, line: Found, order: Order) -> str:
-    """Why a line doesn't stand so to the events."""
+    """The reason why a line doesn't have this relation to the events."""
     here, first = 'this line of mote %d' % line.line.mote, order.first()
     if first is None:
         return '%s is there, and no line is `%s`' % (here, relation.words)
@@ -108,7 +108,7 @@ def _why_not(relation: Relation, line: Found, order: Order) -> str:
 
 
 def _counted(it: Does, relation: Relation, name: str, lines: Sequence[Found], order: Order) -> Why | None:
-    """Whether so many lines are so."""
+    """Checks the number of lines with the relation."""
     fit = [line for line in lines if _holds(relation, line, order)]
     if it.count.admits(len(fit)):
         return None
@@ -123,7 +123,7 @@ def _kind_in_words(relation: Relation) -> str:
 
 
 def _answered(relation: Relation, name: str, lines: Sequence[Found], order: Order, end: int) -> Why | None:
-    """Whether each event has a line soon after it. Those so near to the end that it may come later don't count."""
+    """Checks that each event has a line soon after it. Events so near to the end that it may come later don't count."""
     answers = Order(lines)
     for event in order.events:
         found = answers.first_from(event)
@@ -136,7 +136,7 @@ def _answered(relation: Relation, name: str, lines: Sequence[Found], order: Orde
 
 
 def broken(it: Does, name: str, lines: Sequence[Found], events: Sequence[Found], end: int) -> Why | None:
-    """What breaks a sentence with a relation, of a mote's lines (or several motes') and the events."""
+    """The reason why a sentence with a relation is broken, of a mote's lines (or several motes') and the events."""
     relation, order = it.relation, Order(events)
     assert relation
     if relation.kind == 'each':

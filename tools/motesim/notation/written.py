@@ -1,4 +1,4 @@
-"""Writes what is made of the grammar: the grammar of docs/use/NOTATION.md, and the words of the syntax files for editors.
+"""Writes what the grammar makes: that of docs/use/NOTATION.md, and the words of the syntax files for editors.
 
     PYTHONPATH=tools python3 -m motesim.notation.written            writes the files
     PYTHONPATH=tools python3 -m motesim.notation.written --check    ends with status 1 if one of them isn't up to date
@@ -54,7 +54,7 @@ def alternatives() -> dict[str, list[str]]:
 
 
 def filled(name: str, parts: Iterable[str], between: str) -> list[str]:
-    """A rule on as many lines as it needs: each begins with what is between its parts."""
+    """A rule on as many lines as it needs: each begins with the separator of its parts."""
     lines, line = [], '%-*s = ' % (NAME_WIDTH, name)
     begin = len(line)
     for place, part in enumerate(parts):
@@ -82,7 +82,7 @@ def reserved() -> list[str]:
 
 
 def page_of(page: str) -> str:
-    """The page with the grammar and the reserved words as they are here."""
+    """The page with this grammar and these reserved words."""
     page = GRAMMAR.sub(lambda found: grammar(), page)
     begin = page.rindex('\n\n', 0, page.index('no name may be one of them')) + 2
     end = page.index('\n\n', begin)
@@ -96,7 +96,7 @@ def of_words(words: Iterable[str]) -> str:
 
 
 def syntax_of(text: str) -> str:
-    """The syntax file with the words as they are here."""
+    """The syntax file with these words."""
     syntax = json.loads(text)
     for rule in syntax['repository']['all']['patterns']:
         if rule.get('name') in SCOPES:

@@ -54,7 +54,7 @@ def write_from(source: str, output: str | None) -> int:
 
 
 def status_of(asked: argparse.Namespace) -> int:
-    """Does what tools/scenario is asked for."""
+    """The work of tools/scenario; returns the status."""
     if asked.source:
         return write_from(asked.source, asked.output)
     text = checked(Plan.read(asked.plan).scenario(given_of(asked.set)))

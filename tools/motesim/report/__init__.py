@@ -1,13 +1,13 @@
-"""Reports: what a line, a packet and a report are, and how they are read.
+"""Reports: their lines and packets, and how they are read.
 
     lines    a line of a trace, a packet, a copy        strict   reads a report line by line, and finds its fault
     columns  all lines and packets as arrays            fast     reads a report in large pieces, into columns
-    report   a report with its motes                    belongs  whether a report is of a scenario
+    report   a report with its motes                    belongs  checks that a report is of a scenario
 """
 from motesim.report.columns import KINDS, LOST, MASKS, NONE, Log, Trace
 from motesim.report.lines import FIELDS, MOST_MOMENT, MOST_WORD, Copy, Line, Packet
 from motesim.report.report import OUTCOMES, Mote, Outcome, Report, Rows
 from motesim.report.strict import ReportFault
 
-__all__ = ['FIELDS', 'KINDS', 'LOST', 'MASKS', 'MOST_MOMENT', 'MOST_WORD', 'NONE', 'OUTCOMES', 'Copy', 'Line', 'Log', 'Mote', 'Outcome', 'Packet',
-           'Report', 'ReportFault', 'Rows', 'Trace']
+__all__ = ['FIELDS', 'KINDS', 'LOST', 'MASKS', 'MOST_MOMENT', 'MOST_WORD', 'NONE', 'OUTCOMES', 'Copy', 'Line', 'Log', 'Mote',
+           'Outcome', 'Packet', 'Report', 'ReportFault', 'Rows', 'Trace']

@@ -1,5 +1,5 @@
-"""Whether a report can be of a scenario: the same motes with the same programs, and a log of the medium that the
-scenario's places, delays and losses give."""
+"""Checks that a report can be of a scenario: it has the same motes with the same programs, and the log of the medium
+that follows from the scenario's places, delays and losses."""
 from __future__ import annotations
 
 from collections.abc import Callable
@@ -23,7 +23,7 @@ def copies_of(scenario: Scenario) -> Callable[[int, int, int], tuple[Copy, ...]]
 
 
 def check_motes(report: Report, scenario: Scenario) -> None:
-    """Whether the motes are the same, and run the same programs, to the scenario's end."""
+    """Checks that the motes are the same, and run the same programs, up to the scenario's end."""
     if len(report.motes) != scenario.motes:
         raise ScenarioFault('the scenario has %d motes, the report %d' % (scenario.motes, len(report.motes)))
     for mote, place in zip(report.motes, scenario.places):
@@ -36,19 +36,19 @@ def check_motes(report: Report, scenario: Scenario) -> None:
 
 
 def difference(packet: Packet, wanted: tuple[Copy, ...]) -> str:
-    """In what the copies of a packet differ from those that the scenario gives."""
+    """The first difference between the copies of a packet and those of the scenario."""
     here, there = {it.to for it in packet.copies}, {it.to for it in wanted}
     for to in sorted(here - there):
         return 'in the scenario mote %d does not hear mote %d' % (to, packet.sender)
     for to in sorted(there - here):
         return 'in the scenario mote %d hears mote %d' % (to, packet.sender)
     one, other = next(pair for pair in zip(packet.copies, wanted) if pair[0] != pair[1])
-    return 'the scenario has %s in the place of %s' % (other, one)
+    return 'the scenario has %s instead of %s' % (other, one)
 
 
 def check_medium(report: Report, scenario: Scenario) -> None:
-    """Whether each packet goes to those who hear its sender, after the moments that it takes, or is lost where it
-    is."""
+    """Checks that each packet goes to those who hear its sender, after the right delay, or is lost on the right
+    links."""
     copies, left = copies_of(scenario), 0
     for row, packet in enumerate(report.medium, report.medium_row + 1):
         wanted = copies(packet.sender, packet.number, packet.at)
@@ -62,6 +62,6 @@ def check_medium(report: Report, scenario: Scenario) -> None:
 
 
 def check_scenario(report: Report, scenario: Scenario) -> None:
-    """Whether a report can be of that scenario."""
+    """Checks that a report can be of this scenario. Raises a `ScenarioFault` if it can't."""
     check_motes(report, scenario)
     check_medium(report, scenario)

@@ -1,7 +1,7 @@
 """Reports as columns: arrays of numbers, by the kind of line.
 
-A `Trace` has the lines of all motes, one after another; a `Log` has the packets of the medium with their copies. What
-works on millions of lines goes through these arrays; `Line` and `Packet` are made of them when they are asked for.
+A `Trace` has the lines of all motes, one after another; a `Log` has the packets of the medium with their copies. Code
+for millions of lines works on these arrays; each `Line` and `Packet` is made of them when it is needed.
 """
 from __future__ import annotations
 
@@ -53,7 +53,7 @@ class Trace:
         return len(self.at)
 
     def extend(self, at: array[int], kind: bytes, of: dict[str, Fields]) -> None:
-        """Adds lines; where they end a trace, `starts` has to be added."""
+        """Adds lines. If they end a trace, the caller adds its end to `starts`."""
         self.at.extend(at)
         self.kind += kind
         for name, fields in of.items():
@@ -90,7 +90,7 @@ class Trace:
         return found
 
     def place(self, mote: int, kind: str) -> slice:
-        """Where the lines of a kind that a mote has are among all lines of this kind."""
+        """The place of a mote's lines of one kind among all lines of this kind."""
         code = CODES[kind]
         return slice(self._before[mote][code], self._before[mote + 1][code])
 
@@ -100,7 +100,7 @@ class Trace:
         return list(compress(range(begin, end), self.kind[begin:end].translate(MASKS[CODES[kind]])))
 
     def is_named(self, name: str) -> bool:
-        """Whether a line has a process of this name."""
+        """True if a line has a process of this name."""
         if name not in self.names:
             return False
         place = self.names.index(name)
@@ -121,7 +121,7 @@ class Trace:
         return {int(word) for word in words if len(word) < 20 and word.isdecimal() and str(int(word)) == word}
 
     def _named(self, field: str, column: Iterable[int]) -> Iterable[Any]:
-        """Words in place of numbers, where a field has names."""
+        """The names that a column's numbers mean, if its field has names."""
         return map(self.names.__getitem__, column) if field in ('process', 'event') else column
 
     def line(self, index: int) -> Line:
@@ -152,7 +152,7 @@ class Trace:
         return map(next, map(made.__getitem__, codes.translate(None, others) if others else codes))
 
     def column(self, name: str, fields: dict[str, str], nothing: int) -> array[int]:
-        """A column in the order of the lines: for each kind the field that it takes, or nothing."""
+        """A column in the order of the lines: for each kind the field that it uses, or `nothing`."""
         parts: list[Iterator[int]] = [iter(self.of[kind][fields[kind]]) if kind in fields else repeat(nothing)
                                       for kind in KINDS]
         following: Callable[[Iterator[int]], int] = next
@@ -189,7 +189,7 @@ class Trace:
 
 
 class MoteLines(Sequence[Line]):
-    """The lines of one mote, which are made when they are asked for."""
+    """The lines of one mote, which are made when they are needed."""
     __slots__ = ('trace', 'mote')
 
     def __init__(self, trace: Trace, mote: int):

@@ -84,7 +84,7 @@ def _heads(data: bytes, end: int) -> tuple[list[str], list[Span]]:
 
 
 def _read_all(data: bytes, pieces: list[Piece], motes: int) -> Iterator[Lines | Packets]:
-    """What all pieces hold, in their order; read by several processes if there is much."""
+    """The contents of all pieces, in their order; several processes read a long report."""
     reader = PieceReader(motes, len(data))
 
     def read_one(piece: Piece) -> Lines | Packets:

@@ -1,4 +1,4 @@
-"""What the lines of a report are: lines of traces by their kinds, packets and their copies."""
+"""The lines of a report: lines of traces by their kinds, packets and their copies."""
 from __future__ import annotations
 
 from collections import namedtuple
@@ -12,9 +12,9 @@ MOST_NUMBER = 2 ** 62 - 1
 class Line(tuple[Any, ...]):
     """A line of a trace. What its kind doesn't have is None.
 
-    kind      what the line says: its second word, one of `FORMS`
+    kind      its second word, one of `FORMS`
     mote, at  the mote that wrote it, and the moment
-    process   P: a process by its name; `all` where an event is for all processes
+    process   P: a process by its name; `all` if an event is for all processes
     serial    S: the serial of an event of this mote
     event     E: an event by its name
     word      W: its word
@@ -24,8 +24,8 @@ class Line(tuple[Any, ...]):
 
     packet    a packet by its sender and number, of a line that has one
 
-    A line is a tuple, so two of them compare by what they say. `str(line)` is the line's text (and not `'%s' % line`,
-    which takes tuples apart).
+    A line is a tuple, so two of them compare by what they say. `str(line)` is the line's text (not `'%s' % line`,
+    which formats the items of a tuple).
     """
     __slots__ = ()
     mote: int
@@ -67,7 +67,7 @@ FORMS: dict[str, type[Line]] = {kind: _form(kind, fields) for kind, fields in FI
 
 
 class Copy(NamedTuple):
-    """A copy of a packet in the medium: the mote that it goes to, and its arrival, or None where it is lost."""
+    """A copy of a packet in the medium: the mote that it goes to, and its arrival, or None if it is lost."""
     to: int
     at: int | None
 

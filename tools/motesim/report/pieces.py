@@ -1,8 +1,8 @@
 """Reads a piece of a report into columns, by calls that work on all of its lines at once.
 
 A regular expression matches all lines of the piece, so what follows needn't look at their form. A line without its
-digits, such as ` post  blink timer `, is its shape: there are few of them, and each has one kind and its names. Then the
-lines of each kind, without their letters, are a list of numbers in which each field has its places.
+digits, such as ` post  blink timer `, is its shape: there are few of them, and each has one kind and its names. The
+lines of each kind, without their letters, are then a list of numbers in which each field has its places.
 """
 from __future__ import annotations
 
@@ -104,14 +104,14 @@ class _Shapes(dict[bytes, int]):
 
 
 def _looked_up(table: list[int], numbers: bytes | list[int]) -> bytes:
-    """What a table of small numbers has of each number."""
+    """The entries of a table of small numbers, one for each number."""
     if isinstance(numbers, bytes):
         return numbers.translate(bytes(table).ljust(256))
     return bytes(map(table.__getitem__, numbers))
 
 
 def _names(table: list[int], numbers: bytes | list[int]) -> array[int]:
-    """What a table has of each number."""
+    """The entries of a table, one for each number."""
     if not isinstance(numbers, bytes):
         return array('H', map(table.__getitem__, numbers))
     wide = bytearray(2 * len(numbers))
@@ -122,7 +122,7 @@ def _names(table: list[int], numbers: bytes | list[int]) -> array[int]:
 def _column(field: str, values: list[int]) -> array[int]:
     """An array of a field's values."""
     kind = TYPES[field]
-    # (it takes array much longer to read short numbers than to copy them)
+    # (array is much slower at reading short numbers than at copying them)
     return array(kind, struct.pack('%dH' % len(values), *values)) if kind == 'H' else array(kind, values)
 
 

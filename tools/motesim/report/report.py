@@ -1,9 +1,9 @@
-"""Reads reports: docs/use/REPORT.md says what a report is.
+"""Reads reports: docs/use/REPORT.md describes them.
 
 A report is read strictly: each line has to be one of docs/use/REPORT.md, with names and numbers that it can have.
-Moments don't fall in a trace, packets and their receivers stand in their order, and there is nothing after `left K`.
-Whether the traces and the log of the medium tell the same story isn't looked at. `Report.text()` gives the text back,
-byte for byte. A text that is no report is a `ReportFault`, which has its line.
+Moments don't fall in a trace, packets and their receivers are in order, and there is nothing after `left K`.
+It isn't checked that the traces agree with the log of the medium. `Report.text()` returns the same text, byte for
+byte. A text that is no report is a `ReportFault`, which has its line.
 """
 from __future__ import annotations
 
@@ -36,7 +36,7 @@ class Mote:
 
 
 class Outcome(NamedTuple):
-    """What became of a copy. `what` is one of
+    """The outcome of a copy. `what` is one of
 
     lost      the medium lost it
     received  the mote received it: it has a line `recv`
@@ -63,7 +63,7 @@ class Report:
     `medium_row` is the line of the word `medium`: `medium[i]` is on line `medium_row + 1 + i`.
 
     `trace` and `log` have all lines and packets as columns (`motesim.report.columns`); the items of `mote.lines` and
-    of `medium` are made when they are asked for, so that a report of millions of lines needs little memory.
+    of `medium` are made when they are needed, so that a report of millions of lines needs little memory.
     """
 
     def __init__(self, programs: Sequence[str], trace: Trace, log: Log, left: int):
@@ -118,7 +118,7 @@ class Report:
 
     @property
     def length(self) -> int:
-        """How many lines the report's text has."""
+        """The number of lines of the report's text."""
         return self.medium_row + len(self.log) + 1
 
     def text(self) -> str:
@@ -136,7 +136,7 @@ class Report:
         return next((self.log[place] for place in places if self.log.sender[place] == sender), None)
 
     def outcomes(self) -> list[Outcome]:
-        """What became of each copy, in the order of the log of the medium. `fates` has it as numbers."""
+        """The outcome of each copy, in the order of the log of the medium. `fates` has them as numbers."""
         became = iter(self.fates)
         return [Outcome(packet, copy, OUTCOMES[next(became)]) for packet in self.log for copy in packet.copies]
 
@@ -163,7 +163,7 @@ class Report:
         return found
 
     def _fates_at(self, packets: list[int], motes: range) -> list[bytes]:
-        """What the lines of each of these motes say of the copies that came to it, in the order of the log."""
+        """The outcomes of the copies that came to each of these motes by its lines, in the order of the log."""
         coming: list[list[int]] = [[] for _ in motes]
         wanted = bytes(map(motes.__contains__, range(len(self.motes))))
         is_one = map(wanted.__getitem__, self.log.to)
@@ -172,7 +172,7 @@ class Report:
         return [bytes(map(self._became(mote).get, its, repeat(_LEFT))) for mote, its in zip(motes, coming)]
 
     def _became(self, mote: int) -> dict[int, int]:
-        """What a mote's lines say of the packets that came to it, by the keys of the packets."""
+        """The outcomes of the packets that came to a mote by its lines, by the keys of the packets."""
         found: dict[int, int] = {}
         for kind, fate in _BECAME.items():
             place, fields = self.trace.place(mote, kind), self.trace.of[kind]
@@ -187,7 +187,7 @@ def _keys(senders: Iterable[int], numbers: Iterable[int], motes: int) -> Iterato
 
 
 class Rows(Sequence[str]):
-    """The lines of a report's text, without their ends, which are made when they are asked for."""
+    """The lines of a report's text, without their ends, which are made when they are needed."""
 
     def __init__(self, report: Report):
         self.report = report

@@ -1,6 +1,6 @@
-"""Reads reports line by line, and finds the first line that can't stand.
+"""Reads reports line by line, and finds the first line with an error.
 
-`read(text)` is the specification of what a report is; `motesim.report.fast` reads the same texts in larger pieces.
+`read(text)` is the specification of reports; `motesim.report.fast` reads the same texts in larger pieces.
 """
 from __future__ import annotations
 
@@ -16,14 +16,14 @@ from motesim.report.lines import FIELDS, FORMS, MOST_MOMENT, MOST_NUMBER, MOST_W
 
 
 class ReportFault(Fault):
-    """A text that is no report: its first line that can't stand, and what was expected there."""
+    """A text that is no report: its first line with an error, and what was expected there."""
 
     def __init__(self, row: int, expected: str, found: str | None, is_cut: bool = False):
         self.row, self.expected, self.found = row, expected, found
         shown = 'the text ends'
         if found is not None:
             shown = 'there is %r' % (found if len(found) <= 80 else found[:80] + '..')
-            shown += ' (a line of a report ends with LF alone, and not as on Windows)' if found.endswith('\r') else ''
+            shown += ' (a line of a report ends with only LF, not as on Windows)' if found.endswith('\r') else ''
         where = 'the report is cut off at line %d' % row if is_cut else 'line %d' % row
         super().__init__('%s: expected %s, but %s' % (where, expected, shown))
 
@@ -50,7 +50,7 @@ def text_of(text: str | bytes) -> str:
 
 
 class Bad(Exception):
-    """A word that can't stand: what was expected in its place."""
+    """A word that isn't allowed: what was expected instead."""
 
 
 class Words(dict[str, Any]):
@@ -62,7 +62,7 @@ class Words(dict[str, Any]):
         self.expected = expected
 
     def value(self, word: str) -> Any:
-        """What the word means, or None."""
+        """The meaning of the word, or None."""
         raise NotImplementedError
 
     def __missing__(self, word: str) -> Any:

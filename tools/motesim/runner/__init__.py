@@ -1,4 +1,4 @@
-"""Runs of the program: which program, within which limits, and what it answers.
+"""Runs of the program: which program, within which limits, and its answers.
 
     from motesim.runner import FOREIGN, Runner, run_each
 

@@ -3,7 +3,7 @@
     for done in run_each(work, items):
         print(done.item, done.fault or done.result)
 
-Whatever goes wrong with an item is its own fault; the others go on. Leaving the loop ends all workers with their runs.
+An error of an item is its own fault; the others continue. Leaving the loop ends all workers with their runs.
 """
 from __future__ import annotations
 
@@ -26,7 +26,7 @@ if TYPE_CHECKING:
 
 Item = TypeVar('Item')
 Result = TypeVar('Result')
-# A worker is given as many items at a time as take it about so many seconds, and no more than so many.
+# A worker gets as many items at a time as it does in about so many seconds, and no more than so many.
 SECONDS_AHEAD = 0.02
 MOST_AHEAD = 32
 # Seconds between two looks at the clock while workers work.
@@ -61,7 +61,7 @@ def _tried(work: Callable[[Item], Result], item: Item) -> tuple[Result | None, s
 
 
 def _serve(work: Callable[[Any], Any], channel: Connection, others: list[Connection]) -> None:
-    """A worker: takes lists of items from the channel, and gives back an answer for each."""
+    """A worker: reads lists of items from the channel, and sends an answer for each."""
     share_group()
     # (a channel is closed once nobody holds its other end)
     for other in others:
@@ -89,10 +89,10 @@ def _serve(work: Callable[[Any], Any], channel: Connection, others: list[Connect
 
 
 class _Worker:
-    """A worker, as the process that gives it work sees it."""
+    """A worker, as its parent process sees it."""
 
     def __init__(self, work: Callable[[Any], Any], others: list[Connection]):
-        # (it is imported by those alone who need it: most commands are to start at once)
+        # (it is imported only if it is needed, so that most commands start at once)
         import multiprocessing
         # (a process with threads can't be forked safely: then `work` is a function of a module)
         is_forked = threading.active_count() == 1
@@ -176,7 +176,7 @@ class _Batch(Generic[Item, Result]):
             try:
                 worker.give(numbers, [self.held[it] for it in numbers])
             except (BrokenPipeError, ConnectionResetError):
-                # (it has died, which is seen where its answer is taken)
+                # (it has died, which is noticed when its answer is read)
                 pass
 
     def done(self, number: int, result: Result | None, fault: str) -> tuple[int, Done[Item, Result]]:
@@ -191,7 +191,7 @@ class _Batch(Generic[Item, Result]):
         return self.done(first, None, fault)
 
     def results(self) -> Iterator[tuple[int, Done[Item, Result]]]:
-        """What is done, as it comes, with the item's number."""
+        """The results as they come, with the number of their items."""
         from multiprocessing.connection import wait
         while self.feed():
             by_channel: dict[Any, _Worker] = {it.channel: it for it in self.workers if it.given}
@@ -227,10 +227,10 @@ def _in_order(found: Iterable[tuple[int, Done[Item, Result]]]) -> Iterator[Done[
 def run_each(work: Callable[[Item], Result], items: Iterable[Item], *, workers: int | None = None,
              seconds: float = 600.0, ordered: bool = False,
              stop: threading.Event | None = None) -> Generator[Done[Item, Result], None, None]:
-    """Does a piece of work on each item, in worker processes, and gives what is done as it comes.
+    """Does a piece of work on each item, in worker processes, and yields the results as they come.
 
     workers  how many processes; None for as many as there are processors, 0 for this process
-    seconds  how long an item may take; then its worker is ended, and another takes its place
+    seconds  how long an item may last; then its worker is ended, and another one replaces it
     ordered  whether the results come in the order of the items
     stop     once it is set, no further item begins
 

@@ -11,7 +11,7 @@ from motesim.runner.programs import ProgramFault
 
 
 class Answer(NamedTuple):
-    """What the program answers: its status, and what it writes to standard output and to standard error."""
+    """The answer of the program: its status, and what it wrote to standard output and to standard error."""
     status: int
     report: bytes
     fault: bytes
@@ -35,7 +35,7 @@ def key_of(program: Path, arguments: tuple[str, ...], scenario: bytes) -> RunKey
 
 
 class Cache:
-    """Keeps answers until they have so many bytes; then those that were used longest ago go first."""
+    """Keeps answers up to so many bytes; then it drops those that were used longest ago."""
 
     def __init__(self, most_bytes: int):
         self._most, self._bytes = most_bytes, 0

@@ -41,7 +41,7 @@ def _most_memory() -> int:
 
 
 class Limits(NamedTuple):
-    """What a run may use: seconds, and bytes of memory and of its report."""
+    """The limits of a run: seconds, and bytes of memory and of its report."""
     seconds: float = 600.0
     memory: int = _most_memory()
     report: int = 1 << 30
@@ -99,7 +99,7 @@ def memory_of(pid: int) -> int:
 
 
 class Running:
-    """A run that has begun. `wait` returns what the program answers, once; `stop` ends it from any thread."""
+    """A run that has begun. `wait` returns the answer of the program, once; `stop` ends it from any thread."""
 
     def __init__(self, process: subprocess.Popen[bytes], limits: Limits, is_leader: bool):
         self._process, self._limits, self._is_leader = process, limits, is_leader
@@ -121,7 +121,7 @@ class Running:
         self._end_by(Stopped())
 
     def wait(self) -> Answer:
-        """What the program answers. Raises `LimitMet` or `Stopped` if the run was ended before its time."""
+        """The answer of the program. Raises `LimitMet` or `Stopped` if the run was ended before its time."""
         try:
             self._read()
         finally:
@@ -182,7 +182,7 @@ class Running:
             os.close(ended)
 
     def _take(self, pipe: int, is_report: bool) -> bytes | None:
-        """Takes what is in a pipe: None if there is nothing yet, and no bytes at its end."""
+        """Reads from a pipe: None if there is nothing yet, and no bytes at its end."""
         try:
             data = os.read(pipe, CHUNK)
         except BlockingIOError:
@@ -235,7 +235,7 @@ class Runner:
         return Running(process, self.limits, is_leader)
 
     def answer(self, scenario: bytes, *arguments: str) -> Answer:
-        """What the program answers to a scenario, with these arguments on its command line."""
+        """The answer of the program to a scenario, with these arguments on its command line."""
         if self.cache is None:
             return self.start(scenario, *arguments).wait()
         key = key_of(self.program or program_path(), arguments, scenario)

@@ -1,4 +1,4 @@
-"""The program that all tools run, and where programs are kept.
+"""The program that all tools run, and the place of kept programs.
 
 `program_path` returns the program that MOTESIM names; else the proved one of these sources, if it has been built; else
 one that was compiled without a proof, and then says so in a line. Programs are kept in out/programs by a digest of what
@@ -93,7 +93,7 @@ def is_newer_than_sources(program: Path) -> bool:
 # Programs that are kept.
 
 def keep_whole(given: Path, kept: Path) -> None:
-    """Copies a program to where it is kept: under another name first, so that a file that is there is whole."""
+    """Copies a program to its place: first under another name, so that the file is always whole."""
     kept.parent.mkdir(parents=True, exist_ok=True)
     new = kept.with_name('%s.%d' % (kept.name, os.getpid()))
     try:
@@ -122,7 +122,7 @@ def proved_kept(top: Path = TOP) -> Path:
 
 
 def proved_program() -> Path | None:
-    """The proved program of these sources, if it has been built; it is copied to where it is kept."""
+    """The proved program of these sources, if it has been built; it is copied to its place."""
     if is_newer_than_sources(PROVED):
         for it in PROGRAMS.glob('proved-*/' + PROVED.name):
             if is_program(it) and _same(it, PROVED):
@@ -191,7 +191,7 @@ def unless_held(program: Path) -> Iterator[bool]:
 
 
 def is_said_today() -> bool:
-    """Whether this was said on this machine, to this user, in the last day; it is noted that it is said now."""
+    """True if this was reported on this machine, to this user, within a day; notes that it is reported now."""
     cache = os.environ.get('XDG_CACHE_HOME') or os.path.expanduser('~/.cache')
     note = Path(os.environ.get('MOTESIM_SEEN') or Path(cache) / 'motesim/said')
     try:
@@ -235,8 +235,8 @@ class _Here:
 
 
 def _program_here() -> Path | None:
-    """The program of these sources. A process that goes on for long keeps to the sources that it began with, and takes
-    the fast program once it is there."""
+    """The program of these sources. A process that runs for long keeps to the sources that it began with, and uses
+    the fast program once it exists."""
     if _Here.found is None or not is_program(_Here.found):
         _Here.found = program_of_sources()
     elif _Here.found.name == 'first' and is_program(_Here.found.with_name('fast')):

@@ -1,8 +1,8 @@
-"""Runs the program, and reads what it answers.
+"""Runs the program, and reads its answer.
 
     from motesim.runner.run import read_run
 
-    run = read_run('examples/flooding.toml')       # runs the scenario; a file with a report is read as it is
+    run = read_run('examples/flooding.toml')       # runs the scenario; a report is only read
     for mote in run.report.motes:
         sent = [line for line in mote.lines if line.kind == 'send']
         print('mote', mote.number, 'runs', mote.program, 'and sends', len(sent), 'packets')
@@ -10,7 +10,7 @@
         print(packet.sender, 'sent', packet.value, 'to', [copy.to for copy in packet.copies], 'at', packet.at)
     print(run.scenario.hearers(0), 'hear mote 0')
 
-What can go wrong is a `motesim.faults.Fault`, whose text can be shown as it is:
+Errors are `motesim.faults.Fault`, whose text can be shown to users:
 
     ReportFault    a text is no report; its line is in it
     ScenarioFault  a text is no scenario, or not that of the report
@@ -42,14 +42,14 @@ OF_SCENARIO = re.compile(rb'(?:\xef\xbb\xbf)?\s*(?:#|\[|[A-Za-z0-9_"\'-]+\s*=)')
 
 
 class Run(NamedTuple):
-    """What a tool was given: a report, the scenario where it is known, and a name to show."""
+    """The input of a tool: a report, the scenario if it is known, and a name to show."""
     name: str
     report: Report
     scenario: Scenario | None
 
 
 def answer(scenario: bytes, *arguments: str, limits: Limits = Limits()) -> Answer:
-    """What the program answers to a scenario on standard input, with these arguments on its command line."""
+    """The answer of the program to a scenario on standard input, with these arguments on its command line."""
     return Runner(limits=limits).answer(scenario, *arguments)
 
 
@@ -69,25 +69,25 @@ def read_file(path: str | Path) -> bytes:
 
 
 def is_report(data: bytes) -> bool:
-    """Whether a text begins as a report."""
+    """True if a text begins like a report."""
     return OF_REPORT.match(data) is not None
 
 
 def is_scenario(path: str | Path, data: bytes) -> bool:
-    """Whether a file holds a scenario, and no report: by its first line, or else by its name."""
+    """True if a file contains a scenario, and no report: by its first line, or else by its name."""
     return not is_report(data) and (str(path).endswith('.toml') or OF_SCENARIO.match(data) is not None)
 
 
 def read_run(path: str | Path, scenario: str | Path | None = None, limits: Limits = Limits(),
              program: Path | None = None) -> Run:
-    """A report from a file, with the scenario from another where it is named.
+    """A report from a file, with the scenario from another one if it is named.
 
     A scenario is run: a text that begins as one, or else a file NAME.toml. The name `-` is standard input.
     """
     data = read_file(path)
     is_run, at, found = is_scenario(path, data), path, None
     if is_run and scenario is not None:
-        raise Fault('%s is a scenario itself, and takes no other' % path)
+        raise Fault('%s is a scenario itself: leave the other one out' % path)
     if not (is_run or data.strip()):
         raise Fault('%s is empty: a report or a scenario is wanted' % (
             'standard input' if str(path) == '-' else path))

@@ -1,4 +1,4 @@
-"""Which program and which kit a run is made with."""
+"""The versions of the program and of the kit of a run."""
 from __future__ import annotations
 
 from pathlib import Path
@@ -13,7 +13,7 @@ def kit_version(program: Path) -> str:
 
 
 def program_version(program: Path) -> str:
-    """The version of the program, where it is this tree's; of another one its digest alone says which it is."""
+    """The version of the program, if it is this tree's; another one is only known by its digest."""
     if is_proved(program):
         return VERSION
     return '%s unproved' % VERSION if is_compiled(program) else 'another'

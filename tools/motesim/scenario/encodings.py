@@ -10,7 +10,7 @@ LOOKED_AT = 4_096
 
 
 class Encoding(NamedTuple):
-    """An encoding: its name, the one that iconv takes, and by what the text seems to have it."""
+    """An encoding: its name, its name for iconv, and the sign by which the text seems to have it."""
     name: str
     of_iconv: str
     sign: str
@@ -21,7 +21,7 @@ def _has_zeros(data: bytes) -> bool:
 
 
 def encoding_of(data: bytes) -> Encoding | None:
-    """The encoding that a text seems to have, where that is another than UTF-8 and one can tell."""
+    """The encoding that a text seems to have, if it isn't UTF-8 and there is a sign of it."""
     for mark, name in MARKS:
         if data.startswith(mark):
             return Encoding(name, name, 'by the byte order mark that it begins with')

@@ -13,7 +13,7 @@ class ScenarioFault(Fault):
 
 
 class MotePlace(NamedTuple):
-    """Where a mote stands, and what it runs."""
+    """The place of a mote, and its program."""
     x: int
     y: int
     program: str
@@ -93,7 +93,7 @@ class Scenario:
 
     @cached_property
     def _neighbours(self) -> list[list[int]]:
-        """Of each mote those that it hears. They stand in the squares around it, whose sides are the range."""
+        """For each mote those that it hears. They are in the squares around it, whose sides are the range."""
         side = max(1, self.range)
         squares: dict[tuple[int, int], list[int]] = {}
         for number, place in enumerate(self.places):

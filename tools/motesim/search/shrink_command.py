@@ -54,7 +54,7 @@ def write_result(shrinking: Shrinking, name: str, path: Path) -> None:
 
 
 def status_of(asked: argparse.Namespace) -> int:
-    """Does what tools/shrink is asked for."""
+    """The work of tools/shrink; returns the status."""
     path = Path(asked.scenario)
     base = Base(text_of(path), asked.scenario)
     program = OneProgram(str(program_path().resolve()), Limits(asked.seconds))

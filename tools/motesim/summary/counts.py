@@ -21,25 +21,25 @@ from motesim.why.series import NAMES as SERIES_NAMES
 from motesim.why.series import Series
 from motesim.why.source import read_traces, traces_of
 
-# A row of a table by its columns: numbers, names, or None where there is no value.
+# A row of a table by its columns: numbers, names, or None if there is no value.
 Row = dict[str, Any]
 
 # What became of copies, as the reader and as the tables call it.
 BECAME = {'received': 'received', 'lost': 'lost', 'full': 'ring', 'collided': 'collided', 'halted': 'halted',
           'left': 'late'}
 LINK_NAMES = ['from', 'to', 'copies', *BECAME.values(), 'ratio', 'delay']
-# The lines of a trace that are counted as they are.
+# The lines of a trace that are only counted.
 COUNTED = {'post': 'posted', 'take': 'taken', 'drop': 'dropped', 'full': 'refused', 'print': 'prints'}
 
 
 def ratio(row: Row) -> float | None:
-    """How much was received of what was due, or None where nothing was."""
+    """The received part of the copies that were due, or None if none was."""
     due = row['copies'] - row['late']
     return round(row['received'] / due, 4) if due else None
 
 
 def copies_row(counts: Counter[Any], key: object) -> Row:
-    """What became of the copies that are counted under a key."""
+    """The outcomes of the copies that are counted under a key."""
     row: Row = {'copies': sum(counts[key, what] for what in BECAME)}
     row.update((name, counts[key, what]) for what, name in BECAME.items())
     row['ratio'] = ratio(row)
@@ -80,7 +80,7 @@ def links_of(report: Report) -> Iterator[int]:
 
 
 def counted_links(report: Report) -> Counter[tuple[Link, str]]:
-    """How many copies of each link have each outcome."""
+    """The number of copies of each link with each outcome."""
     motes, kinds = len(report.motes), len(OUTCOMES)
     counts = Counter(map(add, map(mul, links_of(report), repeat(kinds)), report.fates))
     return Counter({(divmod(key // kinds, motes), OUTCOMES[key % kinds]): count for key, count in counts.items()})
@@ -143,7 +143,7 @@ def write_csv(rows: list[Row], names: list[str]) -> None:
 
 
 def show_flow(run: Run, words: argparse.Namespace) -> int:
-    """Shows the rows of a flow, in the form that is asked for, and says why there is nothing in them."""
+    """Shows the rows of a flow in the chosen form, and reports why there is nothing in them."""
     rows = flow_rows(run.report, run.scenario, words.flow)
     for line in silent(run.report, run.scenario, words.flow):
         print('summary: %s' % line, file=sys.stderr)
@@ -157,7 +157,7 @@ def show_flow(run: Run, words: argparse.Namespace) -> int:
 
 
 def show_series(asked: argparse.Namespace) -> int:
-    """Shows what happens in each interval, in the form that is asked for."""
+    """Shows the events of each interval in the chosen form."""
     data, scenario = read_traces(asked.report, asked.scenario)
     rows = list(Series(traces_of(asked.report, data), asked.by, scenario.end if scenario else None).rows())
     if asked.json:
@@ -170,7 +170,7 @@ def show_series(asked: argparse.Namespace) -> int:
 
 
 def show_flow_series(asked: argparse.Namespace) -> int:
-    """Shows the messages that began in each interval, in the form that is asked for."""
+    """Shows the messages that began in each interval in the chosen form."""
     if not 1 <= asked.by <= MOST_MOMENT:
         raise Fault('--by: an interval has 1 to %d moments' % MOST_MOMENT)
     run = read_run(asked.report, asked.scenario)
@@ -187,7 +187,7 @@ def show_flow_series(asked: argparse.Namespace) -> int:
 
 
 def status_of(asked: argparse.Namespace) -> int:
-    """Does what tools/summary is asked for."""
+    """Prints the summary; returns the status."""
     if asked.by is not None:
         return show_flow_series(asked) if asked.flow is not None else show_series(asked)
     run = read_run(asked.report, asked.scenario)

@@ -28,7 +28,7 @@ FORM = re.compile(r'\s*(?:(send|recv)|print\s+([A-Za-z][A-Za-z0-9_]*))(?:\s+([0-
 
 
 class FlowFault(Fault):
-    """Words that say no flow."""
+    """Words that don't describe a flow."""
 
 
 class Mark(NamedTuple):
@@ -55,7 +55,7 @@ class Mark(NamedTuple):
 
 @dataclass
 class Message:
-    """A message: where and when it began, and the moments at which it was delivered, by mote."""
+    """A message: its origin, its moment, and the moments at which it was delivered, by mote."""
     origin: int
     at: int
     delivered: dict[int, list[int]] = field(default_factory=lambda: defaultdict(list))
@@ -69,7 +69,7 @@ def read_flow(words: str) -> tuple[Mark, Mark]:
         raise FlowFault('no flow: %r. It is END or BEGIN -> END; each is `print PROCESS`, `send` or `recv`, with values '
                         'behind it if not all are meant, `1 to 99`' % words)
     found = [Mark(it[1] or 'print', it[2], int(it[3] or 0), int(it[4] or it[3] or MOST_WORD)) for it in marks if it]
-    # (a message has one value, so what its end doesn't take doesn't begin one)
+    # (a message has one value, so a value that its end excludes doesn't begin one)
     begin, end = (found[0], found[1]) if len(found) == 2 else (Mark('send'), found[0])
     least, most = max(begin.least, end.least), min(begin.most, end.most)
     if least > most:
@@ -78,7 +78,7 @@ def read_flow(words: str) -> tuple[Mark, Mark]:
 
 
 def like(process: str, scenario: Scenario | None, known: set[str]) -> str:
-    """What was most likely meant by the name of a process that isn't there, and which there are."""
+    """A hint on the name of a process that isn't there: the one that was likely meant, or all that there are."""
     own = sorted(known.difference(SYSTEM))
     programs = scenario.programs if scenario else {}
     if process in programs:
@@ -88,7 +88,7 @@ def like(process: str, scenario: Scenario | None, known: set[str]) -> str:
 
 
 def check_processes(report: Report, scenario: Scenario, marks: tuple[Mark, Mark]) -> None:
-    """Whether each process of a flow is one of the scenario's."""
+    """Checks that each process of a flow is one of the scenario's."""
     for process in {it.process for it in marks if it.process}:
         known = set(names_of(scenario).processes or ())
         if process not in known and not report.trace.is_named(process):
@@ -97,7 +97,7 @@ def check_processes(report: Report, scenario: Scenario, marks: tuple[Mark, Mark]
 
 
 def silent(report: Report, scenario: Scenario | None, words: str) -> Iterator[str]:
-    """Why a flow has nothing to show: no line begins a message, or none is a delivery."""
+    """The reason why a flow has nothing to show: no line begins a message, or none is a delivery."""
     begin, end = read_flow(words)
     for mark, what in (begin, 'no message began'), (end, 'nothing was delivered'):
         if not any(map(mark.has, report.lines(mark.kind))):
@@ -144,7 +144,7 @@ def flow_rows(report: Report, scenario: Scenario | None, words: str) -> list[Row
     delivered   those that came to at least one other mote, and `ratio` their part of all
     reached     to how many motes a message came, on average
     copies      deliveries in all; `duplicates` are those of a message to a mote that had it already
-    hops        least hops to the motes that were reached, on average, where the scenario is known
+    hops        least hops to the motes that were reached, on average, if the scenario is known
     least..     of each message and mote the moments from its beginning to its first delivery: least, middle, most
     """
     begin, end = read_flow(words)

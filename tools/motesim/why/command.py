@@ -108,7 +108,7 @@ def show_why(source: Source, asked: argparse.Namespace) -> int:
 
 
 def status_of(asked: argparse.Namespace) -> int:
-    """Does what tools/why is asked for."""
+    """The work of tools/why; returns the status."""
     if asked.json and asked.other is not None:
         raise Fault('--json and --other do not go together')
     given = [it for it in (asked.question, asked.watch, asked.state) if it is not None]

@@ -265,7 +265,7 @@ def kinds_of(text: str | None) -> tuple[str, ...]:
 
 
 def status_of(asked: argparse.Namespace) -> int:
-    """Does what tools/log is asked for."""
+    """The work of tools/log; returns the status."""
     kinds = kinds_of(asked.kind)
     data, scenario = read_traces(asked.file, asked.scenario)
     traces = traces_of(asked.file, data)
