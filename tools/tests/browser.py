@@ -64,7 +64,7 @@ class Browser:
         if websocket is None:
             return None, 'on Debian `apt-get install python3-websocket` installs what drives one'
         named = os.environ.get('MOTESIM_BROWSER')
-        found = [named] if named else [path for path in map(shutil.which, NAMES) if path]
+        found = [named] if named else [path for path in (shutil.which(it) for it in NAMES) if path]
         if not found:
             return None, 'no Chromium is installed: on Debian `apt-get install chromium` installs it'
         try:

@@ -33,7 +33,7 @@ def reason_of(report: pytest.TestReport) -> str:
     return str(told[2] if isinstance(told, tuple) else told).removeprefix('Skipped: ')
 
 
-@pytest.hookimpl(hookwrapper=True)
+@pytest.hookimpl(hookwrapper=True)  # type: ignore[misc]
 def pytest_runtest_makereport(item: pytest.Item) -> Generator[None, Any, None]:
     report = (yield).get_result()
     if report.skipped:
@@ -42,14 +42,14 @@ def pytest_runtest_makereport(item: pytest.Item) -> Generator[None, Any, None]:
             report.outcome, report.longrepr = 'failed', reason_of(report)
 
 
-@pytest.hookimpl(hookwrapper=True)
+@pytest.hookimpl(hookwrapper=True)  # type: ignore[misc]
 def pytest_make_collect_report(collector: pytest.Collector) -> Generator[None, Any, None]:
     report = (yield).get_result()
     if isinstance(collector, pytest.Module) and report.passed and 'def test_' not in collector.path.read_text('utf-8'):
         report.outcome, report.longrepr = 'failed', '%s has no test' % collector.name
 
 
-@pytest.hookimpl(trylast=True)
+@pytest.hookimpl(trylast=True)  # type: ignore[misc]
 def pytest_terminal_summary(terminalreporter: Any) -> None:
     found = terminalreporter.stats
     for report in found.get('skipped', []):

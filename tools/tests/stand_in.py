@@ -42,14 +42,14 @@ def program() -> Iterator[Path]:
 class Text:
     """What a program's text seems to do."""
 
-    def __init__(self, source: str):
+    def __init__(self, source: str) -> None:
         source = re.sub('//.*', '', source)
-        self.process = re.search(r'process\s+(\w+)', source)[1]
+        self.process = re.findall(r'process\s+(\w+)', source)[0]
         self.prints = [int(it) for it in re.findall(r'\bprint\s+(\d+)', source)]
         self.sends = [int(it) for it in re.findall(r'\bsend\s+(\d+)', source)]
 
 
-def packets(scenario: Scenario, text: Text) -> Iterator[tuple[int, int, int, list]]:
+def packets(scenario: Scenario, text: Text) -> Iterator[tuple[int, int, int, list[tuple[int, int | None]]]]:
     """The packets of mote 0: the moment, the number, the value, and the copies with their arrivals."""
     for number, value in enumerate(text.sends):
         at = 10 * (number + 1)

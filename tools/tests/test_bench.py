@@ -1,4 +1,6 @@
 """The scenarios of bench/, and what tools/dev/bench says of runs. The program is a stand-in."""
+from __future__ import annotations
+
 import contextlib
 import io
 import subprocess
@@ -18,13 +20,13 @@ PROGRAM = '#!/bin/sh\necho "mote 0 p"\n[ "$1" = --workers ] && [ "$4" = ODD ] &&
 
 
 class Scenarios(unittest.TestCase):
-    def test_each_is_a_scenario(self):
+    def test_each_is_a_scenario(self) -> None:
         for name, sizes in bench.SCENARIOS.items():
             found = Scenario.parse(bench.generated(name, sizes[1]))
             for text in found.programs.values():
                 self.assertIsNone(find_fault(text), name)
 
-    def test_other_words_are_told(self):
+    def test_other_words_are_told(self) -> None:
         for name in bench.SCENARIOS:
             done = subprocess.run([str(TOP / 'bench' / name), 'x'], capture_output=True, text=True)
             self.assertEqual((done.returncode, done.stdout), (1, ''))
@@ -32,43 +34,43 @@ class Scenarios(unittest.TestCase):
 
 
 class Ratios(unittest.TestCase):
-    def test_the_middle_ratio_counts(self):
+    def test_the_middle_ratio_counts(self) -> None:
         self.assertEqual(bench.ratio_of([2, 3, 4, 50], [2, 2, 2, 2]), (1.375, 1.75, 7.75))
         self.assertEqual(bench.ratio_of([2], [4]), (0.5, 0.5, 0.5))
         self.assertIsNone(bench.ratio_of([1], [0]))
 
-    def test_a_cell_has_both_and_their_ratio(self):
+    def test_a_cell_has_both_and_their_ratio(self) -> None:
         self.assertEqual(bench.cell('user', [0.5], [], bench.seconds), 'user 0.500 s')
         self.assertEqual(bench.cell('user', [0.5], [1], bench.seconds), 'user 0.500 s, 1.000 s: 0.50')
         self.assertEqual(bench.cell('user', [1, 2, 1], [1, 1, 1], bench.seconds), 'user 1.000 s, 1.000 s: 1.00 (1.00 to 2.00)')
 
 
 class Command(unittest.TestCase):
-    def said(self, odd, *words):
+    def said(self, odd: str, *asked: str) -> tuple[str, object]:
         said = io.StringIO()
         with tempfile.TemporaryDirectory() as room:
             program = Path(room) / 'motesim'
             program.write_text(PROGRAM.replace('ODD', odd))
             program.chmod(0o755)
-            words = ['bench', '--program', str(program), '--rounds', '1', '--no-instructions', '--small', *words]
+            words = ['bench', '--program', str(program), '--rounds', '1', '--no-instructions', '--small', *asked]
             with mock.patch.object(sys, 'argv', words), contextlib.redirect_stdout(said), contextlib.redirect_stderr(said):
                 with self.assertRaises(SystemExit) as end:
                     bench.main()
         return said.getvalue(), end.exception.code
 
-    def test_each_way_has_a_line(self):
+    def test_each_way_has_a_line(self) -> None:
         said, code = self.said('none', 'timers')
         self.assertEqual(code, 0)
         self.assertEqual([line.split('user')[0].strip() for line in said.splitlines()], [
             'timers 64 20000', 'one thread', '--workers 2 --sync joins', '--workers 4 --sync joins', '--workers 2 --sync marks',
             '--workers 4 --sync marks'])
 
-    def test_a_report_that_differs_is_told(self):
+    def test_a_report_that_differs_is_told(self) -> None:
         said, code = self.said('marks', 'timers')
         self.assertEqual(code, 1)
         self.assertIn('THE REPORTS DIFFER', said)
 
-    def test_the_host_is_run_too(self):
+    def test_the_host_is_run_too(self) -> None:
         for name in 'cc', 'make':
             need_command(self, name, 'build-essential')
         said, code = self.said('none', 'timers', '--host')
@@ -76,7 +78,7 @@ class Command(unittest.TestCase):
         self.assertIn('THE REPORTS DIFFER', said)      # the stand-in's isn't that of the scenario
         self.assertEqual(code, 1)
 
-    def test_another_name_is_told(self):
+    def test_another_name_is_told(self) -> None:
         self.assertIn('there is no scenario x', self.said('none', 'x')[0])
 
 

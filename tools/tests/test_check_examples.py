@@ -1,4 +1,6 @@
 """What the pages quote of an example, and what is checked beside the sentences."""
+from __future__ import annotations
+
 import tempfile
 import unittest
 from pathlib import Path
@@ -9,6 +11,7 @@ from motesim.report import Report
 from motesim.runner.run import Run
 from motesim.scenario import Scenario
 from project import examples as check_examples
+from project.runs import Wrong
 
 PAGE = """# `one.toml`
 
@@ -53,7 +56,7 @@ left 0
 
 
 class Quotes(unittest.TestCase):
-    def test_blocks_belong_to_the_example_that_is_named_last(self):
+    def test_blocks_belong_to_the_example_that_is_named_last(self) -> None:
         with tempfile.TemporaryDirectory() as room:
             (Path(room) / 'PAGE.md').write_text(PAGE)
             with mock.patch.object(check_examples, 'TOP', Path(room)):
@@ -61,22 +64,22 @@ class Quotes(unittest.TestCase):
         self.assertEqual(found, {
             'one': [('PAGE.md', 'a line of one')], 'two': [('PAGE.md', 'end = 5'), ('PAGE.md', '..')]})
 
-    def test_a_quoted_line_stands_in_the_scenario_or_the_report(self):
+    def test_a_quoted_line_stands_in_the_scenario_or_the_report(self) -> None:
         report = Report.parse(REPORT)
         check_examples.check_quotes(SCENARIO, report, [('P', '  end = 400'), ('P', '304 send 1 2'), ('P', '..')])
-        with self.assertRaises(check_examples.Wrong):
+        with self.assertRaises(Wrong):
             check_examples.check_quotes(SCENARIO, report, [('P', '305 send 1 2')])
 
 
 class Readings(unittest.TestCase):
-    def run_of(self, report):
+    def run_of(self, report: str) -> Run:
         return Run('r', Report.parse(report), Scenario.parse(SCENARIO))
 
-    def test_each_mote_sends_those_below_it(self):
+    def test_each_mote_sends_those_below_it(self) -> None:
         check_examples.readings_of_those_below(self.run_of(REPORT))
 
-    def test_a_reading_that_is_not_sent(self):
-        with self.assertRaises(check_examples.Wrong):
+    def test_a_reading_that_is_not_sent(self) -> None:
+        with self.assertRaises(Wrong):
             check_examples.readings_of_those_below(self.run_of(REPORT.replace('304 send 1 2\n', '')))
 
 

@@ -1,4 +1,6 @@
 """Which runs of a scenario are compared, and that one that differs is told."""
+from __future__ import annotations
+
 import contextlib
 import io
 import sys
@@ -18,7 +20,7 @@ case " $* " in *" ODD "*) echo another ;; *) cat ;; esac
 
 
 class Runs(unittest.TestCase):
-    def compared(self, odd, *files):
+    def compared(self, odd: str, *files: tuple[str, str]) -> tuple[list[str], str, object]:
         """The words of each run, what is printed, and the status, of a program that answers a word in another way."""
         with tempfile.TemporaryDirectory() as room:
             program, said = Path(room) / 'program', io.StringIO()
@@ -31,7 +33,7 @@ class Runs(unittest.TestCase):
                 compare.main()
             return Path(str(program) + '.words').read_text().splitlines(), said.getvalue(), end.exception.code
 
-    def test_each_way_once(self):
+    def test_each_way_once(self) -> None:
         words, said, code = self.compared('none', ('a.toml', 'end = 5\n'), ('a.expect.toml', ''))
         self.assertEqual(words[0], '')
         self.assertEqual(len(words), 21)
@@ -42,12 +44,12 @@ class Runs(unittest.TestCase):
         self.assertEqual(said, '1 scenarios, each on one thread and in 20 runs by workers: 0 differ\n')
         self.assertEqual(code, 0)
 
-    def test_a_kind_that_differs(self):
+    def test_a_kind_that_differs(self) -> None:
         _, said, code = self.compared('marks', ('a.toml', 'end = 5\n'))
         self.assertIn('10 of its runs differ; --workers 1 --cut block --sync marks: standard output differs\n', said)
         self.assertEqual(code, 1)
 
-    def test_a_report_that_is_written_down(self):
+    def test_a_report_that_is_written_down(self) -> None:
         _, said, code = self.compared('none', ('a.toml', 'end = 5\n'), ('a.expected', 'end = 6\n'))
         self.assertIn('1 of its runs differ; on one thread: standard output differs\n', said)
         self.assertEqual(code, 1)

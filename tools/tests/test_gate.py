@@ -1,4 +1,6 @@
 """How ./test counts: steps that pass, fail, can't be run, and those that may be skipped. The steps are stand-ins."""
+from __future__ import annotations
+
 import os
 import re
 import shutil
@@ -17,7 +19,7 @@ TOOLS = ['run_cases', 'check_examples', 'check_tutorial', 'spoil_bytes', 'compar
 
 
 class Gate(unittest.TestCase):
-    def setUp(self):
+    def setUp(self) -> None:
         room = tempfile.TemporaryDirectory()
         self.addCleanup(room.cleanup)
         self.room = Path(room.name)
@@ -29,43 +31,43 @@ class Gate(unittest.TestCase):
             self.put('bin/' + name, 'echo 1')
         self.put('crates/motesim/out/motesim', 'true')
 
-    def put(self, name, text):
+    def put(self, name: str, text: str) -> None:
         path = self.room / name
         path.parent.mkdir(parents=True, exist_ok=True)
         path.write_text('#!/bin/sh\n%s\n' % text)
         path.chmod(0o755)
 
-    def run_it(self, *words, path=None):
+    def run_it(self, *words: str, path: str | None = None) -> tuple[list[str], int]:
         here = {**os.environ, 'PATH': path or '%s:%s' % (self.room / 'bin', os.environ['PATH'])}
         done = subprocess.run([str(self.room / 'test'), *words], env=here, capture_output=True, text=True, timeout=60)
         return done.stdout.splitlines(), done.returncode
 
-    def test_all_steps_are_added_up(self):
+    def test_all_steps_are_added_up(self) -> None:
         lines, status = self.run_it()
         self.assertEqual((lines[-1], status), ('22 passed, 0 failed, 0 skipped', 0))
         lines, status = self.run_it('--quick')
         self.assertEqual((lines[-1], status), ('12 passed, 0 failed, 0 skipped', 0))
 
-    def test_what_fails_and_what_is_skipped_counts(self):
+    def test_what_fails_and_what_is_skipped_counts(self) -> None:
         self.put('tools/dev/test_tools', 'echo "skipped: test_a.B.c: no browser"; echo "5 passed, 1 failed, 3 skipped"; exit 1')
         self.put('tools/dev/headline_files', 'exit 1')
         self.put('tools/dev/spoil_bytes', 'echo "2 passed, 0 failed"; exit 3')
         lines, status = self.run_it()
         self.assertEqual((lines[-1], status), ('23 passed, 3 failed, 3 skipped', 1))
 
-    def test_what_can_not_be_run_fails_unless_it_may_be_skipped(self):
+    def test_what_can_not_be_run_fails_unless_it_may_be_skipped(self) -> None:
         (self.room / 'tools/dev/refuse_memory').unlink()
-        number = re.search(r'refuse_memory program (\d+)', (TOP / 'test').read_text('utf-8'))[1]
+        number = re.findall(r'refuse_memory program (\d+)', (TOP / 'test').read_text('utf-8'))[0]
         self.assertEqual(self.run_it()[0][-1], '20 passed, %s failed, 0 skipped' % number)
         lines, status = self.run_it('--may-skip', 'refuse_memory')
         self.assertEqual((lines[-1], status), ('20 passed, 0 failed, %s skipped' % number, 0))
         self.assertIn('== skipped: tools/dev/refuse_memory: it is not here', lines)
 
-    def test_without_python_and_compiler_the_steps_fail(self):
+    def test_without_python_and_compiler_the_steps_fail(self) -> None:
         bare = self.room / 'bare'
         bare.mkdir()
         for name in 'bash sh dirname readlink mktemp rm sed sort wc find grep cat tail tee nproc env'.split():
-            (bare / name).symlink_to(shutil.which(name))
+            (bare / name).symlink_to(str(shutil.which(name)))
         lines, status = self.run_it('--quick', path=str(bare))
         self.assertEqual(status, 1)
         self.assertTrue(lines[-1].startswith('0 passed, '))
@@ -78,7 +80,7 @@ class Gate(unittest.TestCase):
 SOURCE = """import unittest
 class Page(unittest.TestCase):
     @classmethod
-    def setUpClass(cls):
+    def setUpClass(cls) -> None:
         raise unittest.SkipTest(%r)
     def test_a(self): pass
     def test_b(self): pass
@@ -92,7 +94,7 @@ class Other(unittest.TestCase):
 class UnitTests(unittest.TestCase):
     """How the tests of the tools are counted."""
 
-    def run_file(self, text, *may_skip):
+    def run_file(self, text: str, *may_skip: str) -> tuple[list[str], int]:
         with tempfile.TemporaryDirectory() as room:
             shutil.copy(TOP / 'tools/tests/conftest.py', room)
             (Path(room) / 'test_page.py').write_text(text)
@@ -100,23 +102,23 @@ class UnitTests(unittest.TestCase):
             done = subprocess.run(words, cwd=room, capture_output=True, text=True, timeout=60)
         return done.stdout.splitlines(), done.returncode
 
-    def test_a_class_that_is_skipped_counts_as_all_its_tests(self):
+    def test_a_class_that_is_skipped_counts_as_all_its_tests(self) -> None:
         lines, status = self.run_file(SOURCE % 'no reason')
         self.assertEqual((lines[-1], status), ('1 passed, 1 failed, 3 skipped', 1))
         self.assertIn('skipped: test_page.py::Page::test_b: no reason', lines)
         self.assertIn('skipped: test_page.py::Other::test_e: no tshark', lines)
         self.assertIn('AssertionError: 1 != 2', '\n'.join(lines))
 
-    def test_what_is_needed_and_is_not_there_fails_unless_it_may_be_skipped(self):
+    def test_what_is_needed_and_is_not_there_fails_unless_it_may_be_skipped(self) -> None:
         self.assertEqual(self.run_file(SOURCE % 'browser: none')[0][-1], '1 passed, 3 failed, 1 skipped')
         self.assertEqual(self.run_file(SOURCE % 'browser: none', 'browser')[0][-1], '1 passed, 1 failed, 3 skipped')
 
-    def test_a_file_that_runs_no_test_fails(self):
+    def test_a_file_that_runs_no_test_fails(self) -> None:
         for text in '', 'SyntaxError at once', 'import unittest\nclass A(unittest.TestCase): pass\n':
             lines, status = self.run_file(text)
             self.assertEqual((lines[-1], status != 0), ('0 passed, 1 failed, 0 skipped', True), text)
 
-    def test_without_pytest_it_says_what_to_install(self):
+    def test_without_pytest_it_says_what_to_install(self) -> None:
         with mock.patch.object(unit_tests, 'has', lambda module, python: False):
             with self.assertRaisesRegex(Fault, 'apt-get install python3-pytest'):
                 unit_tests.interpreter()

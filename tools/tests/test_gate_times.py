@@ -29,7 +29,8 @@ class Tasks(unittest.TestCase):
         self.assertEqual(gate_times.task_of(words, '/tmp/rt-edit-x1'), ('low', 'mutants'))
 
     def test_other_processes_are_none(self) -> None:
-        for words in (['/kit/bin/rattle', 'fmt', '--check'], ['rt', 'check', '--crate-name', 'low'], ['rattle'], []):
+        others: list[list[str]] = [['/kit/bin/rattle', 'fmt', '--check'], ['rt', 'check', '--crate-name', 'low'], ['rattle'], []]
+        for words in others:
             self.assertIsNone(gate_times.task_of(words, '/tree'))
 
     def test_time_is_that_of_the_process_and_of_its_children(self) -> None:

@@ -1,4 +1,6 @@
 """Which files the headline rests on, and in which order they are listed."""
+from __future__ import annotations
+
 import contextlib
 import io
 import sys
@@ -60,68 +62,68 @@ All `specs/` together have 6 files.
 
 
 class Lists(unittest.TestCase):
-    def setUp(self):
+    def setUp(self) -> None:
         room = tempfile.TemporaryDirectory()
         self.addCleanup(room.cleanup)
         self.top = Path(room.name)
         for name, text in FILES.items():
             self.put(name, text)
 
-    def put(self, name, text):
+    def put(self, name: str, text: str) -> None:
         path = self.top / name
         path.parent.mkdir(parents=True, exist_ok=True)
         path.write_text(text, 'utf-8')
 
-    def run_with(self, *words):
-        """What the command prints, and what it says where not all is well, else None."""
+    def run_with(self, *words: str) -> tuple[str, str]:
+        """What the command prints, and its messages if it fails, else an empty text."""
         said, told = io.StringIO(), io.StringIO()
         with mock.patch.object(headline, 'TOP', self.top), mock.patch.object(sys, 'argv', ['headline_files', *words]):
             with contextlib.redirect_stdout(said), contextlib.redirect_stderr(told):
                 with self.assertRaises(SystemExit) as end:
                     headline.main()
-        return said.getvalue(), told.getvalue() or said.getvalue() if end.exception.code else None
+        return said.getvalue(), (told.getvalue() or said.getvalue()) if end.exception.code else ''
 
-    def test_what_is_imported_is_listed_from_the_top_down(self):
+    def test_what_is_imported_is_listed_from_the_top_down(self) -> None:
         self.assertEqual(headline.listed(self.top), LIST)
 
-    def test_the_page_is_written_between_its_marks(self):
+    def test_the_page_is_written_between_its_marks(self) -> None:
         self.assertIn('another list', self.run_with('--check')[1])
-        self.assertEqual(self.run_with('--write'), ('', None))
+        self.assertEqual(self.run_with('--write'), ('', ''))
         page = (self.top / 'docs/proof/HEADLINE.md').read_text('utf-8')
         marked = headline.BEGIN + '\n' + headline.listed(self.top) + headline.END
         self.assertEqual(page, 'before\n' + marked + '\nbehind\n')
-        self.assertEqual(self.run_with('--check')[1], None)
+        self.assertEqual(self.run_with('--check')[1], '')
 
-    def test_a_page_grows_old_where_a_file_has_a_line_more(self):
+    def test_a_page_grows_old_where_a_file_has_a_line_more(self) -> None:
         self.run_with('--write')
         self.put('crates/low/specs/Near.antt', FILES['crates/low/specs/Near.antt'] + '\n')
         self.assertIn('another list', self.run_with('--check')[1])
 
-    def test_an_import_of_no_file_is_told(self):
+    def test_an_import_of_no_file_is_told(self) -> None:
         self.put('crates/low/specs/Near.antt', '-- What is near.\nuse Rattle.low.specs.Gone.{x}\n')
         self.assertIn('no file of crates/low/specs is Gone', self.run_with('--check')[1])
 
-    def test_an_import_of_another_form_is_told(self):
+    def test_an_import_of_another_form_is_told(self) -> None:
         self.put('crates/low/specs/Near.antt', '-- What is near.\nuse {x} from Rattle\n')
         self.assertIn('an import of a form', self.run_with('--check')[1])
 
-    def test_a_file_without_a_comment_is_told(self):
+    def test_a_file_without_a_comment_is_told(self) -> None:
         self.put('crates/low/specs/Near.antt', 'abbrev near : Type 0\n')
         self.assertIn('begins with no comment', self.run_with('--check')[1])
 
-    def test_files_that_import_each_other_are_told(self):
+    def test_files_that_import_each_other_are_told(self) -> None:
         self.put('crates/low/specs/Near.antt', '-- What is near.\nuse Rattle.low.specs.Ways.Far.{far}\n')
         self.assertIn('import each other', self.run_with('--check')[1])
 
-    def test_a_page_without_marks_is_told(self):
+    def test_a_page_without_marks_is_told(self) -> None:
         self.put('docs/proof/HEADLINE.md', 'a page\n')
         self.assertIn('lacks the marks', self.run_with('--write')[1])
 
 
 class ThisTree(unittest.TestCase):
-    def test_the_headline_rests_on_files_that_come_behind_it(self):
-        rests = headline.rests_of(headline.TOP)
-        crates = headline.crates_of(headline.TOP)
+    def test_the_headline_rests_on_files_that_come_behind_it(self) -> None:
+        rests = headline.rests_of(here.TOP)
+        crates = headline.crates_of(here.TOP)
         self.assertGreater(len(rests.files), 20)
         for path, below in rests.files.items():
             for it in below:

@@ -15,43 +15,43 @@ from project import kit, tree
 
 @unittest.skipUnless(shutil.which('rt'), 'the command rt of the Rattle kit is not here')
 class AtHand(unittest.TestCase):
-    def test_it_has_the_logic_that_is_named(self):
+    def test_it_has_the_logic_that_is_named(self) -> None:
         self.assertIsNone(kit.another())
 
-    def test_the_readme_names_it(self):
+    def test_the_readme_names_it(self) -> None:
         self.assertIn('`%s`' % LOGIC.split()[-1], (here.TOP / 'README.md').read_text('utf-8'))
 
-    def test_it_has_all_that_is_taken(self):
+    def test_it_has_all_that_is_taken(self) -> None:
         self.assertEqual(kit.lacking_in(kit.rt()), [])
 
-    def test_a_check_reads_the_parts_that_the_tools_know(self):
+    def test_a_check_reads_the_parts_that_the_tools_know(self) -> None:
         self.assertEqual(kit.parts(), tree.PARTS)
 
-    def test_a_crate_that_leaves_the_processors_is_called_nicely(self):
+    def test_a_crate_that_leaves_the_processors_is_called_nicely(self) -> None:
         kit._building()
         for does in False, True:
             kit.gives_way(does)
             self.assertEqual(kit.guarded()[-1:] == ['nice'], does)
 
-    def test_the_program_stands_on_the_crates_that_the_tools_find(self):
+    def test_the_program_stands_on_the_crates_that_the_tools_find(self) -> None:
         from motesim.runner.programs import crates_of_program
         program = kit.crate_named('motesim', here.TOP)
         self.assertEqual(sorted(it.name for it in [*program.below(), program]), crates_of_program(here.TOP))
 
 
 class Others(unittest.TestCase):
-    def test_another_kit_is_told(self):
+    def test_another_kit_is_told(self) -> None:
         said = 'the kit here is another kit, and what stands here was proved with %s' % KIT
         for at_hand, told in (KIT, None), ('rattle-kit-x %s' % LOGIC, None), ('another kit', said):
             with mock.patch.object(kit, 'version', lambda: at_hand):
                 self.assertEqual(bool(kit.another()), bool(told))
                 self.assertIn(told or 'None', str(kit.another()))
 
-    def test_a_kit_that_lacks_a_part_is_told(self):
+    def test_a_kit_that_lacks_a_part_is_told(self) -> None:
         self.assertIn('rtlib.lock', kit.lacking_in(types.SimpleNamespace(rtlib=types.SimpleNamespace(PARTS=()))))
 
-    def test_no_kit_is_told(self):
-        with mock.patch.object(kit.shutil, 'which', lambda name: None):
+    def test_no_kit_is_told(self) -> None:
+        with mock.patch('project.kit.shutil.which', lambda name: None):
             with self.assertRaisesRegex(Fault, 'rt of the Rattle kit is not here'):
                 kit.rt.__wrapped__()
 

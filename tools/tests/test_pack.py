@@ -13,6 +13,7 @@ from unittest import mock
 from here import TOP
 from motesim.faults import Fault
 from motesim.version import VERSION
+from project import compile as compiling
 from project import pack
 from stub import write_stub
 
@@ -75,17 +76,17 @@ class Pack(unittest.TestCase):
 
     def test_the_proved_program_is_packed_if_it_is_there(self) -> None:
         with mock.patch.object(pack, 'program_of_sources', lambda: TOP / 'proved-x/motesim'), mock.patch.object(
-                pack.compiling, 'make_fast') as made:
+                compiling, 'make_fast') as made:
             self.assertEqual(pack.program(), TOP / 'proved-x/motesim')
             made.assert_not_called()
 
     def test_without_one_the_fast_program_is_made_and_packed(self) -> None:
         found = [TOP / 'compiled-x/first', TOP / 'compiled-x/fast']
         with mock.patch.object(pack, 'program_of_sources', lambda: found.pop(0)), mock.patch.object(
-                pack.compiling, 'make_fast') as made:
+                compiling, 'make_fast') as made:
             self.assertEqual(pack.program().name, 'fast')
             made.assert_called_once()
-        with mock.patch.object(pack, 'program_of_sources', lambda: None), mock.patch.object(pack.compiling, 'make_fast'):
+        with mock.patch.object(pack, 'program_of_sources', lambda: None), mock.patch.object(compiling, 'make_fast'):
             with self.assertRaisesRegex(Fault, 'in the background'):
                 pack.program()
 

@@ -1,4 +1,6 @@
 """What ./prove estimates, and what it reads of a check."""
+from __future__ import annotations
+
 import contextlib
 import io
 import re
@@ -9,7 +11,9 @@ import tempfile
 import types
 import unittest
 import unittest.mock
+from collections.abc import Sequence
 from pathlib import Path
+from typing import Any
 
 from here import TOP as TREE
 
@@ -17,7 +21,7 @@ from project import kit, pace, progress, prove
 from unbuilt_tree import Tree, until
 
 
-def crate(name, *below):
+def crate(name: str, *below: Any) -> Any:
     return types.SimpleNamespace(name=name, below=lambda: list(below))
 
 
@@ -59,7 +63,7 @@ class Foretold(unittest.TestCase):
             it.began = began
             for second in range(0, round(100 * rate), 10):
                 it.shares['low'] = second / (100 * rate)
-                with unittest.mock.patch.object(pace.time, 'monotonic', lambda: began + second):
+                with unittest.mock.patch('project.pace.time.monotonic', lambda: began + second):
                     said.append(it.left())
             self.assertLess(max(said), 180 * max(rate, 1) * 1.2)
             left = (180 - 100 * it.shares['low']) * rate
@@ -78,43 +82,45 @@ class Foretold(unittest.TestCase):
 
 
 class Jobs(unittest.TestCase):
-    def asked(self, crate, ready, running, done=()):
+    def asked(self, crate: Any, ready: list[Any], running: list[Any], done: Sequence[str] = ()) -> tuple[int, bool]:
         it = estimate(4)
-        it.shares.update(dict.fromkeys(done, 1))
+        it.shares.update(dict.fromkeys(done, 1.0))
         return prove.jobs_of(crate, ready, running, it)
 
-    def test_the_crate_that_all_wait_for_has_all_processors(self):
+    def test_the_crate_that_all_wait_for_has_all_processors(self) -> None:
         self.assertEqual(self.asked(LOW, [LOW, SIDE], []), (4, False))
         self.assertEqual(self.asked(MIDDLE, [MIDDLE], [SIDE], ['low']), (4, False))
 
-    def test_another_one_has_a_part_of_the_idle_ones_and_gives_way(self):
+    def test_another_one_has_a_part_of_the_idle_ones_and_gives_way(self) -> None:
         self.assertEqual(self.asked(SIDE, [SIDE], [LOW]), (3, True))
         self.assertEqual(self.asked(SIDE, [SIDE, MIDDLE], [LOW]), (1, True))
 
-    def test_a_crate_that_is_nearly_proved_holds_up_no_longer_than_that(self):
+    def test_a_crate_that_is_nearly_proved_holds_up_no_longer_than_that(self) -> None:
         it = estimate(4)
         with unittest.mock.patch.object(it, 'left_of', lambda it: {'low': 0, 'side': 60}.get(it.name, SECONDS[it.name])):
             self.assertEqual(prove.jobs_of(SIDE, [SIDE], [LOW], it), (4, False))
 
 
 class Libraries(unittest.TestCase):
-    def test_a_library_that_is_proved_is_the_kits_own_until_a_source_changes(self):
+    def test_a_library_that_is_proved_is_the_kits_own_until_a_source_changes(self) -> None:
         with tempfile.TemporaryDirectory() as room:
-            low = types.SimpleNamespace(rlib=room + '/out/rlib/low.rlib', stamp=lambda: 'sum',
+            low: Any = types.SimpleNamespace(rlib=room + '/out/rlib/low.rlib', stamp=lambda: 'sum',
                                         words=lambda flags, keeps: ['words', *flags])
+            called: list[tuple[str, ...]] = []
             for status, is_stamped in [(1, False), (0, True), (1, False)]:
-                low.call = lambda *words, status=status: self.called.append(words[1:]) or status
-                self.called = []
+                called.clear()
+                low.call = lambda *words, status=status: (called.append(words[1:]), status)[1]
                 self.assertEqual(kit.write_rlib(low, ['--jobs', '2']), status)
-                self.assertEqual(self.called, [('build', 'words', '--jobs', '2', '--statements', '-o', low.rlib)])
+                self.assertEqual(called, [('build', 'words', '--jobs', '2', '--statements', '-o', low.rlib)])
                 self.assertEqual(Path(low.rlib).with_name('stamp').is_file(), is_stamped)
 
 
 class Logs(unittest.TestCase):
-    def test_a_log_tells_how_much_is_checked(self):
+    def test_a_log_tells_how_much_is_checked(self) -> None:
         with tempfile.TemporaryDirectory() as room:
-            shares = {}
-            log = prove.Log(types.SimpleNamespace(name='low', folder=room), shares)
+            shares: dict[str, float] = {}
+            low: Any = types.SimpleNamespace(name='low', folder=room)
+            log = prove.Log(low, shares)
             for line, share in [('anything', 0), ('so far: 1 of 4 functions checked\n', 0.225), ('checked low::f, 2 of 4\n', 0.45),
                                 ('axioms (2 of the 22 declared)\n', 0.45)]:
                 log.write(line)
@@ -127,11 +133,11 @@ class Logs(unittest.TestCase):
 class Proof(Tree):
     """A proof of a small program by the kit."""
 
-    def setUp(self):
+    def setUp(self) -> None:
         super().setUp()
         (self.top / 'crates.txt').write_text('motesim:\n')
 
-    def provers(self):
+    def provers(self) -> list[str]:
         found = []
         for path in Path('/proc').glob('[0-9]*/cwd'):
             with contextlib.suppress(OSError):
@@ -139,11 +145,12 @@ class Proof(Tree):
                     found.append(path.parent.name)
         return found
 
-    def test_it_is_interrupted_and_resumed_and_builds_the_program(self):
+    def test_it_is_interrupted_and_resumed_and_builds_the_program(self) -> None:
         for number in signal.SIGINT, signal.SIGTERM:
             running = self.begin(self.top / 'prove')
+            assert running.stdout
             self.assertIn('proving 1 crate:', running.stdout.readline())
-            self.assertTrue(until(self.provers, 60))
+            self.assertTrue(until(lambda: bool(self.provers()), 60))
             running.send_signal(number)
             self.assertEqual(running.wait(10), 128 + number)
             self.assertIn('./prove continues', running.stdout.read())
@@ -155,7 +162,7 @@ class Proof(Tree):
         self.assertEqual((self.run_it(self.link).returncode, self.run_it(self.link).stderr), (0, ''))
         self.assertIn('built already', self.run_it(self.top / 'prove').stderr)
 
-    def test_what_is_not_proved_is_shown(self):
+    def test_what_is_not_proved_is_shown(self) -> None:
         self.source.write_text('fn main() {\n    let a: [u8; 1] = [0];\n    let i = 3;\n    let b = a[i];\n}\n')
         done = subprocess.run([self.top / 'prove'], cwd=self.room, stdin=subprocess.DEVNULL, capture_output=True, text=True)
         self.assertEqual(done.returncode, 2)
@@ -164,7 +171,7 @@ class Proof(Tree):
 
 
 class Lines(unittest.TestCase):
-    def test_names_are_whole(self):
+    def test_names_are_whole(self) -> None:
         names = ['process_kernel', 'program_reader', 'radio_medium']
         for width in range(8, 120):
             line = progress.fitted('3 of 33 proved', names, width)
@@ -175,7 +182,7 @@ class Lines(unittest.TestCase):
                          if len('3 of 33 proved (now process_kernel and 2 more)') <= 44 else '3 of 33 proved')
         self.assertIn('process_kernel, program_reader, radio_medium)', progress.fitted('3 of 33 proved', names, 90))
 
-    def test_a_file_has_no_line_that_is_renewed(self):
+    def test_a_file_has_no_line_that_is_renewed(self) -> None:
         said = io.StringIO()
         line = progress.Line(said)
         line.renew('3 of 33 proved', ['low'])

@@ -1,4 +1,6 @@
 """Which answers of a refused run are as they should be, and how many requests of a small program are refused."""
+from __future__ import annotations
+
 import contextlib
 import io
 import shutil
@@ -11,8 +13,9 @@ from unittest import mock
 
 from here import TOP
 from project import memory as refuse
+from project.runs import Answer
 
-WHOLE = refuse.Answer(0, b'mote 0 p\nleft 0\n', b'')
+WHOLE = Answer(0, b'mote 0 p\nleft 0\n', b'')
 NO_MEMORY = b'motesim: out of memory\n'
 NO_THREAD = b'motesim: run fault 5\n'
 STOPPED = b'motesim: run fault 6\n'
@@ -57,16 +60,16 @@ int main(void) {
 
 
 class Kinds(unittest.TestCase):
-    def test_answers_that_may_be(self):
+    def test_answers_that_may_be(self) -> None:
         for status, report, fault, by_workers, kind in [
             (0, WHOLE.output, b'', False, 'the same answer'),
             (1, b'', NO_MEMORY, False, 'out of memory'),
             (1, b'mote 0 p\n', NO_MEMORY, True, 'out of memory'),
             (1, b'', NO_THREAD, True, 'no thread'),
         ]:
-            self.assertEqual(refuse.kind_of(refuse.Answer(status, report, fault), WHOLE, by_workers), kind)
+            self.assertEqual(refuse.kind_of(Answer(status, report, fault), WHOLE, by_workers), kind)
 
-    def test_answers_that_may_not_be(self):
+    def test_answers_that_may_not_be(self) -> None:
         for status, report, fault, by_workers in [
             (0, b'mote 0 p\n', b'', False),
             (0, b'', NO_MEMORY, False),
@@ -77,36 +80,36 @@ class Kinds(unittest.TestCase):
             (-11, b'', b'', True),
             (None, b'', b'no answer in 60 seconds', True),
         ]:
-            self.assertIsNone(refuse.kind_of(refuse.Answer(status, report, fault), WHOLE, by_workers))
+            self.assertIsNone(refuse.kind_of(Answer(status, report, fault), WHOLE, by_workers))
 
 
 class Runs(unittest.TestCase):
-    def run_with(self, *words):
+    def run_with(self, *words: str) -> tuple[str, object]:
         said = io.StringIO()
         with mock.patch.object(sys, 'argv', ['refuse_memory', *words]), contextlib.redirect_stdout(said):
             with contextlib.redirect_stderr(said), self.assertRaises(SystemExit) as end:
                 refuse.main()
         return said.getvalue(), end.exception.code
 
-    def test_without_a_compiler_all_fails(self):
-        with mock.patch.object(refuse.shutil, 'which', lambda name: None):
+    def test_without_a_compiler_all_fails(self) -> None:
+        with mock.patch('project.memory.shutil.which', lambda name: None):
             said, code = self.run_with('--program', sys.executable)
         self.assertIn('nothing is tried', said)
         self.assertEqual(said.splitlines()[-1], '0 passed, %d failed' % len(refuse.SMALL))
         self.assertEqual(code, 1)
 
     @unittest.skipUnless(shutil.which('rt'), 'the command rt of the Rattle kit is not here')
-    def test_the_kits_compiler_serves_too(self):
+    def test_the_kits_compiler_serves_too(self) -> None:
         which = shutil.which
-        with mock.patch.object(refuse.shutil, 'which', lambda name: None if name == 'cc' else which(name)):
+        with mock.patch('project.memory.shutil.which', lambda name: None if name == 'cc' else which(name)):
             with tempfile.TemporaryDirectory() as room:
-                self.assertTrue(refuse.compiled(Path(room), refuse.compiler()).is_file())
+                self.assertTrue(refuse.compiled(Path(room), refuse.compiler() or []).is_file())
 
-    def test_without_a_program_it_fails(self):
+    def test_without_a_program_it_fails(self) -> None:
         self.assertIn('there is no program', self.run_with('--program', '/nowhere/motesim')[0])
 
     @unittest.skipUnless(shutil.which('cc'), 'there is no C compiler cc here')
-    def test_each_request_of_a_small_program(self):
+    def test_each_request_of_a_small_program(self) -> None:
         for calm, shown in (0, '3 times out of memory'), (2, '2 times out of memory, 1 times the same answer'):
             with self.subTest(calm=calm), tempfile.TemporaryDirectory() as room:
                 scenario, source, program = (Path(room) / name for name in ('s.toml', 'p.c', 'p'))
@@ -120,7 +123,7 @@ class Runs(unittest.TestCase):
                 self.assertEqual(code, 0)
 
     @unittest.skipUnless(shutil.which('cc'), 'there is no C compiler cc here')
-    def test_a_start_is_refused(self):
+    def test_a_start_is_refused(self) -> None:
         # (a start asks for a stack, and for memory of the thread's own; the second one takes those of a thread that has
         # ended)
         for joins, shown in (0, '4 times no thread'), (1, '2 times no thread, 1 times the same answer'):
@@ -135,7 +138,7 @@ class Runs(unittest.TestCase):
                 self.assertEqual((said.splitlines()[-1], code), ('1 passed, 0 failed', 0))
 
     @unittest.skipUnless(shutil.which('cc'), 'there is no C compiler cc here')
-    def test_a_run_that_does_not_end(self):
+    def test_a_run_that_does_not_end(self) -> None:
         with tempfile.TemporaryDirectory() as room, mock.patch.object(refuse, 'SECONDS', 1):
             scenario, source, program = (Path(room) / name for name in ('s.toml', 'p.c', 'p'))
             scenario.write_text('')
@@ -149,7 +152,7 @@ class Runs(unittest.TestCase):
 
 
 class Small(unittest.TestCase):
-    def test_scenarios_without_a_name(self):
+    def test_scenarios_without_a_name(self) -> None:
         words = [' '.join(words) for _, words in refuse.SMALL]
         for wanted, number in [('', 5), ('--workers 2 --sync joins', 5), ('--workers 3 --sync joins', 4),
                                ('--workers 2 --sync marks', 4), ('--workers 3 --sync marks', 4)]:
@@ -160,26 +163,26 @@ class Small(unittest.TestCase):
 
 
 class Calls(unittest.TestCase):
-    def test_what_may_be_answered(self):
-        kind_of, wanted = refuse.kind_of_calls, refuse.Answer(0, b'\ntest result: ok', b'')
+    def test_what_may_be_answered(self) -> None:
+        kind_of, wanted = refuse.kind_of_calls, Answer(0, b'\ntest result: ok', b'')
         self.assertEqual(kind_of(wanted, wanted), 'the same answer')
         no_memory = b'error: Memory\nthe test failed: its result gives status 1\n'
-        self.assertEqual(kind_of(refuse.Answer(101, b'', no_memory), wanted), 'nothing to ask')
-        for got in [refuse.Answer(0, b'', b''), refuse.Answer(None, b'', b''), refuse.Answer(1, b'', NO_MEMORY),
-                    refuse.Answer(-6, b'', b'assertion failed: all_fail_for_good(..)?'), refuse.Answer(-11, b'', b'')]:
+        self.assertEqual(kind_of(Answer(101, b'', no_memory), wanted), 'nothing to ask')
+        for got in [Answer(0, b'', b''), Answer(None, b'', b''), Answer(1, b'', NO_MEMORY),
+                    Answer(-6, b'', b'assertion failed: all_fail_for_good(..)?'), Answer(-11, b'', b'')]:
             self.assertIsNone(kind_of(got, wanted))
-        broken = refuse.Answer(-6, b'', b'assertion failed: all_fail_for_good(..)?')
+        broken = Answer(-6, b'', b'assertion failed: all_fail_for_good(..)?')
         self.assertIsNone(kind_of(broken, broken))
         # (a test that returns an error where nothing is refused: no such test, say)
-        unasked = refuse.Answer(101, b'', b'')
+        unasked = Answer(101, b'', b'')
         self.assertIsNone(kind_of(unasked, unasked))
 
-    def test_the_test_is_there(self):
+    def test_the_test_is_there(self) -> None:
         module = refuse.CALLS_TEST.split('::')
         source = refuse.CALLS / 'src' / '/'.join(module[:-1])
         self.assertIn('fn %s(' % module[-1], source.with_suffix('.rt').read_text('utf-8'))
 
-    def test_tests_that_are_missing(self):
+    def test_tests_that_are_missing(self) -> None:
         said = io.StringIO()
         with mock.patch.object(refuse, 'CALLS', TOP / 'crates/no_such_calls'), contextlib.redirect_stdout(said):
             self.assertFalse(refuse.calls_tried(Path('refuses.so')))

@@ -231,12 +231,11 @@ class Log(unittest.TestCase):
     def setUp(self) -> None:
         room = tempfile.TemporaryDirectory()
         self.addCleanup(room.cleanup)
-        self.room = Path(room.name)
+        self.room, self.kit = Path(room.name), 'one'
         for name, value in ('KEPT', self.room / 'log/kept.tsv'), ('version', lambda: self.kit), ('is_there', lambda it: 'gone' not in it):
             patch = mock.patch.object(log, name, value)
             patch.start()
             self.addCleanup(patch.stop)
-        self.kit = 'one'
 
     def test_the_last_try_is_noted(self) -> None:
         first, last = Verdict(CONTRACT, 'c::f', 'returns'), Verdict(ANSWER, '', 'an\terror ' + 'x' * 999)
