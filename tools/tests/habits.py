@@ -680,7 +680,7 @@ class Habit(NamedTuple):
 
 
 def habit(name: str, scenario: str, meant: str, typed: str, at: str = '', nth: int = 1) -> Habit:
-    """A line that is typed in another way than it is meant: the nth line of a scenario that is `at`, or else `meant`."""
+    """A line that is typed in another way than it is meant: the nth one of a scenario that is `at`, or `meant`."""
     lines = scenario.split('\n')
     places = [number for number, line in enumerate(lines) if line.strip() == (at or meant)]
     place = places[nth - 1]

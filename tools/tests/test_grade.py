@@ -110,7 +110,8 @@ class Entries(Folder):
             'x.toml': '0 of 3  an empty folder', 'gone.toml': '0 of 3  a link, and not a file',
             'other.toml': '0 of 3  a link, and not a file', 'pipe.toml': '0 of 3  a pipe, and not a file',
             'socket.toml': '0 of 3  a socket, and not a file',
-            'deep.toml': '0 of 3  the file is not TOML: Arrays or tables are nested too deeply (at line 1, column 1005)',
+            'deep.toml': '0 of 3  the file is not TOML: Arrays or tables are nested too deeply (at line 1, column '
+            '1005)',
             'notes.txt': '0 of 3  its name ends neither in .toml nor in .mote',
             'bytes.toml': '0 of 3  the file is not UTF-8 text',
             'large.toml': '0 of 3  the file is longer than 1,048,576 bytes'})
@@ -191,7 +192,8 @@ class Nets(Folder):
     def test_a_sentence_that_fits_no_solution_is_told_beside_the_table(self) -> None:
         (self.top / 'task.expect.toml').write_text('expect = ["no mote halts", "mote 0 prints c"]\n')
         self.assertEqual(self.rows(), {'anna.toml': '1 of 2  broken: 2; no process `c` (it has `a`)'})
-        self.assertIn('no solution has what sentence 2 is about (mote 0 prints c): anna.toml has no process `c`', self.told)
+        self.assertIn('no solution has what sentence 2 is about (mote 0 prints c): anna.toml has no process `c`',
+                      self.told)
 
 
 class LimitsOfRuns(Folder):
@@ -207,7 +209,8 @@ class LimitsOfRuns(Folder):
     def test_memory(self) -> None:
         self.hand_in('memory.toml', net('// memory\n' + PROGRAM % 3))
         self.stub.write_text(self.stub.read_text().replace(
-            "    if '// wait'", "    if '// memory' in text:\n        much = b'1' * 400_000_000\n        time.sleep(60)\n"
+            "    if '// wait'", "    if '// memory' in text:\n        much = b'1' * 400_000_000\n        "
+            "time.sleep(60)\n"
                             "    if '// wait'"))
         self.assertEqual(self.rows('--memory', '100', '--seconds', '20'), {
             'anna.toml': '3 of 3',

@@ -16,9 +16,11 @@ from skips import need_program
 NAME = 'typed.toml'
 # Where no line can be known: a part of the hint from which it is written.
 SAID = {
-    'c-switch': '`if (mode == 1) { .. } else {', 'c-case': '`if (x == 2) { print 2; }`', 'c-continue': 'into the block of an `else`',
+    'c-switch': '`if (mode == 1) { .. } else {', 'c-case': '`if (x == 2) { print 2; }`',
+    'c-continue': 'into the block of an `else`',
     'c-var-named-like-process': 'another name is needed here, such as `token2`',
-    'c-thread-used-before-declared': 'A thread never spawns itself', 'c-var-of-other-process': 'Declare another at the head',
+    'c-thread-used-before-declared': 'A thread never spawns itself',
+    'c-var-of-other-process': 'Declare another at the head',
     'c-number-too-large': '65535 moments at most', 'contiki-wait-in-ctimer': 'A callback can\'t wait',
     'contiki-broadcast-send': '`send x;`', 'contiki-unicast-send': '`send ((dest * 256) + x);`',
     'contiki-data-assigned': 'Assign to a variable of your own',
@@ -89,7 +91,8 @@ class Habits(unittest.TestCase):
         for it in HABITS:
             if it.name not in {*SAID, *OTHERS, *LACKING}:
                 with self.subTest(it.name):
-                    self.assertEqual(self.report(it, repaired(it.typed, message(it.typed)) or ''), self.report(it, it.meant))
+                    self.assertEqual(self.report(it, repaired(it.typed, message(it.typed)) or ''), self.report(it,
+                        it.meant))
 
     def report(self, it: Habit, text: str) -> bytes:
         got = answer(text.encode())

@@ -106,8 +106,10 @@ class Hints(unittest.TestCase):
             (scenario().replace('program = "source"', 'program = "sorce"'), '`source`'),
             (scenario(version='3'), 'versions 1 and 2'), (scenario().replace('end = 9', 'ende = 9'), '`end`'),
             (scenario().replace('program = "source"', 'program = source'), 'quotes'),
-            (scenario().replace('[medium]', '[medium'), '`[medium]`'), (scenario().replace('[[mote]]', '[[mote]'), '`[[mote]]`'),
-            (scenario().replace('end = 9', 'end 9'), '`end = 5`'), (scenario().replace('end = 9', 'end = 9 x = 1'), 'of their own'),
+            (scenario().replace('[medium]', '[medium'), '`[medium]`'), (scenario().replace('[[mote]]', '[[mote]'),
+                                                                        '`[[mote]]`'),
+            (scenario().replace('end = 9', 'end 9'), '`end = 5`'), (scenario().replace('end = 9', 'end = 9 x = 1'),
+                                                                    'of their own'),
             (scenario().replace('end = 9', 'end = 9\nend = 9'), 'once'), (scenario() + '[medium]\n', 'once'),
             (scenario().replace('[[mote]]', '[mote]', 1), '`[[mote]]`'),
             (scenario().replace('program = "source"', 'program = \u201csource\u201d'), 'quotes of another kind'),
@@ -157,13 +159,15 @@ class Warnings(unittest.TestCase):
         report = ''.join('mote %d source\n0 start a\n0 halt\n' % it for it in range(Scenario.parse(text).motes))
         found = warnings(Scenario.parse(text), Report.parse(report + 'medium\nleft 0\n'))
         self.assertEqual([it.text for it in found if 'halt' in it.text], [
-            'a loop without an end, in which nothing waits: the mote halts when its work is used up (motes 0, 1, 2, 3)'])
+            'a loop without an end, in which nothing waits: the mote halts when its work is used up (motes 0, 1, 2, '
+            '3)'])
 
     def test_many_places_of_one_cause_are_counted(self) -> None:
         text = scenario(program=CODE % 'send 1;', x=50) + ''.join(
             '[[mote]]\nx = %d\ny = 0\nprogram = "source"\n' % (100 + 50 * it) for it in range(10))
         found = [it.text for it in warnings(Scenario.parse(text)) if 'nobody hears it' in it.text]
-        self.assertEqual(found, ['mote 0 sends, and nobody hears it: no mote is within `range`; the same goes for 11 more '
+        self.assertEqual(found, ['mote 0 sends, and nobody hears it: no mote is within `range`; the same goes for 11 '
+                                 'more '
                                  'motes: 1, 2, 3, 4, 5, 6, 7, 8, ..'])
 
     def test_a_loss_that_loses_nothing_is_shown_at_the_loss(self) -> None:
@@ -227,7 +231,8 @@ class Flows(unittest.TestCase):
         text = FLOW.replace('3 send 0 7\nmote 2', '3 send 0 7\n4 send 1 107\nmote 2').replace(
             '5 0 1 8 1@lost', '4 1 1 107 0@lost\n5 0 1 8 1@lost')
         report = Report.parse(text)
-        found = {words: flow_rows(report, None, words)[-1] for words in ('print sink', 'print sink 0 to 99', 'print sink 7')}
+        found = {words: flow_rows(report, None, words)[-1] for words in ('print sink', 'print sink 0 to 99',
+                                                                         'print sink 7')}
         self.assertEqual([found[words]['sent'] for words in found], [3, 2, 1])
         self.assertEqual([found[words]['delivered'] for words in found], [1, 1, 1])
         self.assertEqual(str(read_flow('send 1 to 99 -> print sink 7')[0]), 'send 7')

@@ -96,7 +96,7 @@ class PlotTest(unittest.TestCase):
         done = subprocess.run([sys.executable, '-B', '-I', '-S', '-c', source], cwd=self.folder, text=True,
                               env={**os.environ, packages.HANDED_ON: '1'}, capture_output=True)
         self.assertEqual((done.returncode, ' '.join(done.stdout.split())), (1, ' '.join(TABLE.split())), done)
-        self.assertEqual(done.stderr, 'plot: tables in place of pictures, since matplotlib is not installed: on '
+        self.assertEqual(done.stderr, 'plot: tables instead of pictures, since matplotlib is not installed: on '
                          'Debian `apt-get install python3-matplotlib` installs it, for /usr/bin/python3\n')
         self.assertFalse((self.folder / 'a.svg').exists())
 

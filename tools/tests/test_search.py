@@ -553,8 +553,8 @@ code flood {
     def test_what_is_told_of_wrong_words(self):
         with folder_with() as folder:
             for words, wanted in ((('--faults', 'lynx'), 'there is no kind of fault lynx'),
-                                  (('--faults', 'values'), 'takes --set'),
-                                  (('--faults', 'values', '--set', 'end=5'), 'the kind `values` takes --set'),
+                                  (('--faults', 'values'), 'needs --set'),
+                                  (('--faults', 'values', '--set', 'end=5'), 'the kind `values` needs --set'),
                                   (('--faults', 'parameters', '--set', 'a=5'), 'is for plans'),
                                   (('--faults', 'links', '--set', 'range=5'),
                                    '--set range is for the kind `values`: --faults links,values'),

@@ -20,7 +20,8 @@ from skips import interpreter_with
 
 # From a printed table of Student's t: the confidence, the degrees of freedom, and the value.
 OF_T = [(0.95, 1, 12.706), (0.95, 2, 4.303), (0.95, 4, 2.776), (0.95, 9, 2.262), (0.95, 29, 2.045), (0.95, 120, 1.980),
-        (0.99, 1, 63.657), (0.99, 9, 3.250), (0.90, 9, 1.833), (0.90, 1, 6.314), (0.50, 10, 0.700), (0.95, 100_000, 1.960)]
+        (0.99, 1, 63.657), (0.99, 9, 3.250), (0.90, 9, 1.833), (0.90, 1, 6.314), (0.50, 10, 0.700), (0.95, 100_000,
+                                                                                                     1.960)]
 
 
 class Estimates(unittest.TestCase):
@@ -63,7 +64,8 @@ class Estimates(unittest.TestCase):
     def test_the_interval_of_a_share_stays_within_0_and_1(self) -> None:
         shares = [0.99, 1.0, 1.0, 0.9, 1.0]
         self.assertGreater(estimates.mean_by_t(shares, 0.95).high or 0, 1)
-        for values, method in ((shares, 'bootstrap'), ([0.5, 0.6, 0.55], 't'), ([1, 1, 1, 0], 'wilson'), ([1, 1, 3], 't')):
+        for values, method in ((shares, 'bootstrap'), ([0.5, 0.6, 0.55], 't'), ([1, 1, 1, 0], 'wilson'), ([1, 1, 3],
+                                                                                                          't')):
             kind = estimates.measured(values)
             self.assertEqual(estimates.method_of(values, 0.95, 't', kind), method)
             found = Wish('m', show='mean').estimate(values, kind)
@@ -185,7 +187,8 @@ class Command(unittest.TestCase):
 
     def test_means_with_intervals(self) -> None:
         rows = self.plot('--measure', 'sent', '--against', 'period', '--where', 'density=thin', '--show', 'mean')
-        self.assertEqual(' '.join(rows[0]), "sent against period, over seed: means with intervals of 95 % by Student's t")
+        self.assertEqual(' '.join(rows[0]), "sent against period, over seed: means with intervals of 95 % by "
+                                            "Student's t")
         # (the seeds 1 to 5 around 3: 2.776 * 0.7071 = 1.963)
         self.assertEqual(rows[2], ['1', '5', '13.000', '11.037', '14.963'])
         rows = self.plot('--measure', 'sent', '--against', 'period', '--show', 'mean', '--interval', 'bootstrap',
@@ -221,7 +224,8 @@ class Command(unittest.TestCase):
         self.assertIn('width="460.8', usual.replace("'", '"'))
         for shown in 'sent against period', 'mean, and intervals':
             self.assertIn(shown, usual)
-        self.plot(*words, '--title', '', '--footer', '', '--x', 'period in moments', '--y', 'packets', '--size', '12.7x7.62')
+        self.plot(*words, '--title', '', '--footer', '', '--x', 'period in moments', '--y', 'packets', '--size',
+                  '12.7x7.62')
         plain = (self.folder / 'a.svg').read_text()
         self.assertRegex(plain, 'width="360pt" height="216pt"')
         for shown in 'period in moments', 'packets':
@@ -239,7 +243,8 @@ class Command(unittest.TestCase):
         interpreter_with(self, 'matplotlib')
         for name, head, words in (
                 ('a.svg', b'<?xml', ('--against', 'period', '--show', 'mean', '--threshold', '20')),
-                ('b.pdf', b'%PDF-', ('--against', 'period', '--show', 'points')), ('c.png', b'\x89PNG', ('--show', 'cdf')),
+                ('b.pdf', b'%PDF-', ('--against', 'period', '--show', 'points')), ('c.png', b'\x89PNG', ('--show',
+                                                                                                         'cdf')),
                 ('d.svg', b'<?xml', ('--against', 'period', '--by', 'density', '--show', 'heat')),
                 ('e.svg', b'<?xml', ('--against', 'ratio')), ('f.pdf', b'%PDF-', ('--against', 'period', '--compare',
                                                                                  'more.csv'))):

@@ -317,7 +317,7 @@ class SweepTest(Bed):
         os.killpg(run.pid, signal.SIGINT)
         out, told = run.communicate(timeout=60)
         self.assertEqual((run.returncode, out), (130, ''), told)
-        self.assertRegex(told, r'^sweep: stopped with [1-4] runs missing; the same command goes on\n$')
+        self.assertRegex(told, r'^sweep: stopped with [1-4] runs missing; the same command continues\n$')
         rows = self.rows()
         self.assertGreaterEqual(len(rows), 4)
         self.assertEqual(sorted(row['prints'] for row in rows if row['name'] == 'a'), ['1', '2', '3', '4'])
@@ -432,7 +432,7 @@ class DaskTest(Bed):
                              (0, 'dask.csv: 6 runs, 6 of them now, 0 with a fault\n'), done)
             self.assertEqual((self.folder / 'dask.csv').read_bytes(), (self.folder / 'net.csv').read_bytes())
             if not packages.is_here('distributed'):
-                self.assertIn('%s has it, and goes on' % packages.SYSTEM, done.stderr)
+                self.assertIn('%s has it, and continues' % packages.SYSTEM, done.stderr)
         finally:
             cluster.stdin.close()
             cluster.wait(60)

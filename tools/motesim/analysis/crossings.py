@@ -1,9 +1,9 @@
 """Where a curve crosses a threshold, with the interval of that place.
 
 The curve has the mean of the runs at each value of the parameter, and straight lines between. For the interval the runs
-are drawn again with replacement (the bootstrap): each time the curve crosses somewhere else, or not. If values have runs
-with the same seeds, it is the seeds that are drawn, the same for the whole curve, since runs of one seed have much in
-common; otherwise the runs of each value are drawn by themselves.
+are drawn again with replacement (the bootstrap): each time the curve crosses somewhere else, or not. If values have
+runs with the same seeds, it is the seeds that are drawn, the same for the whole curve, since runs of one seed have
+much in common; otherwise the runs of each value are drawn by themselves.
 """
 from __future__ import annotations
 
@@ -19,7 +19,7 @@ Key = Hashable
 
 
 class Crossing(NamedTuple):
-    """The first place at which a curve crosses: whether it rises, the interval, and how often the drawn curves cross."""
+    """The first place at which a curve crosses: whether it rises, its interval, and how often drawn curves cross."""
     at: float
     is_rising: bool
     low: float

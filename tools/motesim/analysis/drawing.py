@@ -32,7 +32,8 @@ METADATA: dict[str, dict[str, str | None]] = {
 def _pyplot() -> Any:
     matplotlib: Any = packages.load('matplotlib')
     matplotlib.use('Agg')
-    matplotlib.rcParams.update({'svg.hashsalt': 'motesim', 'svg.fonttype': 'none', 'pdf.fonttype': 42, 'font.size': 10})
+    matplotlib.rcParams.update({'svg.hashsalt': 'motesim', 'svg.fonttype': 'none', 'pdf.fonttype': 42,
+                                'font.size': 10})
     return packages.load('matplotlib.pyplot')
 
 
@@ -47,7 +48,8 @@ def size_of(text: str) -> tuple[float, float]:
     if not text:
         return SIZE
     if not found or not all(LEAST_SIDE <= float(it) <= MOST_SIDE for it in found.groups()):
-        raise Fault('the size of a picture is WIDTHxHEIGHT in centimetres, %d to %d each, such as 16x10, and not %r' % (
+        raise Fault('the size of a picture is WIDTHxHEIGHT in centimetres, %d to %d each, such as 16x10, and not %r' %
+                    (
             LEAST_SIDE, MOST_SIDE, text))
     return float(found[1]), float(found[2])
 
@@ -65,7 +67,8 @@ def _words_around(figure: Any, axes: Any, wish: Wish, title: str, footer: str) -
         axes.set_title(_folded(figure, head, 11 if wish.title else 9), loc='left', fontsize=11 if wish.title else 9)
     foot = footer if wish.footer is None else wish.footer
     if foot:
-        axes.annotate(_folded(figure, foot, 7), (1, 0), (0, -34), 'axes fraction', 'offset points', ha='right', va='top',
+        axes.annotate(_folded(figure, foot, 7), (1, 0), (0, -34), 'axes fraction', 'offset points', ha='right',
+                      va='top',
                       fontsize=7, color='#555555')
 
 
@@ -147,7 +150,7 @@ def _draw_heat(figure: Any, axes: Any, shown: Shown, wish: Wish) -> None:
 def _scale(axes: Any, places: list[Cell], wish: Wish, is_scale: bool) -> None:
     """The axis from left to right."""
     if wish.log and not all(isinstance(it, int | float) and it > 0 for it in places):
-        raise Fault('values of %s are not above 0, and --log takes only such' % wish.against)
+        raise Fault('--log needs values above 0, and some of %s are not' % wish.against)
     if is_scale and wish.log:
         axes.set_xscale('log', base=2)
     if not is_scale or len(places) <= MOST_TICKS:

@@ -103,7 +103,7 @@ def number_of(row: Row, measure: str) -> float | None:
     """The value of a measure; a text is a fault."""
     value = row[measure]
     if type(value) is str:
-        raise Fault('the measure %s has texts, as %r' % (measure, value))
+        raise Fault('the measure %s has texts, such as %r' % (measure, value))
     return None if value is None else float(value)
 
 

@@ -100,7 +100,8 @@ def crossings(shown: Shown, wish: Wish) -> list[str]:
         its = [point for point in shown.points if point.by == by]
         if not all(isinstance(point.against, int | float) for point in its):
             raise Fault('a threshold is crossed along numbers, and %s has others' % wish.against)
-        found = crossing([(point.x, point.values) for point in its], threshold, wish.part, [point.keys for point in its])
+        found = crossing([(point.x, point.values) for point in its], threshold, wish.part,
+                         [point.keys for point in its])
         name = '%s %s: ' % (wish.by, text_of(by)) if wish.by else ''
         if found is None:
             lines.append('%sthe mean doesn\'t cross %g' % (name, threshold))

@@ -85,7 +85,7 @@ def sweep_of(plan: Plan, vary: Sequence[str], measures: Sequence[str], seconds: 
     for words in vary:
         name, sign, text = words.partition('=')
         if not sign:
-            raise Fault('--vary takes NAME=VALUES, and not %r' % words)
+            raise Fault('--vary needs NAME=VALUES, not %r' % words)
         asked[name] = values_of(text)
     plan.with_given({name: values[0] for name, values in asked.items()})
     if not all(type(it) is str for it in table['measure']):

@@ -127,7 +127,7 @@ def _plain(sentence: Sentence, words: str) -> Does:
     if not isinstance(sentence, Does) or sentence.deed.way != 'any' or sentence.than or sentence.relation:
         raise MeasureFault('%r has no moment: such are `mote 3 prints flood 1` and `every mote sends`' % words)
     if sentence.motes.kind not in kinds or sentence.count.compare in ('at most', 'fewer than'):
-        raise MeasureFault('%r has no moment: it speaks of what is not to be' % words)
+        raise MeasureFault('%r has no moment: it says what must not happen' % words)
     return sentence
 
 
@@ -145,12 +145,12 @@ def _guarded(work: Callable[[Judge], Cell]) -> Callable[[Bench], Cell]:
 def _of_sentence(kind: str, words: str, names: Names) -> Callable[[Bench], Cell]:
     parts = [part.strip() for part in words.split('->')]
     if len(parts) != (2 if kind == 'delay' else 1):
-        raise MeasureFault('delay takes two sentences, `A -> B`; the others take one' if '->' in words else
-                           'delay takes two sentences, `A -> B`')
+        raise MeasureFault('delay needs two sentences, `A -> B`; the others need one' if '->' in words else
+                           'delay needs two sentences, `A -> B`')
     sentences = [read_sentence(part, names) for part in parts]
     first = sentences[0]
     if isinstance(first, Refused):
-        raise MeasureFault('a run without a report has a fault in place of measures')
+        raise MeasureFault('a run without a report has a fault instead of measures')
     if kind == 'holds':
         return lambda bench: int(bench.judge.broken(first) is None)
     if kind == 'count' and isinstance(first, Copies | Packets):
@@ -180,7 +180,7 @@ def _checked(value: object, name: str) -> Cell:
     if callable(item):
         # (a number of numpy)
         return _checked(item(), name)
-    raise MeasureFault('%s gives no number, text or None, but %s' % (name, type(value).__name__))
+    raise MeasureFault('%s returns no number, text or None, but %s' % (name, type(value).__name__))
 
 
 def _of_python(file: str, function: str, sources: Mapping[str, str]) -> Callable[[Bench], Cell]:

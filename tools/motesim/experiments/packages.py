@@ -51,6 +51,6 @@ def hand_on(tool: str, module: str, words: Sequence[str]) -> None:
     """Goes on by Debian's interpreter if that one has the module and this one doesn't. Else it comes back."""
     if is_here(module) or os.environ.get(HANDED_ON) or not has(module):
         return
-    print('%s: %s has no %s; %s has it, and goes on' % (tool, sys.executable, module, SYSTEM), file=sys.stderr)
+    print('%s: %s has no %s; %s has it, and continues' % (tool, sys.executable, module, SYSTEM), file=sys.stderr)
     sys.stdout.flush()
     os.execve(SYSTEM, [SYSTEM, '-B', *words], {**os.environ, HANDED_ON: '1'})

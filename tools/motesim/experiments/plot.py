@@ -42,14 +42,16 @@ def wishes_of(plan: Plan) -> list[Wish]:
                                'a name that ends in `.svg`, `.pdf` or `.png`')
         for key, known in ('show', SHOWS), ('interval', tuple(MEANS)):
             if values[key] not in known:
-                raise tables.fault(path + (key,), 'A plot has no such `%s`.' % key, ', '.join('`"%s"`' % it for it in known))
+                raise tables.fault(path + (key,), 'A plot has no such `%s`.' % key, ', '.join('`"%s"`' %
+                                                                                              it for it in known))
         wish = Wish(**values)
         try:
             drawing.size_of(wish.size)
         except Fault as fault:
             raise tables.fault(path + ('size',), str(fault), '`size`: a text such as `"16x10"`') from None
         if not wish.against and wish.show != 'cdf':
-            raise tables.fault(path, 'A plot needs the key `against`, and it is not there.', '`against`: a text', False)
+            raise tables.fault(path, 'A plot needs the key `against`, and it is not there.', '`against`: a text',
+                               False)
         found.append(wish)
     if not found:
         raise Fault('%s has no `plot`' % plan.name)
@@ -79,7 +81,8 @@ def show(rows: Sequence[Row], wish: Wish, folder: Path) -> bool:
     return not wish.file
 
 
-def compare(rows: Sequence[Row], others: Sequence[Row], wish: Wish, names: tuple[str, str], kept: Sequence[str]) -> bool:
+def compare(rows: Sequence[Row], others: Sequence[Row], wish: Wish, names: tuple[str, str],
+            kept: Sequence[str]) -> bool:
     """Compares two sides run by run; gives whether there is a picture if one was wanted."""
     if wish.measure not in measures_of(rows) or wish.measure not in measures_of(others):
         raise Fault('there is no measure %s on both sides; there are: %s' % (
@@ -122,7 +125,7 @@ def chosen(rows: Sequence[Row], where: Sequence[str]) -> list[Row]:
     for words in where:
         name, sign, value = words.partition('=')
         if not sign or rows and name not in rows[0]:
-            raise Fault('--where takes NAME=VALUE, and not %r' % words)
+            raise Fault('--where needs NAME=VALUE, not %r' % words)
         found = [row for row in found if row[name] == cell(value)]
     return found
 
@@ -148,11 +151,12 @@ def sides_of(asked: argparse.Namespace, rows: list[Row]) -> tuple[list[Row], lis
     name, _, values = asked.pair.partition('=')
     sides = values.split(',')
     if name not in parameters or len(sides) != 2:
-        raise Fault('--pair takes NAME=ONE,OTHER with a parameter (%s), and not %r' % (', '.join(parameters), asked.pair))
+        raise Fault('--pair needs NAME=ONE,OTHER with a parameter (%s), not %r' % (', '.join(parameters), asked.pair))
     one, other = ([row for row in rows if row[name] == cell(side)] for side in sides)
     if not one or not other:
         raise Fault('no run has %s = %s' % (name, sides[0] if not one else sides[1]))
-    return one, other, ('%s %s' % (name, sides[0]), '%s %s' % (name, sides[1])), [it for it in parameters if it != name]
+    return one, other, ('%s %s' % (name, sides[0]), '%s %s' % (name,
+                                                               sides[1])), [it for it in parameters if it != name]
 
 
 def status_of(asked: argparse.Namespace) -> int:
@@ -170,5 +174,5 @@ def status_of(asked: argparse.Namespace) -> int:
         are_drawn = all([show(rows, wish, folder) for wish in wanted])
     if are_drawn:
         return 0
-    print('plot: tables in place of pictures, since %s' % packages.how_to_install('matplotlib'), file=sys.stderr)
+    print('plot: tables instead of pictures, since %s' % packages.how_to_install('matplotlib'), file=sys.stderr)
     return 1

@@ -66,7 +66,7 @@ class Sweeper:
         kept = [row for row in self.file.rows if self.is_current(row)]
         others = len(self.file.rows) - len(kept)
         if others and not is_renewed:
-            raise Fault('%s has %d rows that another plan, program or measure made. --renew runs them anew, and -o '
+            raise Fault('%s has %d rows that another plan, program or measure made. --renew runs them again, and -o '
                         'names another file' % (self.path, others))
         if retries:
             kept = [row for row in kept if not row['fault']]
@@ -154,7 +154,7 @@ def status_of(asked: argparse.Namespace) -> int:
         status = said(sweeper, sweeper.run(asked.jobs, asked.dask))
     except Stopped:
         missing = len(sweeper.missing())
-        print('sweep: stopped with %d runs missing; the same command goes on' % missing, file=sys.stderr)
+        print('sweep: stopped with %d runs missing; the same command continues' % missing, file=sys.stderr)
         return INTERRUPTED
     finally:
         sweeper.file.close()

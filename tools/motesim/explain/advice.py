@@ -7,7 +7,8 @@ from motesim.explain import hints, names
 from motesim.from_c.correction import correction
 from motesim.notation.faults import ProgramError
 
-OF_PARENTHESES = ('Only an operation of two values has parentheses, as `(a + b)`, and each has its own; `if`, `while` and '
+OF_PARENTHESES = ('Only an operation of two values has parentheses, as `(a + b)`, and each has its own; `if`, `while` '
+                  'and '
                   'other statements need none.')
 
 
@@ -23,14 +24,15 @@ class Advice(NamedTuple):
     above: tuple[int, str] | None = None
 
     def shown(self, source: str, offset: int | None) -> list[str]:
-        """The lines below the hint. They are numbered as in the scenario, if it has the program's lines from an offset on."""
+        """The lines below the hint, numbered as in the scenario if that has the program's lines from an offset on."""
         if self.line is None:
             return ['Insert %s:' % _below(self.above[0], offset), _indented(source, *self.above)] if self.above else []
         which = _which(self.first, self.last, offset)
         if not self.line:
             return ['Leave %s out.' % which]
         lines = ['Write, as %s:' % which, _indented(source, self.first, self.line)]
-        return lines + (['and insert %s:' % _below(self.above[0], offset), _indented(source, *self.above)] if self.above else [])
+        return lines + (['and insert %s:' % _below(self.above[0], offset), _indented(source,
+            *self.above)] if self.above else [])
 
 
 def _which(first: int, last: int, offset: int | None) -> str:
@@ -48,7 +50,8 @@ def _indented(source: str, number: int, line: str) -> str:
     """A line that begins in the same column as a line of the program, or behind that if it opens a block."""
     there = source.split('\n')[number - 1]
     indent = len(there) - len(there.lstrip(' '))
-    opens = there.rstrip().endswith('{') and not line.rstrip().endswith('{') and line.startswith(('var ', 'etimer ', '  '))
+    opens = there.rstrip().endswith('{') and not line.rstrip().endswith('{') and line.startswith(('var ', 'etimer ',
+                                                                                                  '  '))
     return '  ' + ' ' * (indent + 2 * opens) + line.strip()
 
 

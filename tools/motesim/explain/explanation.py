@@ -74,7 +74,8 @@ def offset_of(text: str, program: str) -> int | None:
     for offset in (at, at - 1) if len(source) > 2 else ():
         its = rows[offset:offset + len(source) - 1]
         # (the first and the last may have the quotes too)
-        if [it.rstrip('\r') for it in its[1:]] == [it.rstrip('\r') for it in source[1:-1]] and source[0].strip() in its[0]:
+        inner = [it.rstrip('\r') for it in source[1:-1]]
+        if [it.rstrip('\r') for it in its[1:]] == inner and source[0].strip() in its[0]:
             return offset
     return None
 
@@ -126,7 +127,8 @@ def of_program_file(name: str, source: str, its: program_faults.ProgramError) ->
 def rule_and_advice(source: str, its: program_faults.ProgramError, offset: int | None) -> list[str]:
     """The rule that a program breaks, what is allowed, and what was most likely meant."""
     title, rule = program_faults.RULES[its.kind]
-    rule = 'The text ends here, which can\'t follow the words before it.' if its.token.kind == 'end' and its.kind == 2 else rule
+    if its.token.kind == 'end' and its.kind == 2:
+        rule = 'The text ends here, which can\'t follow the words before it.'
     lines = wrapped('%s: %s' % (title, rule)) + wrapped('Allowed here: %s' % ', '.join(its.may))
     found = advice(source, its)
     return lines + (hinted(found.hint) + found.shown(source, offset) if found else [])

@@ -1,8 +1,8 @@
 """Hints on faults: what the writer most likely meant, and how it is written here.
 
 `of_program(text, fault)` and `of_scenario(tables, fault, text)` give one sentence, or None where nothing better is
-known than the rule. They go by the word that is not allowed and the words before it. The next run shows whether a hint is
-right.
+known than the rule. They go by the word that is not allowed and the words before it. The next run shows
+whether a hint is right.
 """
 from __future__ import annotations
 
@@ -42,7 +42,8 @@ WISHES = {
     'printf': 'A program prints numbers: `print x;`.',
     'println': 'A program prints numbers: `print x;`.',
     'random': 'There is no chance in a mote: each run is the same. A generator with a seed serves, as '
-              '`dice = (self * 7919);`, then `dice = ((dice * 25173) + 13849); if (dice < 6554) { .. }` is so 1 time in 10.',
+              '`dice = (self * 7919);`, then `dice = ((dice * 25173) + 13849); if (dice < 6554) { .. }` is so 1 time '
+              'in 10.',
     'id': 'A mote\'s number is `self`.',
     'time': 'The current moment is `now` (its low 16 bits).',
     'clock': 'The current moment is `now` (its low 16 bits).',
@@ -58,12 +59,13 @@ NO_TOML = {
     "']]'": 'Each mote and each loss is a table of its own, named in two brackets: `[[mote]]`, `[[loss]]`.',
     "'='": 'A key and its value are on one line: `end = 5`.',
     'newline': 'Each key and its value have a line of their own.',
-    'twice': 'A table is there once; only motes and losses are many, and each of them is a table `[[mote]]`, `[[loss]]`.',
+    'twice': 'A table is there once; only motes and losses are many, and each of them is a table `[[mote]]`, '
+    '`[[loss]]`.',
     'overwrite': 'A key is only once in its table.',
     '': 'Texts are in quotes, programs of several lines in three: p = """ .. """.',
 }
 QUOTES = '\u2018\u2019\u201a\u201b\u201c\u201d\u201e\u201f\u00ab\u00bb\u00b4`'
-OF_QUOTES = 'These are quotes of another kind, as text programs make them: plain ones are wanted, `"` or `\'`.'
+OF_QUOTES = 'These are quotes of another kind, as word processors make them: write plain ones, `"` or `\'`.'
 # What Python says of a text of several lines that has no end.
 NO_END = re.compile('Expected "\'\'\'"|Unterminated string')
 # Letters that look like digits.
@@ -166,7 +168,8 @@ def _of_unexpected(before: list[Token], here: Token, behind: Token, may: list[st
     if word == 'else':
         return 'An `else` follows the block of an `if` at once: `if .. { .. } else { .. }`.'
     if word == 'thread' or word in ('etimer', 'ctimer'):
-        return 'A `code` has variables, then `etimer`s, `ctimer`s, threads, `onpoll`, `onexit`, and the body, in this order.'
+        return ('A `code` has variables, then `etimer`s, `ctimer`s, threads, `onpoll`, `onexit`, and the body, in this '
+                'order.')
     if '`;`' in may and last and here.line > last.line:
         return 'A statement ends with `;`: one is missing after `%s` on line %d.' % (last.text, last.line)
     if word in WISHES:

@@ -109,7 +109,8 @@ def of_net(scenario: Scenario, programs: dict[str, Program], report: Report | No
             yield Warned('no mote runs the program `%s`' % name, name, programs[name].tokens[0])
     alone = [number for number in range(scenario.motes) if not scenario.hearers(number)]
     speaks = [number for number in alone if 'send' in programs[scenario.places[number].program].words]
-    lonely = [number for number in alone if number in speaks or 'packet' in programs[scenario.places[number].program].words]
+    lonely = [number for number in alone
+              if number in speaks or 'packet' in programs[scenario.places[number].program].words]
     if scenario.motes > 1:
         for number in lonely:
             what = 'sends, and nobody hears it' if number in speaks else 'hears nobody'

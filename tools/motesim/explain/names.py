@@ -77,7 +77,8 @@ def of_name(text: str, fault: ProgramError) -> str | None:
             name, ARTICLES[own.kind], own.kind, own.token.line, ARTICLES.get(wanted, 'a'), wanted) if wanted else None
     other = next((it for it in its if it.code not in ('', code)), None)
     if other and wanted == other.kind and other.kind in HEAD:
-        return ('`%s` is %s %s of process `%s`, and each process has its own. Declare another at the head of `code %s`, `%s`, or '
+        return ('`%s` is %s %s of process `%s`, and each process has its own. Declare another at the head of `code '
+                '%s`, `%s`, or '
                 'send the value to this process by `post`.' % (
                     name, ARTICLES[other.kind], other.kind, other.code, code, HEAD[other.kind] % name))
     return None
@@ -86,7 +87,8 @@ def of_name(text: str, fault: ProgramError) -> str | None:
 def _of_thread(own: Declared, here: Token) -> str:
     """A thread that can't be spawned at a place."""
     if own.token.line < here.line:
-        return ('A thread never spawns itself. A `while` in it repeats a part, `restart;` begins it again, and `spawn` takes '
+        return ('A thread never spawns itself. A `while` in it repeats a part, `restart;` begins it again, and '
+                '`spawn` takes '
                 'a thread that is declared above it.')
     return 'A thread is declared above what spawns it: move `thread %s` up.' % own.token.text
 
@@ -101,13 +103,16 @@ def undeclared(text: str, fault: ProgramError) -> tuple[str, Correction | None] 
         hint = 'No %s has this name. Declare it at the head of `code %s`.' % (wanted, place.code)
         line = lines[fault.token.line - 1]
         if not place.head:
-            return ('Variables are declared at the head of `code`: `%s`.' % declared, None) if wanted == 'variable' else None
+            return ('Variables are declared at the head of `code`: `%s`.' % declared,
+                    None) if wanted == 'variable' else None
         made = Correction(fault.token.line, fault.token.line, line, (hint,), (place.head, declared))
         after = find_fault(made.applied(text))
-        is_better = after is None or (after.token.line, after.token.column) > (fault.token.line + 1, fault.token.column)
+        is_better = after is None or (after.token.line, after.token.column) > (fault.token.line + 1,
+                                                                               fault.token.column)
         return hint, made if is_better else None
     if wanted in TOP:
         return 'No %s has this name. Declare it above the `process` line: `%s`.' % (wanted, TOP[wanted] % name), None
     if wanted == 'thread':
-        return 'No thread has this name. Declare it in this `code`, above what spawns it: `thread %s { .. }`.' % name, None
+        return ('No thread has this name. Declare it in this `code`, above what spawns it: `thread %s { .. }`.' % name,
+                None)
     return 'No process has this name. Each is named in the `process` line, and has a `code`.', None

@@ -27,7 +27,9 @@ WHOLE = 'Places, times and distances are whole numbers, without a point and with
 
 
 class Repair(NamedTuple):
-    """A hint, and the lines that should be there; the lines (from 1) that they replace. With none, these are left out."""
+    """A hint, and the lines that should be there; the lines (from 1) that they replace. If there are none, those are
+    left out.
+    """
     hint: str
     first: int
     last: int
@@ -50,29 +52,38 @@ def _form(form: str, instead: str | Callable[[re.Match[str]], str], hint: str) -
     return Form(re.compile(form), instead, hint)
 
 
+def _header_of(found: re.Match[str]) -> str:
+    """The line that names a table."""
+    return ('[[%s]]' if found[1] in ('mote', 'loss') else '[%s]') % found[1]
+
+
 FORMS = [
     Form(QUOTES, '"', OF_QUOTES),
     _form(r'^(\s*)//', r'\1#', OF_COMMENT), _form(r'^(\s*)/\*(.*?)\*/\s*$', r'\1#\2', OF_COMMENT),
     _form(r'^(\s*)(?:--|;|%)', r'\1#', OF_COMMENT), _form(r'\s+//', '  #', OF_COMMENT),
     _form(r'\s*[;,]\s*$', '', 'A line ends without a `;` or a comma.'),
-    _form(r'''(["']?)\b([A-Za-z_][\w-]*)\1\s*:(?!\w*//)\s*''', r'\2 = ', 'A key and its value have `=` between them: `end = 5`.'),
+    _form(r'''(["']?)\b([A-Za-z_][\w-]*)\1\s*:(?!\w*//)\s*''', r'\2 = ', 'A key and its value have `=` between them: '
+                                                                         '`end = 5`.'),
     _form(r'==|:=', '=', 'A key and its value have one `=` between them.'),
     _form(r'^(\s*[A-Za-z_][\w-]*)\s+(-?[0-9]+|"[^"]*"|true|false)\s*$', r'\1 = \2',
           'A key and its value have `=` between them: `end = 5`.'),
-    _form(r'(?<=[=\s])(True|TRUE|yes|on|False|FALSE|no|off)\b', lambda it: 'true' if it[1][0].lower() in 'ty' or it[1] == 'on'
-          else 'false', 'The truth values are `true` and `false`, in small letters and without quotes.'),
-    _form(r'(?<![\w.])([0-9]+)(?:\.[0-9]+)?\s*(?:s|ms|us|sec|secs|seconds?|min|m|cm|km|h|ticks?|moments?)\b', r'\1', OF_UNIT),
+    _form(r'(?<=[=\s])(True|TRUE|yes|on|False|FALSE|no|off)\b',
+          lambda it: 'true' if it[1][0].lower() in 'ty' or it[1] == 'on' else 'false', 'The truth values are `true` and `false`, in small letters and without quotes.'),
+    _form(r'(?<![\w.])([0-9]+)(?:\.[0-9]+)?\s*(?:s|ms|us|sec|secs|seconds?|min|m|cm|km|h|ticks?|moments?)\b', r'\1',
+          OF_UNIT),
     _form(r'(?<![\w.])([0-9][0-9OoIl]*|[OoIl][0-9OoIl]*[0-9])(?![\w.])', lambda it: it[0].translate(DIGITS),
           'A letter is in the number.'),
     _form(r'(?<=[0-9]),(?=[0-9]{3}\b)', '', 'A number has no commas in it.'),
     _form(r'(?<=[=\s,\[])0+(?=[0-9])', '', 'A number has no zeros in front.'),
     _form(r'=\s*([A-Za-z_][\w./-]*)', r'= "\1"', 'Texts are in quotes: `program = "p"`.'),
     _form(r'''^(\s*[\w-]+\s*=\s*)(["'])([^"']*)$''', r'\1\2\3\2', 'The quote that ends the text is missing.'),
-    _form(r'''^(\s*[\w-]+\s*=\s*)(["'])\s*$''', r'\1\2\2\2', 'A program of several lines is between three quotes, `\'\'\'`.'),
-    _form(r'\\', r'\\\\', 'Between `"""` a backslash begins an escape: write two, or put the program between `\'\'\'`.'),
-    _form(r'^\s*\[?\[?\s*([a-z]+)s?\s*\]?\]?\s*$', lambda it: '[[%s]]' % it[1] if it[1] in ('mote', 'loss') else '[%s]' % it[1],
-          'A table is named in brackets, `[medium]`; each mote and each loss is a table of its own, named in two: `[[mote]]`, '
-          '`[[loss]]`.'),
+    _form(r'''^(\s*[\w-]+\s*=\s*)(["'])\s*$''', r'\1\2\2\2', 'A program of several lines is between three quotes, '
+                                                             '`\'\'\'`.'),
+    _form(r'\\', r'\\\\', 'Between `"""` a backslash begins an escape: write two, or put the program between '
+                          '`\'\'\'`.'),
+    _form(r'^\s*\[?\[?\s*([a-z]+)s?\s*\]?\]?\s*$', _header_of,
+          'A table is named in brackets, `[medium]`; each mote and each loss is a table of its own, named in two: '
+          '`[[mote]]`, `[[loss]]`.'),
 ]
 COMMA = 'Between the tables of an array there are commas.'
 
@@ -112,13 +123,15 @@ def _whole(name: str, value: object) -> tuple[str, str] | None:
     chance = _fraction(value)
     if name == 'every' and chance:
         every = max(1, round(1 / chance))
-        return str(every), 'A loss has no probability: with `every = %d`, each %s packet is lost.' % (every, ordinal(every))
+        return str(every), (
+            'A loss has no probability: with `every = %d`, each %s packet is lost.' % (every, ordinal(every)))
     if isinstance(value, float) and abs(value) < 1e9:
         return str(round(value)), WHOLE
     if isinstance(value, str) and re.fullmatch(r'\s*-?[0-9]+\s*', value):
         return str(int(value)), WHOLE
     if isinstance(value, list) and value and type(value[0]) is int:
-        return str(value[0]), 'Each loss is of one link: write a table `[[loss]]` for each of them.' if name in LOSS else WHOLE
+        each = 'Each loss is of one link: write a table `[[loss]]` for each of them.'
+        return str(value[0]), each if name in LOSS else WHOLE
     return None
 
 
@@ -175,7 +188,8 @@ def _attempts_at_header(name: str, number: int) -> Iterator[Repair]:
         hint = 'Each mote and each loss is a table of its own, named in two brackets: `[[%s]]`.' % name
         yield Repair(hint, number, number, ('[[%s]]' % name,))
     else:
-        yield Repair('The table `%s` is there once, so it is named in single brackets.' % name, number, number, ('[%s]' % name,))
+        yield Repair('The table `%s` is there once, so it is named in single brackets.' % name, number, number,
+                     ('[%s]' % name,))
 
 
 def _attempts_at_missing(text: str, rows: list[str], tables: object, fault: ScenarioError) -> Iterator[Repair]:
@@ -195,7 +209,8 @@ def _attempts_at_missing(text: str, rows: list[str], tables: object, fault: Scen
     if whole:
         at = VALUE_BEHIND.match(row, place.column + place.length)
         if at:
-            written = row[:place.column] + wanted + row[place.column + place.length:at.start(1)] + whole[0] + row[at.end(1):]
+            between = row[place.column + place.length:at.start(1)]
+            written = row[:place.column] + wanted + between + whole[0] + row[at.end(1):]
             yield Repair('%s %s' % (hint, whole[1]), number, number, (written,))
     yield Repair(hint, number, number, (_replaced(row, place, wanted),))
 
@@ -250,7 +265,8 @@ def _attempts(text: str, fault: ScenarioError) -> Iterator[Repair]:
         tables: object = read_toml(text)
     except NoToml:
         return
-    kinds = {'scenario fault 2': _attempts_at_missing, 'scenario fault 3': _attempts_at_key, 'scenario fault 6': _attempts_at_name}
+    kinds = {'scenario fault 2': _attempts_at_missing, 'scenario fault 3': _attempts_at_key,
+             'scenario fault 6': _attempts_at_name}
     yield from kinds.get(fault.told, _attempts_at_value)(text, rows, tables, fault)
 
 

@@ -32,7 +32,8 @@ class Kind(NamedTuple):
     def __str__(self) -> str:
         values = 'the value %d' % self.least if self.least == self.most else 'the values %d to %d' % (
             self.least, self.most)
-        return '%s of the %d packets with %s' % ('all' if self.lost == self.packets else self.lost, self.packets, values)
+        return '%s of the %d packets with %s' % ('all' if self.lost == self.packets else self.lost, self.packets,
+                                                 values)
 
 
 class Resonance(NamedTuple):
@@ -46,7 +47,8 @@ class Resonance(NamedTuple):
 
     def __str__(self) -> str:
         more = '; every = %d is not in step' % self.better if self.better else ''
-        return ('the loss from mote %d to mote %d, every = %d, is in step with the rhythm of mote %d: it loses %s (1 in '
+        return ('the loss from mote %d to mote %d, every = %d, is in step with the rhythm of mote %d: it loses %s (1 '
+                'in '
                 '%d would be %d)%s' % (self.sender, self.to, self.every, self.sender, self.kind, self.every,
                                        round(self.kind.packets / self.every), more))
 
@@ -62,7 +64,8 @@ def _chance(packets: int, lost: int, of: int, all_lost: int) -> float:
     most = min(packets, all_lost)
     if comb(of, all_lost) == 0:
         return 1.0
-    return sum(comb(packets, it) * comb(of - packets, all_lost - it) for it in range(lost, most + 1)) / comb(of, all_lost)
+    return sum(comb(packets, it) * comb(of - packets, all_lost - it) for it in range(lost, most + 1)) / comb(of,
+                                                                                                             all_lost)
 
 
 def hit(values: Sequence[int], every: int) -> Kind | None:

@@ -8,12 +8,14 @@ from motesim.scenario.faults import LOSS, MEDIUM, MOTE, TOP, ScenarioError
 
 # Of each key the names that mean it in other tools.
 SYNONYMS = {
-    'end': ('duration', 'time', 'until', 'length', 'stop', 'runtime', 'simtime', 'sim_time', 'simulation_time', 'seconds', 'horizon'),
+    'end': ('duration', 'time', 'until', 'length', 'stop', 'runtime', 'simtime', 'sim_time', 'simulation_time',
+            'seconds', 'horizon'),
     'range': ('radius', 'distance', 'tx_range', 'transmission_range', 'reach'),
     'base': ('delay', 'latency'), 'per': ('speed',),
     'every': ('probability', 'prob', 'p', 'rate', 'loss_rate', 'ratio', 'period', 'k', 'chance'),
     'from': ('source', 'src', 'sender'), 'to': ('dest', 'destination', 'dst', 'receiver'),
-    'x': ('pos', 'position', 'location', 'coordinates', 'xy'), 'y': ('pos', 'position', 'location', 'coordinates', 'xy'),
+    'x': ('pos', 'position', 'location', 'coordinates', 'xy'), 'y': ('pos', 'position', 'location', 'coordinates',
+                                                                     'xy'),
     'program': ('type', 'firmware', 'code', 'app', 'application'), 'programs': ('code', 'sources', 'firmware', 'apps'),
     'mote': ('node', 'nodes', 'sensor', 'sensors', 'device', 'devices'), 'loss': ('link', 'links', 'error', 'errors'),
     'medium': ('radio', 'channel', 'network', 'net'),

@@ -38,9 +38,11 @@ class Calls(Lines):
         self.expression()
         self.end('')
         if self.scope.receiver or not self.place.is_top or not self.scope.codes:
-            raise NoCounterpart('No connection is opened. The process that gets packets is named once, by `receiver P;` above '
+            raise NoCounterpart('No connection is opened. The process that gets packets is named once, by `receiver '
+                                'P;` above '
                                 'the first `code`; `send x;` sends, and a packet is the event `packet`.')
-        self.why('No connection is opened: the process that gets packets is named by `receiver`, and waits by `yield_until '
+        self.why('No connection is opened: the process that gets packets is named by `receiver`, and waits by '
+                 '`yield_until '
                  'is(packet);`.')
         return 'receiver %s;' % self.scope.codes[0]
 
@@ -120,7 +122,8 @@ class Calls(Lines):
         if name in ('process_pollhandler', 'process_exithandler'):
             self.accept(';')
             head, called = 'onpoll' if 'poll' in name else 'onexit', call.parts[0].text if call.parts else 'it'
-            self.why('The handler is a block of the `code`, below its timers and threads: put what `%s` does into it.' % called)
+            self.why('The handler is a block of the `code`, below its timers and threads: put what `%s` does into '
+                     'it.' % called)
             return head + ' { }'
         return self.end(self.of_call(call))
 

@@ -8,7 +8,8 @@ from motesim.from_c.scope import allowed
 from motesim.from_c.tokens import Token
 from motesim.notation.faults import STATEMENTS
 
-NO_SWITCH = ('There is no `switch`: each `case` is a test of its own, `if (%s == %s) { .. } else { if (%s == %s) { .. } }`.')
+NO_SWITCH = ('There is no `switch`: each `case` is a test of its own, `if (%s == %s) { .. } else { if (%s == %s) { .. '
+             '} }`.')
 NO_BREAK = 'There is no `break`: let the test of the `while` become false.'
 
 
@@ -94,15 +95,18 @@ class Control(Lines):
         while self.token.kind != 'end' and self.token.text not in ('break', 'case', '}'):
             found.append(self.statement())
         block = ' '.join(found) or '..'
-        raise NoCounterpart('There is no `switch`: each `case` is a test of its own, `if (x == %s) { %s }`, with the value that '
+        raise NoCounterpart('There is no `switch`: each `case` is a test of its own, `if (x == %s) { %s }`, with the '
+                            'value that '
                             'is tested for `x`.' % (case, block))
 
     def of_break(self) -> str:
         """A `break`, by what makes the test of the loop false."""
         assigned = ends_loop(self.place.loop)
         if not assigned:
-            raise NoCounterpart(NO_BREAK if not self.place.loop else NO_BREAK + ' Instead of `while %s`, write `while (done == '
-                                '0)`, and here `done = 1;`, with `var done = 0;` at the head of the `code`.' % self.place.loop)
+            raise NoCounterpart(NO_BREAK if not self.place.loop else NO_BREAK + ' Instead of `while %s`, write `while '
+                                                                                '(done == '
+                                '0)`, and here `done = 1;`, with `var done = 0;` at the head of the `code`.' %
+                                self.place.loop)
         self.at += 1
         self.why('%s Here, `%s;` does it; what follows in the block still runs once.' % (NO_BREAK, assigned))
         return self.end(assigned)

@@ -43,7 +43,8 @@ class Declarations(Lines):
 
     def declared(self, name: str, value: str) -> str:
         if self.place.is_top:
-            self.why('Variables belong to one process: `var %s = %s;` is at the head of its `code`.' % (allowed(name), value))
+            self.why('Variables belong to one process: `var %s = %s;` is at the head of its `code`.' % (allowed(name),
+                                                                                                        value))
             return ''
         if not self.place.is_head:
             return self.declared_above(name, value)
@@ -105,7 +106,8 @@ class Declarations(Lines):
         if self.accept(']') != ']' or not 0 < count <= MOST_MEMBERS or self.token.text not in (';', ''):
             raise NoCounterpart(NO_ARRAYS)
         self.why(NO_ARRAYS)
-        return ' '.join([self.declared(name, '0'), *(self.declared('%s%d' % (name, it), '0') for it in range(1, count))])
+        return ' '.join([self.declared(name, '0'), *(self.declared('%s%d' % (name, it), '0') for it in range(1,
+                                                                                                             count))])
 
     def of_function(self) -> str:
         """A function: a thread, without parameters."""
@@ -115,7 +117,8 @@ class Declarations(Lines):
             self.at += 1
         if not self.place.is_head or not self.accept('{') or self.token.kind != 'end':
             raise NoCounterpart(CALLBACK)
-        self.why('There are no functions: a `thread` serves as one, without parameters, and `spawn %s;` runs it. What a '
+        self.why('There are no functions: a `thread` serves as one, without parameters, and `spawn %s;` runs it. What '
+                 'a '
                  'callback timer calls is its own block, `ctimer c { .. }`.' % name)
         return 'thread %s {' % name
 
@@ -138,12 +141,14 @@ class Declarations(Lines):
             self.why('A semaphore is declared above `process`, with its count.')
             return self.of_names('semaphore', '%s = 0')
         if kind == 'pt':
-            raise NoCounterpart('A protothread needs no structure: `thread NAME { .. }` declares it, `spawn NAME;` runs '
+            raise NoCounterpart('A protothread needs no structure: `thread NAME { .. }` declares it, `spawn NAME;` '
+                                'runs '
                                 'it.')
         if kind == 'ctimer':
             return self.of_callback()
         if kind == 'rtimer':
-            raise NoCounterpart('There are no real-time timers: an event timer, `etimer %s;`, posts an event when it is due, '
+            raise NoCounterpart('There are no real-time timers: an event timer, `etimer %s;`, posts an event when it '
+                                'is due, '
                                 'and a callback timer, `ctimer %s { .. }`, runs its block.' % ((self.token.text,) * 2))
         self.why('An event timer is declared by `etimer`.')
         return self.of_names('etimer', '%s')

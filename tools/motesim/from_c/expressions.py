@@ -24,7 +24,8 @@ TYPES = frozenset((
 QUALIFIERS = frozenset(('static', 'const', 'volatile', 'extern', 'register'))
 VALUES = {'true': '1', 'false': '0', 'null': '0', 'node_id': 'self', 'simmoteid': 'self', 'rtimer_now': 'now'}
 TESTS = ('is', 'fired', 'expired', 'gone', 'running', 'count')
-CALLS = {'etimer_expired': 'expired', 'ctimer_expired': 'expired', 'timer_expired': 'expired', 'stimer_expired': 'expired',
+CALLS = {'etimer_expired': 'expired', 'ctimer_expired': 'expired', 'timer_expired': 'expired',
+         'stimer_expired': 'expired',
          'process_is_running': 'running', 'pt_sem_count': 'count', 'sem_count': 'count'}
 # Calls that are a word here.
 WORDS_OF_CALLS = {
@@ -46,19 +47,24 @@ NO_BITS = ('There are no operators on bits: `(x % 256)` is the low byte, `(x / 2
 NO_ARRAYS = 'There are no arrays: a variable holds one number of 16 bits.'
 NO_FIELDS = 'A packet has no fields: it has one number, `data`. Two small ones make one, `((a * 256) + b)`.'
 NO_TEXTS = 'There are no texts: a program prints numbers, `print 1;`. The line of the report names the process anyway.'
-NO_REALS = ('Numbers are whole, 0 to 65,535. Count in smaller units, such as tenths: 15 for 1.5; `((x * 9) / 10)` is nine '
+NO_REALS = ('Numbers are whole, 0 to 65,535. Count in smaller units, such as tenths: 15 for 1.5; `((x * 9) / 10)` is '
+            'nine '
             'tenths of x.')
 NO_CALLS = ('There are no functions: a `thread` without waits serves as one. It is run by `spawn`, and shares the '
             'variables of its process.')
 # A generator of numbers that seem to come by chance: its variable, its step, and the number that it gives.
 DICE, STEP, DRAWN = 'dice', 'dice = ((dice * 25173) + 13849);', '(dice / 256)'
-NO_CHANCE = ('There is no chance in a mote: each run is the same. A generator of its own serves, as below, with a seed that '
-             'differs by mote: `dice = (self * 7919);` at the start of `body`. Then `((dice / 256) % 10)` is one of 0 to 9, and '
+NO_CHANCE = ('There is no chance in a mote: each run is the same. A generator of its own serves, as below, with a '
+             'seed that '
+             'differs by mote: `dice = (self * 7919);` at the start of `body`. Then `((dice / 256) % 10)` is one of 0 '
+             'to 9, and '
              '`(dice < 6554)` is so 1 time in 10.')
-TOO_LARGE = ('Numbers have 16 bits, 0 to 65,535: a timer is set to 65535 moments at most. Count larger ones in parts, such as '
+TOO_LARGE = ('Numbers have 16 bits, 0 to 65,535: a timer is set to 65535 moments at most. Count larger ones in parts, '
+             'such as '
              'thousands in a second variable.')
 MOMENTS_OF_SECOND = 10
-TICKS = ('There is no `CLOCK_SECOND`: a timer is set in moments. Decide how many moments a second has; with %d it is the line '
+TICKS = ('There is no `CLOCK_SECOND`: a timer is set in moments. Decide how many moments a second has; with %d it is '
+         'the line '
          'below.' % MOMENTS_OF_SECOND)
 NO_END = 'A `)` is missing.'
 ONE_TOO_MANY = 'One `)` is too many.'
@@ -286,7 +292,8 @@ class Writer:
         if word in READ_ONLY or kind == 'variable':
             return word
         if kind == 'timer':
-            self.why('A timer is no value: `fired(%s)` is true in the call with its event, and `expired(%s)` from then '
+            self.why('A timer is no value: `fired(%s)` is true in the call with its event, and `expired(%s)` from '
+                     'then '
                      'on.' % (word, word))
             return '%s(%s)' % (self.of_timer, word)
         if kind == 'semaphore':
@@ -415,14 +422,16 @@ class Writer:
         places = number_of(right.text) if right.kind == 'number' else None
         if places is None or places > 15:
             return self.refuse(NO_BITS)
-        self.why('There are no shifts: a shift by %d is `%s %d`.' % (places, '*' if sign == '<<' else '/', 2 ** places))
+        self.why('There are no shifts: a shift by %d is `%s %d`.' % (places, '*' if sign == '<<' else '/',
+                                                                     2 ** places))
         return '(%s %s %d)' % (self.text(left), '*' if sign == '<<' else '/', 2 ** places)
 
     def mask(self, sign: str, left: Node, right: Node) -> str:
         mask = number_of(right.text) if right.kind == 'number' else None
         if sign != '&' or mask is None or mask & (mask + 1) or not mask:
             return self.refuse(NO_BITS)
-        self.why('There are no operators on bits: `%% %d` takes the same lower bits as `& %s`.' % (mask + 1, right.text))
+        self.why('There are no operators on bits: `%% %d` takes the same lower bits as `& %s`.' % (mask + 1,
+                                                                                                   right.text))
         return '(%s %% %d)' % (self.text(left), mask + 1) if mask < MOST else self.text(left)
 
     def part(self, node: Node) -> str:

@@ -33,7 +33,8 @@ class Lines(Expressions):
             if self.token.kind not in ('end',) and self.token.text != '}':
                 raise NoCounterpart
             last = self.ahead(-1).text if self.at else ''
-            self.why('A statement ends with `;`: one is missing after `%s`.' % last if last else 'A statement ends with `;`.')
+            self.why('A statement ends with `;`: one is missing after `%s`.' %
+                     last if last else 'A statement ends with `;`.')
         return statement + ';'
 
     def value(self) -> str:
@@ -48,10 +49,12 @@ class Lines(Expressions):
     def variable(self, name: str) -> str:
         """A variable that is assigned."""
         if name in READ_ONLY:
-            raise NoCounterpart('`%s` can only be read. Assign to a variable of your own, such as `x = %s;`, which is declared '
+            raise NoCounterpart('`%s` can only be read. Assign to a variable of your own, such as `x = %s;`, which is '
+                                'declared '
                                 'by `var x = 0;` at the head of the `code`.' % (name, name))
         if self.scope.kinds.get(name) == 'semaphore':
-            raise NoCounterpart('A semaphore is no variable: `signal %s;` adds one to its count, and `acquire %s;` waits '
+            raise NoCounterpart('A semaphore is no variable: `signal %s;` adds one to its count, and `acquire %s;` '
+                                'waits '
                                 'until it is above 0 and takes one.' % (name, name))
         return self.writer.text(Node('name', name))
 

@@ -19,19 +19,23 @@ from motesim.notation.faults import MOST_LEVELS, STATEMENTS
 
 PRINTS = ('printf', 'print', 'println', 'puts', 'putchar', 'log_info', 'log_dbg', 'log_warn', 'log_err')
 SENDS = ('send_packet', 'sendpacket', 'radio_send', 'send_value')
-UNICAST = ('A packet goes to all who hear it; for whom it is may be part of its value: `send ((dest * 256) + x);`, and '
+UNICAST = ('A packet goes to all who hear it; for whom it is may be part of its value: `send ((dest * 256) + x);`, '
+           'and '
            'the receiver tests `((data / 256) == self)`.')
 LEDS = {'leds_on': '1', 'leds_off': '0', 'leds_toggle': '1'}
 OF_LEDS = 'A mote has no LEDs: a `print` shows the moment in the report.'
-OPENS = ('broadcast_open', 'abc_open', 'unicast_open', 'runicast_open', 'nullnet_set_input_callback', 'simple_udp_register')
-WAIT = 'A process waits by an event timer: `set t 5; yield_until fired(t);`, with `etimer t;` at the head of its `code`.'
+OPENS = ('broadcast_open', 'abc_open', 'unicast_open', 'runicast_open', 'nullnet_set_input_callback',
+         'simple_udp_register')
+WAIT = ('A process waits by an event timer: `set t 5; yield_until fired(t);`, with `etimer t;` at the head of its '
+        '`code`.')
 # Words without a counterpart, each with what to do instead.
 ADVICE = {
     'unicast_send': UNICAST, 'runicast_send': UNICAST, 'simple_udp_sendto': UNICAST, 'mesh_send': UNICAST,
     'broadcast_send': BROADCAST, 'abc_send': BROADCAST, 'packetbuf_copyfrom': BROADCAST, 'netstack_network': BROADCAST,
     'nullnet_buf': BROADCAST, 'sleep': WAIT, 'delay': WAIT, 'clock_delay': WAIT, 'clock_wait': WAIT, 'usleep': WAIT,
     'default': 'There is no `switch`: what belongs to `default` goes into the last `else { .. }`.',
-    'continue': 'There is no `continue` in loops: put what it would skip into the block of an `else`, `if .. { } else { .. }`.',
+    'continue': 'There is no `continue` in loops: put what it would skip into the block of an `else`, `if .. { } else '
+    '{ .. }`.',
     'goto': 'There is no `goto`: use `while`, `if`, or a `thread` that is run by `spawn`.',
     'random_init': 'There is no generator to set up: a seed is a variable, `seed = self;`.',
     'srand': 'There is no generator to set up: a seed is a variable, `seed = self;`.',
@@ -41,7 +45,8 @@ ADVICE = {
 SUMS = {'++': '+', '--': '-', '+=': '+', '-=': '-'}
 # A statement whose name is of another kind, with the statement that is meant.
 OTHER = {
-    ('exit', 'process'): 'kill', ('stop', 'process'): 'kill', ('restart', 'timer'): 'restart_timer', ('kill', 'timer'): 'stop',
+    ('exit', 'process'): 'kill', ('stop', 'process'): 'kill', ('restart', 'timer'): 'restart_timer', ('kill',
+                                                                                                      'timer'): 'stop',
     ('start', 'thread'): 'spawn', ('spawn', 'process'): 'start', ('signal', 'process'): 'poll',
     ('poll', 'semaphore'): 'signal', ('post', 'semaphore'): 'signal',
 }
@@ -117,7 +122,8 @@ class Statements(Declarations, Calls, Control):
         if word in TYPES | QUALIFIERS or word == 'struct' or word == 'var':
             return self.declaration()
         if word == 'timer' and self.place.is_head:
-            self.why('There are two kinds of timer: an `etimer` posts an event to its process, a `ctimer` has a block that it '
+            self.why('There are two kinds of timer: an `etimer` posts an event to its process, a `ctimer` has a block '
+                     'that it '
                      'calls.')
             self.tokens[self.at] = Token('name', 'etimer')
             return self.kept()
@@ -134,7 +140,8 @@ class Statements(Declarations, Calls, Control):
         """A statement that begins with a name."""
         lower, behind = word.lower(), self.ahead(1).text
         kind = self.scope.kinds.get(word)
-        if lower in ('wait', 'sleep') and self.scope.kinds.get(self.ahead(1).text) == 'semaphore' and self.accept(word):
+        if lower in ('wait',
+                     'sleep') and self.scope.kinds.get(self.ahead(1).text) == 'semaphore' and self.accept(word):
             self.why('A process waits for a semaphore by `acquire`.')
             return self.end('acquire ' + self.writer.of_kind(self.target(), 'semaphore'))
         if lower == 'wait':
@@ -187,7 +194,8 @@ class Statements(Declarations, Calls, Control):
         sign = SUMS.get(plain[1], '') if len(plain) < 4 else plain[3] if plain[:3] == [name, '=', name] else ''
         if sign not in ('+', '-') or plain[-1] not in ('1', *SUMS):
             self.variable(name)
-        self.why('A semaphore is no variable: `signal` adds one to its count, and `acquire` waits until it is above 0 and '
+        self.why('A semaphore is no variable: `signal` adds one to its count, and `acquire` waits until it is above 0 '
+                 'and '
                  'takes one.')
         return self.end('%s %s' % ('signal' if sign == '+' else 'acquire', name))
 
@@ -267,7 +275,8 @@ class Statements(Declarations, Calls, Control):
             self.writer.of_timer = 'fired' if word == 'yield_until' else 'expired'
             value = self.value()
             if word == 'send' and self.accept('to'):
-                self.why('A packet goes to all who hear it: its value may say for whom it is. The receiver tests `((data / '
+                self.why('A packet goes to all who hear it: its value may say for whom it is. The receiver tests '
+                         '`((data / '
                          '256) == self)`, and takes `(data % 256)`.')
                 value = '((%s * 256) + %s)' % (self.value(), value)
             return self.end('%s %s' % (word, value))

@@ -23,7 +23,8 @@ def process_line(text: str) -> Repair:
             names = tuple(re.split(r'\s*,\s*', found[1]))
             if names == codes or len(set(codes)) != len(codes):
                 return NOTHING
-            reason = ('The `process` line names the processes in the order of their codes.' if set(names) == set(codes) else
+            reason = ('The `process` line names the processes in the order of their codes.'
+                      if set(names) == set(codes) else
                       'The `process` line names each process that has a `code`, in the same order.')
             return number, 'process %s;' % ', '.join(codes), reason
     return NOTHING

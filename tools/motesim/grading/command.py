@@ -101,7 +101,8 @@ def status_of(asked: argparse.Namespace) -> int:
     elif asked.csv:
         sys.stdout.write(tables.csv_of(marked, sentences))
     elif not asked.output:
-        print('\n'.join([*tables.table(marked, sentences), '', *tables.below(marked, sentences), *tables.pointer(marked)]))
+        print('\n'.join([*tables.table(marked, sentences), '', *tables.below(marked, sentences),
+                         *tables.pointer(marked)]))
     for path in asked.output:
         write(path, marked, sentences, task, asked.expectations)
     return 0

@@ -51,7 +51,7 @@ def _texts(path: Path, vary: Sequence[str]) -> Iterator[tuple[str, str]]:
     for words in vary:
         name, sign, values = words.partition('=')
         if not sign:
-            raise Fault('--vary takes NAME=VALUES, and not %r' % words)
+            raise Fault('--vary needs NAME=VALUES, not %r' % words)
         asked[name] = values_of(values)
     for values_now in itertools.islice(itertools.product(*asked.values()), MOST_NETS):
         given = dict(zip(asked, values_now))

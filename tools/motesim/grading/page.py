@@ -59,9 +59,11 @@ def page_of(marked: Sequence[Marks], sentences: Sequence[str], title: str, folde
     rows = [_row(it, len(sentences), folder) for it in marked]
     held = [sum(len(it.marks) > place and it.marks[place].holds for it in marked) for place in range(len(sentences))]
     below = ['<tr><td class="number">%d</td><td class="number">%d of %d</td><td>%s</td></tr>' % (
-        number, count, len(marked), escape(sentence)) for number, (count, sentence) in enumerate(zip(held, sentences), 1)]
+        number, count, len(marked), escape(sentence)) for number, (count, sentence) in enumerate(zip(held, sentences),
+                                                                                                 1)]
     return '\n'.join([
         HEAD % escape(title) + '<h1>%s</h1>' % escape(title),
-        '<table><thead><tr><th>Solution</th><th class="number">Holds</th><th>Sentences</th><th>First that fails</th></tr>'
+        '<table><thead><tr><th>Solution</th><th class="number">Holds</th><th>Sentences</th><th>First that '
+        'fails</th></tr>'
         '</thead><tbody>', *rows, '</tbody></table>',
         '<h2>Sentences</h2>', '<table><tbody>', *below, '</tbody></table>', '</body>', '</html>', ''])

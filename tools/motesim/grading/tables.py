@@ -31,7 +31,8 @@ def table(marked: Sequence[Marks], sentences: Sequence[str]) -> list[str]:
 
 def below(marked: Sequence[Marks], sentences: Sequence[str]) -> list[str]:
     """The sentences, each with how many solutions meet it."""
-    return ['%3d  %d of %d  %s' % (number, sum(len(it.marks) >= number and it.marks[number - 1].holds for it in marked),
+    return ['%3d  %d of %d  %s' % (number,
+                                   sum(len(it.marks) >= number and it.marks[number - 1].holds for it in marked),
                                    len(marked), sentence) for number, sentence in enumerate(sentences, 1)]
 
 

@@ -103,7 +103,7 @@ class Builder:
         name = PurePath(file).stem
         if name in self.sources:
             if self.sources[name] != file:
-                raise self.tables.fault(path, 'Another file, %s, gives a program `%s` too.' % (
+                raise self.tables.fault(path, 'Another file, %s, has a program `%s` too.' % (
                     self.sources[name], name), 'a file of another name')
             return name
         if not re.fullmatch('[A-Za-z0-9_-]{1,32}', name):

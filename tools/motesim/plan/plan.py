@@ -28,7 +28,7 @@ class Plan:
         for key in tables.top:
             if key not in TOP:
                 known = ', '.join('`%s`' % it for it in TOP)
-                more = ' Is this a scenario? ./run takes it as it is.' if key == 'version' else ''
+                more = ' Is this a scenario? ./run reads it without a plan.' if key == 'version' else ''
                 raise tables.fault((key,), 'A plan has no key of this name.' + more, known, False)
         self.tables = tables
         self.parameters = self._parameters()

@@ -23,7 +23,7 @@ def given_of(words: Sequence[str]) -> dict[str, Value]:
     for word in words:
         name, sign, value = word.partition('=')
         if not sign or not name:
-            raise Fault('--set takes NAME=VALUE, and not %r' % word)
+            raise Fault('--set needs NAME=VALUE, not %r' % word)
         given[name] = value_of_text(value)
     return given
 

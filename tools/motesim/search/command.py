@@ -37,7 +37,7 @@ USUAL = 'links,motes'
 def numbers_of_words(words: str, name: str, least: int) -> tuple[int, ...]:
     found = values_of(words)
     if not all(type(it) is int and it >= least for it in found):
-        raise Fault('%s takes whole numbers from %d on, as 2,3 or 1..9, and not %s' % (name, least, words))
+        raise Fault('%s needs whole numbers from %d on, such as 2,3 or 1..9, not %s' % (name, least, words))
     return tuple(int(it) for it in found)
 
 
@@ -47,7 +47,7 @@ def values_asked(words: list[str]) -> tuple[dict[str, tuple[int, ...]], dict[str
     for it in words:
         name, sign, text = it.partition('=')
         if not sign or not name:
-            raise Fault('--set takes NAME=VALUES, as range=8..12, and not %s' % it)
+            raise Fault('--set needs NAME=VALUES, such as range=8..12, not %s' % it)
         if name in NUMBERS:
             numbers[name] = numbers_of_words(text, '--set', 0 if name == 'range' else 1)
         else:
@@ -67,7 +67,7 @@ def asked_of(words: argparse.Namespace) -> Asked:
     for kind, names, what in (('values', list(numbers), 'range=8..12'),
                               ('parameters', list(given), 'period=10,20, of a plan')):
         if kind in kinds and not names:
-            raise Fault('the kind `%s` takes --set, as --set %s' % (kind, what))
+            raise Fault('the kind `%s` needs --set, such as --set %s' % (kind, what))
         if names and kind not in kinds:
             raise Fault('--set %s is for the kind `%s`: --faults %s,%s' % (names[0], kind, faults, kind))
     moments = numbers_of_words(words.moments, '--moments', 1) if words.moments else ()
@@ -82,7 +82,8 @@ def sentences_of(words: argparse.Namespace, names: Names) -> tuple[list[str], li
     if not texts:
         path = Path(words.expectations) if words.expectations else beside(scenario)
         if not words.expectations and scenario.exists() and not path.exists():
-            raise Fault('there is no file %s beside %s: name another, or give sentences by --expect' % (path, scenario))
+            raise Fault('there is no file %s next to %s: name another, or give sentences by --expect' % (path,
+                                                                                                         scenario))
         name, texts = str(path), parts_of(text_of(path), str(path))[0].sentences
     try:
         read = read_all(texts, names)
@@ -171,7 +172,7 @@ def last_line(search: Search, found: list[Found], folder: Path, name: str) -> st
         said += '\n%s in %s, with the table found.csv; `tools/studio FILE --against %s` shows one' % (
             counted(len(found), 'counter-example is', 'counter-examples are'), folder, name)
     if search.ended_by:
-        said += '\nNOT ALL WAS TRIED: %s; --resume goes on' % search.ended_by
+        said += '\nNOT ALL WAS TRIED: %s; --resume continues' % search.ended_by
     return said
 
 

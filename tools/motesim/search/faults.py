@@ -103,7 +103,8 @@ EFFECTS: dict[str, Callable[..., None]] = {
 
 # Of each effect what follows its first word.
 PARTS_OF = {'lose': 'SENDER RECEIVER EVERY', 'apart': 'MOTE MOTE', 'silent': 'MOTE', 'fails': 'MOTE MOMENT',
-            'late': 'MOTE MOMENT', 'collide': '', 'queue': 'PROGRAM LENGTH', 'number': 'NAME NUMBER', 'move': 'MOTE X Y'}
+            'late': 'MOTE MOMENT', 'collide': '', 'queue': 'PROGRAM LENGTH', 'number': 'NAME NUMBER',
+            'move': 'MOTE X Y'}
 
 
 def effect_of(words: str, motes: int) -> tuple[str | int, ...]:

@@ -36,7 +36,8 @@ class Found:
 
 def file_name_of(name: str, faults: list[FaultyPart]) -> str:
     """A name for the file of a counter-example."""
-    whole = '%s_%s' % (Path(name).name.removesuffix('.toml').removesuffix('.plan'), '_and_'.join(fault.file_name for fault in faults))
+    whole = '%s_%s' % (Path(name).name.removesuffix('.toml').removesuffix('.plan'),
+                       '_and_'.join(fault.file_name for fault in faults))
     return whole[:LONGEST_FILE_NAME]
 
 

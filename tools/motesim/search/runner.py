@@ -80,7 +80,8 @@ class Here:
                     tasks = itertools.chain(batch[len(found):], tasks)
                     yield from found
         except BrokenProcessPool:
-            raise Fault('a process of the search was ended by the system, as where memory runs out. --resume goes on, '
+            raise Fault('the system ended a process of the search, as it does when memory runs out. --resume '
+                        'continues, '
                         'and --jobs says with how many processes') from None
 
     def close(self) -> None:

@@ -62,7 +62,8 @@ def status_of(asked: argparse.Namespace) -> int:
     read_all([sentence, *asked.keep], names_of(base.scenario_itself))
     effects = tuple(effect_of(it, base.scenario_itself.motes) for it in asked.fault)
     with Break() as stop:
-        shrinking = Shrinking(program, case_of(base.source, sentence, effects, tuple(asked.keep)), lambda: stop.is_asked)
+        shrinking = Shrinking(program, case_of(base.source, sentence, effects, tuple(asked.keep)),
+                              lambda: stop.is_asked)
         before = shrinking.text
         shrinking.run()
     output = Path(asked.output) if asked.output else Path(path.name.removesuffix('.toml') + '.small.toml')

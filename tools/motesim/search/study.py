@@ -49,7 +49,8 @@ def studies_of(path: Path) -> tuple[Path, list[dict[str, Any]]]:
                 raise Fault('study %d of %s: `%s` is not allowed there; allowed are: %s' % (
                     number, path, key, ', '.join(KEYS)))
         if 'expect' not in study or ('breaks' in study) == ('counts' in study):
-            raise Fault('study %d of %s lacks `expect`, or doesn\'t have one of `breaks` and `counts`' % (number, path))
+            raise Fault('study %d of %s lacks `expect`, or doesn\'t have one of `breaks` and `counts`' % (number,
+                                                                                                          path))
     return path.parent / scenario, studies
 
 

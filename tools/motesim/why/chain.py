@@ -276,5 +276,6 @@ def rows(hops: list[Hop]) -> list[str]:
     return found
 
 
-__all__ = ['Explainer', 'Hop', 'Path', 'as_json', 'cause_of', 'chain', 'count', 'in_words', 'path_of', 'places', 'rows',
+__all__ = ['Explainer', 'Hop', 'Path', 'as_json', 'cause_of', 'chain', 'count', 'in_words', 'path_of', 'places',
+           'rows',
            'wait_of']

@@ -68,7 +68,8 @@ class _Misses:
                        self.source.traces.row(it.where))
         early = [it for it in rest if it.at < self.begin]
         for it in early[-1:]:
-            yield Miss('early', '%s, at %d: %s too early' % (self.deed(it), it.at, count(self.begin - it.at, 'moment')),
+            yield Miss('early', '%s, at %d: %s too early' % (self.deed(it), it.at, count(self.begin - it.at,
+                                                                                         'moment')),
                        self.source.traces.row(it.where))
 
     def deed(self, found: Found) -> str:

@@ -148,7 +148,8 @@ class Asker:
             return None
         words = text.split(' ')
         sent = self.traces.send_of(int(words[1]), int(words[2]))
-        return Asked(sent, True, 'this line sent the packet of `%s`, in the log of the medium' % text) if sent else None
+        return Asked(sent, True, 'this line sent the packet of `%s`, in the log of the medium' %
+                     text) if sent else None
 
     def about(self, question: str) -> Asked | Missing:
         """The line that a question is about."""
@@ -303,7 +304,8 @@ class Asker:
         if not last:
             only = asked[0] if len(asked) == 1 else None
             return only if isinstance(only, Lineless) else Lineless(True, 'none of the motes has such a line')
-        return Asked(last[-1].where, True, 'mote %d is the last of them' % last[-1].where.mote if len(last) > 1 else '')
+        return Asked(last[-1].where, True, 'mote %d is the last of them' %
+                     last[-1].where.mote if len(last) > 1 else '')
 
     def of_many(self, asked: list[Answer], count: Count) -> Answer:
         """The line of a sentence on so many motes."""
@@ -352,7 +354,8 @@ class Asker:
                 name, ' or '.join(map(str, sorted(allowed))) or 'any value')
             return Asked(inside[-1].where, not remark, remark)
         if count.most is not None and len(inside) > max(count.most, 0):
-            return Asked(inside[max(count.most, 0)].where, False, '%s has %d such lines; wanted: %s; this is the first '
+            return Asked(inside[max(count.most, 0)].where, False, '%s has %d such lines; wanted: %s; this is the '
+                                                                  'first '
                          'that is one too many' % (name, len(inside), count))
         if not count.admits(len(inside)) or it.deed.way == 'finally':
             return Missing(it, motes, span, tuple(lines), '%s has %d such lines; wanted: %s' % (
@@ -379,5 +382,6 @@ class Asker:
                                                          ', and the list is over'))
             left.remove(value)
         if left:
-            return Missing(it, motes, span, tuple(inside), '%s never prints %d, the next of the list' % (name, left[0]))
+            return Missing(it, motes, span, tuple(inside), '%s never prints %d, the next of the list' % (name,
+                                                                                                         left[0]))
         return Asked(inside[-1].where, True)

@@ -195,7 +195,8 @@ class Replay:
 
     def part(self, expected: str) -> NoReturn:
         found = "'%s'" % self.trace[self.lines] if self.lines < self.count else 'its end'
-        raise Parted("the trace of mote %d isn't that of its program: line %d of it should be '%s', but there is %s" % (
+        raise Parted("the trace of mote %d isn't that of its program: line %d of it should be '%s', but there is %s" %
+                     (
             self.mote, self.lines + 1, expected, found))
 
     def of_call(self, row: int) -> Link:

@@ -93,7 +93,8 @@ class Causes:
     def values(self, source: Source, asked: Said) -> Said:
         """The values of variables on all motes that have them: mote, line of the report, moment, name and value."""
         if source.traces.medium_row > MOST_LINES:
-            raise Fault('the run has more than %d lines; tools/why --watch shows the values of some motes' % MOST_LINES)
+            raise Fault('the run has more than %d lines; tools/why --watch shows the values of some motes' %
+                        MOST_LINES)
         motes, watched = read_watch(source, 'every mote %s' % asked.get('names', ''))
         found = replayed(source, motes, watched)
         return {'values': [[it.mote, it.row, it.at, it.variable, it.value] for it in found[:MOST_VALUES]],
