@@ -86,7 +86,7 @@ class PlotTest(unittest.TestCase):
             (self.folder / 'a.png').unlink()
         wrong = self.plot('--measure', 'sent', '--against', 'density', '--log', '-o', 'a.png')
         self.assertEqual((wrong.returncode, wrong.stdout), (2, ''))
-        self.assertIn('values of density are not above 0', wrong.stderr)
+        self.assertIn('--log needs values above 0, and some of density are not', wrong.stderr)
 
     def test_without_matplotlib(self) -> None:
         # (an interpreter that finds none, as -I and -S leave the packages out)

@@ -141,7 +141,7 @@ class MeasuresTest(unittest.TestCase):
     def test_a_function_that_fails_is_told_with_its_line(self) -> None:
         with self.assertRaisesRegex(MeasureFault, 'wrong of mine.py: line 8: ZeroDivisionError: division by zero'):
             read_measure('python: mine.py:wrong', self.names, {'mine.py': MINE}).of(bench())
-        with self.assertRaisesRegex(MeasureFault, 'gives no number'):
+        with self.assertRaisesRegex(MeasureFault, 'returns no number'):
             read_measure('python: mine.py:listed', self.names, {'mine.py': MINE}).of(bench())
         with self.assertRaisesRegex(MeasureFault, 'mine.py: line 1: SyntaxError'):
             read_measure('python: mine.py:x', self.names, {'mine.py': 'def :'})
