@@ -60,7 +60,7 @@ class Studies(unittest.TestCase):
 
     def test_what_cannot_be_read(self):
         for text, wanted in (('a = [', 'is no TOML'), ('scenario = "x"', r'no tables \[\[study\]\]'),
-                             (STUDY.replace('faults = "links"', 'faults = 5', 1), 'study 1 of .* `faults` can.t stand'),
+                             (STUDY.replace('faults = "links"', 'faults = 5', 1), 'study 1 of .* `faults` is not allowed there'),
                              (STUDY.replace('breaks = []', '', 1), 'study 1 of .* lacks')):
             with tempfile.TemporaryDirectory() as folder, self.assertRaisesRegex(Fault, wanted):
                 path = Path(folder, 'study.toml')
