@@ -1,14 +1,14 @@
 """Measures the program: tools/dev/bench [NAME ..] [--against PROGRAM] [--host] [--rounds N]
 
 Runs the program on the scenarios of bench/, on one thread and by workers of both kinds, each in turn with an earlier
-program where --against names one, and prints of each way to run: the seconds of the processor (user time, the best
-round), the seconds of the clock, and the most memory; and the instructions on one thread, where valgrind or perf is
+program if --against names one, and prints for each way to run: the seconds of the processor (user time, the best
+round), the seconds of the clock, and the most memory; and the instructions on one thread, if valgrind or perf is
 installed. A ratio is the middle one of the rounds' own ratios of this program to the earlier one, with the quarter and
 the three quarters. Each report is compared with the first one of its scenario. --small runs scenarios of a tenth of
 the length. With --host, one thread is also compared with the C programs that tools/export makes of the scenario and the
 simulator in C that runs them (tools/contiki_host), compiled with -O2.
 
-Ends with status 0, or with 1 where a report differs.
+Ends with status 0, or with 1 if a report differs.
 """
 from __future__ import annotations
 
@@ -29,17 +29,22 @@ from motesim.faults import Fault, command
 from motesim.words import words_of
 from project.tree import TOP, program_of, take_program
 
-# Each scenario with its words, and those of one of a tenth of the length.
+# Each scenario with its arguments, and those of one of a tenth of the length.
 SCENARIOS: dict[str, tuple[list[int], list[int]]] = {
     'beacons': ([31, 2000, 10], [31, 200, 10]), 'polls': ([500, 200], [500, 20]), 'broadcasts': ([8, 20000], [8, 2000]),
     'timers': ([64, 200000], [64, 20000]), 'steps': ([10, 1000], [10, 100]),
 }
 WAYS: list[list[str]] = [[], *(['--workers', workers, '--sync', sync] for sync in ('joins', 'marks') for workers in '24')]
+# The commands that count instructions: the processor's own count, and one by one, which needs some fifty times as long.
+COUNTERS = {
+    'perf': (['stat', '-x', ',', '-e', 'instructions:u'], r'(?m)^(\d+),,instructions:u'),
+    'valgrind': (['--tool=cachegrind', '--cache-sim=no', '--cachegrind-out-file=/dev/null'], r'I +refs: +([\d,]+)'),
+}
 SECONDS = 600
 
 
 class Ran(NamedTuple):
-    """What one run took, and the digest of its report."""
+    """The costs of one run, and the digest of its report."""
     user: float
     clock: float
     memory: int
@@ -53,9 +58,9 @@ class Ratio(NamedTuple):
     high: float
 
 
-def generated(name: str, words: Sequence[int]) -> bytes:
+def generated(name: str, sizes: Sequence[int]) -> bytes:
     """A scenario of bench/."""
-    done = subprocess.run([str(TOP / 'bench' / name), *map(str, words)], capture_output=True)
+    done = subprocess.run([str(TOP / 'bench' / name), *map(str, sizes)], capture_output=True)
     if done.returncode:
         raise Fault('bench/%s makes no scenario: %s' % (name, done.stderr.decode('utf-8', 'replace').strip()))
     return done.stdout
@@ -74,74 +79,48 @@ def run_once(program: str, words: Sequence[str], scenario: Path, room: Path) -> 
         raise Fault('%s %s: status %d, %s' % (program, ' '.join(words), ran.returncode,
                                               fault.read_bytes()[:200].decode('utf-8', 'replace').strip()))
     with open(report, 'rb') as found:
-        digest = hashlib.file_digest(found, 'sha256').hexdigest()
-    return Ran(used.ru_utime, clock, used.ru_maxrss * 1024, digest)
+        return Ran(used.ru_utime, clock, used.ru_maxrss * 1024, hashlib.file_digest(found, 'sha256').hexdigest())
 
 
 def ratio_of(ours: Sequence[float], others: Sequence[float]) -> Ratio | None:
     """The ratios of runs that were made in turn."""
     ratios = sorted(one / other for one, other in zip(ours, others) if other > 0)
-    if not ratios:
-        return None
     if len(ratios) < 4:
-        return Ratio(ratios[0], statistics.median(ratios), ratios[-1])
-    low, middle, high = statistics.quantiles(ratios, n=4, method='inclusive')
-    return Ratio(low, middle, high)
+        return Ratio(ratios[0], statistics.median(ratios), ratios[-1]) if ratios else None
+    return Ratio(*statistics.quantiles(ratios, n=4, method='inclusive'))
 
 
-def by_perf(program: str, scenario: Path) -> int | None:
-    """The instructions of a run, by the processor's own count."""
-    words = ['perf', 'stat', '-x', ',', '-e', 'instructions:u', program, str(scenario)]
-    done = subprocess.run(words, stdout=subprocess.DEVNULL, stderr=subprocess.PIPE, encoding='utf-8', timeout=SECONDS)
-    counted = re.search(r'^(\d+),,instructions:u', done.stderr, re.M)
-    return int(counted[1]) if counted else None
-
-
-def by_valgrind(program: str, scenario: Path) -> int | None:
-    """The instructions of a run, counted one by one, which takes some fifty times as long."""
-    words = ['valgrind', '--tool=cachegrind', '--cache-sim=no', '--cachegrind-out-file=/dev/null', program, str(scenario)]
-    done = subprocess.run(words, stdout=subprocess.DEVNULL, stderr=subprocess.PIPE, encoding='utf-8', timeout=SECONDS)
-    counted = re.search(r'I +refs: +([\d,]+)', done.stderr)
-    return int(counted[1].replace(',', '')) if counted else None
-
-
-def counter(scenario: Path, program: str) -> Callable[[str, Path], int | None] | None:
-    """What counts instructions here: perf where the processor lets it, else valgrind."""
-    if shutil.which('perf') and by_perf(program, scenario):
-        return by_perf
-    return by_valgrind if shutil.which('valgrind') else None
-
-
-def megabytes(number: float) -> str:
-    return '%.1f MB' % (number / 1e6)
+def instructions(program: str, scenario: Path) -> int | None:
+    """The instructions of a run, or None if nothing here counts them."""
+    for name, (words, pattern) in COUNTERS.items():
+        if shutil.which(name):
+            done = subprocess.run([name, *words, program, str(scenario)], stdout=subprocess.DEVNULL, stderr=subprocess.PIPE,
+                                  encoding='utf-8', timeout=SECONDS)
+            counted = re.search(pattern, done.stderr)
+            if counted:
+                return int(counted[1].replace(',', ''))
+    return None
 
 
 def seconds(number: float) -> str:
     return '%.3f s' % number
 
 
+def megabytes(number: float) -> str:
+    return '%.1f MB' % (number / 1e6)
+
+
 def millions(number: float) -> str:
     return '%.1f M' % (number / 1e6)
 
 
-def cell(what: str, ours: Sequence[float], others: Sequence[float], shown: Callable[[float], str]) -> str:
+def cell(name: str, ours: Sequence[float], others: Sequence[float], shown: Callable[[float], str]) -> str:
     """A measure of this program, with that of the earlier one and their ratio."""
     if not others:
-        return '%s %s' % (what, shown(min(ours)))
+        return '%s %s' % (name, shown(min(ours)))
     ratio = ratio_of(ours, others)
-    told = ': %.2f (%.2f to %.2f)' % (ratio.middle, ratio.low, ratio.high) if ratio and len(ours) > 1 else (
-        ': %.2f' % ratio.middle if ratio else '')
-    return '%s %s, %s%s' % (what, shown(min(ours)), shown(min(others)), told)
-
-
-def measured(programs: Sequence[str], words: Sequence[str], scenario: Path, rounds: int) -> list[list[Ran]]:
-    """The runs of each program, made in turn."""
-    found: list[list[Ran]] = [[] for _ in programs]
-    with tempfile.TemporaryDirectory() as room:
-        for _ in range(rounds):
-            for program, runs in zip(programs, found):
-                runs.append(run_once(program, words, scenario, Path(room)))
-    return found
+    spread = ' (%.2f to %.2f)' % (ratio.low, ratio.high) if ratio and len(ours) > 1 else ''
+    return '%s %s, %s%s' % (name, shown(min(ours)), shown(min(others)), ': %.2f%s' % (ratio.middle, spread) if ratio else '')
 
 
 def built_host(scenario: Path, folder: Path) -> str:
@@ -154,38 +133,34 @@ def built_host(scenario: Path, folder: Path) -> str:
     return str(folder / 'host')
 
 
-def line_of(way: Sequence[str], runs: Sequence[Sequence[Ran]]) -> str:
-    """The line of one way to run."""
-    ours, others = runs[0], runs[1] if len(runs) > 1 else []
-    cells = [cell('user', [it.user for it in ours], [it.user for it in others], seconds),
-             cell('clock', [it.clock for it in ours], [it.clock for it in others], seconds),
-             cell('memory', [it.memory for it in ours], [it.memory for it in others], megabytes)]
-    return '  %-28s %s' % (' '.join(way) or 'one thread', '; '.join(cells))
-
-
 def measure(name: str, sizes: Sequence[int], programs: Sequence[str], rounds: int, counts: bool, host: bool) -> bool:
     """Measures one scenario, and returns whether all its reports are the same."""
-    with tempfile.TemporaryDirectory() as room:
-        scenario = Path(room) / 'scenario.toml'
+    reports: set[str] = set()
+    with tempfile.TemporaryDirectory() as folder:
+        room = Path(folder)
+        scenario = room / 'scenario.toml'
         scenario.write_bytes(generated(name, sizes))
         print('%s %s' % (name, ' '.join(map(str, sizes))), flush=True)
-        reports: set[str] = set()
+
+        def show(title: str, programs: Sequence[str], way: Sequence[str]) -> None:
+            turns = [[run_once(program, way, scenario, room) for program in programs] for _ in range(rounds)]
+            reports.update(it.report for turn in turns for it in turn)
+            ours, others = [it[0] for it in turns], [it[1] for it in turns if len(it) > 1]
+            print('  %-28s %s' % (title, '; '.join(
+                cell(part, [getattr(it, part) for it in ours], [getattr(it, part) for it in others], shown)
+                for part, shown in (('user', seconds), ('clock', seconds), ('memory', megabytes)))), flush=True)
+
         for way in WAYS:
-            runs = measured(programs, way, scenario, rounds)
-            reports.update(it.report for of_program in runs for it in of_program)
-            print(line_of(way, runs), flush=True)
+            show(' '.join(way) or 'one thread', programs, way)
         if host:
-            runs = measured([programs[0], built_host(scenario, Path(room) / 'host')], [], scenario, rounds)
-            reports.update(it.report for of_program in runs for it in of_program)
-            print(line_of(['one thread, and the host'], runs), flush=True)
+            show('one thread, and the host', [programs[0], built_host(scenario, room / 'host')], [])
         if counts:
             scenario.write_bytes(generated(name, SCENARIOS[name][1]))
-            count = counter(scenario, programs[0])
-            if count is None:
+            found = [instructions(program, scenario) for program in programs]
+            if found[0] is None:
                 print('  instructions are not counted: on Debian `apt-get install valgrind` installs what counts them')
             else:
-                found = [count(program, scenario) or 0 for program in programs]
-                print('  %s' % cell('instructions of a tenth, on one thread', found[:1], found[1:], millions))
+                print('  %s' % cell('instructions of a tenth, on one thread', found[:1], [it or 0 for it in found[1:]], millions))
     if len(reports) > 1:
         print('  THE REPORTS DIFFER')
     return len(reports) == 1
@@ -197,7 +172,7 @@ def main() -> int:
     words.add_argument('names', nargs='*', metavar='NAME', help='scenarios: %s; without one, all' % ', '.join(SCENARIOS))
     take_program(words)
     words.add_argument('--against', metavar='PROGRAM', help='an earlier motesim, which is run in turn with this one')
-    words.add_argument('--rounds', type=int, default=5, metavar='N', help='so many runs of each (5)')
+    words.add_argument('--rounds', type=int, default=5, metavar='N', help='N runs of each (5)')
     words.add_argument('--small', action='store_true', help='a tenth of the length')
     words.add_argument('--host', action='store_true', help='compare one thread with the host in C')
     words.add_argument('--no-instructions', action='store_true', help='count no instructions')
@@ -208,7 +183,6 @@ def main() -> int:
     programs = [program_of(asked.program), *([program_of(asked.against)] if asked.against else [])]
     if len(programs) > 1:
         print('Each measure is that of %s, that of %s, and their ratio.' % tuple(programs))
-    same = [measure(name, SCENARIOS[name][asked.small], programs, max(1, asked.rounds), not asked.no_instructions,
-                    asked.host)
+    same = [measure(name, SCENARIOS[name][asked.small], programs, max(1, asked.rounds), not asked.no_instructions, asked.host)
             for name in asked.names or SCENARIOS]
     return 0 if all(same) else 1

@@ -41,7 +41,7 @@ class AtHand(unittest.TestCase):
 
 class Others(unittest.TestCase):
     def test_another_kit_is_told(self) -> None:
-        said = 'the kit here is another kit, and what stands here was proved with %s' % KIT
+        said = 'the kit here is another kit, and this tree was proved with %s' % KIT
         for at_hand, told in (KIT, None), ('rattle-kit-x %s' % LOGIC, None), ('another kit', said):
             with mock.patch.object(kit, 'version', lambda: at_hand):
                 self.assertEqual(bool(kit.another()), bool(told))
