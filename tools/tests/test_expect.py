@@ -314,7 +314,7 @@ class Files(unittest.TestCase):
 
     def test_a_file_of_expectations_that_is_not_there_is_told(self) -> None:
         self.scenario = self.scenario.rename(self.scenario.with_name('other.toml'))
-        told = 'expect: there is no file %s beside %s: name another, tools/expect SCENARIO EXPECTATIONS\n' % (
+        told = 'expect: there is no file %s next to %s: name another one, tools/expect SCENARIO EXPECTATIONS\n' % (
             self.scenario.with_name('other.expect.toml'), self.scenario)
         self.assertEqual(self.said('expect = ["mote 0 sends"]'), ('', told, 2))
 
