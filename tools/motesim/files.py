@@ -13,8 +13,8 @@ from motesim.faults import Fault
 def write_whole(path: str | Path, parts: Iterable[bytes]) -> None:
     """Writes a file under another name, and renames it at the end; an earlier file stays until then.
 
-    A file that exists keeps its mode. Something else than a plain file, such as /dev/stdout, is written directly. Raises
-    a `Fault` if the file can't be written.
+    A file that exists keeps its mode. Something else than a plain file, such as /dev/stdout, is written directly.
+    Raises a `Fault` if the file can't be written.
     """
     path = Path(path)
     try:

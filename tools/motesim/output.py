@@ -15,8 +15,8 @@ def _is_shipped(path: Path) -> bool:
 def beside(source: str, name: str) -> Path:
     """The path for a file NAME made from a source: next to the source, and never among the files of the repository.
 
-    What is made from an example, or from standard input, goes into the current folder; if that is the repository, or one
-    of its folders, into the repository's folder `out`, which git ignores.
+    Files made from an example, or from standard input, are in the current folder; if that is the repository, or one of
+    its folders, in the repository's folder `out`, which git ignores.
     """
     here = Path().resolve()
     if source != '-' and not _is_shipped(Path(source).resolve()):

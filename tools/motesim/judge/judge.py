@@ -334,7 +334,8 @@ class Judge:
             log, rows = self.report.log, self.of_packets()
             lost = compress(zip(log.of_copies(range(len(log))), log.to), map(LOST.__eq__, log.arrival))
             return [rows[packet] for packet, to in lost if to in motes]
-        return [Row(row, line.at, mote) for mote in sorted(motes) for row, line in self.events(mote, BECAME[it.outcome])]
+        return [Row(row, line.at, mote) for mote in sorted(motes)
+                for row, line in self.events(mote, BECAME[it.outcome])]
 
     def of_packets(self) -> list[Row]:
         """The rows of the packets."""

@@ -38,15 +38,17 @@ def meant(rest: str, wanted: list[str]) -> str | None:
 REDIRECTS = {
     'any': 'write `every mote` or `some mote`.', 'everybody': 'write `every mote`.', 'everyone': 'write `every mote`.',
     'everything': 'write `every mote`.', 'nobody': 'write `no mote`.', 'nothing': 'write `no mote`.',
-    'somebody': 'write `some mote`.', 'someone': 'write `some mote`.', 'node': 'write `mote`.', 'nodes': 'write `motes`.',
+    'somebody': 'write `some mote`.', 'someone': 'write `some mote`.',
+    'node': 'write `mote`.', 'nodes': 'write `motes`.',
     'always': 'write what must not be, `mote 3 never halts`, or `in each 120 from 0 to 1199`.',
     'eventually': 'leave it out: a sentence without TIMES and WHEN says that it happens at least once.',
     'only': '`prints just P 1, 2, 3` says that these are all of the values.',
     'last': '`finally prints P VALUE` is about the last line.',
-    'average': 'a sweep measures it (docs/use/EXPERIMENTS.md).', 'mean': 'a sweep measures it (docs/use/EXPERIMENTS.md).',
-    'median': 'a sweep measures it (docs/use/EXPERIMENTS.md).', 'message': 'write `packet`, or `copy` of each receiver.',
-    'messages': 'write `packets`, or `copies` of each receiver.', 'not': 'write `mote 3 never prints ..`, or `no mote ..`.',
+    'message': 'write `packet`, or `copy` of each receiver.',
+    'messages': 'write `packets`, or `copies` of each receiver.',
+    'not': 'write `mote 3 never prints ..`, or `no mote ..`.',
 }
+REDIRECTS.update(dict.fromkeys(('average', 'mean', 'median'), 'a sweep measures it (docs/use/EXPERIMENTS.md).'))
 REDIRECTS.update(dict.fromkeys(('first', 'then', 'until', 'while', 'when', 'whenever', 'if'),
                                'two events are put in order by `after`, `before` and `within 10 of`, as in '
                                '`mote 3 sends after mote 2`.'))

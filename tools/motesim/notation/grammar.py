@@ -11,8 +11,8 @@ from typing import NamedTuple
 
 
 class Statement(NamedTuple):
-    """A statement: its form, and whether it may wait. In the form E is an expression, B a block, SENT and CAST an event,
-    INTO where the result goes, if it goes anywhere, and another word in capitals a name of that kind."""
+    """A statement: its form, and whether it may wait. In the form E is an expression, B a block, SENT and CAST an
+    event, INTO an optional variable for the result, and another word in capitals a name of that kind."""
     form: str
     waits: bool = False
 

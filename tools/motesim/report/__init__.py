@@ -9,5 +9,5 @@ from motesim.report.lines import FIELDS, MOST_MOMENT, MOST_WORD, Copy, Line, Pac
 from motesim.report.report import OUTCOMES, Mote, Outcome, Report, Rows
 from motesim.report.strict import ReportFault
 
-__all__ = ['FIELDS', 'KINDS', 'LOST', 'MASKS', 'MOST_MOMENT', 'MOST_WORD', 'NONE', 'OUTCOMES', 'Copy', 'Line', 'Log', 'Mote',
-           'Outcome', 'Packet', 'Report', 'ReportFault', 'Rows', 'Trace']
+__all__ = ['FIELDS', 'KINDS', 'LOST', 'MASKS', 'MOST_MOMENT', 'MOST_WORD', 'NONE', 'OUTCOMES', 'Copy', 'Line', 'Log',
+           'Mote', 'Outcome', 'Packet', 'Report', 'ReportFault', 'Rows', 'Trace']

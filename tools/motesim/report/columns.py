@@ -269,7 +269,8 @@ class Log(Sequence[Packet]):
     def packet(self, index: int) -> Packet:
         """A packet by its place."""
         begin, end = self.first[index], self.first[index + 1]
-        copies = tuple(Copy(to, None if at == LOST else at) for to, at in zip(self.to[begin:end], self.arrival[begin:end]))
+        copies = tuple(Copy(to, None if at == LOST else at)
+                       for to, at in zip(self.to[begin:end], self.arrival[begin:end]))
         return Packet(self.at[index], self.sender[index], self.number[index], self.value[index], copies)
 
     @overload

@@ -4,7 +4,7 @@
 one that was compiled without a proof, and then says so in a line. Programs are kept in out/programs by a digest of what
 they were made of:
 
-    proved-DIGEST/motesim    what `./prove` or `./test` built; the digest is of the sources, the contracts and the proofs
+    proved-DIGEST/motesim    built by `./prove` or `./test`; the digest is of the sources, the contracts and the proofs
     compiled-DIGEST/fast     compiled without a proof, and optimized; the digest is of the sources
     compiled-DIGEST/first    the same, compiled within the first minute: slow, and used until `fast` is there
 

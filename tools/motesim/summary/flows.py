@@ -66,8 +66,8 @@ def read_flow(words: str) -> tuple[Mark, Mark]:
     parts = words.split('->')
     marks = [FORM.fullmatch(part) for part in parts]
     if len(parts) > 2 or not all(marks):
-        raise FlowFault('no flow: %r. It is END or BEGIN -> END; each is `print PROCESS`, `send` or `recv`, with values '
-                        'behind it if not all are meant, `1 to 99`' % words)
+        raise FlowFault('no flow: %r. A flow is END or BEGIN -> END; each is `print PROCESS`, `send` or `recv`, '
+                        'followed by values if not all are meant, `1 to 99`' % words)
     found = [Mark(it[1] or 'print', it[2], int(it[3] or 0), int(it[4] or it[3] or MOST_WORD)) for it in marks if it]
     # (a message has one value, so a value that its end excludes doesn't begin one)
     begin, end = (found[0], found[1]) if len(found) == 2 else (Mark('send'), found[0])
