@@ -9,7 +9,6 @@ pub mod Numbered
 pub mod Places
 pub mod Remainders
 pub mod Repeated
-pub mod SameProcess
 pub mod Starts
 pub mod Steps
 pub mod Walks

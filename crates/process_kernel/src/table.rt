@@ -29,7 +29,7 @@ pub fn place_of(process: Proc) -> usize
 pub fn is_same(left: Proc, right: Proc) -> bool
     ensures { result ≡ are_same left right }
 {
-    left == right
+    place_of(left) == place_of(right)
 }
 
 /// The state at a place of the table; past its end nothing is running.
