@@ -1,8 +1,9 @@
 //! The fork and the join.
 
-ghost use Rattle.std.specs.Prelude.{◌≡◌, IfOk};
+ghost use Rattle.std.specs.Prelude.{◌≡◌, IfErr, IfOk};
 ghost use Rattle.std.specs.List.{AllZip, AllByRecursion as Each};
 ghost use Rattle.fork_join.specs.Kept.{AllKept};
+ghost use Rattle.fork_join.specs.Reported.{IsReported, IsReportedOf};
 
 use crate::work::{Refused, Work, gravest};
 use std::alloc::{AllocFailed, Global};
@@ -24,7 +25,8 @@ impl<W, T> Drop for Promised<W, T> {
 }
 
 impl<T, W: Work<T>> Promise<Result<T, Refused>> for Promised<W, T> {
-    ghost kept_by = { λ p r. IfOk r (W.makes p.work.value p.worker.value) };
+    ghost kept_by = { λ p r. IfOk r (W.makes p.work.value p.worker.value)
+        × IfErr r (W.errs p.work.value p.worker.value) };
 }
 
 /// Has each worker work in a thread of its own. The threads are started one after another, and all that were started
@@ -47,14 +49,16 @@ where
     T: Send + Drop,
     W: Work<T> + Sync,
     requires { Each (W.ready work.now) workers.items }
-    ensures { IfOk result (λ done. AllZip (W.makes work.now) workers.items done.items) }
+    ensures makes { IfOk result (λ done. AllZip (W.makes work.now) workers.items done.items) }
+    ensures reported { IfErr result (IsReported (W.errs work.now) workers.items) }
 {
     thread::scope(
         thread::scope_env(),
         rt,
         |scope| -> Result<Vec<T>, Refused>
             requires { Each (W.ready work.now) workers.items }
-            ensures { IfOk result (λ done. AllZip (W.makes work.entry.now) workers.items done.items) }
+            ensures makes { IfOk result (λ done. AllZip (W.makes work.entry.now) workers.items done.items) }
+            ensures reported { IfErr result (IsReported (W.errs work.entry.now) workers.items) }
         { fork_all(scope, rt, alloc, workers, work) },
     )
 }
@@ -72,7 +76,8 @@ where
     T: Send + Drop + 'e,
     W: Work<T> + Sync,
     requires { Each (W.ready work.now) workers.items }
-    ensures { IfOk result (λ done. AllZip (W.makes work.now) workers.items done.items) }
+    ensures makes { IfOk result (λ done. AllZip (W.makes work.now) workers.items done.items) }
+    ensures reported { IfErr result (IsReported (W.errs work.now) workers.items) }
 {
     let mut started = Vec::with_capacity(alloc, workers.len())?;
     let mut refused = None;
@@ -112,7 +117,8 @@ fn join_all<R: Threads, T: Send + Drop, W: Work<T>>(
     alloc: Global,
     started: Vec<PromisedHandle<Result<T, Refused>, Promised<W, T>>>,
 ) -> Result<Vec<T>, Refused>
-    ensures { IfOk result (λ done. AllKept W.makes started.items done.items) }
+    ensures kept { IfOk result (λ done. AllKept W.makes started.items done.items) }
+    ensures reported { IfErr result (IsReportedOf W.errs started.items) }
 {
     let mut done = Vec::new(alloc);
     let mut failed = None;

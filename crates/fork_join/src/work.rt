@@ -60,7 +60,8 @@ impl<T: Drop> From<AllocFailed<T>> for Refused {
 
 /// The work that all workers do, each on its own record `T`.
 pub trait Work<T> {
-    ghost use Rattle.std.specs.Prelude.{IfOk};
+    ghost use Rattle.std.specs.Prelude.{IfErr, IfOk};
+    ghost use Rattle.fork_join.specs.declared.work.Refused.{Refused};
 
     /// What a worker's record must be.
     ghost ready: { Self → T → Type 0 };
@@ -68,10 +69,14 @@ pub trait Work<T> {
     /// What the work makes of it.
     ghost makes: { Self → T → T → Type 0 };
 
+    /// The errors that it may return instead.
+    ghost errs: { Self → T → Refused → Type 0 } = { λ _ _ _. Unit {0} };
+
     /// Works on the record of one worker.
     fn work(&self, worker: T) -> Result<T, Refused>
         requires { ready self.now worker }
-        ensures { IfOk result (makes self.now worker) };
+        ensures makes { IfOk result (makes self.now worker) }
+        ensures errs { IfErr result (errs self.now worker) };
 
     /// Whether a worker's thread may start. Called before each start; `false` counts as a start that failed.
     fn may_start(&self, worker: &T) -> bool;

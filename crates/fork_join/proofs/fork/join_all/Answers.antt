@@ -1,15 +1,49 @@
-use Rattle.std.proofs.Common.{rules, ◌≡◌, sym, ◌∙◌, map-id, vec_len, length}
+use Rattle.std.proofs.Common.{rules, ◌≡◌, refl, sym, subst, ◌∙◌, map-id, vec_len, length, Option, Some, None, ◌++◌, ◌∷◌, [], inl, inr}
 use Rattle.std.proofs.lemmas.Iterator.Adapters.{YieldsList-from_vec}
 use Rattle.std.proofs.lemmas.Iterator.Consumers.{YieldsList-end}
+use Rattle.fork_join.specs.declared.work.Refused.{Refused}
+use Rattle.fork_join.specs.declared.work.Refused.TheVariants.{Memory}
+use Rattle.fork_join.specs.Kept.{Handle}
+use Rattle.fork_join.specs.Reported.{MayEnd, with_end}
 use Rattle.fork_join.proofs.Zips.{push_zip}
+use Rattle.fork_join.proofs.Ends.{Ended, one_more}
+use Rattle.fork_join.proofs.fork.join_all.Given as given
 use Rattle.fork_join.proofs.fork.join_all.Goals as goal
 
-pub loop-handle-preserved-in_default : goal.loop-handle-preserved-in_default
-loop-handle-preserved-in_default g c = λ going. rw c.in_default.ensures.items (push_zip _ c.loop-handle.yielded c.loop-handle.done.items c.in-Some.handle c.in-Ok.worker (c.loop-handle.invariant going) c.in-Ok.ensures)
+-- how a thread may end, by its promise
+abbrev ends_of : (g : given.Over) → Handle g.row.W.Denot g.row.T.Denot → Option Refused → Type 0
+ends_of g = λ handle end. MayEnd (g.W.Work.errs handle.promise.work.value handle.promise.worker.value) end
 
-pub returns-in-None-failed : goal.returns-in-None-failed
-returns-in-None-failed g c =
+pub loop-handle-preserved-in_default : goal.loop-handle-preserved-in_default
+loop-handle-preserved-in_default g c = record {
+  kept = λ going. rw c.in_default.ensures.items (push_zip _ c.loop-handle.yielded c.loop-handle.done.items c.in-Some.handle c.in-Ok.worker (c.loop-handle.invariant.kept going) c.in-Ok.ensures.0);
+  ended = one_more (ends_of g) c.loop-handle.yielded c.loop-handle.failed c.in-Some.handle None c.loop-handle.invariant.ended tt;
+}
+
+pub loop-handle-preserved-in-Err-push : goal.loop-handle-preserved-in-Err-push
+loop-handle-preserved-in-Err-push g c = record {
+  kept = λ none. absurd (search rules);
+  ended =
+      let none : c.loop-handle.failed ≡ None = search rules in
+      subst (λ f. Ended (ends_of g) (c.loop-handle.yielded ++ c.in-Some.handle ∷ []) (with_end f (Some Memory))) none
+      (one_more (ends_of g) c.loop-handle.yielded c.loop-handle.failed c.in-Some.handle (Some Memory) c.loop-handle.invariant.ended (inr refl));
+}
+
+pub loop-handle-preserved-else-is_none : goal.loop-handle-preserved-else-is_none
+loop-handle-preserved-else-is_none g c = record {
+  kept = λ none. absurd (search rules);
+  ended = one_more (ends_of g) c.loop-handle.yielded c.loop-handle.failed c.in-Some.handle None c.loop-handle.invariant.ended tt;
+}
+
+pub loop-handle-preserved : goal.loop-handle-preserved
+loop-handle-preserved g c = record {
+  kept = λ none. absurd (search rules);
+  ended = rw c.gravest.ensures (one_more (ends_of g) c.loop-handle.yielded c.loop-handle.failed c.in-Some.handle (Some c.in-Err.refused) c.loop-handle.invariant.ended (inl c.in-Err.ensures.1));
+}
+
+pub returns-in-None-failed-clause-kept : goal.returns-in-None-failed-clause-kept
+returns-in-None-failed-clause-kept g c =
     let rest = c.into_iter-handle-iterator.ensures.into_iter_gives in
     let len : vec_len c.args.started ≡ length c.args.started.items = search rules in
     let end = YieldsList-end (YieldsList-from_vec c.args.started.items rest.0 (rest.1 ∙ len)) c.loop-handle.yielded c.loop-handle.handle-iterator c.loop-handle.yielded_by c.next.result c.next.new.self c.in-None.is c.next.ensures.steps in
-    rw (sym (sym (map-id c.loop-handle.yielded) ∙ end.0)) (c.loop-handle.invariant c.in-None-failed.is)
+    rw (sym (sym (map-id c.loop-handle.yielded) ∙ end.0)) (c.loop-handle.invariant.kept c.in-None-failed.is)
