@@ -35,7 +35,7 @@ IsReported errs workers e =
     × (reported (ends ++ own ∷ []) ≡ Some e)
 
 -- the error of the threads that were started
-abbrev pub IsReportedOf : {W T : Type 0} → (W → T → Refused → Type 0) → List (Handle W T) → Refused → Type 0
+abbrev pub IsReportedOf : {A W T : Type 0} → (W → T → Refused → Type 0) → List (Handle A W T) → Refused → Type 0
 IsReportedOf errs handles e =
     (ends : List (Option Refused))
     × AllZip (λ handle end. MayEnd (errs handle.promise.work.value handle.promise.worker.value) end) handles ends
