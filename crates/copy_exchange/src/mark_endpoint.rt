@@ -1,10 +1,10 @@
 //! The endpoint of a worker with marks, for the whole run.
 
-ghost use Rattle.std.specs.Prelude.{◌≡◌, [], length, IfErr, IfOk, OnOk};
+ghost use Rattle.std.specs.Prelude.{◌≡◌, true, [], length, IfErr, IfOk, OnOk};
 ghost use Rattle.std.specs.List.{AllByRecursion as Each};
 ghost use Rattle.copy_exchange.specs.Endpoints.{HasMarks, IsOnInboxes, Reaches};
 ghost use Rattle.copy_exchange.specs.Delivers.{PushesWindow};
-ghost use Rattle.copy_exchange.specs.declared.take.MarkError.TheVariants.{Unexpected};
+ghost use Rattle.copy_exchange.specs.declared.take.MarkError.TheVariants.{Stopped, Unexpected};
 ghost use Rattle.copy_exchange.specs.Expected.{TakesExpected, TakesUnexpected, position_of};
 ghost use Rattle.copy_exchange.specs.Marks.{Counts, AllPast};
 
@@ -13,10 +13,11 @@ use crate::heard::no_marks;
 use crate::take::{MarkError, Standing, take_marks};
 use crate::wait::Waiting;
 use copy_inbox::{Inbox, InboxError};
+use fork_join::Watch;
 use radio_packet::RadioCopy;
 use std::alloc::Global;
 use std::sync::Wait;
-use std::sync::atomic::AtomicBool;
+use std::sync::ledger::Ledger;
 
 /// The endpoint of a worker for the whole run, and how many marks it took of each sender on its inbox.
 #[derive(Drop)]
@@ -68,17 +69,17 @@ impl MarkEndpoint {
     }
 
     /// Takes items until the mark of the window has come from each sender, and returns their copies; items of a later
-    /// window that come sooner are taken too. `stop` is the flag that a failing worker sets.
+    /// window that come sooner are taken too. `watch` looks at the flag that a failing worker sets.
     ///
     /// # Errors
     /// `Memory`; `Stopped` if the flag was seen set while a mark was missing; `Unexpected` if a copy came that isn't
     /// for a mote of this worker from a mote of another, or that arrives before this worker's next window.
-    pub fn take_window<R: Wait>(
+    pub fn take_window<R: Wait, L: Ledger>(
         &mut self,
         rt: &R,
         alloc: Global,
         inbox: &Inbox,
-        stop: &AtomicBool,
+        watch: &mut Watch<'_, L>,
         standing: &Standing<'_>,
         window: u64,
     ) -> Result<Vec<RadioCopy>, MarkError>
@@ -90,6 +91,7 @@ impl MarkEndpoint {
         ensures marked { OnOk result (AllPast window self.new.marks.items) }
         ensures worker { self.new.base.worker ≡ self.old.base.worker }
         ensures senders { self.new.base.senders ≡ self.old.base.senders }
+        ensures stopped { IfErr result (λ error. error ≡ Stopped → watch.new.seen ≡ true) }
         ensures unexpected { IfErr result
             (λ error. error ≡ Unexpected → TakesUnexpected (position_of standing.now) self.old.base.taker
             self.new.base.taker) }
@@ -103,7 +105,7 @@ impl MarkEndpoint {
             rt,
             alloc,
             inbox,
-            stop,
+            watch,
             standing,
             &mut base.taker,
             marks,

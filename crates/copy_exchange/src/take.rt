@@ -1,6 +1,6 @@
 //! Taking until the marks of a window have come.
 
-ghost use Rattle.std.specs.Prelude.{◌≡◌, ◌↔◌, IfOk, IfErr, OnOk, OnErr, IsTrue};
+ghost use Rattle.std.specs.Prelude.{◌≡◌, ◌↔◌, true, IfOk, IfErr, OnOk, OnErr, IsTrue};
 ghost use Rattle.copy_inbox.specs.declared.rule.TakerState.{TakerState};
 ghost use Rattle.copy_inbox.specs.Handles.{IsNextTaken, state_with};
 ghost use Rattle.copy_exchange.specs.declared.take.MarkError.TheVariants.{Stopped, Unexpected};
@@ -11,10 +11,11 @@ ghost use Rattle.copy_exchange.specs.Marks.{Counts, AllPast};
 use crate::heard::all_past;
 use crate::wait::{Waiting, wait};
 use copy_inbox::{Carried, Inbox, Item, Taker};
+use fork_join::Watch;
 use radio_packet::RadioCopy;
 use std::alloc::{AllocError, AllocFailed, Global};
 use std::sync::Wait;
-use std::sync::atomic::AtomicBool;
+use std::sync::ledger::Ledger;
 use worker_cut::is_own;
 
 /// Why a worker stopped taking items.
@@ -99,12 +100,12 @@ fn hear(
     Ok(())
 }
 
-/// As [`take_marks`]; `waiting` records whether the flag was seen set.
-fn take_waiting<R: Wait>(
+/// As [`take_marks`], in a wait that has begun.
+fn take_waiting<R: Wait, L: Ledger>(
     rt: &R,
     alloc: Global,
     inbox: &Inbox,
-    stop: &AtomicBool,
+    watch: &mut Watch<'_, L>,
     standing: &Standing<'_>,
     taker: &mut Taker,
     marks: &mut Vec<u64>,
@@ -117,7 +118,7 @@ fn take_waiting<R: Wait>(
         (λ copies. TakesExpected (position_of standing.now) taker.old taker.new copies.items) }
     ensures counts { OnOk result (Counts marks.new.items taker.new.state) }
     ensures marked { OnOk result (AllPast window marks.new.items) }
-    ensures stopped { IfErr result (λ error. error ≡ Stopped → IsTrue waiting.new.stopped) }
+    ensures stopped { IfErr result (λ error. error ≡ Stopped → watch.new.seen ≡ true) }
     ensures unexpected { IfErr result
         (λ error. error ≡ Unexpected → TakesUnexpected (position_of standing.now) taker.old taker.new) }
 {
@@ -128,7 +129,7 @@ fn take_waiting<R: Wait>(
         }
         match inbox.take_next(rt, taker) {
             Some(item) => hear(standing, marks, &mut arrived, item)?,
-            None => wait(rt, inbox, stop, marks, window, waiting)?,
+            None => wait(rt, inbox, watch, marks, window, waiting)?,
         }
     }
     unreachable!()
@@ -140,11 +141,11 @@ fn take_waiting<R: Wait>(
 /// # Errors
 /// `Memory`; `Stopped` if the flag was seen set while a mark was missing; `Unexpected` if a copy came that isn't
 /// expected.
-pub fn take_marks<R: Wait>(
+pub fn take_marks<R: Wait, L: Ledger>(
     rt: &R,
     alloc: Global,
     inbox: &Inbox,
-    stop: &AtomicBool,
+    watch: &mut Watch<'_, L>,
     standing: &Standing<'_>,
     taker: &mut Taker,
     marks: &mut Vec<u64>,
@@ -157,11 +158,12 @@ pub fn take_marks<R: Wait>(
         (λ copies. TakesExpected (position_of standing.now) taker.old taker.new copies.items) }
     ensures counts { OnOk result (Counts marks.new.items taker.new.state) }
     ensures marked { OnOk result (AllPast window marks.new.items) }
+    ensures stopped { IfErr result (λ error. error ≡ Stopped → watch.new.seen ≡ true) }
     ensures unexpected { IfErr result
         (λ error. error ≡ Unexpected → TakesUnexpected (position_of standing.now) taker.old taker.new) }
 {
     waiting.begin();
     take_waiting(
-        rt, alloc, inbox, stop, standing, taker, marks, window, waiting,
+        rt, alloc, inbox, watch, standing, taker, marks, window, waiting,
     )
 }

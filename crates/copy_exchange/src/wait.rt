@@ -1,13 +1,14 @@
 //! A worker's wait for the marks of a window.
 
-ghost use Rattle.std.specs.Prelude.{◌≡◌, IfErr, IsTrue, OnErr};
+ghost use Rattle.std.specs.Prelude.{◌≡◌, true, IfErr, OnErr};
 ghost use Rattle.copy_exchange.specs.declared.take.MarkError.TheVariants.{Stopped};
 
 use crate::heard::marks_wanted;
 use crate::take::MarkError;
 use copy_inbox::Inbox;
+use fork_join::Watch;
 use std::sync::Wait;
-use std::sync::atomic::{AtomicBool, Ordering};
+use std::sync::ledger::Ledger;
 use std::time::Duration;
 
 // Bounds of the spin budget: fruitless looks per window before the worker sleeps.
@@ -21,8 +22,6 @@ const NAP_MILLIS: u64 = 10;
 /// How a worker waits for its next item.
 #[derive(Clone, Copy)]
 pub struct Waiting {
-    /// Whether it saw the flag set.
-    pub stopped: bool,
     /// How often it may look in vain in this window before it sleeps.
     looks: u32,
     /// How many of these looks are left.
@@ -32,7 +31,6 @@ pub struct Waiting {
 impl Waiting {
     pub fn new() -> Waiting {
         Waiting {
-            stopped: false,
             looks: MOST_LOOKS,
             left: MOST_LOOKS,
         }
@@ -41,7 +39,6 @@ impl Waiting {
     /// Begins the wait of a window. The worker may look twice as often as in the previous window if some looks were
     /// left there, and else half as often.
     pub fn begin(&mut self) {
-        self.stopped = false;
         self.looks = if self.left > 0 {
             self.looks.saturating_mul(2).min(MOST_LOOKS)
         } else {
@@ -52,19 +49,18 @@ impl Waiting {
 }
 
 /// After a look that found nothing: gives up if the flag is set, and else lets some time pass.
-pub fn wait<R: Wait>(
+pub fn wait<R: Wait, L: Ledger>(
     rt: &R,
     inbox: &Inbox,
-    stop: &AtomicBool,
+    watch: &mut Watch<'_, L>,
     marks: &[u64],
     window: u64,
     waiting: &mut Waiting,
 ) -> Result<(), MarkError>
-    ensures seen { OnErr result (IsTrue waiting.new.stopped) }
+    ensures seen { OnErr result (watch.new.seen ≡ true) }
     ensures stopped { IfErr result (λ error. error ≡ Stopped) }
 {
-    waiting.stopped = stop.load(Ordering::SeqCst);
-    if waiting.stopped {
+    if watch.is_set(rt) {
         return Err(MarkError::Stopped);
     }
     if waiting.left > 0 {

@@ -1,21 +1,20 @@
 -- What the joined threads gave.
-use Rattle.std.specs.Prelude.{◌≡◌, List, Result}
+use Rattle.std.specs.Prelude.{◌≡◌, List}
 use Rattle.std.specs.List.{AllZip}
 use Rattle.std.specs.declared.thread.PromisedHandle.{PromisedHandle}
-use Rattle.fork_join.specs.declared.work.Refused.{Refused}
 use Rattle.fork_join.specs.declared.fork.Promised.{Promised}
 
--- a worker's thread
-abbrev pub Handle : (W T : Type 0) → Type 0
-Handle W T = PromisedHandle (Result T Refused) (Promised W T)
+-- a worker's thread, which ends with an A
+abbrev pub Handle : (A W T : Type 0) → Type 0
+Handle A W T = PromisedHandle A (Promised W T)
 
 -- each is what its thread promised
-abbrev pub AllKept : {W T : Type 0} → (W → T → T → Type 0) → List (Handle W T) → List T → Type 0
+abbrev pub AllKept : {A W T : Type 0} → (W → T → T → Type 0) → List (Handle A W T) → List T → Type 0
 AllKept makes handles done = AllZip
     (λ handle worker. makes handle.promise.work.value handle.promise.worker.value worker) handles done
 
 -- each thread promised what the work makes of its worker
-abbrev pub AllPromised : {W T : Type 0} → W → List T → List (Handle W T) → Type 0
+abbrev pub AllPromised : {A W T : Type 0} → W → List T → List (Handle A W T) → Type 0
 AllPromised work workers handles =
     AllZip (λ worker handle. (handle.promise.work.value ≡ work) × (handle.promise.worker.value ≡ worker))
     workers handles

@@ -1,2 +1,4 @@
 pub mod Kept
 pub mod Gravest
+pub mod Reported
+pub mod Tokens

@@ -1,17 +1,30 @@
 //! The fork and the join.
 
-ghost use Rattle.std.specs.Prelude.{◌≡◌, IfOk};
+ghost use Rattle.std.specs.Prelude.{◌≡◌, ◌+◌, suc, true, length, IfErr, IfOk};
 ghost use Rattle.std.specs.List.{AllZip, AllByRecursion as Each};
+ghost use Rattle.fork_join.specs.Gravest.{is_own};
 ghost use Rattle.fork_join.specs.Kept.{AllKept};
+ghost use Rattle.fork_join.specs.Reported.{IsReported, IsReportedOf};
+ghost use Rattle.fork_join.specs.Tokens.{HasTokens};
 
+use crate::stop::{Flag, Watch};
 use crate::work::{Refused, Work, gravest};
 use std::alloc::{AllocFailed, Global};
+use std::marker::Brand;
 use std::snapshot::Snapshot;
 use std::sync::Wait;
+use std::sync::ledger::{Blank, Ledger, Share};
 use std::thread;
 use std::thread::{Promise, PromisedHandle, Scope, Threads};
 
-/// What a thread promises: what the work makes of this record.
+/// How a worker's thread ended: what its work returned, and its part of the tokens.
+#[derive(Drop)]
+struct Ended<T, L: Ledger> {
+    result: Result<T, Refused>,
+    share: Share<L>,
+}
+
+/// What a thread promises: what the work makes of this record, and that it stopped only if it saw the flag set.
 pub struct Promised<W, T> {
     work: Snapshot<W>,
     worker: Snapshot<T>,
@@ -23,19 +36,21 @@ impl<W, T> Drop for Promised<W, T> {
     }
 }
 
-impl<T, W: Work<T>> Promise<Result<T, Refused>> for Promised<W, T> {
-    ghost kept_by = { λ p r. IfOk r (W.makes p.work.value p.worker.value) };
+impl<T, W: Work<T>, L: Ledger> Promise<Ended<T, L>> for Promised<W, T> {
+    ghost kept_by = { λ p ended. IfOk ended.result (W.makes p.work.value p.worker.value)
+        × IfErr ended.result (W.errs p.work.value p.worker.value)
+        × (ended.share.parts ≡ 1) × HasTokens ended.result ended.share.amount };
 }
 
 /// Has each worker work in a thread of its own. The threads are started one after another, and all that were started
-/// are joined. After a failed start no further worker is started, and `give_up` is called. The workers come back in
-/// their order.
+/// are joined. After a failed start no further worker is started, and the workers' flag is set. The workers come back
+/// in their order.
 ///
 /// # Errors
-/// The `Memory` or `Thread` of the first worker that returned one, of those whose handle was kept; else `Thread` if a
-/// thread couldn't be started, or `may_start` refused it, or `Memory` if an allocation for the handles failed; else
-/// `Stopped` if a worker returned it. A worker whose handle couldn't be stored is joined, and its answer dropped. A
-/// worker for whose result an allocation failed counts as one that returned `Memory`.
+/// The error of the first worker that failed, of those whose handle was kept; else `Thread` if a thread couldn't be
+/// started, or `may_start` refused it, or `Memory` if an allocation for the handles failed. A worker whose handle
+/// couldn't be stored is joined, and its answer dropped. A worker for whose result an allocation failed counts as one
+/// that returned `Memory`. It is never `Stopped`: a worker stops only after another, or a start, has failed.
 pub fn fork_join<R, T, W>(
     rt: &R,
     alloc: Global,
@@ -47,38 +62,139 @@ where
     T: Send + Drop,
     W: Work<T> + Sync,
     requires { Each (W.ready work.now) workers.items }
-    ensures { IfOk result (λ done. AllZip (W.makes work.now) workers.items done.items) }
+    ensures makes { IfOk result (λ done. AllZip (W.makes work.now) workers.items done.items) }
+    ensures reported { IfErr result (IsReported (W.errs work.now) workers.items) }
+    ensures failed { IfErr result (λ e. is_own e ≡ true) }
+{
+    let Some(parts) = (workers.len() as u64).checked_add(1) else {
+        return Err(Refused::Memory);
+    };
+    fork_parts::<R, T, W, Brand>(rt, alloc, workers, work, Blank::new(parts))
+}
+
+/// [`fork_join`], with a part of the tokens for each worker and one for the fork.
+fn fork_parts<R, T, W, L>(
+    rt: &R,
+    alloc: Global,
+    workers: Vec<T>,
+    work: &W,
+    blank: Blank,
+) -> Result<Vec<T>, Refused>
+where
+    R: Threads + Wait + Sync,
+    T: Send + Drop,
+    W: Work<T> + Sync,
+    L: Ledger + Send + Sync,
+    requires ready { Each (W.ready work.now) workers.items }
+    requires name { blank.name ≡ L.name }
+    requires parts { blank.parts ≡ L.parts }
+    requires one_more { blank.parts ≡ suc (length workers.items) }
+    ensures makes { IfOk result (λ done. AllZip (W.makes work.now) workers.items done.items) }
+    ensures reported { IfErr result (IsReported (W.errs work.now) workers.items) }
+    ensures failed { IfErr result (λ e. is_own e ≡ true) }
+{
+    let (tokens, all) = blank.open::<L>();
+    let flag = Flag::new(tokens);
+    fork_scope(rt, alloc, workers, work, &flag, all)
+}
+
+/// Opens the scope of the threads.
+fn fork_scope<R, T, W, L>(
+    rt: &R,
+    alloc: Global,
+    workers: Vec<T>,
+    work: &W,
+    flag: &Flag<L>,
+    all: Share<L>,
+) -> Result<Vec<T>, Refused>
+where
+    R: Threads + Wait + Sync,
+    T: Send + Drop,
+    W: Work<T> + Sync,
+    L: Ledger + Send + Sync,
+    requires ready { Each (W.ready work.now) workers.items }
+    requires parts { all.parts ≡ L.parts }
+    requires one_more { all.parts ≡ suc (length workers.items) }
+    requires none { all.amount ≡ 0 }
+    ensures makes { IfOk result (λ done. AllZip (W.makes work.now) workers.items done.items) }
+    ensures reported { IfErr result (IsReported (W.errs work.now) workers.items) }
+    ensures failed { IfErr result (λ e. is_own e ≡ true) }
 {
     thread::scope(
         thread::scope_env(),
         rt,
         |scope| -> Result<Vec<T>, Refused>
-            requires { Each (W.ready work.now) workers.items }
-            ensures { IfOk result (λ done. AllZip (W.makes work.entry.now) workers.items done.items) }
-        { fork_all(scope, rt, alloc, workers, work) },
+            requires ready { Each (W.ready work.now) workers.items }
+            requires parts { all.parts ≡ L.parts }
+            requires one_more { all.parts ≡ suc (length workers.items) }
+            requires none { all.amount ≡ 0 }
+            ensures makes { IfOk result (λ done. AllZip (W.makes work.entry.now) workers.items done.items) }
+            ensures reported { IfErr result (IsReported (W.errs work.entry.now) workers.items) }
+            ensures failed { IfErr result (λ e. is_own e ≡ true) }
+        { fork_all(scope, rt, alloc, workers, work, flag, all) },
     )
 }
 
+/// What a worker does in its thread: its work; if it failed, it sets the flag.
+fn run_worker<R, T, W, L>(
+    rt: &R,
+    work: &W,
+    worker: T,
+    flag: &Flag<L>,
+    share: Share<L>,
+) -> Ended<T, L>
+where
+    R: Wait,
+    T: Drop,
+    W: Work<T>,
+    L: Ledger,
+    requires ready { W.ready work.now worker }
+    requires part { share.parts ≡ 1 }
+    requires none { share.amount ≡ 0 }
+    ensures makes { IfOk result.result (W.makes work.now worker) }
+    ensures errs { IfErr result.result (W.errs work.now worker) }
+    ensures part { result.share.parts ≡ 1 }
+    ensures tokens { HasTokens result.result result.share.amount }
+{
+    let mut watch = Watch::new(flag, share);
+    let result = work.work(worker, &mut watch);
+    let failed = match &result {
+        Ok(_) => false,
+        Err(refused) => refused.is_own(),
+    };
+    let share = watch.end(rt, failed);
+    Ended { result, share }
+}
+
 /// Starts the threads and joins them, inside the scope.
-fn fork_all<'s, 'e: 's, R, T, W>(
+fn fork_all<'s, 'e: 's, R, T, W, L>(
     scope: &Scope<'s, &'e ()>,
     rt: &'e R,
     alloc: Global,
     workers: Vec<T>,
     work: &'e W,
+    flag: &'e Flag<L>,
+    all: Share<L>,
 ) -> Result<Vec<T>, Refused>
 where
     R: Threads + Wait + Sync,
     T: Send + Drop + 'e,
     W: Work<T> + Sync,
-    requires { Each (W.ready work.now) workers.items }
-    ensures { IfOk result (λ done. AllZip (W.makes work.now) workers.items done.items) }
+    L: Ledger + Send + Sync + 'e,
+    requires ready { Each (W.ready work.now) workers.items }
+    requires parts { all.parts ≡ L.parts }
+    requires one_more { all.parts ≡ suc (length workers.items) }
+    requires none { all.amount ≡ 0 }
+    ensures makes { IfOk result (λ done. AllZip (W.makes work.now) workers.items done.items) }
+    ensures reported { IfErr result (IsReported (W.errs work.now) workers.items) }
+    ensures failed { IfErr result (λ e. is_own e ≡ true) }
 {
+    let mut all = all;
     let mut started = Vec::with_capacity(alloc, workers.len())?;
     let mut refused = None;
     for worker in workers {
         if !work.may_start(&worker) {
-            work.give_up();
+            flag.set(rt, &mut all);
             refused = Some(Refused::Thread);
             break;
         }
@@ -86,38 +202,45 @@ where
             work: Snapshot::of(work),
             worker: Snapshot::of(&worker),
         };
-        let begun = scope.spawn_with(promise, move || work.work(worker));
+        let share = all.split_off(1, 0);
+        let begun = scope.spawn_with(promise, move || run_worker(rt, work, worker, flag, share));
         let Ok(handle) = begun else {
-            work.give_up();
+            flag.set(rt, &mut all);
             refused = Some(Refused::Thread);
             break;
         };
         if let Err(AllocFailed { value: handle }) = started.push(handle) {
-            work.give_up();
+            flag.set(rt, &mut all);
             let _answer = handle.join(rt);
             refused = Some(Refused::Memory);
             break;
         }
     }
-    let done = join_all(rt, alloc, started);
+    let done = join_all(rt, alloc, started, &mut all);
     match refused {
         Some(refused) => Err(gravest(done.err(), refused)),
-        None => done,
+        None => none_stopped(rt, flag, all, done),
     }
 }
 
-/// Joins each thread. Returns what the threads returned, or the first of the gravest errors.
-fn join_all<R: Threads, T: Send + Drop, W: Work<T>>(
+/// Joins each thread, and gathers the tokens. Returns what the threads returned, or the first of the gravest errors.
+fn join_all<R: Threads, T: Send + Drop, W: Work<T>, L: Ledger + Send>(
     rt: &R,
     alloc: Global,
-    started: Vec<PromisedHandle<Result<T, Refused>, Promised<W, T>>>,
+    started: Vec<PromisedHandle<Ended<T, L>, Promised<W, T>>>,
+    all: &mut Share<L>,
 ) -> Result<Vec<T>, Refused>
-    ensures { IfOk result (λ done. AllKept W.makes started.items done.items) }
+    ensures kept { IfOk result (λ done. AllKept W.makes started.items done.items) }
+    ensures reported { IfErr result (IsReportedOf W.errs started.items) }
+    ensures parts { all.new.parts ≡ all.old.parts + length started.items }
+    ensures tokens { all.old.amount ≡ 0 → HasTokens result all.new.amount }
 {
     let mut done = Vec::new(alloc);
     let mut failed = None;
     for handle in started {
-        match handle.join(rt) {
+        let Ended { result, share } = handle.join(rt);
+        all.merge(share);
+        match result {
             Ok(worker) => {
                 if failed.is_none() {
                     if let Err(_worker) = done.push(worker) {
@@ -131,5 +254,27 @@ fn join_all<R: Threads, T: Send + Drop, W: Work<T>>(
     match failed {
         Some(refused) => Err(refused),
         None => Ok(done),
+    }
+}
+
+/// What the threads returned, once all were started and joined: no worker stopped unless another failed.
+fn none_stopped<R: Wait, T: Drop, L: Ledger>(
+    rt: &R,
+    flag: &Flag<L>,
+    all: Share<L>,
+    done: Result<Vec<T>, Refused>,
+) -> Result<Vec<T>, Refused>
+    requires parts { all.parts ≡ L.parts }
+    requires tokens { HasTokens done all.amount }
+    ensures same { result ≡ done }
+    ensures failed { IfErr result (λ e. is_own e ≡ true) }
+{
+    match done {
+        Err(Refused::Stopped) => {
+            let mut all = all;
+            flag.audit(rt, &mut all);
+            unreachable!()
+        }
+        done => done,
     }
 }

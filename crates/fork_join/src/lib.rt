@@ -2,7 +2,9 @@
 #![tactic(auto)]
 
 mod fork;
+mod stop;
 mod work;
 
 pub use fork::fork_join;
+pub use stop::Watch;
 pub use work::{Refused, Work};

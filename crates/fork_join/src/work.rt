@@ -1,9 +1,11 @@
 //! What a worker does in its thread.
 
 ghost use Rattle.std.specs.Prelude.{◌≡◌};
-ghost use Rattle.fork_join.specs.Gravest.{graver, gravest};
+ghost use Rattle.fork_join.specs.Gravest.{graver, gravest, is_own};
 
+use crate::stop::Watch;
 use std::alloc::{AllocError, AllocFailed};
+use std::sync::ledger::Ledger;
 
 /// Why a worker gave up, or wasn't started.
 #[derive(Clone, Copy, Debug, PartialEq, Eq)]
@@ -12,11 +14,21 @@ pub enum Refused {
     Memory,
     /// A thread couldn't be started, or what ran in it failed.
     Thread,
-    /// It stopped because another worker failed or wasn't started.
+    /// It stopped because another worker failed or wasn't started. [`crate::fork_join`] never returns it.
     Stopped,
 }
 
 impl Refused {
+    /// Whether the worker failed itself.
+    pub(crate) fn is_own(self) -> bool
+        ensures { result ≡ is_own self }
+    {
+        match self {
+            Refused::Memory | Refused::Thread => true,
+            Refused::Stopped => false,
+        }
+    }
+
     /// Which of two reasons is reported: `Memory` and `Thread` go before `Stopped`, else the first before the other.
     fn graver(self, other: Refused) -> Refused
         ensures { result ≡ graver self other }
@@ -60,7 +72,9 @@ impl<T: Drop> From<AllocFailed<T>> for Refused {
 
 /// The work that all workers do, each on its own record `T`.
 pub trait Work<T> {
-    ghost use Rattle.std.specs.Prelude.{IfOk};
+    ghost use Rattle.std.specs.Prelude.{◌≡◌, true, IfErr, IfOk};
+    ghost use Rattle.fork_join.specs.declared.work.Refused.{Refused};
+    ghost use Rattle.fork_join.specs.declared.work.Refused.TheVariants.{Stopped};
 
     /// What a worker's record must be.
     ghost ready: { Self → T → Type 0 };
@@ -68,15 +82,20 @@ pub trait Work<T> {
     /// What the work makes of it.
     ghost makes: { Self → T → T → Type 0 };
 
-    /// Works on the record of one worker.
-    fn work(&self, worker: T) -> Result<T, Refused>
+    /// The errors that it may return instead.
+    ghost errs: { Self → T → Refused → Type 0 } = { λ _ _ _. Unit {0} };
+
+    /// Works on the record of one worker. Workers that wait for one another look at the flag while they wait: it is
+    /// set if a worker failed, or a start.
+    ///
+    /// # Errors
+    /// `Stopped` only if the worker saw the flag set.
+    fn work<L: Ledger>(&self, worker: T, watch: &mut Watch<'_, L>) -> Result<T, Refused>
         requires { ready self.now worker }
-        ensures { IfOk result (makes self.now worker) };
+        ensures makes { IfOk result (makes self.now worker) }
+        ensures errs { IfErr result (errs self.now worker) }
+        ensures seen { IfErr result (λ e. e ≡ Stopped → watch.new.seen ≡ true) };
 
     /// Whether a worker's thread may start. Called before each start; `false` counts as a start that failed.
     fn may_start(&self, worker: &T) -> bool;
-
-    /// Called if a start failed, before the workers that were started are joined: if workers wait for one another, it
-    /// has to make those that wait stop.
-    fn give_up(&self);
 }

@@ -1,6 +1,7 @@
 //! The run of all workers, window by window.
 
-ghost use Rattle.std.specs.Prelude.{◌≡◌, ◌+◌, ◌≤◌, suc, length, IfOk};
+ghost use Rattle.std.specs.Prelude.{◌≡◌, ◌+◌, ◌≤◌, suc, true, length, IfErr, IfOk};
+ghost use Rattle.fork_join.specs.Gravest.{is_own};
 ghost use Rattle.mote_net.specs.Limits.{latest_end};
 ghost use Rattle.mote_net.specs.Net.{net_of};
 ghost use Rattle.net_agenda.specs.NetSystem.{system_of};
@@ -41,7 +42,7 @@ fn window_start(group: &Workers, end: u64) -> u64
 ///
 /// # Errors
 /// `Memory`, or `Thread` if a thread couldn't be started, the gate refused a start, or the executor returned an error:
-/// that of the lowest worker that has one.
+/// that of the lowest worker that has one. It is never `Stopped`.
 pub fn run_group<R, G>(
     rt: &R,
     alloc: Global,
@@ -61,6 +62,7 @@ where
     ensures inboxes { IfOk result (λ done. done.inboxes.items ≡ group.inboxes.items) }
     ensures windows { let n = net_of net.now in
         IfOk result (GroupRunsToEnd n of.now (length_of_window (system_of n).lookahead longest) group) }
+    ensures failed { IfErr result (λ e. is_own e ≡ true) }
 {
     let end = net.end();
     let width = window_length(lookahead_of(net), longest);

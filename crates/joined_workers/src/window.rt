@@ -1,8 +1,9 @@
 //! One window of all workers, each in a thread of its own.
 
-ghost use Rattle.std.specs.Prelude.{◌≡◌, ℕ, ◌+◌, ◌^◌, ◌<◌, ◌≤◌, length, IfErr, IfOk};
+ghost use Rattle.std.specs.Prelude.{◌≡◌, ℕ, ◌+◌, ◌^◌, ◌<◌, ◌≤◌, true, length, IfErr, IfOk};
 ghost use Rattle.std.specs.List.{AllByRecursion as Each, AllZip};
 ghost use Rattle.fork_join.specs.declared.work.Refused.TheVariants.{Memory};
+ghost use Rattle.fork_join.specs.Gravest.{is_own};
 ghost use Rattle.mote_net.specs.Net.{net_of};
 ghost use Rattle.net_agenda.specs.NetSystem.{system_of};
 ghost use Rattle.window_laws.specs.System.{RunsForward};
@@ -56,8 +57,9 @@ where
     R: Threads + Wait + RandomSource + AllocGlobal + Sync,
     G: Gate + Sync,
     requires { Each (IsReady (net_of window.net.now) window.of.now window.inboxes.now window.until) workers.items }
-    ensures { let n = net_of window.entry.net.now in IfOk result (λ done. AllZip
+    ensures runs { let n = net_of window.entry.net.now in IfOk result (λ done. AllZip
         (RunsWorker n window.entry.of.now window.entry.inboxes.now window.entry.until) workers.items done.items) }
+    ensures failed { IfErr result (λ e. is_own e ≡ true) }
 {
     fork_join(rt, alloc, workers, &Runner { rt, gate, window })
 }
@@ -82,6 +84,7 @@ where
     requires plain { Each IsPlain group.takers.items }
     ensures runs { IfOk result (GroupRunsUntil (net_of net.now) of.now until group) }
     ensures plain { IfOk result (λ done. Each IsPlain done.takers.items) }
+    ensures failed { IfErr result (λ e. is_own e ≡ true) }
 {
     let Workers {
         shares,
@@ -115,7 +118,7 @@ where
 ///
 /// # Errors
 /// That of the first worker that has one; `Thread` if a thread couldn't be started, or the gate refused it; and
-/// `Memory`.
+/// `Memory`. It is never `Stopped`.
 pub(crate) fn run_group_window<R, G>(
     rt: &R,
     alloc: Global,
@@ -138,6 +141,7 @@ where
         → IsAt n of.now until done) }
     ensures inboxes { IfOk result (λ done. done.inboxes.items ≡ group.inboxes.items) }
     ensures plain { IfOk result (λ done. Each IsPlain done.takers.items) }
+    ensures failed { IfErr result (λ e. is_own e ≡ true) }
 {
     run_threads(rt, alloc, net, of, until, gate, group)
 }

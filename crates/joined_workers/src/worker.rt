@@ -10,11 +10,12 @@ ghost use Rattle.all_workers.specs.Workers.{IsNotBefore};
 
 use all_workers::Worker;
 use copy_inbox::Inbox;
-use fork_join::{Refused, Work};
+use fork_join::{Refused, Watch, Work};
 use mote_net::Net;
 use radio_packet::RadioCopy;
 use std::random::RandomSource;
 use std::sync::Wait;
+use std::sync::ledger::Ledger;
 use worker_window::Gate;
 
 /// What all workers of a window have in common.
@@ -114,14 +115,18 @@ impl<R: Wait + RandomSource + AllocGlobal, G: Gate> Work<Worker> for Runner<'_, 
     ghost makes = { λ w old new. RunsWorker
         (net_of w.window.net.now) w.window.of.now w.window.inboxes.now w.window.until old new };
 
-    fn work(&self, worker: Worker) -> Result<Worker, Refused> {
+    // No worker waits for another within a window.
+    ghost errs = { λ _ _ e. e ≢ Stopped };
+
+    fn work<L: Ledger>(
+        &self,
+        worker: Worker,
+        _watch: &mut Watch<'_, L>,
+    ) -> Result<Worker, Refused> {
         run_worker(self.rt, self.gate, &self.window, worker)
     }
 
     fn may_start(&self, worker: &Worker) -> bool {
         self.gate.start(worker.endpoint.worker)
     }
-
-    // No worker waits for another within a window.
-    fn give_up(&self) {}
 }

@@ -3,18 +3,13 @@ use denote.Param.Send.{IsSync, sendable}
 use denote.Param.SendFields.{declared_sync}
 use denote.Ref.{NamedLft}
 use denote.RattleType.{RattleType}
-use Rattle.std.proofs.sync.atomic.AtomicU64.TheSendSync as word
-use Rattle.std.specs.contracts.sync.atomic.AtomicBool as AtomicBool
 use Rattle.copy_inbox.proofs.inbox.Inbox.TheSendSync as inbox
 use Rattle.mote_net.proofs.NetCrossing.{net_sync}
 use Rattle.marked_workers.specs.contracts.thread.MarkRunner as MarkRunner
 use Rattle.marked_workers.specs.contracts.worker.WorkersRun as WorkersRun
 
-flag_sync : IsSync AtomicBool.the_row
-flag_sync = declared_sync AtomicBool.the_type (word.the_sync, tt)
-
 run_sync : (κ : NamedLft) → IsSync (WorkersRun.the_row κ)
-run_sync κ = declared_sync (WorkersRun.the_type κ) (search (net_sync, sendable), (search sendable, (search (inbox.the_sync, sendable), (search sendable, (search (flag_sync, sendable), tt)))))
+run_sync κ = declared_sync (WorkersRun.the_type κ) (search (net_sync, sendable), (search sendable, (search (inbox.the_sync, sendable), (search sendable, tt))))
 
 pub runner_sync : (κ : NamedLft) (R G : RattleType) → IsSync R → IsSync G → IsSync (MarkRunner.the_row κ R G)
 runner_sync κ R G r g = let w = run_sync κ in declared_sync (MarkRunner.the_type κ R G) (search sendable, (search sendable, (w, tt)))

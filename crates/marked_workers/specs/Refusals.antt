@@ -8,4 +8,4 @@ use Rattle.copy_exchange.specs.declared.take.MarkError.TheVariants.{Memory, Stop
 abbrev pub refused_of_marks : MarkError → Refused
 refused_of_marks Memory = why.Memory
 refused_of_marks Stopped = why.Stopped
-refused_of_marks Unexpected = why.Stopped
+refused_of_marks Unexpected = why.Thread

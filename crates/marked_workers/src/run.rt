@@ -3,6 +3,7 @@
 ghost use Rattle.std.specs.Prelude.{◌≡◌, ◌<◌, ◌≤◌, suc, true, length, map, IfErr, IfOk};
 ghost use Rattle.std.specs.List.{AllByRecursion as Each, AllZip, range_with_len};
 ghost use Rattle.fork_join.specs.declared.work.Refused.TheVariants.{Memory};
+ghost use Rattle.fork_join.specs.Gravest.{is_own};
 ghost use Rattle.mote_net.specs.Net.{net_of};
 ghost use Rattle.net_agenda.specs.NetSystem.{system_of};
 ghost use Rattle.copy_inbox.specs.Gathered.{Whole};
@@ -29,7 +30,6 @@ use mote_net::Net;
 use std::alloc::{AllocGlobal, Global};
 use std::random::RandomSource;
 use std::sync::Wait;
-use std::sync::atomic::AtomicBool;
 use std::thread::Threads;
 use worker_window::Gate;
 
@@ -65,8 +65,10 @@ where
     requires wide { 0 < run.width }
     requires short { run.width ≤ (system_of (net_of run.net.now)).lookahead }
     requires first { Each (IsFirst (net_of run.net.now) run.of.now run.inboxes.now) workers.items }
-    ensures { let n = net_of run.entry.net.now in IfOk result (λ done. AllZip (WorkerRunsAllWindows n run.entry.of.now
-        run.entry.width (windows_of run.entry.width n.end) run.entry.inboxes.now) workers.items done.items) }
+    ensures runs { let n = net_of run.entry.net.now in IfOk result (λ done. AllZip
+        (WorkerRunsAllWindows n run.entry.of.now run.entry.width (windows_of run.entry.width n.end) run.entry.inboxes.now)
+        workers.items done.items) }
+    ensures failed { IfErr result (λ e. is_own e ≡ true) }
 {
     fork_join(rt, alloc, workers, &MarkRunner { rt, gate, run })
 }
@@ -91,7 +93,8 @@ where
     requires fresh { AllZip IsFresh group.inboxes.items group.takers.items }
     requires marked { Each (λ taker. taker.state.marked ≡ true) group.takers.items }
     requires first { AreFirst (net_of net.now) of.now (length group.inboxes.items) group.shares.items }
-    ensures { IfOk result (GroupRunsMarked (net_of net.now) of.now width group) }
+    ensures runs { IfOk result (GroupRunsMarked (net_of net.now) of.now width group) }
+    ensures failed { IfErr result (λ e. is_own e ≡ true) }
 {
     let Workers {
         shares,
@@ -101,13 +104,11 @@ where
     } = group;
     let endpoints = make_endpoints(alloc, &inboxes, takers)?;
     let workers = workers_of(alloc, shares, endpoints)?;
-    let stop = AtomicBool::new(false);
     let run = WorkersRun {
         net,
         of,
         inboxes: &inboxes,
         width,
-        stop: &stop,
     };
     let done = run_together(rt, alloc, workers, run, gate)?;
     let (shares, endpoints) = split_workers(alloc, done)?;
@@ -126,7 +127,7 @@ where
 ///
 /// # Errors
 /// `Memory`, or `Thread` if a thread couldn't be started, the gate refused a start, or the executor returned an error:
-/// that of the lowest worker that has one; else `Stopped`, if a worker stopped because another worker failed.
+/// that of the lowest worker that has one. It is never `Stopped`: a worker stops only if another, or a start, failed.
 pub fn run_marked<R, G>(
     rt: &R,
     alloc: Global,
@@ -151,6 +152,7 @@ where
         IfOk result (GroupRunsMarked n of.now (length_of_window (system_of n).lookahead longest) group) }
     ensures all_taken { IfOk result
         (λ done. Each (λ taker. Whole taker.state.gathered taker.state.taken) done.takers.items) }
+    ensures failed { IfErr result (λ e. is_own e ≡ true) }
 {
     let width = window_length(lookahead_of(net), longest);
     run_threads(rt, alloc, net, of, width, gate, group)

@@ -1,10 +1,11 @@
 //! A worker in its thread: all windows of the run, one after another.
 
-ghost use Rattle.std.specs.Prelude.{◌≡◌, ◌≢◌, ℕ, ◌^◌, ◌<◌, ◌≤◌, suc, [], length, IfErr, IfOk, OnOk};
+ghost use Rattle.std.specs.Prelude.{◌≡◌, ◌≢◌, ℕ, ◌^◌, ◌<◌, ◌≤◌, suc, true, [], length, IfErr, IfOk, OnOk};
 ghost use Rattle.fork_join.specs.declared.work.Refused.TheVariants.{Memory, Stopped, Thread};
 ghost use Rattle.mote_net.specs.Net.{net_of};
 ghost use Rattle.net_agenda.specs.NetSystem.{system_of};
 ghost use Rattle.copy_exchange.specs.Endpoints.{HasMarks, IsOnInboxes};
+ghost use Rattle.copy_exchange.specs.Expected.{TakesUnexpected, position};
 ghost use Rattle.copy_exchange.specs.Marks.{Counts};
 ghost use Rattle.worker_window.specs.Window.{CanRun};
 ghost use Rattle.all_workers.specs.Workers.{IsCut};
@@ -17,11 +18,11 @@ ghost use Rattle.marked_workers.specs.Thread.{SendsWindow, TakesWindow};
 use crate::worker::{MarkWorker, WorkersRun};
 use all_workers::{Worker, window_end};
 use copy_exchange::{MarkEndpoint, MarkError, Standing};
-use fork_join::{Refused, Work};
+use fork_join::{Refused, Watch, Work};
 use std::alloc::{AllocGlobal, Global};
 use std::random::RandomSource;
 use std::sync::Wait;
-use std::sync::atomic::Ordering;
+use std::sync::ledger::Ledger;
 use worker_window::Gate;
 
 /// What each thread needs besides its worker: the runtime, the gate into its turns, and the run.
@@ -74,20 +75,22 @@ fn send_window<R: Wait + RandomSource + AllocGlobal, G: Gate>(
 }
 
 /// Why a worker gave up, if it stopped taking items. A copy that isn't expected comes only if another worker has
-/// broken the protocol, which none does.
+/// broken the protocol, which none does; it counts as an error of what ran in the thread.
 fn gave_up(error: MarkError) -> Refused
     ensures { result ≡ refused_of_marks error }
 {
     match error {
         MarkError::Memory => Refused::Memory,
-        MarkError::Stopped | MarkError::Unexpected => Refused::Stopped,
+        MarkError::Stopped => Refused::Stopped,
+        MarkError::Unexpected => Refused::Thread,
     }
 }
 
 /// Takes items until each other worker's mark of the window has come, and puts the copies among them into the share.
-fn take_window<R: Wait + AllocGlobal>(
+fn take_window<R: Wait + AllocGlobal, L: Ledger>(
     rt: &R,
     run: &WorkersRun<'_>,
+    watch: &mut Watch<'_, L>,
     worker: &mut MarkWorker,
     window: u64,
     until: u64,
@@ -95,7 +98,10 @@ fn take_window<R: Wait + AllocGlobal>(
     requires on_inboxes { IsOnInboxes run.now.inboxes.now worker.old.endpoint.base }
     requires counts { Counts worker.old.endpoint.marks.items worker.old.endpoint.base.taker.state }
     ensures takes { OnOk result (TakesWindow run.now.of.now window until worker.old worker.new) }
-    ensures refused { IfErr result (λ reason. reason ≢ Thread) }
+    ensures seen { IfErr result (λ reason. reason ≡ Stopped → watch.new.seen ≡ true) }
+    ensures unexpected { IfErr result
+        (λ reason. reason ≡ Thread → TakesUnexpected (position run.now.of.now worker.old.endpoint.base.worker until)
+        worker.old.endpoint.base.taker worker.new.endpoint.base.taker) }
 {
     let number = worker.endpoint.base.worker;
     let inbox = &run.inboxes[usize::from(number)];
@@ -106,7 +112,7 @@ fn take_window<R: Wait + AllocGlobal>(
     };
     let took = worker
         .endpoint
-        .take_window(rt, rt.alloc(), inbox, run.stop, &standing, window);
+        .take_window(rt, rt.alloc(), inbox, watch, &standing, window);
     let arrived = match took {
         Ok(arrived) => arrived,
         Err(error) => return Err(gave_up(error)),
@@ -116,10 +122,11 @@ fn take_window<R: Wait + AllocGlobal>(
 }
 
 /// Runs one window: the worker's motes run and send, then it takes. The worker has run all earlier ones.
-fn run_one<R: Wait + RandomSource + AllocGlobal, G: Gate>(
+fn run_one<R: Wait + RandomSource + AllocGlobal, G: Gate, L: Ledger>(
     rt: &R,
     gate: &G,
     run: &WorkersRun<'_>,
+    watch: &mut Watch<'_, L>,
     worker: &mut MarkWorker,
     window: u64,
     until: u64,
@@ -131,28 +138,31 @@ fn run_one<R: Wait + RandomSource + AllocGlobal, G: Gate>(
     requires cut { IsCut (length (net_of run.now.net.now).motes) (length run.now.inboxes.now) run.now.of.now }
     requires stands { (first : MarkWorkerOfCode) × HasRun (net_of run.now.net.now) run.now.of.now run.now.width
         window run.now.inboxes.now first worker.old }
-    ensures { let n = net_of run.now.net.now in OnOk result
+    ensures leads_on { let n = net_of run.now.net.now in OnOk result
         (LeadsOn n run.now.of.now run.now.width window run.now.inboxes.now worker.old worker.new) }
+    ensures seen { IfErr result (λ reason. reason ≡ Stopped → watch.new.seen ≡ true) }
 {
     send_window(rt, gate, run, worker, window, until)?;
-    take_window(rt, run, worker, window, until)
+    take_window(rt, run, watch, worker, window, until)
 }
 
 /// Runs a worker through all windows, to the end of the net.
 ///
 /// # Errors
 /// `Memory`; `Thread` if the executor returned an error; `Stopped` if it stopped because another worker failed.
-fn run_worker<R: Wait + RandomSource + AllocGlobal, G: Gate>(
+fn run_worker<R: Wait + RandomSource + AllocGlobal, G: Gate, L: Ledger>(
     rt: &R,
     gate: &G,
     run: &WorkersRun<'_>,
+    watch: &mut Watch<'_, L>,
     worker: MarkWorker,
 ) -> Result<MarkWorker, Refused>
     requires wide { 0 < run.now.width }
     requires short { run.now.width ≤ (system_of (net_of run.now.net.now)).lookahead }
     requires started { IsStarted (net_of run.now.net.now) run.now.of.now run.now.inboxes.now worker }
-    ensures { let n = net_of run.now.net.now in IfOk result
+    ensures has_run { let n = net_of run.now.net.now in IfOk result
         (HasRun n run.now.of.now run.now.width (windows_of run.now.width n.end) run.now.inboxes.now worker) }
+    ensures seen { IfErr result (λ reason. reason ≡ Stopped → watch.new.seen ≡ true) }
 {
     let end = run.net.end();
     let mut worker = worker;
@@ -160,7 +170,7 @@ fn run_worker<R: Wait + RandomSource + AllocGlobal, G: Gate>(
     let mut from: u64 = 0;
     'windows: while from <= end {
         let until = window_end(from, run.width, end);
-        run_one(rt, gate, run, &mut worker, window, until)?;
+        run_one(rt, gate, run, watch, &mut worker, window, until)?;
         window += 1;
         from = until;
     }
@@ -210,20 +220,22 @@ fn without_marks(worker: MarkWorker) -> Worker
 ///
 /// # Errors
 /// As [`run_worker`].
-fn run_through<R: Wait + RandomSource + AllocGlobal, G: Gate>(
+fn run_through<R: Wait + RandomSource + AllocGlobal, G: Gate, L: Ledger>(
     rt: &R,
     gate: &G,
     run: &WorkersRun<'_>,
+    watch: &mut Watch<'_, L>,
     worker: Worker,
 ) -> Result<Worker, Refused>
     requires wide { 0 < run.now.width }
     requires short { run.now.width ≤ (system_of (net_of run.now.net.now)).lookahead }
     requires first { IsFirst (net_of run.now.net.now) run.now.of.now run.now.inboxes.now worker }
-    ensures { let n = net_of run.now.net.now in IfOk result (WorkerRunsAllWindows
+    ensures runs { let n = net_of run.now.net.now in IfOk result (WorkerRunsAllWindows
         n run.now.of.now run.now.width (windows_of run.now.width n.end) run.now.inboxes.now worker) }
+    ensures seen { IfErr result (λ reason. reason ≡ Stopped → watch.new.seen ≡ true) }
 {
     let worker = with_marks(rt.alloc(), run, worker)?;
-    let done = run_worker(rt, gate, run, worker)?;
+    let done = run_worker(rt, gate, run, watch, worker)?;
     Ok(without_marks(done))
 }
 
@@ -234,20 +246,11 @@ impl<R: Wait + RandomSource + AllocGlobal, G: Gate> Work<Worker> for MarkRunner<
     ghost makes = { λ w old new. let n = net_of w.run.net.now in WorkerRunsAllWindows n w.run.of.now w.run.width
         (windows_of w.run.width n.end) w.run.inboxes.now old new };
 
-    fn work(&self, worker: Worker) -> Result<Worker, Refused> {
-        let done = run_through(self.rt, self.gate, &self.run, worker);
-        // The other workers wait for marks that won't come.
-        if done.is_err() {
-            self.run.stop.store(true, Ordering::SeqCst);
-        }
-        done
+    fn work<L: Ledger>(&self, worker: Worker, watch: &mut Watch<'_, L>) -> Result<Worker, Refused> {
+        run_through(self.rt, self.gate, &self.run, watch, worker)
     }
 
     fn may_start(&self, worker: &Worker) -> bool {
         self.gate.start(worker.endpoint.worker)
-    }
-
-    fn give_up(&self) {
-        self.run.stop.store(true, Ordering::SeqCst);
     }
 }

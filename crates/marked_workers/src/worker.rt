@@ -3,7 +3,6 @@
 use copy_exchange::MarkEndpoint;
 use copy_inbox::Inbox;
 use mote_net::Net;
-use std::sync::atomic::AtomicBool;
 use worker_window::Share;
 
 /// A worker in its thread: its share of the net, and its endpoint, which counts the marks that it took of each worker.
@@ -23,6 +22,4 @@ pub struct WorkersRun<'a> {
     pub inboxes: &'a [Inbox],
     /// How long a window is.
     pub width: u64,
-    /// A worker that fails sets it, so that those that wait for its marks stop too.
-    pub stop: &'a AtomicBool,
 }

@@ -13,7 +13,6 @@ use Rattle.serial_run.specs.NetRun.{IsReportOf}
 use Rattle.serial_run.specs.declared.error.RunError.{RunError}
 use Rattle.serial_run.specs.declared.error.RunError.TheVariants as run
 use Rattle.window_workers.specs.declared.sync.SyncKind.{SyncKind}
-use Rattle.window_workers.specs.declared.sync.SyncKind.TheVariants.{Marks}
 use Rattle.simulation.specs.Input.{IsText, IsTooLong, IsNoText}
 use Rattle.simulation.specs.declared.input.InputError.{InputError}
 use Rattle.simulation.specs.declared.input.InputError.TheVariants as input
@@ -66,20 +65,15 @@ abbrev pub MayRun : Way → Type 0
 MayRun None = Unit {0}
 MayRun (Some way) = MayWork way.0
 
--- a run by workers that wait for one another's marks
-abbrev pub HasMarks : Way → Type 0
-HasMarks None = ⊥
-HasMarks (Some way) = way.1 ≡ Marks
-
 -- the cause of a run's fault: a number of workers that isn't allowed; else a failed allocation or, with workers, a
--- thread. With marks the contract also allows `Stopped`: a worker gave up since another failed; no run returns it.
+-- thread
 abbrev pub RefusesRun : Way → RunError → Type 0
 RefusesRun way run.Workers = ¬ MayRun way
 RefusesRun way run.CutLength = ⊥
 RefusesRun way run.CutWorker = ⊥
 RefusesRun way run.Memory = MayRun way
 RefusesRun way run.Thread = IsSome way × MayRun way
-RefusesRun way run.Stopped = HasMarks way × MayRun way
+RefusesRun way run.Stopped = ⊥
 
 -- the answer to running a net in this way: the report is that of the net's run, whose definition knows no worker
 abbrev pub RunsWith : Way → NetTold → Result Report RunError → Type 0

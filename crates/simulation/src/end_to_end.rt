@@ -87,8 +87,7 @@ pub fn simulate_serial<R: Read, W: Write>(
 /// # Errors
 /// As `simulate_serial`; `Run` with `Workers` if there aren't 1 to 16 of them, which is checked once the scenario
 /// has been read, and with `Memory` or `Thread` if an allocation of a worker failed, or its thread couldn't be
-/// started or run. With marks the contract also allows `Stopped`: a worker that waits for marks gives up if another
-/// failed. No run returns it, since that other worker's error is reported.
+/// started or run.
 #[tactic(auto, using(crate::proofs::Printed::some_bytes))]
 pub fn simulate<T, R, W, G>(
     rt: &T,

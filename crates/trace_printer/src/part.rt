@@ -3,9 +3,10 @@ ghost use Rattle.std.specs.Prelude.{◌≡◌, []};
 
 use crate::numbered::put_all_part;
 use crate::page::Page;
-use fork_join::{Refused, Work};
+use fork_join::{Refused, Watch, Work};
 use mote_net::{LogLine, Net};
 use std::alloc::Global;
+use std::sync::ledger::Ledger;
 use trace_lines::Line;
 
 /// A part of the text: `count` of its lines, after the first `skip`, and the page that they are written to.
@@ -58,7 +59,7 @@ impl Work<Part> for Traces<'_> {
 
     ghost makes = { λ traces old new. IsPut traces old new };
 
-    fn work(&self, part: Part) -> Result<Part, Refused> {
+    fn work<L: Ledger>(&self, part: Part, _watch: &mut Watch<'_, L>) -> Result<Part, Refused> {
         let Part {
             skip,
             count,
@@ -72,7 +73,4 @@ impl Work<Part> for Traces<'_> {
     fn may_start(&self, _part: &Part) -> bool {
         true
     }
-
-    // No worker waits for another.
-    fn give_up(&self) {}
 }

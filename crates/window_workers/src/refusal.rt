@@ -1,20 +1,20 @@
-//! Why workers gave up, as an error of the run.
+//! Why workers failed, as an error of the run.
 
-ghost use Rattle.std.specs.Prelude.{◌≡◌};
+ghost use Rattle.std.specs.Prelude.{◌≡◌, true};
+ghost use Rattle.fork_join.specs.Gravest.{is_own};
 ghost use Rattle.window_workers.specs.Fits.{of_refused};
 
-use crate::sync::SyncKind;
 use fork_join::Refused;
 use serial_run::RunError;
 
-/// Why a worker gave up, as an error of the run. With joins all workers are joined between two windows, so none stops
-/// because another failed.
-pub fn of_refused(sync: SyncKind, refused: Refused) -> RunError
-    ensures { result ≡ of_refused sync refused }
+/// Why workers failed, as an error of the run. A run that failed names the error of a worker that failed itself.
+pub fn of_refused(refused: Refused) -> RunError
+    requires { is_own refused ≡ true }
+    ensures { result ≡ of_refused refused }
 {
-    match (refused, sync) {
-        (Refused::Memory, _) => RunError::Memory,
-        (Refused::Thread, _) | (Refused::Stopped, SyncKind::Joins) => RunError::Thread,
-        (Refused::Stopped, SyncKind::Marks) => RunError::Stopped,
+    match refused {
+        Refused::Memory => RunError::Memory,
+        Refused::Thread => RunError::Thread,
+        Refused::Stopped => unreachable!(),
     }
 }

@@ -98,7 +98,7 @@ where
     ensures inboxes { IfOk result (λ done. done.inboxes.items ≡ group.inboxes.items) }
     ensures all_taken { IfOk result (λ done. sync ≡ Marks
         → Each (λ taker. Whole taker.state.gathered taker.state.taken) done.takers.items) }
-    ensures err { IfErr result (IsAnswerTo sync None) }
+    ensures err { IfErr result (IsAnswerTo None) }
 {
     let ran = match sync {
         SyncKind::Joins => run_group(rt, alloc, net, of, longest, gate, group),
@@ -106,7 +106,7 @@ where
     };
     match ran {
         Ok(group) => Ok(group),
-        Err(refused) => Err(of_refused(sync, refused)),
+        Err(refused) => Err(of_refused(refused)),
     }
 }
 
@@ -117,9 +117,8 @@ where
 ///
 /// # Errors
 /// `Workers`, `CutLength` or `CutWorker` exactly when the cut doesn't fit, the first of them that applies; else
-/// `Memory`, or `Thread` if a thread couldn't be started, the gate refused a start, or an executor returned an error;
-/// with marks also `Stopped`, if a worker stopped because another worker failed, and none reported one of these. The
-/// inboxes are then dropped.
+/// `Memory`, or `Thread` if a thread couldn't be started, the gate refused a start, or an executor returned an error:
+/// that of the lowest worker that has one. The inboxes are then dropped.
 pub fn run_inboxes<R, G>(
     rt: &R,
     alloc: Global,
@@ -151,7 +150,7 @@ where
     // A fault of the cut is returned exactly when there is one.
     ensures fits { IfOk result (λ r. cut_fault (length (net_of net.now).motes) (length pairs.items) cut.now.of.items
         ≡ None) }
-    ensures err { IfErr result (IsAnswerTo sync
+    ensures err { IfErr result (IsAnswerTo
         (cut_fault (length (net_of net.now).motes) (length pairs.items) cut.now.of.items)) }
 {
     let of = cut.of.as_slice();
@@ -174,8 +173,8 @@ where
 ///
 /// # Errors
 /// `Workers`, `CutLength` or `CutWorker` exactly when the cut doesn't fit, the first of them that applies; else
-/// `Memory`, or `Thread` if a thread couldn't be started, the gate refused a start, or an executor returned an error;
-/// with marks also `Stopped`.
+/// `Memory`, or `Thread` if a thread couldn't be started, the gate refused a start, or an executor returned an error:
+/// that of the lowest worker that has one.
 pub fn run_workers<R, G>(
     rt: &R,
     alloc: Global,
@@ -196,7 +195,7 @@ where
     ensures handed_on { IfOk result (λ r. All (λ trace. IsInOrder trace.items) r.traces.items) }
     // A fault of the cut is returned exactly when there is one.
     ensures fits { IfOk result (λ r. cut_fault (length (net_of net.now).motes) workers cut.now.of.items ≡ None) }
-    ensures err { IfErr result (IsAnswerTo sync (cut_fault (length (net_of net.now).motes) workers cut.now.of.items)) }
+    ensures err { IfErr result (IsAnswerTo (cut_fault (length (net_of net.now).motes) workers cut.now.of.items)) }
 {
     if let Some(fault) = fault_of(net.motes(), usize::from(workers), &cut.of) {
         return Err(fault);

@@ -1,11 +1,14 @@
 //! Most tests write what they see into one text and compare it once, in a function that they share: so a test owns
 //! little where it can end early, which would cost its proof most.
 
+mod failing_executor;
 mod held_back;
 mod inboxes;
 mod lent_motes;
+mod many_motes;
 mod marks;
 mod nets;
+mod one_inbox;
 mod overlaps;
 mod polled;
 mod runs;

@@ -1,122 +1,115 @@
 //! Some workers in threads of their own, each with a number.
 
-ghost use Rattle.std.specs.Prelude.{◌≡◌, ◌+◌, ◌^◌, ◌%◌};
+ghost use Rattle.std.specs.Prelude.{◌≡◌, ◌+◌, ◌^◌, ◌%◌, true};
 
-use fork_join::{Refused, Work, fork_join};
+use fork_join::{Refused, Watch, Work, fork_join};
 use std::alloc::Global;
 use std::sync::Wait;
 use std::sync::atomic::AtomicU64;
 use std::sync::atomic::Ordering::SeqCst;
+use std::sync::ledger::Ledger;
 use std::test::Fail;
 use std::thread::Threads;
 use test_helpers::same_text;
 
 /// Adds ten to the number of each worker, but gives up at some numbers, and refuses one start.
-struct AddTen {
+struct AddTen<'a, R> {
+    rt: &'a R,
     /// At this number it is out of memory.
     no_memory: u64,
     /// At this number its thread fails.
     no_thread: u64,
-    /// At this number it stops, as if another worker had failed.
+    /// At this number it waits until another worker, or a start, has failed, and stops.
     stopped: u64,
     /// The worker with this number isn't allowed to start.
     shut_out: u64,
-    /// `true` if each worker waits until it has to give up.
+    /// `true` if each worker waits like this.
     waits: bool,
     /// The number of workers that were asked for.
     asked: AtomicU64,
-    /// The number of times that it had to give up.
-    given_up: AtomicU64,
 }
 
-impl Drop for AddTen {
+impl<R> Drop for AddTen<'_, R> {
     fn drop(self) {
         let AddTen {
+            rt: _,
             no_memory: _,
             no_thread: _,
             stopped: _,
             shut_out: _,
             waits: _,
             asked: _,
-            given_up: _,
         } = self;
     }
 }
 
-fn add_ten(no_memory: u64, no_thread: u64, stopped: u64, shut_out: u64, waits: bool) -> AddTen {
+fn add_ten<'a, R>(
+    rt: &'a R,
+    no_memory: u64,
+    no_thread: u64,
+    stopped: u64,
+    shut_out: u64,
+    waits: bool,
+) -> AddTen<'a, R> {
     AddTen {
+        rt,
         no_memory,
         no_thread,
         stopped,
         shut_out,
         waits,
         asked: AtomicU64::new(0),
-        given_up: AtomicU64::new(0),
     }
 }
 
-impl AddTen {
-    /// The reason why this worker gives up, if it does.
-    fn refusal(&self, worker: u64) -> Option<Refused> {
-        if worker == self.no_memory {
-            return Some(Refused::Memory);
+/// Waits until the flag is set.
+fn is_stopped<R: Wait, L: Ledger>(rt: &R, watch: &mut Watch<'_, L>) -> bool
+    ensures { result ≡ true → watch.new.seen ≡ true }
+{
+    for _ in 0..u64::MAX {
+        if watch.is_set(rt) {
+            return true;
         }
-        if worker == self.no_thread {
-            return Some(Refused::Thread);
-        }
-        if worker == self.stopped || (self.waits && self.is_stopped()) {
-            return Some(Refused::Stopped);
-        }
-        None
     }
-
-    /// Waits until it is told to give up.
-    fn is_stopped(&self) -> bool {
-        for _ in 0..u64::MAX {
-            if self.given_up.load(SeqCst) > 0 {
-                return true;
-            }
-        }
-        false
-    }
+    false
 }
 
-impl Work<u64> for AddTen {
+impl<R: Wait> Work<u64> for AddTen<'_, R> {
     ghost ready = { λ _ _. Unit {0} };
 
     ghost makes = { λ _ old new. new ≡ (old + 10) % 2 ^ 64 };
 
-    fn work(&self, worker: u64) -> Result<u64, Refused> {
-        match self.refusal(worker) {
-            Some(refused) => Err(refused),
-            None => Ok(worker.wrapping_add(10)),
+    fn work<L: Ledger>(&self, worker: u64, watch: &mut Watch<'_, L>) -> Result<u64, Refused> {
+        if worker == self.no_memory {
+            return Err(Refused::Memory);
         }
+        if worker == self.no_thread {
+            return Err(Refused::Thread);
+        }
+        if (worker == self.stopped || self.waits) && is_stopped(self.rt, watch) {
+            return Err(Refused::Stopped);
+        }
+        Ok(worker.wrapping_add(10))
     }
 
     fn may_start(&self, worker: &u64) -> bool {
         self.asked.fetch_add(1, SeqCst);
         *worker != self.shut_out
     }
-
-    fn give_up(&self) {
-        self.given_up.fetch_add(1, SeqCst);
-    }
 }
 
-/// Runs these workers, and writes down what they answer, how many were asked for, and how often the work was told to
-/// give up.
+/// Runs these workers, and writes down what they answer, and how many were asked for.
 fn write_joined<R: Threads + Wait + Sync>(
     rt: &R,
     alloc: Global,
     text: &mut String,
-    work: AddTen,
+    work: AddTen<'_, R>,
     workers: &[u64],
 ) {
     if let Ok(workers) = Vec::from_slice(alloc, workers) {
         let done = fork_join(rt, alloc, workers, &work);
         let asked = work.asked.load(SeqCst);
-        let given_up = work.given_up.load(SeqCst);
-        let _ = write!(text, "{done:?} {asked} {given_up}|");
+        let _ = write!(text, "{done:?} {asked}|");
     }
 }
 
@@ -131,29 +124,31 @@ fn write_giving_up<R: Threads + Wait + Sync>(rt: &R, alloc: Global, text: &mut S
         [4, 2, 3],
         [2, 4, 3],
         [4, 1, 3],
-        [1, 4, 1],
     ] {
-        write_joined(rt, alloc, text, add_ten(2, 3, 4, 0, false), &workers);
+        write_joined(rt, alloc, text, add_ten(rt, 2, 3, 4, 0, false), &workers);
     }
 }
 
 /// Whichever start is refused, the workers that were started give up before they are joined.
 fn write_waiting<R: Threads + Wait + Sync>(rt: &R, alloc: Global, text: &mut String) {
     for shut_out in 0..4 {
-        let work = add_ten(9, 9, 9, shut_out, true);
+        let work = add_ten(rt, 9, 9, 9, shut_out, true);
         write_joined(rt, alloc, text, work, &[0, 1, 2, 3]);
     }
 }
 
 fn write_workers<R: Threads + Wait + Sync>(rt: &R, alloc: Global, text: &mut String) {
-    write_joined(rt, alloc, text, add_ten(0, 0, 0, 0, false), &[3, 1, 2]);
+    write_joined(rt, alloc, text, add_ten(rt, 0, 0, 0, 0, false), &[3, 1, 2]);
     write_giving_up(rt, alloc, text);
     // A worker that isn't allowed to start is reported as one whose thread couldn't be started, and the next one isn't
     // asked for.
-    write_joined(rt, alloc, text, add_ten(0, 0, 0, 2, false), &[1, 2, 3]);
+    write_joined(rt, alloc, text, add_ten(rt, 0, 0, 0, 2, false), &[1, 2, 3]);
     // The error of a worker that was started takes precedence over a refused start, unless that worker only stopped.
-    write_joined(rt, alloc, text, add_ten(1, 0, 4, 2, false), &[1, 2, 3]);
-    write_joined(rt, alloc, text, add_ten(1, 0, 4, 2, false), &[4, 2, 3]);
+    write_joined(rt, alloc, text, add_ten(rt, 1, 0, 4, 2, false), &[1, 2, 3]);
+    write_joined(rt, alloc, text, add_ten(rt, 1, 0, 4, 2, false), &[4, 2, 3]);
+    // A worker that failed lets the others stop, whichever its error is.
+    write_joined(rt, alloc, text, add_ten(rt, 2, 9, 9, 9, true), &[1, 2, 3]);
+    write_joined(rt, alloc, text, add_ten(rt, 9, 2, 9, 9, true), &[1, 2, 3]);
     write_waiting(rt, alloc, text);
 }
 
@@ -163,8 +158,8 @@ fn workers_by_hand(rt: HostRuntime) -> Result<(), Fail> {
     write_workers(&rt, rt.alloc(), &mut text);
     same_text(
         text.as_str(),
-        "Ok([13, 11, 12]) 3 0|Err(Memory) 3 0|Err(Thread) 3 0|Err(Thread) 3 0|Err(Thread) 3 0|Err(Memory) 3 0|\
-         Err(Memory) 3 0|Err(Thread) 3 0|Err(Stopped) 3 0|Err(Thread) 2 1|Err(Memory) 2 1|Err(Thread) 2 1|\
-         Err(Thread) 1 1|Err(Thread) 2 1|Err(Thread) 3 1|Err(Thread) 4 1|",
+        "Ok([13, 11, 12]) 3|Err(Memory) 3|Err(Thread) 3|Err(Thread) 3|Err(Thread) 3|Err(Memory) 3|\
+         Err(Memory) 3|Err(Thread) 3|Err(Thread) 2|Err(Memory) 2|Err(Thread) 2|Err(Memory) 3|Err(Thread) 3|\
+         Err(Thread) 1|Err(Thread) 2|Err(Thread) 3|Err(Thread) 4|",
     )
 }

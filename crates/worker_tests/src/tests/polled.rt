@@ -109,6 +109,63 @@ where
     same_text(text.as_str(), want)
 }
 
+/// A process that is polled in each kernel run, and prints after 192 of its calls.
+const BUSY: &str = "\
+    process a; autostart a; code a { var n = 0; body { poll a; while 1 { yield; n = (n + 1); poll a; \
+    if (n == 192) { print n; } } } }";
+
+/// What the polls of its window up to 3 give.
+const BUSY_TOLD: &str = "\
+    pending|pending|pending|0 Start(Etimer)|0 Start(Ctimer)|0 Start(Radio)|0 Start(Own(0))|2 Print(Own(0), 192)|";
+
+/// Polls the windows of two new motes, up to 5 and up to 3, in this order, and writes down what each answers.
+fn write_two_windows(
+    texts: &mut (String, String),
+    alloc: Global,
+    task: &MockTask,
+    programs: (&Program, &Program),
+    is_second: &[bool],
+) -> Result<(), MoteError> {
+    let first = Mote::new(alloc, 0, programs.0, 32)?;
+    let second = Mote::new(alloc, 0, programs.1, 32)?;
+    let none = Vec::new(alloc);
+    let mut first = MoteWindow::new(alloc, first, programs.0, none, 5, 0, &NoGate);
+    let none = Vec::new(alloc);
+    let mut second = MoteWindow::new(alloc, second, programs.1, none, 3, 0, &NoGate);
+    for is_second in is_second {
+        if *is_second {
+            write_poll(&mut texts.1, task, &mut second)?;
+        } else {
+            write_poll(&mut texts.0, task, &mut first)?;
+        }
+    }
+    Ok(())
+}
+
+/// Fails unless the two windows give what is wanted when polled in this order.
+fn tell_two<R>(rt: &R, programs: (&Program, &Program), is_second: &[bool]) -> Result<(), Fail>
+where
+    R: RandomSource + AllocGlobal,
+{
+    let task = MockTask::new(rt)?;
+    let mut texts = (String::new(rt.alloc()), String::new(rt.alloc()));
+    write_two_windows(&mut texts, rt.alloc(), &task, programs, is_second)?;
+    same_text(texts.0.as_str(), THREE_TIMERS_TOLD)?;
+    same_text(texts.1.as_str(), BUSY_TOLD)
+}
+
+/// The windows of two motes give the same, polled in turn and one after the other.
+#[test]
+fn two_mote_futures(rt: HostRuntime) -> Result<(), Fail> {
+    let timers = read(rt.alloc(), THREE_TIMERS)?;
+    let busy = read(rt.alloc(), BUSY)?;
+    let programs = (&timers, &busy);
+    let in_turn = [false, true, false, true, false, true, true];
+    tell_two(&rt, programs, &in_turn)?;
+    let one_first = [false, false, false, true, true, true, true];
+    tell_two(&rt, programs, &one_first)
+}
+
 /// What three polls give of the window of a mote that has one turn: pending, then ready; polled again it fails.
 const ONE_TURN_TOLD: &str =
     "pending|0 Start(Etimer)|0 Start(Ctimer)|0 Start(Radio)|0 Start(Own(0))|0 Print(Own(0), 1)|Failed|";

@@ -77,7 +77,7 @@ const LENGTHS: [Case<'static>; 5] = [
 const SPARSE: Case<'static> = (STARTS, 16, &[0, 5, 10], 1);
 
 /// Runs by any cut, with what is watched in them.
-static RUNS: [Trials<'static>; 10] = [
+static RUNS: [Trials<'static>; 11] = [
     // Each of these cuts gives the report of one thread: in blocks and in stripes, with workers that have no mote, and
     // with the motes the other way round. With joins each worker is started in each of two windows, with marks once.
     Trials {
@@ -125,6 +125,18 @@ static RUNS: [Trials<'static>; 10] = [
         ],
         joins: REFUSED_STARTS,
         marks: REFUSED_STARTS,
+    },
+    // The same among 16 workers, of whom three have a mote and were started: each has run the first window, which is
+    // the only one, or the first of three.
+    Trials {
+        scenario: BUSY_TRIO,
+        cases: &[
+            (Watch::Starts(Some(12)), 16, &[0, 5, 10], 0),
+            (Watch::Starts(Some(12)), 16, &[0, 5, 10], 1),
+            (Watch::Starts(Some(15)), 16, &[0, 5, 10], 1),
+        ],
+        joins: REFUSED_OF_SIXTEEN,
+        marks: REFUSED_OF_SIXTEEN,
     },
     // With joins each window starts all workers: turns at 0, 2 and 5 are in two windows of three moments, or in three
     // shorter ones. With marks each worker is started once.
@@ -194,6 +206,8 @@ const REFUSED_CUTS: &str =
 
 const REFUSED_STARTS: &str =
     "Fault(Thread) 1 0|Fault(Thread) 1 0|Fault(Thread) 2 2|Fault(Thread) 2 1|Fault(Thread) 3 2|";
+
+const REFUSED_OF_SIXTEEN: &str = "Fault(Thread) 13 9|Fault(Thread) 13 3|Fault(Thread) 16 3|";
 
 const REFUSED_INBOXES: &str =
     "Fault(Workers)|Fault(Workers)|Fault(CutWorker)|Fault(CutLength)|Same(0)|0 []|0 []|";

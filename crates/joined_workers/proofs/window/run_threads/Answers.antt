@@ -12,6 +12,6 @@ run_together-requires-after_bounds g c κs within =
 pub gather_endpoints-requires : goal.gather_endpoints-requires
 gather_endpoints-requires g c =
     let together = rw c.deref.ensures.value at c.in_ok-endpoints.ensures.together in
-    let ran = rw (c.deref-2.ensures.value, c.in_ok-workers.ensures.workers) at c.in_ok-done.ensures in
+    let ran = rw (c.deref-2.ensures.value, c.in_ok-workers.ensures.workers) at c.in_ok-done.ensures.runs in
     rw (c.deref-4.ensures.value, c.in_ok-shares.ensures.endpoints)
     (returned (net_of c.args.net.now) c.args.of.now c.requires.stands.0 c.args.until c.args.group c.requires.stands.1 c.in_ok-endpoints.endpoints.items c.in_ok-done.done.items together c.in_ok-endpoints.ensures.starts ran)

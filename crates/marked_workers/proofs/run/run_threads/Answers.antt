@@ -24,7 +24,7 @@ gather_endpoints-requires-clause-workers g c =
     let n = net_of c.args.net.now in
     let ids = c.args.group.inboxes.items in
     let together = rw c.deref.ensures.value at c.in_ok-endpoints.ensures.together in
-    let ran = rw (c.deref-2.ensures.value, c.in_ok-workers.ensures.workers) at c.in_ok-done.ensures in
+    let ran = rw (c.deref-2.ensures.value, c.in_ok-workers.ensures.workers) at c.in_ok-done.ensures.runs in
     rw (c.deref-3.ensures.value, c.in_ok-shares.ensures.endpoints)
     (all_back n c.args.of.now c.args.width (windows_of c.args.width n.end) ids _ c.in_ok-done.done.items
     (together_first ids c.args.group.takers.items c.requires.fresh c.in_ok-endpoints.endpoints.items together c.in_ok-endpoints.ensures.starts c.args.group.shares.items c.requires.first.count)
@@ -33,12 +33,12 @@ gather_endpoints-requires-clause-workers g c =
 pub gather_endpoints-requires-clause-on_inboxes : goal.gather_endpoints-requires-clause-on_inboxes
 gather_endpoints-requires-clause-on_inboxes g c =
     let n = net_of c.args.net.now in
-    let ran = rw (c.deref-2.ensures.value, c.in_ok-workers.ensures.workers) at c.in_ok-done.ensures in
+    let ran = rw (c.deref-2.ensures.value, c.in_ok-workers.ensures.workers) at c.in_ok-done.ensures.runs in
     rw (c.deref-3.ensures.value, c.in_ok-shares.ensures.endpoints)
     (all_on_inboxes n c.args.of.now c.args.width (windows_of c.args.width n.end) c.args.group.inboxes.items (map make_worker (zip c.args.group.shares.items c.in_ok-endpoints.endpoints.items)) c.in_ok-done.done.items ran)
 
-pub returns : goal.returns
-returns g c =
+pub returns-clause-runs : goal.returns-clause-runs
+returns-clause-runs g c =
     let ids = c.args.group.inboxes.items in
     let together = rw c.deref.ensures.value at c.in_ok-endpoints.ensures.together in
     record {
@@ -46,7 +46,7 @@ returns g c =
       done = c.in_ok-done.done.items;
       together = together_first ids c.args.group.takers.items c.requires.fresh c.in_ok-endpoints.endpoints.items together c.in_ok-endpoints.ensures.starts c.args.group.shares.items c.requires.first.count;
       none_gathered = none_gathered_first ids c.args.group.takers.items c.requires.fresh c.in_ok-endpoints.endpoints.items together c.in_ok-endpoints.ensures.starts c.args.group.shares.items c.requires.first.count;
-      ran = rw (c.deref-2.ensures.value, c.in_ok-workers.ensures.workers) at c.in_ok-done.ensures;
+      ran = rw (c.deref-2.ensures.value, c.in_ok-workers.ensures.workers) at c.in_ok-done.ensures.runs;
       shares = c.in_ok-shares.ensures.shares;
       back = rw c.in_ok-shares.ensures.endpoints at c.in_ok-takers.ensures.back;
       inboxes = refl;

@@ -7,8 +7,8 @@ use Rattle.marked_workers.specs.Thread.{TakesWindow, HasRun}
 use Rattle.marked_workers.proofs.Windows.{one_more}
 use Rattle.marked_workers.proofs.thread.run_one.Goals as goal
 
-pub returns : goal.returns
-returns g c =
+pub returns-clause-leads_on : goal.returns-clause-leads_on
+returns-clause-leads_on g c =
     let n = net_of c.args.run.now.net.now in
     let of = c.args.run.now.of.now in
     let width = c.args.run.now.width in

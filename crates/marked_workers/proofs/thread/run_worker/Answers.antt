@@ -31,7 +31,7 @@ windows-preserved g c =
     let one : suc c.windows.window ≡ c.windows.window + 1 = omega arith in
     record {
       ran = subst (λ k. HasRun n c.args.run.now.of.now width k c.args.run.now.inboxes.now c.args.worker c.run_one.new.worker) one
-          (c.in_ok-run_one.ensures c.requires.short c.args.worker c.windows.invariant.ran);
+          (c.in_ok-run_one.ensures.leads_on c.requires.short c.args.worker c.windows.invariant.ran);
       at = c.window_end-until.ensures.value
           ∙ (ap (λ e. end_of_window e width c.windows.from) c.end-end.ensures.value
           ∙ (ap (end_of_window n.end width) c.windows.invariant.at
@@ -39,8 +39,8 @@ windows-preserved g c =
       few = let l = low g c in omega arith;
     }
 
-pub returns : goal.returns
-returns g c =
+pub returns-clause-has_run : goal.returns-clause-has_run
+returns-clause-has_run g c =
     let n = net_of c.args.run.now.net.now in
     let width = c.args.run.now.width in
     let all = over width n.end (windows_of width n.end) (are_windows width n.end c.requires.wide) c.windows.window c.windows.invariant.few

@@ -20,4 +20,4 @@ pub returns : goal.returns
 returns g c =
     IfOk-weaker c.fork_join.result (λ done. AllZip (IsPut c.args.traces.now) c.in_ok-parts.parts.items done.items) (λ parts. flat_map page_of parts.items ≡ part_text (lines_told c.args.traces.now) c.args.skip c.args.count)
     (λ done zipped. put_text c.args.traces.now c.args.skip (c.args.skip + c.args.count) c.args.count c.in_ok-parts.parts.items done.items c.in_ok-parts.ensures.adjoin refl zipped)
-    c.fork_join.ensures
+    c.fork_join.ensures.makes
