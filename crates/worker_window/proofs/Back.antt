@@ -252,11 +252,10 @@ module _ (n : NetTold) (of : List ℕ) (worker from until : ℕ) (before now : M
       turned_before = all_here (λ j m. is_past until m.state.last ≡ false) back.turned_before stands.turned_before;
       traces_kept = ret.traces_kept ∙ stands.traces_kept;
       traces =
-          by_mote (λ j. own j ≡ true → (d : Vec Line Global) → (get_or share.traces.items j d).items ≡ (next j).lines)
-          (λ mine d. ret.traces k d ∙ (ap (λ b. (get_or old.traces.items k d).items ++ cond b out.lines.items []) (eq-eqb k k refl)
-          ∙ (ap (λ l. l ++ out.lines.items) (stands.traces k mine d ∙ ap (λ m. m.lines) waits) ∙ (sym back.lines ∙ ap (λ m. m.lines) (sym at_k)))))
-          (λ j ne mine d. ret.traces j d ∙ (ap (λ b. (get_or old.traces.items j d).items ++ cond b out.lines.items []) (ne_eqb j k ne)
-          ∙ (append-nil (get_or old.traces.items j d).items ∙ (stands.traces j mine d ∙ ap (λ m. m.lines) (sym (elsewhere j ne))))));
+          by_mote (λ j. here j ≡ true → (d : Vec Line Global) → (get_or share.traces.items j d).items ≡ (next j).lines)
+          (λ h d. ret.traces k d ∙ (ap (λ b. cond b out.lines.items (get_or old.traces.items k d).items) (eq-eqb k k refl) ∙ (sym back.lines ∙ ap (λ m. m.lines) (sym at_k))))
+          (λ j ne h d. ret.traces j d ∙ (ap (λ b. cond b out.lines.items (get_or old.traces.items j d).items) (ne_eqb j k ne)
+          ∙ (stands.traces j (same_here j ne ∙ h) d ∙ ap (λ m. m.lines) (sym (elsewhere j ne)))));
       log =
           by_mote (λ s. filter (is_sent_by s) (packets_in share.log.items) ≡ cond (own s) (next s).sends [])
           (log_split k ∙ (let e = back.mine in rw e (ap (λ l. (now k).sends ++ l) (filter_every (is_sent_by k) out.sends.items (every_weaker _ _ (λ x h. eq-eqb x.sender k h.sender) out.sends.items back.sent))

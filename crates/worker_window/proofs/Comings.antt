@@ -232,7 +232,7 @@ module _ (n : NetTold) (of : List ℕ) (worker from until : ℕ) (motes : Motes)
       quiet = λ k h. coming.stands.quiet k (present k h);
       turned_before = λ k h. coming.stands.turned_before k (present k h);
       traces_kept = coming.stands.traces_kept;
-      traces = coming.stands.traces;
+      traces = λ k h. coming.stands.traces k (present k h);
       log = coming.stands.log;
       fates = coming.stands.fates;
       agenda = coming.stands.agenda;

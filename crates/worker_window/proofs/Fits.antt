@@ -1,7 +1,10 @@
 -- The motes that are called are the worker's, and give what motes of a net give.
-use Rattle.std.proofs.Common.{◌≡◌, ℕ, ◌<◌, ◌≤◌, Bool, true, List, [], ◌∷◌, ◌++◌, length, map, refl, sym, ap, ◌∙◌, arith, zero-le, Option, Some, None, is_some, IsSome}
+use Rattle.std.proofs.Common.{◌≡◌, ℕ, ◌<◌, ◌≤◌, Bool, true, List, [], ◌∷◌, ◌++◌, length, map, refl, sym, ap, ◌∙◌, subst, arith, zero-le, Option, Some, None, is_some, IsSome}
 use Rattle.std.specs.List.{AllByRecursion}
 use Rattle.program_tree.specs.Code.{Tree}
+use Rattle.std.specs.Prelude.{Vec}
+use Rattle.std.specs.declared.alloc.Global.{Global}
+use Rattle.trace_lines.specs.declared.line.Line.{Line}
 use Rattle.mote_node.specs.declared.mote.Mote.{Mote}
 use Rattle.mote_node.specs.Node.{Node}
 use Rattle.radio_packet.specs.declared.copy.RadioCopy.{RadioCopy}
@@ -11,7 +14,9 @@ use Rattle.window_laws.specs.Windows.{NoneBefore}
 use Rattle.window_laws.proofs.Lists.{every_weaker, every_append, every_map}
 use Rattle.worker_window.specs.declared.out.WindowOut.{WindowOut}
 use Rattle.worker_window.specs.declared.lent_mote.LentMote.{LentMote}
-use Rattle.worker_window.specs.Shares.{LentMoteGives, GivesList, AreInNet}
+use Rattle.worker_window.specs.MoteWindow.{lone_node}
+use Rattle.worker_window.specs.Out.{Gives}
+use Rattle.worker_window.specs.Shares.{LentMoteGives, GivesList}
 use Rattle.net_agenda.specs.NetSystem.{tree_at}
 use Rattle.worker_window.specs.declared.share.Share.{Share}
 use Rattle.worker_window.specs.Calls.{CalledMotes, copies_for, TakesEventsBefore}
@@ -68,24 +73,28 @@ module _ (n : NetTold) (of : List ℕ) (share : Share) (kept : IsKept n of share
     pub called_here : (k : ℕ) → IsSome (copies_for calls k) → IsSome (mote_here share.motes.items k)
     called_here k h = some_mote (tree_at n k) (mote_here share.motes.items k) _ (kept.keeps.nodes k (called_mine k (is_some_of (copies_for calls k) h)))
 
-    module _ (new : List (Option Mote)) (lent_motes : List LentMote) (wakes : List (Option ℕ)) (lent : MotesAreLent until calls share.motes.items new lent_motes wakes) (order : kept.from ≤ until) where
-      number_mine : (r : LentMote) → IsCalled calls share.motes.items r → mine r.number ≡ true
+    -- a mote that is called is one of the net
+    pub called_there : (k : ℕ) → IsSome (copies_for calls k) → k < length n.motes
+    called_there k h = let a = own_there of kept.worker k (called_mine k (is_some_of (copies_for calls k) h)) in omega arith
+
+    module _ (new : List (Option Mote)) (left : List (Vec Line Global)) (lent_motes : List LentMote) (wakes : List (Option ℕ)) (lent : MotesAreLent until calls share.motes.items new share.traces.items left lent_motes wakes)
+        (order : kept.from ≤ until) where
+      number_mine : (r : LentMote) → IsCalled calls share.motes.items share.traces.items r → mine r.number ≡ true
       number_mine r called = called_mine r.number (ap is_some called.copies)
 
-      number_there : (r : LentMote) → IsCalled calls share.motes.items r → r.number < length n.motes
+      number_there : (r : LentMote) → IsCalled calls share.motes.items share.traces.items r → r.number < length n.motes
       number_there r called = let a = own_there of kept.worker r.number (number_mine r called) in omega arith
 
-      pub in_net : AreInNet n lent_motes
-      in_net = every_weaker _ _ number_there lent_motes lent.called
-
-      one_fits : (r : LentMote) (out : WindowOut) → IsCalled calls share.motes.items r → LentMoteGives n until r out → IsFitOwn n of share.worker until out
+      one_fits : (r : LentMote) (out : WindowOut) → IsCalled calls share.motes.items share.traces.items r → LentMoteGives n until r out → IsFitOwn n of share.worker until out
       one_fits r out called gives =
           let k = r.number in
           let h = number_mine r called in
           let there = number_there r called in
           let b : IsBack n mine 0 until kept.motes (λ _. r.copies.items) k out =
           back n 0 until mine kept.motes (λ _. r.copies.items) k h there (kept.keeps.numbers k h) (kept.keeps.wakes k h) (from_0 (kept.motes k).wake) (all_from_0 r.copies.items) (past_later kept.from until order (kept.motes k).state.last (kept.keeps.turned_before k h)) r.mote r.copies.items (λ t. refl) out
-          (gives_open n until r out (kept.motes k).state there (ap (node_at (tree_at n k)) (sym called.mote) ∙ kept.keeps.nodes k h) gives) in
+          (subst (λ lines. Gives (record { program = tree_at n k; until = until; copies = r.copies.items; mote = lone_node lines (kept.motes k).state }) out)
+          (sym (ap (λ v. v.items) (called.trace r.trace)) ∙ kept.keeps.traces k h r.trace)
+          (gives_open n until r out (kept.motes k).state there (ap (node_at (tree_at n k)) (sym called.mote) ∙ kept.keeps.nodes k h) gives)) in
           record {
             number = k;
             mine = sym (same_own k) ∙ h;
@@ -95,7 +104,7 @@ module _ (n : NetTold) (of : List ℕ) (share : Share) (kept : IsKept n of share
           }
 
       pub all_fit : (outs : List WindowOut) → GivesList n until lent_motes outs → AllByRecursion (IsFitOwn n of share.worker until) outs
-      all_fit outs gives = zip_every (IsCalled calls share.motes.items) (LentMoteGives n until) (IsFitOwn n of share.worker until) one_fits lent_motes outs lent.called gives
+      all_fit outs gives = zip_every (IsCalled calls share.motes.items share.traces.items) (LentMoteGives n until) (IsFitOwn n of share.worker until) one_fits lent_motes outs lent.called gives
 
 pub every_split : {X : Type 0} (P : X → Type 0) (xs : List X) (x : X) → AllByRecursion P (xs ++ x ∷ []) → AllByRecursion P xs × P x
 every_split P [] x h = (tt, h.0)

@@ -45,7 +45,7 @@ pub record IsBack (n : NetTold) (own : ℕ → Bool) (from until : ℕ) (motes :
   pub alone : Alone (system_of n) k until (window_copies k) (motes k) last
   pub node : node_in (tree_at n k) out.mote ≡ Some last.state
   pub wake : out.wake ≡ last.wake
-  pub lines : last.lines ≡ (motes k).lines ++ out.lines.items
+  pub lines : last.lines ≡ out.lines.items
   pub sends : last.sends ≡ (motes k).sends ++ out.sends.items
   pub number_is : number_of last.state ≡ k
   pub wakes : last.wake ≡ wake_of last.state
@@ -85,7 +85,7 @@ mote_there n k h = of (slice_get n.motes k) refl ((slice_get_cases n.motes k).1)
 
 -- the window of a lent mote that is a mote of the net
 pub gives_open : (n : NetTold) (until : ℕ) (r : LentMote) (out : WindowOut) (state : Node) → r.number < length n.motes → node_in (tree_at n r.number) r.mote ≡ Some state → LentMoteGives n until r out
-    → Gives (record { program = tree_at n r.number; until = until; copies = r.copies.items; mote = lone_node state }) out
+    → Gives (record { program = tree_at n r.number; until = until; copies = r.copies.items; mote = lone_node r.trace.items state }) out
 gives_open n until r out state h f g =
     let e = mote_there n r.number h in
     let told = rw e at g in
@@ -94,7 +94,7 @@ gives_open n until r out state h f g =
 
 -- and what comes to it comes after its last turn
 pub goes_open : (n : NetTold) (until : ℕ) (r : LentMote) (state : Node) → r.number < length n.motes → node_in (tree_at n r.number) r.mote ≡ Some state
-    → IsAhead (record { program = tree_at n r.number; until = until; copies = r.copies.items; mote = lone_node state }) → LentMoteGoesOn n until r
+    → IsAhead (record { program = tree_at n r.number; until = until; copies = r.copies.items; mote = lone_node r.trace.items state }) → LentMoteGoesOn n until r
 goes_open n until r state h f ahead = let e = mote_there n r.number h in rw (e, f) ahead
 
 module _ (n : NetTold) (from until : ℕ) where
@@ -121,25 +121,24 @@ module _ (n : NetTold) (from until : ℕ) where
   -- what a lent mote's window gave is a mote back from its window
   module _ (own : ℕ → Bool) (motes : Motes) (window_copies : ℕ → List RadioCopy) (k : ℕ) (mine : own k ≡ true) (there : k < length n.motes) (numbered : number_of (motes k).state ≡ k)
       (wakes : (motes k).wake ≡ wake_of (motes k).state) (wakes_from : NoneBefore from (motes k).wake) (window_copies_from : AllByRecursion (λ c. from ≤ c.at) (window_copies k)) (before : is_past until (motes k).state.last ≡ false) where
-    front_is : in_front (motes k).lines (motes k).sends (lone_node (motes k).state) ≡ motes k
+    front_is : in_front [] (motes k).sends (lone_node (motes k).lines (motes k).state) ≡ motes k
     front_is =
-        ap (λ (l : List Line). record { state = (motes k).state; wake = wake_of (motes k).state; lines = l; sends = (motes k).sends ++ [] }) (append-nil (motes k).lines)
-        ∙ (ap (λ (l : List Sent). record { state = (motes k).state; wake = wake_of (motes k).state; lines = (motes k).lines; sends = l }) (append-nil (motes k).sends)
-        ∙ ap (λ (w : Option ℕ). record { state = (motes k).state; wake = w; lines = (motes k).lines; sends = (motes k).sends }) (sym wakes))
+        ap (λ (l : List Sent). record { state = (motes k).state; wake = wake_of (motes k).state; lines = (motes k).lines; sends = l }) (append-nil (motes k).sends)
+        ∙ ap (λ (w : Option ℕ). record { state = (motes k).state; wake = w; lines = (motes k).lines; sends = (motes k).sends }) (sym wakes)
 
     module _ (mote : Mote) (given : List RadioCopy) (alike : IsAlike (system_of n) k until given (window_copies k)) (out : WindowOut) where
-      quiet : IsQuiet from (lone_node (motes k).state).wake (window_copies k)
+      quiet : IsQuiet from (lone_node (motes k).lines (motes k).state).wake (window_copies k)
       quiet = record { no_wake = subst (NoneBefore from) wakes wakes_from; no_copies = window_copies_from }
 
-      pub back : Gives (record { program = tree_at n k; until = until; copies = given; mote = lone_node (motes k).state }) out → IsBack n own from until motes window_copies k out
+      pub back : Gives (record { program = tree_at n k; until = until; copies = given; mote = lone_node (motes k).lines (motes k).state }) out → IsBack n own from until motes window_copies k out
       back gives = record {
         mine = mine;
         there = there;
-        last = in_front (motes k).lines (motes k).sends gives.last;
-        alone = subst (λ m. Alone (system_of n) k until (window_copies k) m (in_front (motes k).lines (motes k).sends gives.last)) front_is (alone_in_front (system_of n) k until (motes k).lines (motes k).sends alone);
+        last = in_front [] (motes k).sends gives.last;
+        alone = subst (λ m. Alone (system_of n) k until (window_copies k) m (in_front [] (motes k).sends gives.last)) front_is (alone_in_front (system_of n) k until [] (motes k).sends alone);
         node = told.node;
         wake = told.wake;
-        lines = ap (λ l. (motes k).lines ++ l) (sym told.lines);
+        lines = sym told.lines;
         sends = ap (λ l. (motes k).sends ++ l) (sym told.sends);
         number_is = alone_keeps (system_of n) k until later from (λ m. number_of m.state ≡ k) (λ t m g h l e. number_kept k t m g e) quiet numbered alone;
         wakes = alone_keeps (system_of n) k until later from (λ m. m.wake ≡ wake_of m.state) (λ t m g h l e. wake_kept k t m g) quiet refl alone;
@@ -153,8 +152,8 @@ module _ (n : NetTold) (from until : ℕ) where
           told : IsTold (node_in (tree_at n k) out.mote) out gives.last
           told = told_is (node_in (tree_at n k) out.mote) out gives.last gives.given
 
-          alone : Alone (system_of n) k until (window_copies k) (lone_node (motes k).state) gives.last
-          alone = alone_alike (system_of n) k until (window_copies k) alike (subst (λ j. Alone (system_of n) j until given (lone_node (motes k).state) gives.last) numbered (gives.run (system_of n) turn_is))
+          alone : Alone (system_of n) k until (window_copies k) (lone_node (motes k).lines (motes k).state) gives.last
+          alone = alone_alike (system_of n) k until (window_copies k) alike (subst (λ j. Alone (system_of n) j until given (lone_node (motes k).lines (motes k).state) gives.last) numbered (gives.run (system_of n) turn_is))
 
   -- the copies of what a mote sent in the window arrive after it
   pub record ComesLate (k : ℕ) (copy : RadioCopy) : Type 0 where

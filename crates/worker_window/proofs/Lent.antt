@@ -3,19 +3,29 @@ use Rattle.std.proofs.Common.{◌≡◌, ℕ, zero, suc, ◌<◌, Bool, true, fa
 use Rattle.std.specs.List.{AllByRecursion, AllZip}
 use Rattle.std.proofs.lemmas.Bool.{cases_Bool, cases_eq, eq-eqb, ne_eqb, eqb-true, false≢true, and_parts}
 use Rattle.std.proofs.lemmas.List.{map-append, length-set}
+use Rattle.std.specs.Prelude.{Vec}
+use Rattle.std.specs.declared.alloc.Global.{Global}
+use Rattle.trace_lines.specs.declared.line.Line.{Line}
 use Rattle.mote_node.specs.declared.mote.Mote.{Mote}
 use Rattle.window_laws.proofs.Lists.{every_append}
+use Rattle.radio_packet.specs.declared.copy.RadioCopy.{RadioCopy}
+use Rattle.mote_net.specs.Net.{NetTold}
 use Rattle.worker_window.specs.declared.lent_mote.LentMote.{LentMote}
+use Rattle.worker_window.specs.declared.share.Share.{Share}
+use Rattle.worker_window.specs.declared.slot.Slot.{Slot}
+use Rattle.worker_window.specs.Slots.{IsOf}
 use Rattle.worker_window.specs.Calls.{CalledMotes, copies_for}
 use Rattle.worker_window.specs.Share.{mote_here}
-use Rattle.worker_window.specs.Lending.{is_one_of, are_different, numbers_of, IsCalled, IsWakeOf, MotesAreLent}
+use Rattle.worker_window.specs.Lending.{is_one_of, are_different, numbers_of, IsCalled, IsWakeOf, MotesAreLent, TakesTrace}
 
 -- some of the motes that are called are lent, and the rest are still to be
-pub record Lent (until : ℕ) (calls rest : CalledMotes) (old now : List (Option Mote)) (lent_motes : List LentMote) (wakes : List (Option ℕ)) : Type 0 where
+pub record Lent (until : ℕ) (calls rest : CalledMotes) (old now : List (Option Mote)) (traces left : List (Vec Line Global)) (lent_motes : List LentMote) (wakes : List (Option ℕ)) : Type 0 where
   pub different : are_different (numbers_of lent_motes) ≡ true
   pub others : (k : ℕ) → copies_for rest k ≡ cond (is_one_of k (numbers_of lent_motes)) None (copies_for calls k)
-  pub called : AllByRecursion (IsCalled calls old) lent_motes
+  pub called : AllByRecursion (IsCalled calls old traces) lent_motes
   pub places : length now ≡ length old
+  pub traces_kept : length left ≡ length traces
+  pub traces_left : (k : ℕ) → is_one_of k (numbers_of lent_motes) ≡ false → (d : Vec Line Global) → get_or left k d ≡ get_or traces k d
   pub gone : (k : ℕ) → mote_here now k ≡ cond (is_one_of k (numbers_of lent_motes)) None (mote_here old k)
   pub told : AllZip (IsWakeOf until) lent_motes wakes
 
@@ -93,21 +103,33 @@ zip_more R [] (b ∷ ys) x y z r = absurd z
 zip_more R (a ∷ xs) [] x y z r = absurd z
 zip_more R (a ∷ xs) (b ∷ ys) x y z r = (z.0, zip_more R xs ys x y z.1 r)
 
-pub none_lent : (until : ℕ) (calls rest : CalledMotes) (motes : List (Option Mote)) (lent_motes : List LentMote) (wakes : List (Option ℕ)) → lent_motes ≡ [] → wakes ≡ []
-    → ((k : ℕ) → copies_for rest k ≡ copies_for calls k) → Lent until calls rest motes motes lent_motes wakes
-none_lent until calls rest motes lent_motes wakes e f same =
-    subst (λ ws. Lent until calls rest motes motes lent_motes ws) (sym f)
-    (subst (λ rs. Lent until calls rest motes motes rs []) (sym e) (record {
+pub none_lent : (until : ℕ) (calls rest : CalledMotes) (motes : List (Option Mote)) (traces : List (Vec Line Global)) (wakes : List (Option ℕ)) → wakes ≡ []
+    → ((k : ℕ) → copies_for rest k ≡ copies_for calls k) → Lent until calls rest motes motes traces traces [] wakes
+none_lent until calls rest motes traces wakes f same =
+    subst (λ ws. Lent until calls rest motes motes traces traces [] ws) (sym f) (record {
       different = refl;
       others = same;
       called = tt;
       places = refl;
+      traces_kept = refl;
+      traces_left = λ k none d. refl;
       gone = λ k. refl;
       told = tt;
-    }))
+    })
 
-module _ (until : ℕ) (calls rest rest' : CalledMotes) (old now now' : List (Option Mote)) (lent_motes lent_motes' : List LentMote) (wakes wakes' : List (Option ℕ)) (lent : Lent until calls rest old now lent_motes wakes)
-    (r : LentMote) (pushed : lent_motes' ≡ lent_motes ++ r ∷ []) (popped : copies_for rest r.number ≡ Some r.copies.items)
+-- a mote that is still to be lent was called
+pub still_called : (until : ℕ) (calls rest : CalledMotes) (old now : List (Option Mote)) (traces left : List (Vec Line Global)) (lent_motes : List LentMote) (wakes : List (Option ℕ))
+    → Lent until calls rest old now traces left lent_motes wakes → (k : ℕ) (copies : List RadioCopy) → copies_for rest k ≡ Some copies → copies_for calls k ≡ Some copies
+still_called until calls rest old now traces left lent_motes wakes lent k copies popped = elim (cases_Bool (is_one_of k (numbers_of lent_motes))) [
+  | inl e ↦ absurd (let h = rw e at (lent.others k) in none_is_not copies (sym h ∙ popped))
+  | inr e ↦ (let h = rw e at (lent.others k) in sym h ∙ popped)
+]
+  where
+    none_is_not : {X : Type 0} (x : X) → None ≡ Some x → ⊥
+    none_is_not x e = cc
+
+module _ (until : ℕ) (calls rest rest' : CalledMotes) (old now now' : List (Option Mote)) (traces left left' : List (Vec Line Global)) (lent_motes : List LentMote) (wakes wakes' : List (Option ℕ)) (lent : Lent until calls rest old now traces left lent_motes wakes)
+    (r : LentMote) (popped : copies_for rest r.number ≡ Some r.copies.items)
     (updated : (k : ℕ) → copies_for rest' k ≡ cond (eqb r.number k) None (copies_for rest k)) where
   abbrev ks : List ℕ
   ks = numbers_of lent_motes
@@ -115,8 +137,11 @@ module _ (until : ℕ) (calls rest rest' : CalledMotes) (old now now' : List (Op
   abbrev k : ℕ
   k = r.number
 
+  abbrev pub lent_motes' : List LentMote
+  lent_motes' = lent_motes ++ r ∷ []
+
   numbers : numbers_of lent_motes' ≡ ks ++ k ∷ []
-  numbers = ap numbers_of pushed ∙ map-append (λ (x : LentMote). x.number) lent_motes (r ∷ [])
+  numbers = map-append (λ (x : LentMote). x.number) lent_motes (r ∷ [])
 
   pub new : is_one_of k ks ≡ false
   new = elim (cases_Bool (is_one_of k ks)) [
@@ -145,7 +170,21 @@ module _ (until : ℕ) (calls rest rest' : CalledMotes) (old now now' : List (Op
   others' : (j : ℕ) → copies_for rest' j ≡ cond (is_one_of j (numbers_of lent_motes')) None (copies_for calls j)
   others' j = updated j ∙ (ap (λ o. cond (eqb k j) None o) (lent.others j) ∙ (none_more (is_one_of j ks) (eqb k j) (copies_for calls j) ∙ ap (λ b. cond b None (copies_for calls j)) (sym (among j))))
 
-  module _ (mote : mote_here now k ≡ Some r.mote) (put : now' ≡ set now k None) (wake : Option ℕ) (told : IsWakeOf until r wake) (woken : wakes' ≡ wakes ++ wake ∷ []) where
+  or_yes : (b : Bool) → (b || true) ≡ true
+  or_yes true = refl
+  or_yes false = refl
+
+  or_none : (b : Bool) → (b || false) ≡ b
+  or_none true = refl
+  or_none false = refl
+
+  yes : is_one_of k (numbers_of lent_motes') ≡ true
+  yes = among k ∙ (ap (λ b. is_one_of k ks || b) (eq-eqb k k refl) ∙ or_yes (is_one_of k ks))
+
+  no : (j : ℕ) → (j ≡ k → ⊥) → is_one_of j (numbers_of lent_motes') ≡ is_one_of j ks
+  no j ne = among j ∙ (ap (λ b. is_one_of j ks || b) (ne_eqb k j (λ f. ne (sym f))) ∙ or_none (is_one_of j ks))
+
+  module _ (mote : mote_here now k ≡ Some r.mote) (put : now' ≡ set now k None) (took : TakesTrace k r.trace left left') (wake : Option ℕ) (told : IsWakeOf until r wake) (woken : wakes' ≡ wakes ++ wake ∷ []) where
     within : k < length now
     within = some_within now k r.mote mote
 
@@ -158,44 +197,42 @@ module _ (until : ℕ) (calls rest rest' : CalledMotes) (old now now' : List (Op
           | inr ne ↦ get_or-set_other now k j None None ne
               ∙ (lent.gone j ∙ ap (λ b. cond b None (mote_here old j)) (sym (no j ne)))
         ]
-      where
-        or_yes : (b : Bool) → (b || true) ≡ true
-        or_yes true = refl
-        or_yes false = refl
 
-        or_none : (b : Bool) → (b || false) ≡ b
-        or_none true = refl
-        or_none false = refl
+    -- a mote that isn't among those lent is another than this
+    other_than : (j : ℕ) → is_one_of j (numbers_of lent_motes') ≡ false → j ≡ k → ⊥
+    other_than j e f = false≢true (sym e ∙ (ap (λ i. is_one_of i (numbers_of lent_motes')) f ∙ yes))
 
-        yes : is_one_of k (numbers_of lent_motes') ≡ true
-        yes = among k ∙ (ap (λ b. is_one_of k ks || b) (eq-eqb k k refl) ∙ or_yes (is_one_of k ks))
+    left_else : (j : ℕ) → is_one_of j (numbers_of lent_motes') ≡ false → (d : Vec Line Global) → get_or left' j d ≡ get_or traces j d
+    left_else j e d =
+        let ne = other_than j e in
+        ap (λ l. get_or l j d) took.put ∙ (get_or-set_other left k j took.left d ne ∙ lent.traces_left j (sym (no j ne) ∙ e) d)
 
-        no : (j : ℕ) → (j ≡ k → ⊥) → is_one_of j (numbers_of lent_motes') ≡ is_one_of j ks
-        no j ne = among j ∙ (ap (λ b. is_one_of j ks || b) (ne_eqb k j (λ f. ne (sym f))) ∙ or_none (is_one_of j ks))
-
-    pub one_lent : Lent until calls rest' old now' lent_motes' wakes'
+    pub one_lent : Lent until calls rest' old now' traces left' lent_motes' wakes'
     one_lent = record {
       different = ap are_different numbers ∙ different_more ks k lent.different new;
       others = others';
-      called = subst (AllByRecursion (IsCalled calls old)) (sym pushed) (every_append _ lent_motes (r ∷ []) lent.called (record { mote = sym still_here ∙ mote; copies = is_called }, tt));
+      called = every_append _ lent_motes (r ∷ []) lent.called (record { mote = sym still_here ∙ mote; trace = λ d. sym (lent.traces_left k new d) ∙ took.taken d; copies = is_called }, tt);
       places = ap length put ∙ (length-set now k None ∙ lent.places);
+      traces_kept = ap length took.put ∙ (length-set left k took.left ∙ lent.traces_kept);
+      traces_left = left_else;
       gone = gone';
-      told = subst (λ rs. AllZip (IsWakeOf until) rs wakes') (sym pushed)
-          (subst (λ ws. AllZip (IsWakeOf until) (lent_motes ++ r ∷ []) ws) (sym woken) (zip_more (IsWakeOf until) lent_motes wakes r wake lent.told told));
+      told = subst (λ ws. AllZip (IsWakeOf until) (lent_motes ++ r ∷ []) ws) (sym woken) (zip_more (IsWakeOf until) lent_motes wakes r wake lent.told told);
     }
 
-pub all_lent : (until : ℕ) (calls rest : CalledMotes) (old now : List (Option Mote)) (lent_motes : List LentMote) (wakes : List (Option ℕ)) → Lent until calls rest old now lent_motes wakes
-    → ((k : ℕ) → copies_for rest k ≡ None) → MotesAreLent until calls old now lent_motes wakes
-all_lent until calls rest old now lent_motes wakes lent none = record {
+pub all_lent : (until : ℕ) (calls rest : CalledMotes) (old now : List (Option Mote)) (traces left : List (Vec Line Global)) (lent_motes : List LentMote) (wakes : List (Option ℕ))
+    → Lent until calls rest old now traces left lent_motes wakes → ((k : ℕ) → copies_for rest k ≡ None) → MotesAreLent until calls old now traces left lent_motes wakes
+all_lent until calls rest old now traces left lent_motes wakes lent none = record {
   different = lent.different;
   all = λ k. each k (is_one_of k (numbers_of lent_motes)) refl;
   called = lent.called;
   places = lent.places;
+  traces_kept = lent.traces_kept;
+  others = lent.traces_left;
   gone = lent.gone;
   told = lent.told;
 }
   where
-    called_one : (k : ℕ) (rs : List LentMote) → AllByRecursion (IsCalled calls old) rs → is_one_of k (numbers_of rs) ≡ true → is_some (copies_for calls k) ≡ true
+    called_one : (k : ℕ) (rs : List LentMote) → AllByRecursion (IsCalled calls old traces) rs → is_one_of k (numbers_of rs) ≡ true → is_some (copies_for calls k) ≡ true
     called_one k [] all e = absurd (false≢true e)
     called_one k (r ∷ rs) all e =
         elim (cases_Bool (eqb r.number k)) [
@@ -206,3 +243,12 @@ all_lent until calls rest old now lent_motes wakes lent none = record {
     each : (k : ℕ) (b : Bool) → is_one_of k (numbers_of lent_motes) ≡ b → is_one_of k (numbers_of lent_motes) ≡ is_some (copies_for calls k)
     each k true e = e ∙ sym (called_one k lent_motes lent.called e)
     each k false e = let h = rw e at (lent.others k) in e ∙ ap is_some (sym (none k) ∙ h)
+
+-- some of the motes that are called are lent, and these are the slots of their windows
+pub record Lends {G : Type 0} (n : NetTold) (until : ℕ) (calls rest : CalledMotes) (old now : Share) (slots : List (Slot G)) (wakes : List (Option ℕ)) : Type 0 where
+  pub lent_motes : List LentMote
+  pub lent : Lent until calls rest old.motes.items now.motes.items old.traces.items now.traces.items lent_motes wakes
+  pub opened : AllZip (IsOf n until) lent_motes slots
+  pub worker : now.worker ≡ old.worker
+  pub log : now.log ≡ old.log
+  pub agenda : now.agenda ≡ old.agenda

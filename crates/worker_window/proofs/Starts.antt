@@ -1,5 +1,5 @@
 -- The motes that are called are lent, and give what their windows say.
-use Rattle.std.proofs.Common.{◌≡◌, ℕ, ◌<◌, ◌≤◌, Bool, true, false, cond, not, ◌&&◌, ltb, eqb, List, [], ◌++◌, length, refl, sym, ap, ◌∙◌, subst, arith, append-nil, Option, None, is_some, get_or}
+use Rattle.std.proofs.Common.{◌≡◌, ℕ, ◌<◌, ◌≤◌, Bool, true, false, cond, not, ◌&&◌, ltb, eqb, List, [], ◌++◌, length, refl, sym, ap, ◌∙◌, subst, arith, append-nil, Option, None, is_some}
 use Rattle.std.specs.List.{filter, list_any, AllByRecursion}
 use Rattle.std.proofs.lemmas.Bool.{eqb-true, and_parts}
 use Rattle.mote_node.specs.Public.{wake_in}
@@ -11,8 +11,11 @@ use Rattle.window_laws.specs.Windows.{is_sent_by, NoneBefore, IsQuiet}
 use Rattle.window_laws.proofs.Lists.{any_every, every_weaker}
 use Rattle.worker_window.specs.declared.out.WindowOut.{WindowOut}
 use Rattle.worker_window.specs.declared.lent_mote.LentMote.{LentMote}
+use Rattle.worker_window.specs.MoteWindow.{lone_node}
+use Rattle.worker_window.specs.Out.{Gives}
 use Rattle.worker_window.specs.Shares.{LentMoteGives, LentMoteGoesOn, GivesList, AreGoingOn}
 use Rattle.worker_window.proofs.Ends.{not_before}
+use Rattle.net_agenda.specs.declared.agenda.Agenda.{Agenda}
 use Rattle.net_agenda.specs.Buckets.{Holds}
 use Rattle.net_agenda.specs.NetSystem.{tree_at, system_of}
 use Rattle.worker_window.specs.declared.share.Share.{Share}
@@ -34,15 +37,19 @@ pub called_in : (P : ℕ → Type 0) (until k : ℕ) (items : List Item) → All
 called_in P until k items all e =
     any_every (P k) (calls_for until k) _ (λ item f h. subst P (eqb-true (mote_of item) k (and_parts (ltb (moment_of item) until) (eqb (mote_of item) k) f).1) h) items e all
 
+-- an agenda that is unchanged
+pub held_still : {a b : Agenda} {items : List Item} → a ≡ b → Holds b.buckets items → Holds a.buckets items
+held_still {a} {b} {items} e h = subst (λ (agenda : Agenda). Holds agenda.buckets items) (sym e) h
+
 -- the share once its motes are lent
 abbrev pub IsLeft : (old new : Share) → Type 0
-IsLeft old new = (new.worker ≡ old.worker) × (new.traces.items ≡ old.traces.items) × (new.log.items ≡ old.log.items)
+IsLeft old new = (new.worker ≡ old.worker) × (new.log.items ≡ old.log.items)
 
 module _ (n : NetTold) (of : List ℕ) (worker from until : ℕ) (motes : Motes) (taken arrived : List RadioCopy) (old new : Share) (keeps : Keeps n of worker from motes taken old)
     (le : from ≤ until) (come : AllByRecursion (IsExpected of worker from) arrived) (long : length of ≡ length n.motes)
     (calls : CalledMotes) (lent_motes : List LentMote) (wakes : List (Option ℕ)) (takes_events : TakesEventsBefore until (items n of worker from until motes taken arrived old keeps le come) calls)
     (holds : Holds new.agenda.buckets (later n of worker from until motes taken arrived old keeps le come))
-    (lent : MotesAreLent until calls old.motes.items new.motes.items lent_motes wakes) where
+    (lent : MotesAreLent until calls old.motes.items new.motes.items old.traces.items new.traces.items lent_motes wakes) where
   abbrev mine : ℕ → Bool
   mine = is_own of worker
 
@@ -77,10 +84,10 @@ module _ (n : NetTold) (of : List ℕ) (worker from until : ℕ) (motes : Motes)
     wakes = λ k h. keeps.wakes k (parts k h).0;
     quiet = λ k h. quiet_else n of worker from until motes taken arrived old keeps le come k (parts k h).0 (parts k h).1;
     turned_before = λ k h. past_later from until le (motes k).state.last (keeps.turned_before k (parts k h).0);
-    traces_kept = ap length same.1 ∙ keeps.traces_kept;
-    traces = λ k h d. ap (λ l. (get_or l k d).items) same.1 ∙ keeps.traces k h d;
-    log = λ s. ap (λ lines. filter (is_sent_by s) (packets_in lines)) same.2 ∙ keeps.log s;
-    fates = subst (HaveFates n.radio) (sym same.2) keeps.fates;
+    traces_kept = lent.traces_kept ∙ keeps.traces_kept;
+    traces = λ k h d. ap (λ v. v.items) (lent.others k (all k ∙ (parts k h).1) d) ∙ keeps.traces k (parts k h).0 d;
+    log = λ s. ap (λ lines. filter (is_sent_by s) (packets_in lines)) same.1 ∙ keeps.log s;
+    fates = subst (HaveFates n.radio) (sym same.1) keeps.fates;
     agenda = record {
       items = later n of worker from until motes taken arrived old keeps le come;
       holds = holds;
@@ -89,16 +96,18 @@ module _ (n : NetTold) (of : List ℕ) (worker from until : ℕ) (motes : Motes)
     };
   }
 
-  one_gives : (r : LentMote) (out : WindowOut) → IsCalled calls old.motes.items r → LentMoteGives n until r out → IsBack n mine from until motes boxes r.number out
+  one_gives : (r : LentMote) (out : WindowOut) → IsCalled calls old.motes.items old.traces.items r → LentMoteGives n until r out → IsBack n mine from until motes boxes r.number out
   one_gives r out called gives =
       let k = r.number in
       let h = called_mine k (ap is_some called.copies) in
       let there : k < length n.motes = (let a = own_there of worker k h in omega arith) in
       back n from until mine motes boxes k h there (keeps.numbers k h) (keeps.wakes k h) (keeps.quiet k h) (window_copies_from n of worker from until motes taken arrived old keeps le come k) (past_later from until le (motes k).state.last (keeps.turned_before k h)) r.mote r.copies.items
       (alike n of worker from until motes taken arrived old keeps le come k r.copies.items (takes_events.copies k r.copies.items called.copies)) out
-      (gives_open n until r out (motes k).state there (ap (node_at (tree_at n k)) (sym called.mote) ∙ keeps.nodes k h) gives)
+      (subst (λ lines. Gives (record { program = tree_at n k; until = until; copies = r.copies.items; mote = lone_node lines (motes k).state }) out)
+      (sym (ap (λ v. v.items) (called.trace r.trace)) ∙ keeps.traces k h r.trace)
+      (gives_open n until r out (motes k).state there (ap (node_at (tree_at n k)) (sym called.mote) ∙ keeps.nodes k h) gives))
 
-  one_goes_on : (r : LentMote) → IsCalled calls old.motes.items r → LentMoteGoesOn n until r
+  one_goes_on : (r : LentMote) → IsCalled calls old.motes.items old.traces.items r → LentMoteGoesOn n until r
   one_goes_on r called =
       let k = r.number in
       let h = called_mine k (ap is_some called.copies) in
@@ -110,7 +119,7 @@ module _ (n : NetTold) (of : List ℕ) (worker from until : ℕ) (motes : Motes)
       goes_open n until r (motes k).state there (ap (node_at (tree_at n k)) (sym called.mote) ∙ keeps.nodes k h)
       (λ moment next. past_later from moment (not_before from moment wake r.copies.items quiet next.comes) (motes k).state.last (keeps.turned_before k h))
 
-  one_pending : (r : LentMote) (wake : Option ℕ) → IsCalled calls old.motes.items r → IsWakeOf until r wake → IsPending until motes r.number wake
+  one_pending : (r : LentMote) (wake : Option ℕ) → IsCalled calls old.motes.items old.traces.items r → IsWakeOf until r wake → IsPending until motes r.number wake
   one_pending r wake called told =
       let k = r.number in
       let h = called_mine k (ap is_some called.copies) in
@@ -119,15 +128,15 @@ module _ (n : NetTold) (of : List ℕ) (worker from until : ℕ) (motes : Motes)
 
   -- the motes that are called can go on
   pub go_on : AreGoingOn n until lent_motes
-  go_on = every_weaker (IsCalled calls old.motes.items) (LentMoteGoesOn n until) one_goes_on lent_motes lent.called
+  go_on = every_weaker (IsCalled calls old.motes.items old.traces.items) (LentMoteGoesOn n until) one_goes_on lent_motes lent.called
 
   pub starts : (outs : List WindowOut) → GivesList n until lent_motes outs → IsLeft old new → Coming n of worker from until motes (taken ++ arrived) boxes new outs wakes []
   starts outs gives same = record {
     rest = numbers_of lent_motes;
     different = lent.different;
     now = motes;
-    backs = zip_numbers (IsCalled calls old.motes.items) (LentMoteGives n until) (IsBack n mine from until motes boxes) one_gives lent_motes outs lent.called gives;
-    pending = zip_numbers (IsCalled calls old.motes.items) (IsWakeOf until) (IsPending until motes) one_pending lent_motes wakes lent.called lent.told;
+    backs = zip_numbers (IsCalled calls old.motes.items old.traces.items) (LentMoteGives n until) (IsBack n mine from until motes boxes) one_gives lent_motes outs lent.called gives;
+    pending = zip_numbers (IsCalled calls old.motes.items old.traces.items) (IsWakeOf until) (IsPending until motes) one_pending lent_motes wakes lent.called lent.told;
     stands = stands_left same;
     waits = λ k e. refl;
     others = λ k e. refl;

@@ -2,6 +2,11 @@
 use Rattle.std.proofs.Common.{◌≡◌, ℕ, zero, suc, ◌<◌, List, [], ◌∷◌, ◌++◌, length, get_or, subst, arith}
 use Rattle.std.proofs.Math.ListN.{set}
 use Rattle.std.specs.List.{AllZip, AllByRecursion}
+use Rattle.mote_net.specs.Net.{NetTold}
+use Rattle.worker_window.specs.declared.lent_mote.LentMote.{LentMote}
+use Rattle.worker_window.specs.declared.slot.Slot.{Slot}
+use Rattle.worker_window.specs.Shares.{AreGoingOn}
+use Rattle.worker_window.specs.Slots.{IsOf, SlotsGoOn}
 
 module _ {A B : Type 0} (R : A → B → Type 0) where
   pub push_zip : (xs : List A) (ys : List B) (x : A) (y : B) → AllZip R xs ys → R x y → AllZip R (xs ++ x ∷ []) (ys ++ y ∷ [])
@@ -27,12 +32,12 @@ module _ {A B C : Type 0} (R : A → B → Type 0) (S : B → C → Type 0) (T :
   zip_zip (x ∷ xs) [] zs h k = absurd h
   zip_zip (x ∷ xs) (y ∷ ys) [] h k = absurd k
 
--- what each element of the second list has by its partner in the first
-pub all_from : {X Y : Type 0} (P : X → Type 0) (Q : Y → Type 0) (xs : List X) (ys : List Y) → AllZip (λ x y. P x → Q y) xs ys → AllByRecursion P xs → AllByRecursion Q ys
-all_from P Q [] [] h all = tt
-all_from P Q (x ∷ xs) (y ∷ ys) h all = (h.0 all.0, all_from P Q xs ys h.1 all.1)
-all_from P Q [] (y ∷ ys) h all = absurd h
-all_from P Q (x ∷ xs) [] h all = absurd h
+-- slots of lent motes that can go on
+pub slots_go_on : {G : Type 0} (n : NetTold) (until : ℕ) (rs : List LentMote) (slots : List (Slot G)) → AllZip (IsOf n until) rs slots → AreGoingOn n until rs → SlotsGoOn slots
+slots_go_on n until [] [] h all = tt
+slots_go_on n until (r ∷ rs) (s ∷ slots) h all = (h.0.goes_on all.0, slots_go_on n until rs slots h.1 all.1)
+slots_go_on n until [] (s ∷ slots) h all = absurd h
+slots_go_on n until (r ∷ rs) [] h all = absurd h
 
 module _ {X : Type 0} (P : X → Type 0) where
   pub first_all : (xs : List X) (x : X) (ys : List X) → xs ≡ x ∷ ys → AllByRecursion P xs → P x × AllByRecursion P ys

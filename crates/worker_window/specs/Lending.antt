@@ -1,5 +1,5 @@
 -- Motes are lent out of a share for a window, and come back.
-use Rattle.std.specs.Prelude.{ℕ, ◌≡◌, ◌<◌, ◌≤◌, ◌^◌, Bool, true, not, ◌&&◌, ◌==◌, if◌then◌else◌, List, []}
+use Rattle.std.specs.Prelude.{ℕ, ◌≡◌, ◌<◌, ◌≤◌, ◌^◌, Bool, true, false, not, ◌&&◌, ◌==◌, if◌then◌else◌, List, []}
 use Rattle.std.specs.Prelude.{◌∷◌, ◌++◌, length, map, Option, Some, None, is_some, slice_index_or, slice_set, Vec}
 use Rattle.std.specs.List.{filter, flat_map, list_any, AllByRecursion, AllZip}
 use Rattle.std.specs.declared.alloc.Global.{Global}
@@ -32,22 +32,33 @@ are_different (k ∷ ks) = not (is_one_of k ks) && are_different ks
 abbrev pub numbers_of : List LentMote → List ℕ
 numbers_of lent_motes = map (λ lent_mote. lent_mote.number) lent_motes
 
--- a mote that was here, with the copies for it
-pub record IsCalled (calls : CalledMotes) (motes : List (Option Mote)) (lent_mote : LentMote) : Type 0 where
+-- a mote that was here, with its trace and the copies for it
+pub record IsCalled (calls : CalledMotes) (motes : List (Option Mote)) (traces : List (Vec Line Global))
+    (lent_mote : LentMote) : Type 0 where
   pub mote : mote_here motes lent_mote.number ≡ Some lent_mote.mote
+  pub trace : (d : Vec Line Global) → slice_index_or traces lent_mote.number d ≡ lent_mote.trace
   pub copies : copies_for calls lent_mote.number ≡ Some lent_mote.copies.items
+
+-- a trace was taken, and nothing is known of what is now in its place
+pub record TakesTrace (number : ℕ) (trace : Vec Line Global) (old new : List (Vec Line Global)) : Type 0 where
+  pub taken : (d : Vec Line Global) → slice_index_or old number d ≡ trace
+  pub left : Vec Line Global
+  pub put : new ≡ slice_set old number left
 
 -- the wake of a mote, unless it is before a moment
 abbrev pub IsWakeOf : (until : ℕ) → LentMote → (wake : Option ℕ) → Type 0
 IsWakeOf until lent_mote wake = (tree : Tree) → wake ≡ wake_from until (wake_in (node_in tree lent_mote.mote))
 
--- the motes that are called are lent, and these are their wakes
-pub record MotesAreLent (until : ℕ) (calls : CalledMotes) (old new : List (Option Mote)) (lent_motes : List LentMote)
-    (wakes : List (Option ℕ)) : Type 0 where
+-- the motes that are called are lent, with their traces, and these are their wakes
+pub record MotesAreLent (until : ℕ) (calls : CalledMotes) (old new : List (Option Mote))
+    (traces left : List (Vec Line Global)) (lent_motes : List LentMote) (wakes : List (Option ℕ)) : Type 0 where
   pub different : are_different (numbers_of lent_motes) ≡ true
   pub all : (k : ℕ) → is_one_of k (numbers_of lent_motes) ≡ is_some (copies_for calls k)
-  pub called : AllByRecursion (IsCalled calls old) lent_motes
+  pub called : AllByRecursion (IsCalled calls old traces) lent_motes
   pub places : length new ≡ length old
+  pub traces_kept : length left ≡ length traces
+  pub others : (k : ℕ) → is_one_of k (numbers_of lent_motes) ≡ false → (d : Vec Line Global)
+      → slice_index_or left k d ≡ slice_index_or traces k d
   pub gone : (k : ℕ) → mote_here new k ≡ (if is_one_of k (numbers_of lent_motes) then None else mote_here old k)
   pub told : AllZip (IsWakeOf until) lent_motes wakes
 
@@ -72,7 +83,7 @@ pub record MoteReturns (radio : Radio) (of : List ℕ) (number : ℕ) (wake : Op
   pub motes : new.motes.items ≡ slice_set old.motes.items number (Some out.mote)
   pub traces_kept : length new.traces.items ≡ length old.traces.items
   pub traces : (k : ℕ) (d : Vec Line Global) → (slice_index_or new.traces.items k d).items
-      ≡ (slice_index_or old.traces.items k d).items ++ (if k == number then out.lines.items else [])
+      ≡ (if k == number then out.lines.items else (slice_index_or old.traces.items k d).items)
   pub log : packets_in new.log.items ≡ packets_in old.log.items ++ out.sends.items
   pub fates : HaveFates radio old.log.items → HaveFates radio new.log.items
   pub agenda : (items : List Item) → Holds old.agenda.buckets items → filter (is_wake_of number) items

@@ -11,13 +11,13 @@ use Rattle.window_laws.specs.Order.{in_order}
 use Rattle.window_laws.specs.Windows.{LoneMote, after_lone_turn, is_at, wakes_at, IsQuiet, Alone}
 use Rattle.net_agenda.specs.NetSystem.{node_turn}
 
--- a mote in its window: its node and its wake, with the lines and packets of the window so far
+-- a mote in its window: its node and its wake, with its lines so far and the packets of the window so far
 abbrev pub LoneNode : Type 0
 LoneNode = LoneMote Node Line
 
--- before the window's first turn
-abbrev pub lone_node : Node → LoneNode
-lone_node n = record { state = n; wake = wake_of n; lines = []; sends = [] }
+-- before the window's first turn, with the lines that it wrote before
+abbrev pub lone_node : List Line → Node → LoneNode
+lone_node lines n = record { state = n; wake = wake_of n; lines = lines; sends = [] }
 
 abbrev pub number_of : Node → ℕ
 number_of n = n.mote.state.mote
@@ -79,7 +79,7 @@ abbrev pub is_rising : List RadioCopy → Bool
 is_rising [] = true
 is_rising (x ∷ xs) = list_all (comes_before x) xs && is_rising xs
 
--- a window before its first turn; there is none for a mote that has failed
-abbrev pub opened : Tree → (until : ℕ) → (copies : List RadioCopy) → Option Node → Option Window
-opened program until copies mote =
-    option_map (λ n. record { program = program; until = until; copies = copies; mote = lone_node n }) mote
+-- a window before its first turn, of a mote that wrote these lines before; there is none for a mote that has failed
+abbrev pub opened : Tree → (until : ℕ) → (copies : List RadioCopy) → (lines : List Line) → Option Node → Option Window
+opened program until copies lines mote =
+    option_map (λ n. record { program = program; until = until; copies = copies; mote = lone_node lines n }) mote

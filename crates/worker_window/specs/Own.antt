@@ -49,14 +49,14 @@ course_in w = record {
   sends = w.sends.items;
 }
 
--- before the first turn; to a mote that has failed only copies come
-abbrev pub course_of : Tree → (until : ℕ) → (copies : List RadioCopy) → Option Node → Course
-course_of program until copies mote = record {
+-- before the first turn, of a mote that wrote these lines before; to one that has failed only copies come
+abbrev pub course_of : Tree → (until : ℕ) → (copies : List RadioCopy) → (lines : List Line) → Option Node → Course
+course_of program until copies lines mote = record {
   program = program;
   until = until;
   copies = copies;
   wake = wake_in mote;
-  lines = [];
+  lines = lines;
   sends = [];
 }
 

@@ -53,8 +53,8 @@ pub record HasToCome (n : NetTold) (own : ℕ → Bool) (from : ℕ) (motes : Mo
   pub copies : (s : ℕ) → filter (is_from_sender s) (packets items)
       ≡ filter (is_to_come own from) (copies_seen (system_of n) own motes taken s)
 
--- The share of a worker at a moment, before which no event is pending, while some of its motes are in it: their nodes
--- and wakes, the lines and packets of all its motes so far, and the agenda. No mote in it has failed, and the last
+-- The share of a worker at a moment, before which no event is pending, while some of its motes are in it: their nodes,
+-- wakes and lines so far, the packets of all its motes so far, and the agenda. No mote in it has failed, and the last
 -- turn of each was before that moment. `taken` are all copies that ever came from other workers.
 pub record IsShare (n : NetTold) (of : List ℕ) (worker : ℕ) (here : ℕ → Bool) (from : ℕ) (motes : Motes)
     (taken : List RadioCopy) (share : Share) : Type 0 where
@@ -66,7 +66,7 @@ pub record IsShare (n : NetTold) (of : List ℕ) (worker : ℕ) (here : ℕ → 
   pub quiet : (k : ℕ) → here k ≡ true → NoneBefore from (motes k).wake
   pub turned_before : (k : ℕ) → here k ≡ true → is_past from (motes k).state.last ≡ false
   pub traces_kept : length share.traces.items ≡ length n.motes
-  pub traces : (k : ℕ) → is_own of worker k ≡ true → (d : Vec Line Global)
+  pub traces : (k : ℕ) → here k ≡ true → (d : Vec Line Global)
       → (slice_index_or share.traces.items k d).items ≡ (motes k).lines
   pub log : (s : ℕ) → filter (is_sent_by s) (packets_in share.log.items)
       ≡ (if is_own of worker s then (motes s).sends else [])

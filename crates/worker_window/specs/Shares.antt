@@ -1,7 +1,8 @@
 -- What the motes of a worker give.
-use Rattle.std.specs.Prelude.{◌≡◌, ℕ, ◌<◌, ◌≤◌, List, [], length, Option, None, IfSome, MatchOption, slice_get}
+use Rattle.std.specs.Prelude.{◌≡◌, ℕ, ◌≤◌, List, [], Option, None, IfSome, MatchOption, slice_get}
 use Rattle.std.specs.List.{AllZip, AllByRecursion}
 use Rattle.program_tree.specs.Code.{Tree}
+use Rattle.trace_lines.specs.declared.line.Line.{Line}
 use Rattle.mote_node.specs.Public.{node_in}
 use Rattle.radio_packet.specs.declared.copy.RadioCopy.{RadioCopy}
 use Rattle.mote_net.specs.Net.{MoteSetup, NetTold}
@@ -13,21 +14,24 @@ use Rattle.worker_window.specs.Turns.{CanGoOn}
 
 -- a lent mote before its first turn in a window
 abbrev pub window_of : (until : ℕ) → MoteSetup → LentMote → Option Window
-window_of until m lent_mote = opened m.tree until lent_mote.copies.items (node_in m.tree lent_mote.mote)
+window_of until m lent_mote =
+    opened m.tree until lent_mote.copies.items lent_mote.trace.items (node_in m.tree lent_mote.mote)
 
--- a mote that had failed, to which these copies come, gives nothing, and none of them came in the window
-pub record GivesNothing (program : Tree) (until : ℕ) (copies : List RadioCopy) (out : WindowOut) : Type 0 where
+-- a mote that had failed, to which these copies come, gives no more than these lines, which it wrote before, and none of
+-- the copies came in the window
+pub record GivesNothing (program : Tree) (until : ℕ) (copies : List RadioCopy) (lines : List Line) (out : WindowOut)
+    : Type 0 where
   pub no_copies : AllByRecursion (λ copy. until ≤ copy.at) copies
   pub failed : node_in program out.mote ≡ None
   pub no_wake : out.wake ≡ None
-  pub no_lines : out.lines.items ≡ []
+  pub no_lines : out.lines.items ≡ lines
   pub no_sends : out.sends.items ≡ []
 
 -- a lent mote, which is this mote of the net, gives what its window's run says
 abbrev pub LentMoteGives : NetTold → (until : ℕ) → LentMote → WindowOut → Type 0
 LentMoteGives n until lent_mote out = IfSome (slice_get n.motes lent_mote.number)
-    (λ m. MatchOption (window_of until m lent_mote) (GivesNothing m.tree until lent_mote.copies.items out)
-    (λ w. Gives w out))
+    (λ m. MatchOption (window_of until m lent_mote)
+    (GivesNothing m.tree until lent_mote.copies.items lent_mote.trace.items out) (λ w. Gives w out))
 
 -- all do so, place by place
 abbrev pub GivesList : NetTold → (until : ℕ) → List LentMote → List WindowOut → Type 0
@@ -41,7 +45,3 @@ LentMoteGoesOn n until lent_mote =
 -- the same of all lent motes
 abbrev pub AreGoingOn : NetTold → (until : ℕ) → List LentMote → Type 0
 AreGoingOn n until lent_motes = AllByRecursion (LentMoteGoesOn n until) lent_motes
-
--- each is a mote of the net
-abbrev pub AreInNet : NetTold → List LentMote → Type 0
-AreInNet n lent_motes = AllByRecursion (λ lent_mote. lent_mote.number < length n.motes) lent_motes

@@ -1,38 +1,68 @@
 -- What a worker's slots give.
-use Rattle.std.specs.Prelude.{◌≡◌, ℕ, Bool, List, Result, Ok, Err, Vec, is_some, MatchOption}
-use Rattle.std.specs.List.{AllZip, AllByRecursion}
+use Rattle.std.specs.Prelude.{◌≡◌, ℕ, Bool, true, false, List, [], ◌∷◌, Option, Result, Ok, Err, Vec}
+use Rattle.std.specs.List.{AllZip, AllByRecursion, list_all}
 use Rattle.std.specs.declared.alloc.Global.{Global}
 use Rattle.mote_node.specs.declared.mote.MoteError.{MoteError}
 use Rattle.mote_node.specs.declared.mote.MoteError.TheVariants.{Memory}
 use Rattle.mote_net.specs.Net.{NetTold}
 use Rattle.worker_window.specs.declared.out.WindowOut.{WindowOut}
 use Rattle.worker_window.specs.declared.lent_mote.LentMote.{LentMote}
+use Rattle.worker_window.specs.declared.share.Share.{Share}
 use Rattle.worker_window.specs.declared.slot.Slot.{Slot}
-use Rattle.worker_window.specs.Shares.{LentMoteGives}
+use Rattle.worker_window.specs.declared.slot.Slot.TheVariants.{Open, Done}
+use Rattle.worker_window.specs.Calls.{CalledMotes}
+use Rattle.worker_window.specs.Lending.{MotesAreLent}
+use Rattle.worker_window.specs.Shares.{LentMoteGives, LentMoteGoesOn}
 use Rattle.worker_window.specs.Turns.{MayGive, HasTurns}
 
 abbrev pub is_done : {G : Type 0} → Slot G → Bool
-is_done slot = is_some slot.out
+is_done (Open window) = false
+is_done (Done made) = true
 
 -- what the slot's window may give, or what it gave
 abbrev pub SlotGives : {G : Type 0} → Slot G → WindowOut → Type 0
-SlotGives slot out = MatchOption slot.out (MayGive slot.window.own out) (λ made. out ≡ made)
+SlotGives (Open window) out = MayGive window.own out
+SlotGives (Done made) out = out ≡ made
 
 abbrev pub SlotsGive : {G : Type 0} → List (Slot G) → List WindowOut → Type 0
 SlotsGive slots outs = AllZip SlotGives slots outs
 
 -- what is left of the slot's window can be run
 abbrev pub SlotGoesOn : {G : Type 0} → Slot G → Type 0
-SlotGoesOn slot = MatchOption slot.out (HasTurns slot.window.own) (λ made. Unit {0})
+SlotGoesOn (Open window) = HasTurns window.own
+SlotGoesOn (Done made) = Unit {0}
 
 abbrev pub SlotsGoOn : {G : Type 0} → List (Slot G) → Type 0
 SlotsGoOn slots = AllByRecursion SlotGoesOn slots
 
--- what the slot may give, the lent mote's window gives
-abbrev pub IsOf : {G : Type 0} → NetTold → (until : ℕ) → LentMote → Slot G → Type 0
-IsOf n until lent_mote slot = (out : WindowOut) → SlotGives slot out → LentMoteGives n until lent_mote out
+-- what the slot may give, the lent mote's window gives; and the slot can go on if the lent mote can
+pub record IsOf {G : Type 0} (n : NetTold) (until : ℕ) (lent_mote : LentMote) (slot : Slot G) : Type 0 where
+  pub gives : (out : WindowOut) → SlotGives slot out → LentMoteGives n until lent_mote out
+  pub goes_on : LentMoteGoesOn n until lent_mote → SlotGoesOn slot
 
--- what the worker may return: what its slots give, or an error, which is out of memory if all can go on
-abbrev pub WorkerMayAnswer : {G : Type 0} → List (Slot G) → Result (Vec WindowOut Global) MoteError → Type 0
-WorkerMayAnswer slots (Ok outs) = SlotsGive slots outs.items
+-- the motes that are called are lent, these are the slots of their windows, and these their wakes; what else the share
+-- has is unchanged
+pub record AreLent {G : Type 0} (n : NetTold) (until : ℕ) (calls : CalledMotes) (old new : Share) (slots : List (Slot G))
+    (wakes : List (Option ℕ)) : Type 0 where
+  pub lent_motes : List LentMote
+  pub lent : MotesAreLent until calls old.motes.items new.motes.items old.traces.items new.traces.items lent_motes wakes
+  pub opened : AllZip (IsOf n until) lent_motes slots
+  pub worker : new.worker ≡ old.worker
+  pub log : new.log ≡ old.log
+  pub agenda : new.agenda ≡ old.agenda
+
+-- these slots are what the others may become: all are done, and they gave what the others may give
+pub record MayEndAs {G : Type 0} (slots ended : List (Slot G)) : Type 0 where
+  pub done : list_all is_done ended ≡ true
+  pub gives : (outs : List WindowOut) → SlotsGive ended outs → SlotsGive slots outs
+
+-- what the worker may return: its slots, once all are done, or an error, which is out of memory if all can go on
+abbrev pub WorkerMayAnswer : {G : Type 0} → List (Slot G) → Result (Vec (Slot G) Global) MoteError → Type 0
+WorkerMayAnswer slots (Ok ended) = MayEndAs slots ended.items
 WorkerMayAnswer slots (Err e) = SlotsGoOn slots → e ≡ Memory
+
+-- what slots that are done gave
+abbrev pub outs_of : {G : Type 0} → List (Slot G) → List WindowOut
+outs_of [] = []
+outs_of (Open window ∷ slots) = outs_of slots
+outs_of (Done made ∷ slots) = made ∷ outs_of slots

@@ -18,10 +18,11 @@ mod window;
 mod worker;
 
 pub use gate::{Gate, NoGate};
-pub use lent_mote::{LentMote, LentMotes};
+pub use lent_mote::LentMote;
 pub use mote_window::MoteWindow;
 pub use out::WindowOut;
 pub use own::OwnWindow;
-pub use room::{TurnRoom, WindowRoom, copies_in};
+pub use room::{TurnRoom, copies_in};
 pub use share::{Ended, Share};
-pub use worker::{ShareWindow, run_share};
+pub use slot::Slot;
+pub use worker::{ShareWindow, run_slots};

@@ -1,6 +1,6 @@
 //! A mote's window as a future: each poll takes one turn.
 
-ghost use Rattle.std.specs.Prelude.{◌≡◌, ◌≤◌, ◌^◌, true, Some, None, IsSome, IsSomeAnd, IfSome, IfOk, IfErr, ⊤};
+ghost use Rattle.std.specs.Prelude.{◌≡◌, ◌≤◌, ◌^◌, [], true, Some, None, IsSome, IsSomeAnd, IfSome, IfOk, IfErr, ⊤};
 ghost use Rattle.futures.specs.Poll.{IfReady, OnPending};
 ghost use Rattle.futures.specs.Task.{Covers, Keeps};
 ghost use Rattle.program_tree.specs.Program.{tree_of};
@@ -13,7 +13,7 @@ ghost use Rattle.worker_window.specs.Turns.{MayAnswer, TakesTurn, RestsAs, ErrsA
 use crate::gate::Gate;
 use crate::out::WindowOut;
 use crate::own::OwnWindow;
-use crate::room::{TurnRoom, WindowRoom};
+use crate::room::TurnRoom;
 use futures::Future;
 use futures::task::{Context, Poll};
 use mote_node::{Mote, MoteError};
@@ -58,12 +58,12 @@ impl<'a, G: Gate> MoteWindow<'a, G> {
         requires rising { is_rising copies.items ≡ true }
         ensures worker { result.worker ≡ worker }
         ensures window { let p = tree_of program.now in
-            IsSomeAnd result.own (λ own. window_in own ≡ opened p until copies.items (node_in p mote)) }
+            IsSomeAnd result.own (λ own. window_in own ≡ opened p until copies.items [] (node_in p mote)) }
         ensures course { let p = tree_of program.now in
-            IsSomeAnd result.own (λ own. course_in own ≡ course_of p until copies.items (node_in p mote)) }
+            IsSomeAnd result.own (λ own. course_in own ≡ course_of p until copies.items [] (node_in p mote)) }
     {
-        let room = WindowRoom::new(alloc);
-        let own = OwnWindow::new(alloc, mote, program, copies, until, room);
+        let (lines, sends) = (Vec::new(alloc), Vec::new(alloc));
+        let own = OwnWindow::new(alloc, mote, program, copies, until, lines, sends);
         MoteWindow::over(own, worker, gate)
     }
 

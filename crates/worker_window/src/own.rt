@@ -11,13 +11,13 @@ ghost use Rattle.worker_window.specs.MoteWindow.{Window, HasTurn, IsOver, IsNext
 
 use crate::gate::Gate;
 use crate::out::WindowOut;
-use crate::room::{TurnRoom, WindowRoom, keep_copies, room_in};
+use crate::room::{TurnRoom, keep_copies, room_in};
 use mote_node::{Mote, MoteError};
+use net_agenda::extend_trace;
 use process_kernel::Line;
 use program_tree::Program;
 use radio_packet::{Arrival, RadioCopy, Sent};
 use std::alloc::{AllocError, Global};
-use std::mem;
 
 /// A mote in its window, with the copies that come to it there.
 pub struct OwnWindow<'a> {
@@ -57,8 +57,8 @@ impl<'a> OwnWindow<'a> {
     ghost use Rattle.worker_window.specs.Turns.{TurnsTo, IsErrorAt, IsRefusal};
 
     /// The mote, with this program, before its first turn in the window. The copies are the mote's, each below
-    /// `until`, in the order of moment, sender and number. `until` is at most 2^40. Lines and packets are written into
-    /// these scratch buffers. This allocates nothing.
+    /// `until`, in the order of moment, sender and number. `until` is at most 2^40. The window's lines are appended to
+    /// `trace`, and its packets are written into the scratch buffer `sends`. This allocates nothing.
     #[tactic(auto, unfolding(crate::specs::Own::window_in, crate::specs::Own::course_in))]
     pub fn new(
         alloc: Global,
@@ -66,21 +66,18 @@ impl<'a> OwnWindow<'a> {
         program: &'a Program,
         copies: Vec<RadioCopy>,
         until: u64,
-        room: WindowRoom,
+        trace: Vec<Line>,
+        sends: Vec<Sent>,
     ) -> OwnWindow<'a>
         requires until { until ≤ 2 ^ 40 }
         requires rising { is_rising copies.items ≡ true }
         ensures window { let p = tree_of program.now in
-            window_in result ≡ opened p until copies.items (node_in p mote) }
+            window_in result ≡ opened p until copies.items trace.items (node_in p mote) }
         ensures course { let p = tree_of program.now in
-            course_in result ≡ course_of p until copies.items (node_in p mote) }
+            course_in result ≡ course_of p until copies.items trace.items (node_in p mote) }
     {
         let wake = mote.wake();
-        let WindowRoom {
-            mut lines,
-            mut sends,
-        } = room;
-        lines.clear();
+        let mut sends = sends;
         sends.clear();
         OwnWindow {
             alloc,
@@ -90,7 +87,7 @@ impl<'a> OwnWindow<'a> {
             wake,
             copies,
             next: 0,
-            lines,
+            lines: trace,
             sends,
         }
     }
@@ -137,8 +134,8 @@ impl<'a> OwnWindow<'a> {
         self.wake = self
             .mote
             .turn_into(self.program, moment, &room.arrivals, &mut room.out)?;
-        move_to(&mut self.lines, &mut room.out.lines)?;
-        move_to(&mut self.sends, &mut room.out.sends)?;
+        extend_trace(&mut self.lines, &mut room.out.lines)?;
+        self.sends.append(&mut room.out.sends)?;
         Ok(())
     }
 
@@ -168,18 +165,6 @@ impl<'a> OwnWindow<'a> {
             wake,
         }
     }
-}
-
-/// Moves all elements of `more` to the end of a list. If that is empty, the two are swapped, so nothing is copied.
-fn move_to<T>(list: &mut Vec<T>, more: &mut Vec<T>) -> Result<(), AllocError>
-    ensures { OnOk result (list.new.items ≡ list.old.items ++ more.old.items) }
-{
-    if list.is_empty() {
-        mem::swap(list, more);
-        return Ok(());
-    }
-    list.append(more)?;
-    Ok(())
 }
 
 /// The lesser of the wake and the first copy's moment.

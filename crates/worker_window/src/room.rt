@@ -2,8 +2,8 @@
 
 ghost use Rattle.std.specs.Prelude.{◌≡◌, []};
 
-use process_kernel::{Line, Out};
-use radio_packet::{Arrival, RadioCopy, Sent};
+use process_kernel::Out;
+use radio_packet::{Arrival, RadioCopy};
 use std::alloc::{AllocError, Global};
 
 /// Scratch buffers of a turn, for what comes to a mote and what it writes and sends. Each turn begins by clearing
@@ -65,22 +65,5 @@ pub(crate) fn keep_copies(room: &mut Option<Box<TurnRoom>>, copies: Vec<RadioCop
     let list = &mut room.copies;
     if let Ok(()) = list.reserve(1) {
         list.push_reserved(copies);
-    }
-}
-
-/// Scratch buffers for what a mote writes and sends in a window. The window begins by clearing both.
-#[derive(Drop)]
-pub struct WindowRoom {
-    pub lines: Vec<Line>,
-    pub sends: Vec<Sent>,
-}
-
-impl WindowRoom {
-    /// Empty buffers. This allocates nothing.
-    pub fn new(alloc: Global) -> WindowRoom {
-        WindowRoom {
-            lines: Vec::new(alloc),
-            sends: Vec::new(alloc),
-        }
     }
 }

@@ -2,15 +2,15 @@
 
 ghost use Rattle.std.specs.Prelude.{◌≡◌, []};
 
-use crate::room::{TurnRoom, WindowRoom, copies_in};
-use radio_packet::RadioCopy;
+use crate::room::{TurnRoom, copies_in};
+use radio_packet::{RadioCopy, Sent};
 use std::alloc::{AllocError, Global};
 
-/// Buffers for the lines and packets of a mote's window, and those of the turns. What they hold between two windows is
-/// unspecified.
+/// Buffers for the packets that a mote sends in a window, and those of the turns. What they hold between two windows
+/// is unspecified.
 pub(crate) struct Rooms {
     alloc: Global,
-    buffers: Vec<WindowRoom>,
+    buffers: Vec<Vec<Sent>>,
     pub(crate) turns: Option<Box<TurnRoom>>,
 }
 
@@ -41,17 +41,20 @@ impl Rooms {
         copies_in(self.alloc, &mut self.turns)
     }
 
-    /// The buffers for a window: those of an earlier window, if any were put back.
-    pub(crate) fn take(&mut self) -> WindowRoom {
+    /// A buffer for the packets of a window: that of an earlier window, if any was put back.
+    pub(crate) fn take(&mut self) -> Vec<Sent> {
         match self.buffers.pop() {
-            Some(buffers) => buffers,
-            None => WindowRoom::new(self.alloc),
+            Some(buffer) => buffer,
+            None => Vec::new(self.alloc),
         }
     }
 
-    /// Puts the buffers of a window back.
-    pub(crate) fn put_back(&mut self, buffers: WindowRoom) -> Result<(), AllocError> {
-        self.buffers.push(buffers)?;
+    /// Puts the buffer of a window back.
+    ///
+    /// # Errors
+    /// Out of memory only.
+    pub(crate) fn put_back(&mut self, buffer: Vec<Sent>) -> Result<(), AllocError> {
+        self.buffers.push(buffer)?;
         Ok(())
     }
 }

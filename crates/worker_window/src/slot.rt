@@ -1,44 +1,93 @@
-//! One mote of a worker: its window, and what that gave.
+//! One mote of a worker: its window, and then what that gave.
 
-ghost use Rattle.std.specs.Prelude.{◌≡◌, true, Some, OnOk, IfErr};
+ghost use Rattle.std.specs.Prelude.{◌≡◌, ◌<◌, ◌≤◌, ◌^◌, true, length, OnOk, IfErr};
 ghost use Rattle.futures.specs.Task.{Keeps};
 ghost use Rattle.mote_node.specs.declared.mote.MoteError.TheVariants.{Memory};
+ghost use Rattle.mote_net.specs.Net.{net_of};
+ghost use Rattle.worker_window.specs.declared.out.WindowOut.{WindowOut as OutOfCode};
+ghost use Rattle.worker_window.specs.declared.slot.Slot.TheVariants.{Done};
+ghost use Rattle.worker_window.specs.Shares.{LentMoteGives, LentMoteGoesOn};
 ghost use Rattle.worker_window.specs.Slots.{SlotGives, SlotGoesOn, is_done};
 
 use crate::gate::Gate;
+use crate::lent_mote::LentMote;
 use crate::mote_window::MoteWindow;
 use crate::out::WindowOut;
+use crate::own::OwnWindow;
 use crate::room::TurnRoom;
 use futures::Future;
 use futures::task::{Context, Poll};
+use mote_net::Net;
 use mote_node::MoteError;
+use std::alloc::Global;
 
-/// A mote's window, and what it gave, once it was ready.
-pub(crate) struct Slot<'a, G> {
-    pub(crate) window: MoteWindow<'a, G>,
-    pub(crate) out: Option<WindowOut>,
+/// A mote's window, until it is ready, and then what it gave.
+pub enum Slot<'a, G> {
+    Open(MoteWindow<'a, G>),
+    Done(WindowOut),
 }
 
 impl<G> Drop for Slot<'_, G> {
     fn drop(self) {
-        let Slot { window: _, out: _ } = self;
+        match self {
+            Slot::Open(_) => {}
+            Slot::Done(_) => {}
+        }
     }
 }
 
-impl<G: Gate> Slot<'_, G> {
+impl<'a, G: Gate> Slot<'a, G> {
+    /// The window of a lent mote, which is a mote of the net, up to `until`, which is at most 2^40.
+    pub fn open(
+        alloc: Global,
+        net: &'a Net,
+        lent_mote: LentMote,
+        until: u64,
+        worker: u16,
+        gate: &'a G,
+    ) -> Slot<'a, G>
+        requires until { until ≤ 2 ^ 40 }
+        requires in_net { lent_mote.number < length (net_of net.now).motes }
+        ensures gives { (out : OutOfCode) → SlotGives result out → LentMoteGives (net_of net.now) until lent_mote out }
+        ensures goes_on { LentMoteGoesOn (net_of net.now) until lent_mote → SlotGoesOn result }
+    {
+        let LentMote {
+            number,
+            mote,
+            copies,
+            trace,
+            sends,
+        } = lent_mote;
+        let own = OwnWindow::new(
+            alloc,
+            mote,
+            net.program(number),
+            copies,
+            until,
+            trace,
+            sends,
+        );
+        Slot::Open(MoteWindow::over(own, worker, gate))
+    }
+
     pub(crate) fn is_done(&self) -> bool
         ensures { result ≡ is_done self.now }
     {
-        self.out.is_some()
+        match self {
+            Slot::Open(_) => false,
+            Slot::Done(_) => true,
+        }
     }
 
-    /// What the window gave.
-    pub(crate) fn into_out(self) -> WindowOut
+    /// What the window gave, once it was ready.
+    pub fn into_out(self) -> WindowOut
         requires { is_done self ≡ true }
-        ensures { self.entry.out ≡ Some result }
+        ensures { self.entry ≡ Done result }
     {
-        let Slot { window: _, out } = self;
-        out.unwrap()
+        match self {
+            Slot::Open(_) => unreachable!(),
+            Slot::Done(out) => out,
+        }
     }
 
     /// Polls the window once, if it was not ready before. Its turn uses these scratch buffers.
@@ -52,14 +101,14 @@ impl<G: Gate> Slot<'_, G> {
         ensures err { IfErr result (λ e. SlotGoesOn self.old → e ≡ Memory) }
         ensures kept { Keeps cx.old cx.new }
     {
-        if let Some(_) = &self.out {
+        let Slot::Open(window) = self else {
             return Ok(());
-        }
-        self.window.swap_room(room);
-        let polled = self.window.poll(cx);
-        self.window.swap_room(room);
+        };
+        window.swap_room(room);
+        let polled = window.poll(cx);
+        window.swap_room(room);
         if let Poll::Ready(answer) = polled {
-            self.out = Some(answer?);
+            *self = Slot::Done(answer?);
         }
         Ok(())
     }

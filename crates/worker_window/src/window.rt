@@ -15,23 +15,26 @@ ghost use Rattle.worker_window.specs.Share.{mote_here, wake_from};
 ghost use Rattle.worker_window.specs.Window.{CanRun, IsOutgoing, RunsThrough, TakesIn};
 ghost use Rattle.worker_window.specs.Log.{HaveFates, packets_in};
 ghost use Rattle.worker_window.specs.Sending.{outgoing_copies, own_items};
-ghost use Rattle.worker_window.specs.Lending.{MotesAreLent, HasNumber, IsOutOfMote, MoteReturns};
+ghost use Rattle.worker_window.specs.Lending.{HasNumber, IsOutOfMote, MoteReturns, TakesTrace};
+ghost use Rattle.worker_window.specs.Slots.{AreLent};
 
 use crate::calls::{CalledMotes, take_events_before};
 use crate::gate::Gate;
-use crate::lent_mote::{LentMote, LentMotes};
+use crate::lent_mote::LentMote;
 use crate::out::WindowOut;
-use crate::room::WindowRoom;
 use crate::scratch::Rooms;
 use crate::share::Share;
-use crate::worker::run_share;
+use crate::slot::Slot;
+use crate::worker::run_slots;
 use fork_join::Refused;
 use mote_net::{LogLine, Net};
 use mote_node::Mote;
-use net_agenda::{Agenda, add_lines};
+use net_agenda::Agenda;
+use process_kernel::Line;
 use radio_medium::Medium;
 use radio_packet::{Fate, RadioCopy, Sent};
 use std::alloc::{AllocError, AllocGlobal, Global};
+use std::mem;
 use std::random::RandomSource;
 use std::slice::from_ref;
 use std::sync::Wait;
@@ -61,37 +64,52 @@ fn take_mote(motes: &mut Vec<Option<Mote>>, number: u16) -> Mote
     motes[usize::from(number)].take().unwrap()
 }
 
-/// Lends the motes that are called: takes them out of the share, until they come back (`take_back`). `wakes` is
-/// overwritten: `wakes[i]` is the wake of the mote at `i` in the result, or none if that is before `until`; the others
-/// are still on the agenda.
-pub(crate) fn lend(
-    motes: &mut Vec<Option<Mote>>,
+/// Takes the trace of a mote out of the share.
+fn take_trace(alloc: Global, traces: &mut Vec<Vec<Line>>, number: u16) -> Vec<Line>
+    requires { number < length traces.old.items }
+    ensures { TakesTrace number result traces.old.items traces.new.items }
+{
+    mem::replace(&mut traces[usize::from(number)], Vec::new(alloc))
+}
+
+/// Lends the motes that are called, each with its trace: takes them out of the share, until they come back
+/// (`take_back`), and opens their windows. `wakes` is overwritten: `wakes[i]` is the wake of the mote at `i` in the
+/// result, or none if that is before `until`; the others are still on the agenda.
+pub(crate) fn lend<'a, G: Gate>(
+    share: &mut Share,
     wakes: &mut Vec<Option<u64>>,
+    net: &'a Net,
     until: u64,
     calls: CalledMotes,
-    rooms: &mut Rooms,
-) -> Result<Vec<LentMote>, AllocError>
-    requires here { (k : ℕ) → IsSome (copies_for calls.copies.items k) → IsSome (mote_here motes.old.items k) }
+    gate: &'a G,
+) -> Result<Vec<Slot<'a, G>>, AllocError>
+    requires until { until ≤ 2 ^ 40 }
+    requires here { (k : ℕ) → IsSome (copies_for calls.copies.items k)
+        → IsSome (mote_here share.old.motes.items k) }
+    requires traced { (k : ℕ) → IsSome (copies_for calls.copies.items k) → k < length share.old.traces.items }
+    requires in_net { (k : ℕ) → IsSome (copies_for calls.copies.items k) → k < length (net_of net.now).motes }
     requires rising { (k : ℕ) (copies : List RadioCopy) → copies_for calls.copies.items k ≡ Some copies
         → is_rising copies ≡ true }
-    ensures { IfOk result
-        (λ lent_motes. MotesAreLent until calls.copies.items motes.old.items motes.new.items lent_motes.items
-        wakes.new.items) }
+    ensures { let n = net_of net.now in IfOk result
+        (λ slots. AreLent n until calls.copies.items share.old share.new slots.items wakes.new.items) }
 {
     wakes.clear();
-    let mut lent_motes = Vec::with_capacity(calls.alloc, calls.copies.len())?;
+    let alloc = calls.alloc;
+    let mut slots = Vec::with_capacity(alloc, calls.copies.len())?;
     let mut calls = calls;
     while let Some((number, copies)) = calls.pop() {
-        let mote = take_mote(motes, number);
+        let mote = take_mote(&mut share.motes, number);
         wakes.push(wake_from(until, mote.wake()))?;
-        lent_motes.push(LentMote {
+        let lent_mote = LentMote {
             number,
             mote,
             copies,
-            room: rooms.take(),
-        })?;
+            trace: take_trace(alloc, &mut share.traces, number),
+            sends: share.rooms.take(),
+        };
+        slots.push(Slot::open(alloc, net, lent_mote, until, share.worker, gate))?;
     }
-    Ok(lent_motes)
+    Ok(slots)
 }
 
 fn last_wake(wakes: &mut Vec<Option<u64>>) -> Option<u64>
@@ -231,19 +249,18 @@ impl Share {
             sends,
             wake,
         } = out;
-        let mut room = WindowRoom { lines, sends };
         self.agenda.move_wake(pending, wake, number)?;
         send_all(
             medium,
             of,
             self.worker,
-            &room.sends,
+            &sends,
             &mut self.agenda,
             outgoing,
             &mut self.log,
         )?;
-        add_lines(&mut self.traces, number, &mut room.lines)?;
-        self.rooms.put_back(room)?;
+        self.rooms.put_back(sends)?;
+        self.traces[usize::from(number)] = lines;
         self.motes[usize::from(number)] = Some(mote);
         Ok(())
     }
@@ -294,24 +311,12 @@ impl Share {
         self.agenda.put_copies(&arrived)?;
         let calls = take_events_before(self.alloc, &mut self.agenda, until, &mut self.rooms)?;
         let mut wakes = Vec::new(self.alloc);
-        let lent_motes = lend(&mut self.motes, &mut wakes, until, calls, &mut self.rooms)?;
-        let called = LentMotes {
-            worker: self.worker,
-            lent_motes,
-        };
-        let mut outs = run_share(
-            rt,
-            self.alloc,
-            net,
-            called,
-            until,
-            gate,
-            &mut self.rooms.turns,
-        )?;
+        let slots = lend(self, &mut wakes, net, until, calls, gate)?;
+        let mut done = run_slots(rt, self.alloc, slots, &mut self.rooms.turns)?;
         let mut outgoing = Vec::new(self.alloc);
-        while let Some(out) = outs.pop() {
+        while let Some(slot) = done.pop() {
             let pending = last_wake(&mut wakes);
-            self.take_back(net.medium(), of, pending, out, &mut outgoing)?;
+            self.take_back(net.medium(), of, pending, slot.into_out(), &mut outgoing)?;
         }
         Ok(outgoing)
     }

@@ -1,8 +1,9 @@
 //! The windows of two motes of one worker.
 
-ghost use Rattle.std.specs.Prelude.{◌≡◌, ◌≤◌, ◌<◌, ℕ, true, length, IfOk};
+ghost use Rattle.std.specs.Prelude.{◌≡◌, ◌≤◌, ◌<◌, ◌^◌, ℕ, true, length, IfOk};
 ghost use Rattle.mote_net.specs.Net.{net_of};
-ghost use Rattle.worker_window.specs.Shares.{AreGoingOn, AreInNet, LentMoteGoesOn};
+ghost use Rattle.worker_window.specs.Shares.{LentMoteGoesOn};
+ghost use Rattle.worker_window.specs.Slots.{SlotsGoOn};
 ghost use Rattle.worker_window.specs.MoteWindow.{is_rising};
 
 use super::BUSY_PAIR;
@@ -17,7 +18,7 @@ use std::sync::atomic::AtomicU64;
 use std::sync::atomic::Ordering::SeqCst;
 use std::test::Fail;
 use test_helpers::{TWO_SENDERS, same_text, write_lines, write_sends};
-use worker_window::{Gate, LentMote, LentMotes, NoGate, WindowOut, WindowRoom, run_share};
+use worker_window::{Gate, LentMote, NoGate, Slot, run_slots};
 
 /// A new mote of a net, with the copies that come to it.
 fn lent_mote(
@@ -38,24 +39,30 @@ fn lent_mote(
         number,
         mote,
         copies,
-        room: WindowRoom::new(alloc),
+        trace: Vec::new(alloc),
+        sends: Vec::new(alloc),
     })
 }
 
-/// One worker with motes 0 and 1 of a net, and the copies that come to mote 1.
-fn share_of_two(alloc: Global, net: &Net, copies: Vec<RadioCopy>) -> Result<LentMotes, Refused>
+/// The windows of motes 0 and 1 of a net, on one worker, and the copies that come to mote 1.
+fn windows_of_two<'a, G: Gate>(
+    alloc: Global,
+    net: &'a Net,
+    copies: Vec<RadioCopy>,
+    until: u64,
+    gate: &'a G,
+) -> Result<Vec<Slot<'a, G>>, Refused>
     requires there { 2 ≤ length (net_of net.now).motes }
     requires rising { is_rising copies.items ≡ true }
-    ensures there { IfOk result (λ share. AreInNet (net_of net.now) share.lent_motes.items) }
-    ensures go_on { IfOk result (λ share. (until : ℕ) → AreGoingOn (net_of net.now) until share.lent_motes.items) }
+    requires until { until ≤ 2 ^ 40 }
+    ensures go_on { IfOk result (λ slots. SlotsGoOn slots.items) }
 {
-    let mut lent_motes = Vec::with_capacity(alloc, 2)?;
-    lent_motes.push_reserved(lent_mote(alloc, net, 0, Vec::new(alloc))?);
-    lent_motes.push_reserved(lent_mote(alloc, net, 1, copies)?);
-    Ok(LentMotes {
-        worker: 0,
-        lent_motes,
-    })
+    let first = lent_mote(alloc, net, 0, Vec::new(alloc))?;
+    let second = lent_mote(alloc, net, 1, copies)?;
+    let mut slots = Vec::with_capacity(alloc, 2)?;
+    slots.push_reserved(Slot::open(alloc, net, first, until, 0, gate));
+    slots.push_reserved(Slot::open(alloc, net, second, until, 0, gate));
+    Ok(slots)
 }
 
 /// The copy that comes to mote 1.
@@ -72,32 +79,35 @@ fn one_copy(alloc: Global) -> Result<Vec<RadioCopy>, AllocError>
     Ok(vec![in alloc; copy]?)
 }
 
-/// What the two motes give if a copy comes to mote 1.
-fn outs_with_a_copy<R: Wait + RandomSource + AllocGlobal>(
+/// The two windows once they are done, if a copy comes to mote 1.
+fn done_with_a_copy<'a, R: Wait + RandomSource + AllocGlobal>(
     rt: &R,
-    net: &Net,
-) -> Result<Vec<WindowOut>, Refused>
+    net: &'a Net,
+    gate: &'a NoGate,
+) -> Result<Vec<Slot<'a, NoGate>>, Refused>
     requires { 2 ≤ length (net_of net.now).motes }
 {
     let copies = one_copy(rt.alloc())?;
-    let share = share_of_two(rt.alloc(), net, copies)?;
-    run_share(rt, rt.alloc(), net, share, 5, &NoGate, &mut None)
+    let slots = windows_of_two(rt.alloc(), net, copies, 5, gate)?;
+    run_slots(rt, rt.alloc(), slots, &mut None)
 }
 
-/// Writes down the lines and packets of each mote.
-fn write_outs(text: &mut String, outs: &[WindowOut]) -> Result<(), AllocError> {
-    for out in outs {
-        text.push_str("mote|")?;
-        write_lines(text, &out.lines)?;
-        write_sends(text, &out.sends)?;
+/// Writes down the lines and packets of each mote whose window is done.
+fn write_outs(text: &mut String, slots: &[Slot<'_, NoGate>]) -> Result<(), AllocError> {
+    for slot in slots {
+        if let Slot::Done(out) = slot {
+            text.push_str("mote|")?;
+            write_lines(text, &out.lines)?;
+            write_sends(text, &out.sends)?;
+        }
     }
     Ok(())
 }
 
 /// Fails unless `want` is written of them.
-fn outs_tell(alloc: Global, outs: &[WindowOut], want: &str) -> Result<(), Fail> {
+fn outs_tell(alloc: Global, slots: &[Slot<'_, NoGate>], want: &str) -> Result<(), Fail> {
     let mut text = String::new(alloc);
-    write_outs(&mut text, outs)?;
+    write_outs(&mut text, slots)?;
     same_text(text.as_str(), want)
 }
 
@@ -106,8 +116,8 @@ fn give<R: Wait + RandomSource + AllocGlobal>(rt: &R, net: &Net, want: &str) -> 
     if net.motes() < 2 {
         return Err(Fail::new(format_args!("not two motes")));
     }
-    let outs = outs_with_a_copy(rt, net)?;
-    outs_tell(rt.alloc(), outs.as_slice(), want)
+    let done = done_with_a_copy(rt, net, &NoGate)?;
+    outs_tell(rt.alloc(), done.as_slice(), want)
 }
 
 /// Writes down the motes in the order of their turns, each as a digit.
@@ -124,19 +134,19 @@ impl Gate for Diary {
     }
 }
 
-/// The motes in the order of their turns at 0, 1 and 2, and how many give a result.
+/// The motes in the order of their turns at 0, 1 and 2, and how many windows are done.
 fn order_of_turns<R: Wait + RandomSource + AllocGlobal>(
     rt: &R,
     net: &Net,
 ) -> Result<(u64, usize), Refused>
     requires { 2 ≤ length (net_of net.now).motes }
 {
-    let share = share_of_two(rt.alloc(), net, Vec::new(rt.alloc()))?;
     let diary = Diary {
         motes: AtomicU64::new(0),
     };
-    let outs = run_share(rt, rt.alloc(), net, share, 3, &diary, &mut None)?;
-    Ok((diary.motes.load(SeqCst), outs.len()))
+    let slots = windows_of_two(rt.alloc(), net, Vec::new(rt.alloc()), 3, &diary)?;
+    let done = run_slots(rt, rt.alloc(), slots, &mut None)?.len();
+    Ok((diary.motes.load(SeqCst), done))
 }
 
 /// Fails unless the two motes of a net take their turns alternately, and both give a result.

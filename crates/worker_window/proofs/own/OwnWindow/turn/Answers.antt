@@ -27,6 +27,6 @@ returns-clause-ok g c =
     let made : option_map (turn_told out) (node_in t c.turn_into.new.self) ≡ option_map (turn_of c.args.moment given) (node_in t s.mote) =
     c.in_ok-self.ensures.ok ∙ ap (λ l. option_map (turn_of c.args.moment l) (node_in t s.mote)) c.deref-2.ensures.value in
     let there : node_in t s.mote ≡ None → ⊥ = λ gone. let failed = c.in_ok-self.ensures.failed.1 gone in cc in
-    rw (c.in_ok-move_to.ensures, c.in_ok-move_to-2.ensures)
+    rw (c.in_ok-extend_trace.ensures, c.in_ok-append.ensures.items)
     (turns_to t s.until c.args.moment (drop s.next s.copies.items) (drop (s.next + c.len.result) s.copies.items) given s.wake s.lines.items s.sends.items
     (node_in t s.mote) (node_in t c.turn_into.new.self) out there c.requires.left (is_rising-drop s.next s.copies.items s.rising) took cut made)

@@ -1,3 +1,4 @@
+use Rattle.std.proofs.lemmas.List.{length-set}
 use Rattle.std.proofs.Common.{◌≡◌, ◌∙◌, ◌++◌, ◌<◌, cond, eqb, length, List, map, [], Some, ap, refl, subst, sym, slice_set, get_or}
 use Rattle.std.specs.List.{filter, flat_map}
 use Rattle.radio_packet.specs.declared.sent.Sent.{Sent}
@@ -7,7 +8,7 @@ use Rattle.net_agenda.specs.Buckets.{Holds}
 use Rattle.net_agenda.specs.Changes.{without_wakes}
 use Rattle.worker_cut.specs.Crossed.{is_own, is_for_others}
 use Rattle.worker_window.specs.Log.{packets_in}
-use Rattle.worker_window.proofs.Traces.{as_many, lines_added}
+use Rattle.worker_window.proofs.Traces.{trace_put}
 use Rattle.worker_window.proofs.share.Share.take_back.Goals as goal
 
 pub returns : goal.returns
@@ -21,11 +22,10 @@ returns c = λ number numbered.
     let low : c.number-number.result < length old.traces.items = subst (λ k. k < length old.traces.items) (sym (told_too ∙ fit.numbered.number_is)) fit.there in
     record {
       worker = refl;
-      motes = ap (λ i. slice_set old.motes.items i (Some out.mote)) (c.from.ensures ∙ same);
-      traces_kept = as_many c.number-number.result out.lines.items old.traces.items c.add_lines.new.traces.items c.in_ok-add_lines.ensures;
-      traces = λ k d.
-          lines_added c.number-number.result out.lines.items old.traces.items c.add_lines.new.traces.items c.in_ok-add_lines.ensures low k d
-          ∙ ap (λ m. (get_or old.traces.items k d).items ++ cond (eqb k m) out.lines.items []) same;
+      motes = ap (λ i. slice_set old.motes.items i (Some out.mote)) (c.from-2.ensures ∙ same);
+      traces_kept = length-set old.traces.items _ out.lines;
+      traces = λ k d. (let low' : number < length old.traces.items = subst (λ k. k < length old.traces.items) same low in
+          ap (λ i. (get_or (slice_set old.traces.items i out.lines) k d).items) (c.from.ensures ∙ same) ∙ trace_put number out.lines old.traces.items low' k d);
       log = c.in_ok-send_all.ensures.log ∙ ap (λ (l : List Sent). packets_in old.log.items ++ l) c.deref.ensures.value;
       fates = c.in_ok-send_all.ensures.fates;
       agenda = λ items holds pending.
