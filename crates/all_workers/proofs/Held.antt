@@ -33,7 +33,7 @@ use Rattle.all_workers.proofs.Waiting.{same_copies, waiting, gathered_is, to_com
 beyond : (end u k : ℕ) → (ltb (suc end) u || (eqb u (suc end) && not (ltb k 0))) ≡ not (ltb u (suc end))
 beyond end u k = grind (arith, nat_tests)
 
--- the agenda after a run has of each sender what is on its way after the windows
+-- after a run the agenda has of each sender the copies that are on their way after the windows
 module _ {S L : Type 0} (system : System S L) (fine : RunsForward system) (end : ℕ) (motes : ℕ → LoneMote S L) (led : LedTo system fine (suc end) motes) where
   as_history : (k : ℕ) → k < system.motes → mix system fine (suc end) 0 k ≡ motes k
   as_history k h = mix_from system fine (suc end) 0 k zero-le ∙ sym (is_history system fine (suc end) motes led k h)

@@ -1,4 +1,4 @@
--- Outgoing copies are for motes of other workers; and what holds of each sender's copies holds of all.
+-- Outgoing copies are for motes of other workers; and a property of each sender's copies is one of all copies.
 use Rattle.std.proofs.Common.{◌≡◌, ℕ, zero, suc, ◌<◌, true, eqb, List, [], ◌∷◌, length, refl, sym, subst, arith, inl, inr}
 use Rattle.std.specs.Prelude.{slice_index}
 use Rattle.std.specs.List.{filter, AllByRecursion as Each}

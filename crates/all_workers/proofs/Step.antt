@@ -83,11 +83,11 @@ module _ (n : NetTold) (fine : RunsForward (system_of n)) (of : List ℕ) (worke
       each : (k : ℕ) → k < length n.motes → RunsAlone (system_of n) from until motes next k
       each k h = let w = some_worker (length n.motes) workers of cut k h in of_worker k w.0 w.1 w.2
 
-  -- of this mote, what its worker sent to another worker
+  -- of this mote, the copies that its worker sent to another worker
   abbrev pub out_of : (v s : ℕ) → List RadioCopy
   out_of v s = option_map_or (λ u. filter (is_from_sender s) (filter (is_to of v) (outgoing u))) (slice_get of s) []
 
-  -- what went to one other worker was for one of its motes
+  -- the copies to one other worker were for its motes
   out_copies : (u : ℕ) → u < workers → (s : ℕ) → is_own of u s ≡ true
       → filter (is_for_others (is_own of u)) (copies_by (system_of n) next s) ≡ filter (is_for_others (is_own of u)) (copies_by (system_of n) motes s) ++ filter (is_from_sender s) (outgoing u)
   out_copies u h s e =
@@ -97,7 +97,7 @@ module _ (n : NetTold) (fine : RunsForward (system_of n)) (of : List ℕ) (worke
   not_own : (u : ℕ) → u < workers → (s : ℕ) → is_own of u s ≡ false → filter (is_from_sender s) (outgoing u) ≡ []
   not_own u h s e = let o = out u h s in let p = rw e at o in sym p
 
-  -- what each worker has gathered after the window
+  -- the copies that each worker has gathered after the window
   pub told_next : (v : ℕ) → v < workers → (after : List RadioCopy) → ((s : ℕ) → filter (is_from_sender s) after ≡ filter (is_from_sender s) (gathered v) ++ out_of v s)
       → GatheredCopies (system_of n) of next v after
   unfolding system_of

@@ -1,4 +1,4 @@
--- What is on its way to one worker: what is pending for its motes, and what is in its inbox.
+-- The copies on their way to one worker: those pending for its motes, and those in its inbox.
 use Rattle.std.proofs.Common.{◌≡◌, ◌⊎◌, ℕ, ◌≤◌, true, false, cond, not, ltb, List, [], ◌∷◌, ◌++◌, length, refl, sym, ap, ap₂, ◌∙◌, subst, inl, inr, arith, append-nil, Option, Some, None}
 use Rattle.std.specs.Prelude.{IsPermutation}
 use Rattle.std.specs.List.{filter, flat_map, AllByRecursion as Each}
@@ -47,7 +47,7 @@ same_copies xs ys h =
 
 module _ (n : NetTold) (fine : RunsForward (system_of n)) (of : List ℕ) (from : ℕ) (motes : Motes) (led : Windows (system_of n) 0 from (first_mote (system_of n)) motes) (first : Option ℕ) (starts : NoneBefore from first)
     (v : ℕ) (share : Share) (taker : TakerView) (here : IsWorkerAt n of from motes first v share taker) where
-  -- of one sender, what is in the inbox
+  -- of one sender, the copies in the inbox
   abbrev rest_of : ℕ → List RadioCopy
   rest_of s = (here.waits s).rest
 
@@ -86,11 +86,11 @@ module _ (n : NetTold) (fine : RunsForward (system_of n)) (of : List ℕ) (from 
   gathered_each : (s : ℕ) → filter (is_from_sender s) (gathered_by taker) ≡ filter (is_from_sender s) (taken_by taker ++ waiting)
   gathered_each s = (here.waits s).all ∙ (ap (λ l. taken_of s ++ l) (sym (waiting_of s)) ∙ sym (filter-append (is_from_sender s) (taken_by taker) waiting))
 
-  -- what was gathered is what was taken, and what waits
+  -- the copies gathered are those taken and those that wait
   pub gathered_is : IsPermutation (gathered_by taker) (taken_by taker ++ waiting)
   gathered_is = same_copies (gathered_by taker) (taken_by taker ++ waiting) gathered_each
 
-  -- of one sender, what is pending and what is in the inbox are the copies to this worker from this moment on
+  -- of one sender, the pending copies and those in the inbox are the copies to this worker from this moment on
   of_sender : (s : ℕ) → filter (is_to_come (is_own of v) from) (copies_seen (system_of n) (is_own of v) motes (taken_by taker) s) ++ rest_of s ≡ filter (comes_from from) (filter (is_to of v) (copies_by (system_of n) motes s))
   of_sender s = of_case (cases_Bool (is_own of v s))
     where
@@ -127,6 +127,6 @@ module _ (n : NetTold) (fine : RunsForward (system_of n)) (of : List ℕ) (from 
       ∙ (ap (filter (is_to of v)) (sym (coming_pending (system_of n) fine from motes led s))
       ∙ sym (filter_filter (is_from_sender s) (is_to of v) (coming (system_of n) fine from motes))))))
 
-  -- what is on its way to this worker is what is pending for its motes, and what is in its inbox
+  -- the copies on their way to this worker are those pending for its motes, and those in its inbox
   pub to_come_is : (rest : List RadioCopy) → AreToCome rest → IsPermutation (filter (is_to of v) (coming (system_of n) fine from motes)) (rest ++ waiting)
   to_come_is rest told = same_copies (filter (is_to of v) (coming (system_of n) fine from motes)) (rest ++ waiting) (λ s. sym (to_come_each rest told s))

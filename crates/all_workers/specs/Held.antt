@@ -1,4 +1,4 @@
--- Where the copies of the agenda are at the start of a window.
+-- The copies of the agenda at the start of a window.
 use Rattle.std.specs.Prelude.{ℕ, suc, ◌<◌, List, ◌++◌, length, slice_index_or, IsPermutation}
 use Rattle.std.specs.List.{flat_map}
 use Rattle.trace_lines.specs.declared.line.Line.{Line}
@@ -24,7 +24,7 @@ pub record AreWith (share : Share) (taker : TakerView) (copies : List RadioCopy)
   pub gathered : IsPermutation (gathered_by taker) (taken_by taker ++ waiting)
   pub both : IsPermutation copies (packets items ++ waiting)
 
--- If the workers stand before a moment, the copies of the net's agenda after all turns before it are those that the
+-- If the workers are ready before a moment, the copies of the net's agenda after all turns before it are those that the
 -- workers hold together with those in the inboxes, each once.
 abbrev pub AgendaIsHeld : Type 0
 AgendaIsHeld = (n : NetTold) → RunsForward (system_of n) → (of : List ℕ) (end : ℕ) (group : Workers)

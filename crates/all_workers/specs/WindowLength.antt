@@ -1,4 +1,4 @@
--- How long a window is, and where it ends.
+-- The length of a window, and its end.
 use Rattle.std.specs.Prelude.{ℕ, ◌+◌, min, nat_lt, ◌&&◌, if◌then◌else◌}
 
 -- a window lasts as long as the lookahead, or less if that is asked for

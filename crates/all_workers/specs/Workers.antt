@@ -23,7 +23,8 @@ abbrev pub IsNotBefore : (first : Option ℕ) → RadioCopy → Type 0
 IsNotBefore None copy = ⊥
 IsNotBefore (Some moment) copy = moment ≤ copy.at
 
--- of what a worker gathered of one mote, it took a prefix; the rest, in its inbox, arrives at this moment or later
+-- of the items that a worker gathered of one mote, it took a prefix; the rest, in its inbox, arrives at this moment or
+-- later
 pub record Waits (first : Option ℕ) (sender : ℕ) (taker : TakerView) : Type 0 where
   pub rest : List RadioCopy
   pub all : filter (is_from_sender sender) (gathered_by taker) ≡ filter (is_from_sender sender) (taken_by taker) ++ rest
@@ -37,8 +38,8 @@ pub record IsWorkerAt (n : NetTold) (of : List ℕ) (from : ℕ) (motes : Motes)
   pub gathered : GatheredCopies (system_of n) of motes worker (gathered_by taker)
   pub waits : (sender : ℕ) → Waits first sender taker
 
--- The workers stand before the moment `from`: windows from 0 to `from` led to these `motes`, and each worker's share
--- and taker hold its part of them.
+-- The workers are ready before the moment `from`: windows from 0 to `from` led to these `motes`, and each worker's
+-- share and taker hold its part of them.
 pub record IsAt (n : NetTold) (of : List ℕ) (from : ℕ) (group : Workers) : Type 0 where
   pub motes : Motes
   pub led : Windows (system_of n) 0 from (first_mote (system_of n)) motes

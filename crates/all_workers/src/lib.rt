@@ -1,5 +1,5 @@
-//! What joins and marks have in common: the group between windows, a window's length, the making of endpoints, one
-//! worker.
+//! The common part of fork-join and null messages: the group between windows, a window's length, the making of
+//! endpoints, one worker.
 #![tactic(auto)]
 
 pub mod laws;

@@ -1,4 +1,4 @@
-//! How long a window is.
+//! The length of a window.
 
 ghost use Rattle.std.specs.Prelude.{◌≡◌, ◌+◌, ◌<◌, ◌≤◌};
 ghost use Rattle.mote_net.specs.Limits.{latest_end};
@@ -17,7 +17,7 @@ pub fn lookahead_of(net: &Net) -> u64
     net.medium().lookahead(net.end())
 }
 
-/// How long a window lasts: as long as the lookahead, or `longest`, if that is above 0 and less.
+/// The length of a window: the lookahead, or `longest`, if that is above 0 and less.
 pub fn window_length(lookahead: u64, longest: u32) -> u64
     requires { 0 < lookahead }
     ensures value { result ≡ length_of_window lookahead longest }

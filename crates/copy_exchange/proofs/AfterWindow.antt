@@ -1,4 +1,4 @@
--- What the takers have gathered after a window.
+-- The items that the takers have gathered after a window.
 use Rattle.std.proofs.Common.{◌≡◌, ℕ, zero, suc, ◌+◌, ◌<◌, Bool, List, [], ◌∷◌, ◌++◌, length, map, get_or, slice_get, Option, Some, None, Vec, refl, sym, ap, ◌∙◌, subst, arith}
 use Rattle.std.specs.List.{AllByRecursion as Each, AllZip, cons_option, filter_map, range_with_len}
 use Rattle.std.proofs.lemmas.List.{length-map}
@@ -21,7 +21,7 @@ use Rattle.copy_exchange.proofs.Lists.{each_from, each_join, each_map}
 use Rattle.copy_exchange.proofs.Rows.{into_inbox}
 use Rattle.copy_exchange.proofs.Owns.{workers_of, delivered_is, one_of}
 
--- ---- what stays the same meets the requirements on endpoints
+-- ---- unchanged parts meet the requirements on endpoints
 read_map : (l : List (Option SenderView)) (v : ℕ) → identity_of (get_or l v None) ≡ get_or (map identity_of l) v None
 read_map [] v = refl
 read_map (x ∷ xs) zero = refl
@@ -180,7 +180,7 @@ pub record GathersRows (old new : List TakerView) (rows : List Row) : Type 0 whe
   pub taker : (v : ℕ) (t : TakerView) → v < length old → get_or new v t ≡ gather_senders (get_or old v t) (row_senders rows v)
   pub told : (v : ℕ) (t : TakerView) → v < length old → Each (λ (s : SenderView). TellsOf (get_or old v t).state s.state) (row_senders rows v)
 
--- what a taker took doesn't change when it gathers
+-- the items that a taker took don't change when it gathers
 told_before : (t : TakerView) (ss : List SenderView) (p : SenderState) → TellsOf (gather_senders t ss).state p → TellsOf t.state p
 told_before t ss p h =
     let P : TakerView → Type 0 = λ u. TellsOf u.state p in

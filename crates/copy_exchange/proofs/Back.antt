@@ -56,7 +56,7 @@ module _ (inboxes : List InboxId) (cs : List Endpoint) (workers : workers_of cs 
         ap (λ (u : TakerView). u.inbox) (p.2 t) ∙ sym (ap (λ k. get_or inboxes k id) same ∙ get_or_from_slice_get inboxes p.0.worker p.0.taker.inbox id p.4.taker);
   }
 
--- ---- what they have gathered
+-- ---- the items that they have gathered
 found_taker : (cs : List Endpoint) (v : ℕ) (c : Endpoint) (t : TakerView) → slice_get cs v ≡ Some c → get_or (map (λ (x : Endpoint). x.taker) cs) v t ≡ c.taker
 found_taker cs v c t e = get_or_from_slice_get (map (λ (x : Endpoint). x.taker) cs) v c.taker t (slice_get-map (λ (x : Endpoint). x.taker) cs v ∙ ap (option_map (λ (x : Endpoint). x.taker)) e)
 

@@ -81,7 +81,7 @@ module _ (s : ℕ) where
   none_kept : (items : List Item) → part s items ≡ [] → part s (packets_in items) ≡ []
   none_kept items e = nil_of (part s (packets_in items)) (part_count items ∙ ap (λ l. length (copies_in l)) e)
 
--- ---- what was gathered is what was taken and what is known
+-- ---- the items gathered are those taken and those known
 begun_length : (gs : List Gathered) (taken : List Item) → TookFronts gs taken → Each (λ (g : Gathered). Packets (untaken_of taken g)) gs
     → length (copies_gathered gs) ≡ tally gs (packets_in taken) + known_of gs taken
 begun_length [] taken h p = refl

@@ -1,4 +1,4 @@
--- What came early can't be seen.
+-- Copies that came early can't be seen.
 use Rattle.std.proofs.Common.{◌≡◌, ℕ, zero, suc, ◌+◌, ◌-◌, ◌<◌, ◌≤◌, Bool, true, false, List, [], ◌∷◌, ◌++◌, map, filter, refl, sym, ap, ◌∙◌, arith, subst, append_assoc, append-nil}
 use Rattle.std.specs.List.{AllByRecursion as Each}
 use Rattle.std.proofs.lemmas.List.Elements.{filter-append}
@@ -21,7 +21,7 @@ copies_pushes (suc k) sent =
     copies_in-append (pushes k sent) (map Packet (sent k) ++ Mark k ∷ [])
     ∙ (ap (λ l. l ++ copies_in (map Packet (sent k) ++ Mark k ∷ [])) (copies_pushes k sent) ∙ ap (λ l. sent_before k sent ++ l) (copies_window (sent k) k))
 
--- what is pushed from window k on
+-- the items that are pushed from window k on
 abbrev from_window : (k more : ℕ) → (ℕ → List RadioCopy) → List Carried
 from_window k zero sent = []
 from_window k (suc m) sent = from_window k m sent ++ (map Packet (sent (k + m)) ++ Mark (k + m) ∷ [])

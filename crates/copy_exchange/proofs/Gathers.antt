@@ -43,7 +43,7 @@ joined_copies made [] gs = sym (append-nil (copies_gathered gs))
 joined_copies made (s ∷ ss) gs =
     joined_copies made ss (as_gathered made s ∷ gs) ∙ (append_assoc (copies_gathered gs) (copies_by s) (flat_map copies_by ss) ∙ ap (λ l. copies_gathered gs ++ l) (sym (flat_map-cons copies_by s ss)))
 
--- ---- what holds of each of them
+-- ---- the properties of each of them
 module _ (P : Gathered → Type 0) (made : ℕ) where
   each_old : (ss : List SenderView) (gs : List Gathered) → Each P (joined made ss gs) → Each P gs
   each_old [] gs h = h
@@ -264,7 +264,7 @@ none_untaken taken g whole =
     let none : untaken_of taken g ≡ [] = ap (drop (length mine)) (sym whole ∙ sym (append-nil mine)) ∙ drop-append_seam mine [] in
     subst P (sym none) tt
 
--- all that was gathered before is taken, and what is gathered now is packets
+-- all items that were gathered before are taken, and those that are gathered now are packets
 pub packets_then : (ss : List SenderView) (d : TakerState) → Whole d.gathered d.taken → Each (λ (s : SenderView). Packets s.state.pushed) ss → PacketsLeft (with_joined ss d)
 packets_then ss d whole new = each_joined (λ g. Packets (untaken_of d.taken g)) d.made ss d.gathered
     (each_map (λ (g : Gathered). part g.number d.taken ≡ g.pushed) (λ (g : Gathered). Packets (untaken_of d.taken g)) d.gathered (none_untaken d.taken) whole)

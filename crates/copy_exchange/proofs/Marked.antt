@@ -13,7 +13,7 @@ use Rattle.copy_exchange.specs.Steps.{MarksOne, pushed_with_mark}
 use Rattle.copy_exchange.proofs.Delivered.{same_at, stays_on, with_sender}
 use Rattle.copy_exchange.proofs.AfterWindow.{same_identity}
 
--- ---- what follows from the identity of a sender
+-- ---- consequences of the identity of a sender
 on_identity : (id : InboxId) (own : Bool) (o p : Option SenderView) → identity_of o ≡ identity_of p → IsSenderOn id own p → IsSenderOn id own o
 on_identity id true None None e h = refl
 on_identity id true None (Some q) e h = absurd cc
@@ -35,7 +35,7 @@ marked_identity (Some o) (Some q) e h s is =
     let marked : o.state.marked ≡ q.state.marked = ap (λ (x : InboxId × ℕ × Bool). x.2) identity in
     ap (λ (x : SenderView). x.state.marked) (sym same) ∙ (marked ∙ h q refl)
 
--- ---- what stays of an endpoint
+-- ---- the unchanged parts of an endpoint
 pub marks_stay : (a b : Endpoint) → Stays a b → HasMarks a → HasMarks b
 marks_stay a b h marks v = marked_identity (sender_to b v) (sender_to a v) (same_identity a b v h) (marks v)
 

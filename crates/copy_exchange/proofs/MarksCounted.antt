@@ -18,7 +18,7 @@ use Rattle.copy_exchange.specs.Marks.{marks_of, Counts, AreNone}
 use Rattle.copy_exchange.specs.Pushes.{marks_in}
 use Rattle.copy_exchange.proofs.Whole.{marks_append}
 
--- ---- marks of what was taken, with one more item
+-- ---- marks of the items taken, with one more item
 pub same_read : (xs : List ℕ) (i d e : ℕ) → i < length xs → get_or xs i d ≡ get_or xs i e
 same_read [] i d e lt = absurd (omega arith)
 same_read (x ∷ xs) zero d e lt = refl
@@ -71,7 +71,7 @@ counts_mark marks d x n m c next is at =
           (eqb_tells x.sender s);
     }
 
--- ---- what was taken so far, with one more item
+-- ---- the items taken so far, with one more item
 module _ (p : Position) where
   pub takes_none : (t : TakerView) → TakesExpected p t t []
   takes_none t = record {

@@ -10,7 +10,7 @@ use Rattle.copy_exchange.specs.Endpoints.{DeliversOwn, sender_to, senders_to, de
 use Rattle.copy_exchange.proofs.Parts.{from}
 use Rattle.copy_exchange.proofs.Gathers.{OneOf, copies_by}
 
--- ---- what was delivered is what the senders pushed
+-- ---- the items delivered are those that the senders pushed
 by_option : (o : Option SenderView) (ss : List SenderView) → flat_map copies_by (cons_option o ss) ≡ pushed_by o ++ flat_map copies_by ss
 by_option None ss = refl
 by_option (Some a) ss = flat_map-cons copies_by a ss

@@ -93,7 +93,7 @@ numbers : (x y : ℕ) (xs ys : List ℕ) → x ∷ xs ≡ y ∷ ys → (x ≡ y)
 numbers x y xs ys e = (cc, cc)
 
 module _ (worker_of : ℕ → ℕ) (s v : ℕ) where
-  -- what all of these delivered is what this one delivered, if it is the endpoint of the mote's worker
+  -- all that these delivered is all that this one delivered, if it is the endpoint of the mote's worker
   abbrev Alone : List Endpoint → Endpoint → Type 0
   Alone cs c = c.worker ≡ worker_of s → from s (delivered_to cs v) ≡ from s (delivered c v)
 
@@ -120,7 +120,7 @@ module _ (worker_of : ℕ → ℕ) (s v : ℕ) where
         with_first first c cs cs n.0 own.0 (first + 1) (omega arith) n.1 (alone (first + 1) cs n.1 own.1),
       )
 
--- of one mote, worker v was delivered what the endpoint of the mote's worker delivered
+-- of one mote, worker v was delivered the items of the endpoint of the mote's worker
 pub only_one : (inboxes : List InboxId) (cs : List Endpoint) (back : AllReturn inboxes cs) (s v : ℕ)
     → Each (λ (c : Endpoint). c.worker ≡ back.worker_of s → filter (is_from_sender s) (delivered_to cs v) ≡ filter (is_from_sender s) (delivered c v)) cs
 only_one inboxes cs back s v = alone back.worker_of s v 0 cs (workers inboxes cs back ∙ ap (range_with_len 0) (sym (count inboxes cs back))) (owns inboxes cs back)

@@ -1,4 +1,4 @@
--- What workers take and deliver through their endpoints.
+-- The items that workers take and deliver through their endpoints.
 use Rattle.std.specs.Prelude.{◌≡◌, ℕ, ◌+◌, ◌<◌, ◌≤◌, ◌==◌, Bool, true, false, List, [], ◌∷◌, ◌++◌, length, map, filter}
 use Rattle.std.specs.Prelude.{slice_get, slice_index, slice_index_or, Option, Some, None}
 use Rattle.std.specs.List.{AllByRecursion as Each, AllZip, filter_map, flat_map, range_with_len}
@@ -27,7 +27,7 @@ pushed_by (Some s) = copies_in s.state.pushed
 abbrev pub delivered : Endpoint → (v : ℕ) → List RadioCopy
 delivered e v = pushed_by (sender_to e v)
 
--- what all endpoints delivered to worker v
+-- all items that the endpoints delivered to worker v
 abbrev pub delivered_to : List Endpoint → (v : ℕ) → List RadioCopy
 delivered_to endpoints v = flat_map (λ e. delivered e v) endpoints
 
@@ -41,7 +41,7 @@ abbrev pub pushed_list : Option SenderView → List Carried
 pushed_list None = []
 pushed_list (Some s) = s.state.pushed
 
--- what its sender on the inbox of worker v pushed
+-- the items that its sender on the inbox of worker v pushed
 abbrev pub pushed_to : Endpoint → (v : ℕ) → List Carried
 pushed_to e v = pushed_list (sender_to e v)
 
@@ -59,7 +59,7 @@ pub record IsOnInboxes (inboxes : List InboxId) (e : Endpoint) : Type 0 where
   pub count : length e.senders.items ≡ length inboxes
   pub each : (v : ℕ) (id : InboxId) → slice_get inboxes v ≡ Some id → IsSenderOn id (v == e.worker) (sender_to e v)
 
--- an endpoint in a window that ends with a join: it is on these inboxes, and what its taker took is in order
+-- an endpoint in a window of fork-join: it is on these inboxes, and its taker took its items in order
 pub record IsEndpoint (inboxes : List InboxId) (e : Endpoint) : Type 0 where
   pub on_inboxes : IsOnInboxes inboxes e
   pub orderly : IsOrderly e.taker.state
@@ -167,7 +167,7 @@ pub record AllReturn (inboxes : List InboxId) (endpoints : List Endpoint) : Type
   pub worker_of : ℕ → ℕ
   pub each : AllZip (Returns inboxes worker_of) before endpoints
 
--- the taker of an endpoint after the window: it has gathered what all endpoints delivered to its worker
+-- the taker of an endpoint after the window: it has gathered everything that the endpoints delivered to its worker
 pub record GathersDelivered (endpoints : List Endpoint) (e : Endpoint) (t : TakerView) : Type 0 where
   pub same_marked : t.state.marked ≡ e.taker.state.marked
   pub same_taken : t.state.taken ≡ e.taker.state.taken

@@ -7,13 +7,13 @@ use Rattle.copy_inbox.specs.Items.{BeginsWith}
 use Rattle.copy_exchange.specs.Takers.{copies_in}
 use Rattle.copy_exchange.specs.Pushes.{marks_in, pushes, sent_before}
 
--- what was taken of a sender, a prefix of what it pushed, is all of it once a mark of each window was taken
+-- the items taken of a sender, a prefix of those that it pushed, are all of them once a mark of each window was taken
 abbrev pub AllIsTaken : Type 0
 AllIsTaken = (windows : ℕ) (sent : ℕ → List RadioCopy) (taken : List Carried) → BeginsWith (pushes windows sent) taken
     → windows ≤ marks_in taken → taken ≡ pushes windows sent
 
--- If a test passes no copy of this window or of a later one, then of what was taken, once that has the marks of all
--- windows before this one, it passes just what it passes of what was sent before the window.
+-- If a test passes no copy of this window or of a later one, and the marks of all windows before this one were taken,
+-- then the test passes the same copies of those taken as of those sent before the window.
 abbrev pub EarlyIsUnseen : Type 0
 EarlyIsUnseen = (sees : RadioCopy → Bool) (windows window : ℕ) (sent : ℕ → List RadioCopy) (taken : List Carried)
     → window ≤ windows → BeginsWith (pushes windows sent) taken → window ≤ marks_in taken

@@ -49,8 +49,8 @@ pub record AreSendersOn (inboxes : List InboxId) (senders : List (Option SenderV
   pub its : (v : ℕ) (id : InboxId) (s : SenderView) → v < length inboxes → at_place senders v ≡ Some s
       → s.inbox ≡ slice_index_or inboxes v id
 
--- what a taker learns of a sender that it gathers: what it took of it is a prefix of what it pushed, which is packets
--- if there are no marks
+-- a taker learns of a sender that it gathers: the items that it took of it are a prefix of those that the sender
+-- pushed, all of them packets if there are no marks
 pub record TellsOf (d : TakerState) (p : SenderState) : Type 0 where
   pub begun : BeginsWith p.pushed (part p.number d.taken)
   pub plain : d.marked ≡ false → Packets p.pushed

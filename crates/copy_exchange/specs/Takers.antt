@@ -1,4 +1,4 @@
--- What a taker took and gathered, mote by mote.
+-- The copies that a taker took and gathered, mote by mote.
 use Rattle.std.specs.Prelude.{◌≡◌, ℕ, ◌<◌, ◌≤◌, false, List, [], ◌∷◌, ◌++◌, filter}
 use Rattle.std.specs.List.{AllByRecursion as Each, filter_map}
 use Rattle.radio_packet.specs.declared.copy.RadioCopy.{RadioCopy}
@@ -15,7 +15,7 @@ use Rattle.copy_inbox.specs.Handles.{TakerView}
 abbrev pub SameOfEach : List RadioCopy → List RadioCopy → Type 0
 SameOfEach xs ys = (s : ℕ) → filter (is_from_sender s) xs ≡ filter (is_from_sender s) ys
 
--- the copies in what was pushed, in order, without the marks
+-- the copies among these items, in order, without the marks
 abbrev pub copies_in : List Carried → List RadioCopy
 copies_in what = filter_map carried_copy what
 
@@ -24,11 +24,11 @@ abbrev pub copies_gathered : List Gathered → List RadioCopy
 copies_gathered [] = []
 copies_gathered (g ∷ gs) = copies_gathered gs ++ copies_in g.pushed
 
--- what a worker took from its inbox
+-- the copies that a worker took from its inbox
 abbrev pub taken_by : TakerView → List RadioCopy
 taken_by t = copies_of t.state.taken
 
--- what other workers delivered to it
+-- the copies that other workers delivered to it
 abbrev pub gathered_by : TakerView → List RadioCopy
 gathered_by t = copies_gathered t.state.gathered
 
@@ -36,7 +36,7 @@ gathered_by t = copies_gathered t.state.gathered
 abbrev pub IsRest : TakerState → List Item → Type 0
 IsRest d rest = Whole d.gathered (d.taken ++ rest) × NoOthers d.gathered d.taken (d.taken ++ rest)
 
--- What holds of each taker between windows and in them.
+-- The properties of each taker, between windows and in them.
 pub record IsOrderly (d : TakerState) : Type 0 where
   -- however the rest is interleaved, each mote's copies are taken in the order in which they were gathered
   pub in_order : (rest : List Item) → IsRest d rest

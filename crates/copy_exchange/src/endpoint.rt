@@ -11,8 +11,8 @@ use copy_inbox::{Inbox, InboxError, Sender, Taker};
 use radio_packet::RadioCopy;
 use std::sync::Wait;
 
-/// What a worker takes and delivers copies with while its thread runs: its taker, and a sender on the inbox of each
-/// other worker.
+/// The means by which a worker takes and delivers copies while its thread runs: its taker, and a sender on the inbox of
+/// each other worker.
 pub struct Endpoint {
     /// The number of its worker.
     pub worker: u16,
@@ -64,7 +64,7 @@ impl Endpoint {
     }
 
     /// Delivers each copy, in order, to the worker of its receiver; `of` is the worker of each mote. If a push fails,
-    /// the error is [`InboxError::Memory`]; what was delivered before it stays.
+    /// the error is [`InboxError::Memory`]; the copies delivered before it stay.
     pub fn deliver<R: Wait>(
         &mut self,
         rt: &R,
@@ -84,7 +84,7 @@ impl Endpoint {
     }
 
     /// Pushes those of the copies that are for motes of other workers, each to that worker, in order; `of` is the
-    /// worker of each mote. If a push fails, the error is [`InboxError::Memory`]; what was pushed before it stays.
+    /// worker of each mote. If a push fails, the error is [`InboxError::Memory`]; the copies pushed before it stay.
     pub fn push_copies<R: Wait>(
         &mut self,
         rt: &R,
@@ -123,7 +123,7 @@ impl Endpoint {
     }
 
     /// Pushes the mark of a window to each other worker. The inboxes have marks. If a push fails, the error is
-    /// [`InboxError::Memory`]; what was pushed before it stays.
+    /// [`InboxError::Memory`]; the marks pushed before it stay.
     pub fn push_marks<R: Wait>(
         &mut self,
         rt: &R,

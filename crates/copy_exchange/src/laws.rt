@@ -7,8 +7,8 @@ pub fn all_is_taken()
     ensures { AllIsTaken }
 {}
 
-/// Copies that are taken early do no harm if a window can't see them. What was taken of a sender, once it has the mark
-/// of each window before this one, shows the window the copies that were sent before it, and no others.
+/// Copies that are taken early do no harm if a window can't see them. The items taken of a sender, once they have the
+/// mark of each window before this one, show the window the copies that were sent before it, and no others.
 pub fn early_is_unseen()
     ensures { EarlyIsUnseen }
 {}

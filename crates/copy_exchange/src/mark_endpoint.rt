@@ -25,7 +25,7 @@ pub struct MarkEndpoint {
     pub base: Endpoint,
     /// By the senders' numbers.
     pub marks: Vec<u64>,
-    /// How it waits for marks.
+    /// The state of waiting for marks.
     pub waiting: Waiting,
 }
 
@@ -46,8 +46,8 @@ impl MarkEndpoint {
     }
 
     /// Pushes the copies of a window, each to the worker of its receiver, and then the window's mark to each other
-    /// worker; `of` is the worker of each mote. If a push fails, the error is [`InboxError::Memory`]; what was pushed
-    /// before it stays.
+    /// worker; `of` is the worker of each mote. If a push fails, the error is [`InboxError::Memory`]; the items pushed
+    /// before it stay.
     pub fn deliver_window<R: Wait>(
         &mut self,
         rt: &R,

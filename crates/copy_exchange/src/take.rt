@@ -18,7 +18,7 @@ use std::sync::Wait;
 use std::sync::ledger::Ledger;
 use worker_cut::is_own;
 
-/// Why a worker stopped taking items.
+/// The reason why a worker stopped taking items.
 #[derive(Clone, Copy, Debug, PartialEq, Eq)]
 pub enum MarkError {
     /// Out of memory: an allocation failed.
@@ -59,8 +59,8 @@ pub struct Standing<'a> {
     pub from: u64,
 }
 
-/// Whether the copy is for a mote of the worker, isn't from one of its motes, and arrives no sooner than the worker's
-/// next window begins.
+/// Returns whether the copy is for a mote of the worker, isn't from one of its motes, and arrives no sooner than the
+/// worker's next window begins.
 fn is_expected(standing: &Standing<'_>, copy: RadioCopy) -> bool
     ensures { IsTrue result ↔ IsExpectedAt (position_of standing.now) copy }
 {

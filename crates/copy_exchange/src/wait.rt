@@ -19,12 +19,12 @@ const MOST_LOOKS: u32 = 1024;
 // The longest that it sleeps before it reads the flag again.
 const NAP_MILLIS: u64 = 10;
 
-/// How a worker waits for its next item.
+/// The state of a worker that waits for its next item.
 #[derive(Clone, Copy)]
 pub struct Waiting {
-    /// How often it may look in vain in this window before it sleeps.
+    /// The number of looks in vain in this window before it sleeps.
     looks: u32,
-    /// How many of these looks are left.
+    /// The number of these looks that are left.
     left: u32,
 }
 

@@ -74,7 +74,8 @@ fn sender_on(inbox: &Inbox, taker: &mut Taker, own: bool) -> Result<Option<Sende
     Ok(Some(sender))
 }
 
-/// After a window: [`gather_back`], with a contract on what was delivered to each worker. The inboxes have no marks.
+/// The end of a window: [`gather_back`], with a contract on the copies delivered to each worker. The inboxes have no
+/// marks.
 pub fn gather_window<R: Wait>(
     rt: &R,
     alloc: Global,

@@ -28,7 +28,7 @@ known-cons g gs taken = sum_by-cons (λ (k : Gathered). length (untaken_of taken
 tally-cons : (g : Gathered) (gs : List Gathered) (items : List Item) → tally (g ∷ gs) items ≡ length (part g.number items) + tally gs items
 tally-cons g gs items = sum_by-cons (λ (k : Gathered). length (part k.number items)) g gs
 
--- ---- what the rule says of each gathered sender
+-- ---- the rule about each gathered sender
 abbrev pub Adds : List Item → List Item → Gathered → Type 0
 Adds taken items g = part g.number (taken ++ items) ≡ g.pushed
 
@@ -111,7 +111,7 @@ whole_of (g ∷ gs) taken none b =
     let z : rest ≡ [] = nil_of_length rest (omega arith) in
     (sym (b.0.1 ∙ (ap (λ r. part g.number taken ++ r) z ∙ append-nil (part g.number taken))), whole_of gs taken (omega arith) b.1)
 
--- so what is left, being nothing, is packets
+-- so the remaining items, of which there are none, are packets
 pub none_left : (gs : List Gathered) (taken : List Item) → known_of gs taken ≡ 0 → Each (λ (g : Gathered). Packets (untaken_of taken g)) gs
 none_left [] taken none = tt
 none_left (g ∷ gs) taken none =

@@ -191,7 +191,7 @@ takes_as pass v d is = subst (λ (u : View). Pops InboxRule pass u (Took u)) (sy
 pub learns : (pass : ℕ) (v : View) → Learns InboxRule pass v (SeenBy v)
 learns pass v items views h at = (views, pass, h, at)
 
--- what a step shows of a taker's state
+-- the part of a taker's state that a step shows
 abbrev pub SoundWith : TakerState → List Item → Type 0
 SoundWith d items = (pass_of : ℕ → Option ℕ) × (pushed : ℕ → List Carried) × Sound d pass_of pushed items
 

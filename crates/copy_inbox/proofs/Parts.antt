@@ -26,7 +26,7 @@ part-snoc_here s xs ys x e = ap (part s) (sym (append_assoc xs ys (x ∷ []))) �
 pub part-snoc_else : (s : ℕ) (xs ys : List Item) (x : Item) → x.sender ≢ s → part s (xs ++ (ys ++ x ∷ [])) ≡ part s (xs ++ ys)
 part-snoc_else s xs ys x e = ap (part s) (sym (append_assoc xs ys (x ∷ []))) ∙ (part-append s (xs ++ ys) (x ∷ []) ∙ (ap (λ l. part s (xs ++ ys) ++ l) (part-else s x [] e) ∙ append-nil (part s (xs ++ ys))))
 
--- the head of the queue is appended to what was taken
+-- the head of the queue is appended to the items taken
 pub part-moved : (s : ℕ) (taken items : List Item) (x : Item) → part s ((taken ++ x ∷ []) ++ items) ≡ part s (taken ++ x ∷ items)
 part-moved s taken items x = ap (part s) (append_assoc taken (x ∷ []) items)
 

@@ -1,4 +1,4 @@
--- What each call makes of a taker.
+-- The effect of each call on a taker.
 use Rattle.std.proofs.Common.{◌≡◌, ◌≢◌, ℕ, ◌+◌, ◌-◌, ◌^◌, ◌≤◌, ◌<◌, Bool, true, false, cond, eqb, Option, List, [], ◌∷◌, ◌++◌, length, set, get_or, refl, sym, ap, ◌∙◌, subst, ⊎_elim, arith, eq-eqb, ne_eqb, length-append, append-nil, inl, inr}
 use Rattle.std.specs.List.{AllByRecursion as Each}
 use Rattle.std.proofs.lemmas.Bool.Decides.{eqb_tells}
@@ -79,7 +79,8 @@ each_right : (k l : List Carried) → Packets (k ++ l) → Packets l
 each_right [] l h = h
 each_right (v ∷ vs) l h = each_right vs l h.1
 
--- the head of the queue is a packet, if its sender is gathered and what is left of each gathered sender is packets
+-- the head of the queue is a packet, if its sender is gathered and the remaining items of each gathered sender are
+-- packets
 packets_next : (gs : List Gathered) (taken : List Item) (x : Item) (rest : List Item) → Each (Adds taken (x ∷ rest)) gs
     → Each (λ (g : Gathered). Packets (untaken_of taken g)) gs → is_gathered gs x.sender ≡ true → is_packet x.what ≡ true
 packets_next [] taken x rest h p is = absurd cc
@@ -244,7 +245,7 @@ gather_as v u w items counts k n pushed number c seen t r e num is sum =
     let sum' : n ≡ k + (length p.pushed - length (part p.number d.taken)) = sum ∙ (λ i. k + (r.counted i - length (part (num i) d.taken))) in
     subst (λ (y : View × ℕ × Count × ℕ). IsTaker y.0 (set counts y.1 y.2) y.3) (λ i. (sym w' i, sym num i, sym is' i, sym sum' i)) end
 
--- ---- what the answers of the functions need
+-- ---- lemmas for the answers of the functions
 pub byte_is : (b : Bool) → bool_byte b ≡ cond b 1 0
 byte_is true = refl
 byte_is false = refl
@@ -284,7 +285,7 @@ next_down v counts k x rest c n t seen at is =
 pub next_less : (v : View) (counts : List Count) (k : ℕ) (x : Item) (rest : List Item) (c : Count) (n : ℕ) → IsTaker v counts k → SeenBy v (x ∷ rest) → c ≡ get_or counts x.sender c → n ≡ bool_byte c.gathered → n ≤ k
 next_less v counts k x rest c n t seen at is = let d = next_down v counts k x rest c n t seen at is in omega arith
 
--- the count of what was taken of one sender doesn't overflow
+-- the count of the items taken of one sender doesn't overflow
 pub next_fits : (v : View) (counts : List Count) (k : ℕ) (x : Item) (rest : List Item) (c : Count) → IsTaker v counts k → SeenBy v (x ∷ rest) → c ≡ get_or counts x.sender c → c.taken + 1 < 2 ^ 64
 next_fits v counts k x rest c t seen at =
     let d = taker_state_in v in

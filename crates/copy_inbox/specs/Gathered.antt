@@ -1,4 +1,4 @@
--- The senders that a taker gathered, and what it knows of what they pushed.
+-- The senders that a taker gathered, and its knowledge of the items that they pushed.
 use Rattle.std.specs.Prelude.{◌≡◌, ℕ, ◌<◌, ◌≤◌, ◌==◌, Bool, false, List, [], ◌∷◌, length, drop}
 use Rattle.std.specs.List.{AllByRecursion as Each, list_any, sum_by}
 use Rattle.copy_inbox.specs.declared.items.Carried.{Carried}
@@ -14,7 +14,7 @@ abbrev pub Apart : List Gathered → Type 0
 Apart [] = Unit {0}
 Apart (g ∷ gs) = (is_gathered gs g.number ≡ false) × Apart gs
 
--- what a gathered sender pushed that has not been taken yet
+-- the items of a gathered sender that have not been taken yet
 abbrev pub untaken_of : List Item → Gathered → List Carried
 untaken_of taken g = drop (length (part g.number taken)) g.pushed
 
@@ -26,11 +26,11 @@ known_of gathered taken = sum_by (λ g. length (untaken_of taken g)) gathered
 abbrev pub Later : ℕ → List Gathered → Type 0
 Later made gathered = (u : ℕ) → u < made → is_gathered gathered u ≡ false → Each (λ (g : Gathered). g.made ≤ u) gathered
 
--- what was taken of each gathered sender is a prefix of what it pushed
+-- the items taken of each gathered sender are a prefix of those that it pushed
 abbrev pub TookFronts : List Gathered → List Item → Type 0
 TookFronts gathered taken = Each (λ (g : Gathered). BeginsWith g.pushed (part g.number taken)) gathered
 
--- what was taken of each gathered sender is all that it pushed
+-- the items taken of each gathered sender are all that it pushed
 abbrev pub Whole : List Gathered → List Item → Type 0
 Whole gathered taken = Each (λ (g : Gathered). part g.number taken ≡ g.pushed) gathered
 

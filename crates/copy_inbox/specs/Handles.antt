@@ -1,4 +1,4 @@
--- What a contract sees of an inbox, its taker and its senders, and what is true of each taker and sender.
+-- The views of an inbox, its taker and its senders that contracts use, and the properties of each taker and sender.
 use Rattle.std.specs.Prelude.{◌≡◌, ℕ, ◌+◌, ◌<◌, ◌≤◌, ◌^◌, true, false, cond, ◌⊎◌, List, [], ◌∷◌, ◌++◌, length}
 use Rattle.std.specs.Prelude.{slice_index_or}
 use Rattle.std.specs.List.{AllByRecursion as Each}
@@ -21,17 +21,18 @@ use Rattle.copy_inbox.specs.Views.{make_taker_state, make_sender_state, make_gat
 abbrev pub InboxId : Type 0
 InboxId = SegId Global
 
--- its inbox, whether that has marks, how many senders it made, what it took, and which senders it gathered
+-- its inbox, whether that has marks, the number of senders that it made, the items that it took, and the senders that
+-- it gathered
 pub record TakerView : Type 0 where
   pub inbox : InboxId
   pub state : TakerState
 
--- its inbox, whether that has marks, its number, and what it pushed
+-- its inbox, whether that has marks, its number, and the items that it pushed
 pub record SenderView : Type 0 where
   pub inbox : InboxId
   pub state : SenderState
 
--- ---- what each call does to a taker
+-- ---- the effect of each call on a taker
 abbrev pub after_sender : TakerView → TakerView
 after_sender t = record {
   inbox = t.inbox;
@@ -54,7 +55,7 @@ after_taking t xs = record {
   state = make_taker_state t.state.marked t.state.made (t.state.taken ++ xs) t.state.gathered;
 }
 
--- packets, of which these are the copies, were appended to what was taken
+-- packets, of which these are the copies, were appended to the items taken
 abbrev pub TakesCopies : TakerView → TakerView → List RadioCopy → Type 0
 TakesCopies old new copies = (items : List Item) × ArePackets items copies × (new ≡ after_taking old items)
 
@@ -66,7 +67,7 @@ IsAllKnown state n = (n ≡ known_of state.gathered state.taken) × Later state.
 abbrev pub AllGathered : TakerState → Type 0
 AllGathered d = (s : ℕ) → s < d.made → is_gathered d.gathered s ≡ true
 
--- what is left of each gathered sender is packets
+-- the remaining items of each gathered sender are packets
 abbrev pub PacketsLeft : TakerState → Type 0
 PacketsLeft d = Each (λ (g : Gathered). Packets (untaken_of d.taken g)) d.gathered
 
@@ -74,13 +75,13 @@ PacketsLeft d = Each (λ (g : Gathered). Packets (untaken_of d.taken g)) d.gathe
 abbrev pub NoMarkLeft : TakerState → Type 0
 NoMarkLeft d = (d.marked ≡ false) ⊎ PacketsLeft d
 
--- the rest of what was pushed is packets, of which these are the copies: appended to what was taken, they complete
--- what each gathered sender pushed, and there is nothing else
+-- the remaining items are packets, of which these are the copies: appended to the items taken, they complete those that
+-- each gathered sender pushed, and there is nothing else
 abbrev pub Empties : TakerState → List RadioCopy → Type 0
 Empties d copies = (rest : List Item) × ArePackets rest copies × Whole d.gathered (d.taken ++ rest)
     × OfMade d.made (d.taken ++ rest)
 
--- ---- what holds of every taker and sender: of what its pass knows, and of its counts
+-- ---- properties of every taker and sender: of the knowledge of its pass, and of its counts
 abbrev pub taker_state_in : View → TakerState
 taker_state_in (Taking d) = d
 taker_state_in (Sending p) = make_taker_state false 0 [] []
@@ -91,7 +92,7 @@ sender_state_in (Sending p) = p
 sender_state_in (Taking d) = make_sender_state false 0 []
 sender_state_in Spent = make_sender_state false 0 []
 
--- what a taker records of the sender numbered s
+-- a taker's record of the sender numbered s
 abbrev pub count_of : TakerState → ℕ → Count
 count_of d s = record { taken = length (part s d.taken); gathered = is_gathered d.gathered s }
 
@@ -113,8 +114,8 @@ pub record IsSender (v : View) (count : ℕ) : Type 0 where
   pub counted : count ≡ length (sender_state_in v).pushed
   pub few : count ≤ 2 ^ 62
 
--- all that the taker may take is packets: the inbox has no marks, or all senders are gathered and what is left of them
--- is packets
+-- all that the taker may take is packets: the inbox has no marks, or all senders are gathered and their remaining items
+-- are packets
 abbrev pub TakesPackets : TakerState → Type 0
 TakesPackets d = (d.marked ≡ false) ⊎ (AllGathered d × PacketsLeft d)
 

@@ -1,4 +1,4 @@
--- The rule of an inbox: what holds of its queue and of its passes between any two atomic steps.
+-- The rule of an inbox: a property of its queue and of its passes between any two atomic steps.
 use Rattle.std.specs.Prelude.{◌≡◌, ℕ, ◌^◌, ◌<◌, ◌≤◌, false, List, [], ◌∷◌, ◌++◌, length, Option, Some, None}
 use Rattle.std.specs.List.{AllByRecursion as Each}
 use mathlib.Core.Option.{some}
@@ -35,9 +35,9 @@ pub record Joined (made : ℕ) (pass_of : ℕ → Option ℕ) (pushed : ℕ → 
   pub all : pushed g.number ≡ g.pushed
   pub behind : Behind g.number g.made items
 
--- The items of each sender in what was taken, followed by the queue, are what it pushed, in order, and there are no
--- other items. Each sender that was made has a pass, or is gathered. If there are no marks, all that was pushed is
--- packets.
+-- The items of each sender among those taken, followed by those in the queue, are the ones that it pushed, in order,
+-- and there are no other items. Each sender that was made has a pass, or is gathered. If there are no marks, only
+-- packets were pushed.
 pub record Sound (d : TakerState) (pass_of : ℕ → Option ℕ) (pushed : ℕ → List Carried)
     (items : List Item) : Type 0 where
   pub parts : (s : ℕ) → part s (d.taken ++ items) ≡ pushed s
@@ -49,8 +49,8 @@ pub record Sound (d : TakerState) (pass_of : ℕ → Option ℕ) (pushed : ℕ �
   pub plain : d.marked ≡ false → (s : ℕ) → Packets (pushed s)
 
 -- The rule, on the items in the queue, the oldest first, and the view of each pass. One pass is the taker's, and its
--- view is what was taken and gathered; `pass_of` gives the pass of each sender that isn't gathered, whose view is what
--- it pushed.
+-- view is the items taken and the senders gathered; `pass_of` gives the pass of each sender that isn't gathered, whose
+-- view is the items that it pushed.
 pub record InboxRule (items : List Item) (views : List View) : Type 0 where
   pub taker : ℕ
   pub pass_of : ℕ → Option ℕ
@@ -62,8 +62,7 @@ pub record InboxRule (items : List Item) (views : List View) : Type 0 where
       → get_elem? views pass ≡ some (Sending (make_sender_state taker_state.marked s (pushed s)))
   pub fits : (pass : ℕ) (v : View) → get_elem? views pass ≡ some v → PassFits taker pass_of taker_state pushed pass v
 
--- ---- what a pass learns from a step that it takes
--- the rule held while the queue had these items and a pass had this view
+-- ---- the knowledge that a pass gains from its step: the rule held while the queue had these items and a pass had this view
 abbrev pub SeenBy : View → List Item → Type 0
 SeenBy v items = (views : List View) × (pass : ℕ) × InboxRule items views × (get_elem? views pass ≡ some v)
 

@@ -1,4 +1,4 @@
--- What each step on an inbox does to the view of the pass that takes the step.
+-- The effect of each step on the view of the pass that takes it.
 use Rattle.std.specs.Prelude.{ℕ, ◌+◌, Bool, true, false, List, [], ◌∷◌, ◌++◌}
 use Rattle.copy_inbox.specs.declared.items.Carried.{Carried}
 use Rattle.copy_inbox.specs.declared.items.Item.{Item}

@@ -29,7 +29,7 @@ use std::time::Duration;
 // The most that one sender may push.
 const MOST: u64 = 1 << 62;
 
-/// Why a call gave up.
+/// The reason why a call gave up.
 #[derive(Clone, Copy, Debug, PartialEq, Eq)]
 pub enum InboxError {
     /// Out of memory: an allocation failed.
@@ -55,8 +55,8 @@ impl From<AllocError> for InboxError {
 }
 
 /// An inbox. Its senders push copies of packets from any thread, and marks if it has marks; its one taker takes them.
-/// No contract can say what an inbox holds, since another thread may push at any moment; contracts say what a sender
-/// has pushed, and what the taker has taken and gathered.
+/// No contract can name the contents of an inbox, since another thread may push at any moment; contracts name the items
+/// that a sender has pushed, and those that the taker has taken and gathered.
 pub struct Inbox {
     queue: RuledSegQueue<Item, View, Ruled>,
     mark_count: MarkCount,
@@ -69,10 +69,10 @@ impl Model for Inbox {
     ghost view = { λ i. i.queue };
 }
 
-/// Makes and gathers the senders of an inbox, and takes what they push.
+/// Makes and gathers the senders of an inbox, and takes the items that they push.
 pub struct Taker {
     pass: SegPass<Item, View>,
-    /// How many of its senders, the first ones, are no longer counted.
+    /// The number of its senders, the first ones, that are no longer counted.
     first: u64,
     /// The counts of its other senders.
     counts: Vec<Count>,
@@ -289,7 +289,7 @@ impl Inbox {
         sender.join(rt, self, taker);
     }
 
-    /// How many copies and marks of gathered senders have not been taken yet.
+    /// The number of copies and marks of gathered senders that have not been taken yet.
     pub fn known(&self, taker: &Taker) -> u64
         requires { taker.now.inbox ≡ self.now }
         ensures { result ≡ known_of taker.now.state.gathered taker.now.state.taken }
@@ -299,8 +299,8 @@ impl Inbox {
     }
 
     /// Takes the oldest copy or mark, with the number of its sender, without allocating. It returns `None` only if the
-    /// queue was found empty and nothing is known, and then nothing has changed. What was taken of a gathered sender
-    /// stays a prefix of what it pushed.
+    /// queue was found empty and nothing is known, and then nothing has changed. The items taken of a gathered sender
+    /// stay a prefix of those that it pushed.
     pub fn take_next<R: Wait>(&self, rt: &R, taker: &mut Taker) -> Option<Item>
         requires { taker.old.inbox ≡ self.now }
         ensures inbox { taker.new.inbox ≡ taker.old.inbox }

@@ -8,9 +8,9 @@ use std::time::Duration;
 /// is woken: it also wakes by itself, after a time.
 #[derive(Drop)]
 pub struct MarkCount {
-    /// How many marks were pushed.
+    /// The number of marks pushed.
     marks: AtomicU64,
-    /// How many marks the taker waits for.
+    /// The number of marks for which the taker waits.
     wanted: AtomicU64,
 }
 

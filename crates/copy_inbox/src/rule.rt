@@ -1,5 +1,5 @@
-//! The rule of an inbox's queue, and what each pass of the queue knows. No values of these types exist at run time:
-//! they are for contracts and proofs.
+//! The rule of an inbox's queue, and the knowledge of each pass of the queue. No values of these types exist at run
+//! time: they are for contracts and proofs.
 
 use crate::items::{Carried, Item};
 use crossbeam_queue::protocol::{Join, Lesson, Outcome, Protocol, Split};
@@ -12,8 +12,8 @@ pub struct Gathered {
     pub pushed: LinkedList<Carried>,
 }
 
-/// What the taker knows: whether the inbox has marks, how many senders it has made, what it has taken, and the senders
-/// that it gathered, the newest first.
+/// The taker's knowledge: whether the inbox has marks, the number of senders that it has made, the items that it has
+/// taken, and the senders that it gathered, the newest first.
 pub struct TakerState {
     pub marked: bool,
     pub made: u64,
@@ -21,14 +21,14 @@ pub struct TakerState {
     pub gathered: LinkedList<Gathered>,
 }
 
-/// What a sender knows: whether the inbox has marks, its number, and what it has pushed.
+/// A sender's knowledge: whether the inbox has marks, its number, and the items that it has pushed.
 pub struct SenderState {
     pub marked: bool,
     pub number: u64,
     pub pushed: LinkedList<Carried>,
 }
 
-/// What a pass of the queue knows. A spent pass was joined to the taker's, or never was a sender's.
+/// The knowledge of a pass of the queue. A spent pass was joined to the taker's, or never was a sender's.
 pub enum View {
     Taking(TakerState),
     Sending(SenderState),

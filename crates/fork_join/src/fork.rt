@@ -17,14 +17,14 @@ use std::sync::ledger::{Blank, Ledger, Share};
 use std::thread;
 use std::thread::{Promise, PromisedHandle, Scope, Threads};
 
-/// How a worker's thread ended: what its work returned, and its part of the tokens.
+/// The end of a worker's thread: the result of its work, and its part of the tokens.
 #[derive(Drop)]
 struct Ended<T, L: Ledger> {
     result: Result<T, Refused>,
     share: Share<L>,
 }
 
-/// What a thread promises: what the work makes of this record, and that it stopped only if it saw the flag set.
+/// The promise of a thread: the effect of the work on this record, and that it stopped only if it saw the flag set.
 pub struct Promised<W, T> {
     work: Snapshot<W>,
     worker: Snapshot<T>,
@@ -135,7 +135,7 @@ where
     )
 }
 
-/// What a worker does in its thread: its work; if it failed, it sets the flag.
+/// Runs a worker's work in its thread; if it failed, sets the flag.
 fn run_worker<R, T, W, L>(
     rt: &R,
     work: &W,
@@ -223,7 +223,7 @@ where
     }
 }
 
-/// Joins each thread, and gathers the tokens. Returns what the threads returned, or the first of the gravest errors.
+/// Joins each thread, and gathers the tokens. Returns the results of the threads, or the first of the gravest errors.
 fn join_all<R: Threads, T: Send + Drop, W: Work<T>, L: Ledger + Send>(
     rt: &R,
     alloc: Global,
@@ -257,7 +257,7 @@ fn join_all<R: Threads, T: Send + Drop, W: Work<T>, L: Ledger + Send>(
     }
 }
 
-/// What the threads returned, once all were started and joined: no worker stopped unless another failed.
+/// The results of the threads, once all were started and joined: no worker stopped unless another failed.
 fn none_stopped<R: Wait, T: Drop, L: Ledger>(
     rt: &R,
     flag: &Flag<L>,

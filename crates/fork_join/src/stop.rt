@@ -8,8 +8,7 @@ use std::sync::atomic::{AtomicBool, Ordering};
 use std::sync::ledger::{Book, Ledger, Share};
 use std::sync::{Mutex, Wait};
 
-/// Whether the flag is set, and the tokens: one for the failure that set it first, and two for each worker that saw it
-/// set.
+/// The flag, and the tokens: one for the failure that set it first, and two for each worker that saw it set.
 #[derive(Drop)]
 struct Failure<L: Ledger> {
     is_set: bool,
@@ -112,7 +111,7 @@ impl<L: Ledger> Flag<L> {
 pub struct Watch<'a, L: Ledger> {
     flag: &'a Flag<L>,
     share: Share<L>,
-    /// Whether the worker saw the flag set.
+    /// Set once the worker saw the flag set.
     pub seen: bool,
     ghost part: { share.parts ≡ 1 },
     ghost amount: { share.amount ≡ tokens_of seen },
@@ -131,7 +130,7 @@ impl<'a, L: Ledger> Watch<'a, L> {
         }
     }
 
-    /// Whether the flag is set.
+    /// Returns whether the flag is set.
     pub fn is_set<R: Wait>(&mut self, rt: &R) -> bool
         ensures seen { self.new.seen ≡ result }
     {

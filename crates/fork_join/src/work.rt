@@ -1,4 +1,4 @@
-//! What a worker does in its thread.
+//! The work of a worker in its thread.
 
 ghost use Rattle.std.specs.Prelude.{◌≡◌};
 ghost use Rattle.fork_join.specs.Gravest.{graver, gravest, is_own};
@@ -7,19 +7,19 @@ use crate::stop::Watch;
 use std::alloc::{AllocError, AllocFailed};
 use std::sync::ledger::Ledger;
 
-/// Why a worker gave up, or wasn't started.
+/// The reason why a worker gave up, or wasn't started.
 #[derive(Clone, Copy, Debug, PartialEq, Eq)]
 pub enum Refused {
     /// Out of memory: an allocation failed.
     Memory,
-    /// A thread couldn't be started, or what ran in it failed.
+    /// A thread couldn't be started, or its work failed.
     Thread,
     /// It stopped because another worker failed or wasn't started. [`crate::fork_join`] never returns it.
     Stopped,
 }
 
 impl Refused {
-    /// Whether the worker failed itself.
+    /// Returns whether the worker failed itself.
     pub(crate) fn is_own(self) -> bool
         ensures { result ≡ is_own self }
     {
@@ -76,10 +76,10 @@ pub trait Work<T> {
     ghost use Rattle.fork_join.specs.declared.work.Refused.{Refused};
     ghost use Rattle.fork_join.specs.declared.work.Refused.TheVariants.{Stopped};
 
-    /// What a worker's record must be.
+    /// The condition on a worker's record.
     ghost ready: { Self → T → Type 0 };
 
-    /// What the work makes of it.
+    /// The effect of the work on it.
     ghost makes: { Self → T → T → Type 0 };
 
     /// The errors that it may return instead.
@@ -96,6 +96,6 @@ pub trait Work<T> {
         ensures errs { IfErr result (errs self.now worker) }
         ensures seen { IfErr result (λ e. e ≡ Stopped → watch.new.seen ≡ true) };
 
-    /// Whether a worker's thread may start. Called before each start; `false` counts as a start that failed.
+    /// Returns whether a worker's thread may start. Called before each start; `false` counts as a start that failed.
     fn may_start(&self, worker: &T) -> bool;
 }

@@ -1,4 +1,4 @@
--- Where a window of all workers leaves them.
+-- The state in which a window of all workers leaves them.
 use Rattle.std.proofs.Common.{◌≡◌, ℕ, ◌+◌, ◌<◌, ◌≤◌, true, false, eqb, List, [], ◌∷◌, ◌++◌, length, map, get_or, refl, sym, ap, ◌∙◌, subst, arith, Option, Some, None}
 use Rattle.std.specs.List.{filter, flat_map, zip, slice_get, AllByRecursion as Each}
 use Rattle.std.specs.Option.{option_map_or}
@@ -33,7 +33,7 @@ use Rattle.all_workers.proofs.Same.{keeps_same}
 use Rattle.all_workers.proofs.Step.{next, next_is, led_next, out_of, told_next, sent_late}
 use Rattle.joined_workers.proofs.Arrived.{each_of_every}
 
--- what a window made of one worker's part
+-- the effect of a window on one worker's part
 record Told : Type 0 where
   next : Motes
   taken : List RadioCopy
@@ -148,7 +148,7 @@ module _ (n : NetTold) (fine : RunsForward (system_of n)) (of : List ℕ) (from 
       as_long _ (map make_worker (zip old.shares.items all.endpoints)) all.done all.ran
       ∙ (map_long make_worker (zip old.shares.items all.endpoints) ∙ (zip_long old.shares.items all.endpoints endpoints_long ∙ at.shares))
 
-  -- of what was delivered to a worker, what one mote sent
+  -- of the copies delivered to a worker, those that one mote sent
   to_one : (v s : ℕ) → filter (is_from_sender s) (delivered_to (map (λ (w : Worker). w.endpoint) all.done) v) ≡ out_to v s
   unfolding outgoing
   to_one v s = by_endpoint ∙ of_worker (slice_get of s) refl

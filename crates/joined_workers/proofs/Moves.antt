@@ -23,7 +23,7 @@ use Rattle.all_workers.proofs.Numbered.{numbered}
 use Rattle.joined_workers.proofs.Ready.{arrived_come}
 
 module _ (n : NetTold) (of : List ℕ) (from until : ℕ) (old new : Workers) (at : IsAt n of from old) (all : GroupRunsUntil n of until old new) where
-  -- one worker of the window: what it had, and what it has
+  -- one worker of the window: its old state, and its new one
   pub record Piece (v : ℕ) : Type 0 where
     pub share : Share
     pub taker : TakerView

@@ -1,4 +1,4 @@
--- Workers that stand somewhere are ready to run once their endpoints are made.
+-- Workers between two windows are ready to run once their endpoints are made.
 use Rattle.std.proofs.Common.{◌≡◌, ℕ, suc, ◌<◌, ◌≤◌, ◌^◌, true, false, List, [], ◌∷◌, ◌++◌, length, map, get_or, refl, sym, ap, ◌∙◌, subst, arith, Option, Some, None}
 use Rattle.std.specs.List.{filter, zip, slice_get, range_with_len, AllZip, AllByRecursion as Each}
 use Rattle.std.proofs.lemmas.List.Elements.{filter-append}
@@ -35,7 +35,7 @@ not_before : (from : ℕ) (first : Option ℕ) (c : RadioCopy) → NoneBefore fr
 not_before from None c w h = absurd h
 not_before from (Some m) c w h = omega arith
 
--- what a worker takes in at the start of a window is what was in its inbox
+-- the copies that a worker takes in at the start of a window are those that were in its inbox
 module _ (n : NetTold) (of : List ℕ) (from : ℕ) (motes : Motes) (first : Option ℕ) (v : ℕ) (share : Share) (taker : TakerView) (here : IsWorkerAt n of from motes first v share taker) (first_from : NoneBefore from first)
     (endpoint : Endpoint) (starts : StartsAs taker endpoint) (between : Endpoint) (arrived : List RadioCopy) (collects : Collects endpoint between arrived) where
   gathered_same : gathered_by endpoint.taker ≡ gathered_by taker

@@ -1,4 +1,4 @@
--- The workers stand until the next window begins, and no window is longer than the lookahead.
+-- The workers stay in their state until the next window begins, and no window is longer than the lookahead.
 use Rattle.std.proofs.Common.{ℕ, ◌≡◌, ◌+◌, ◌≤◌, List, Option, Some, None, sym, subst, arith}
 use Rattle.std.proofs.Math.Nat.{le-min, min-le_left}
 use Rattle.mote_net.specs.Net.{NetTold}

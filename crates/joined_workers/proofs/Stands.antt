@@ -1,4 +1,4 @@
--- The workers stand at each moment up to the first pending event.
+-- The workers are at each moment up to the first pending event.
 use Rattle.std.proofs.Common.{◌≡◌, ◌⊎◌, ℕ, ◌<◌, ◌≤◌, Bool, true, false, not, ◌&&◌, ltb, List, [], ◌∷◌, length, get_or, refl, sym, ◌∙◌, subst, inl, inr, arith, Option, Some, None}
 use Rattle.std.specs.List.{filter, slice_get, AllByRecursion as Each}
 use Rattle.std.proofs.lemmas.Bool.{cases_Bool, le-ltb}
@@ -26,7 +26,7 @@ not_sooner : (moment : ℕ) (first : Option ℕ) (c : RadioCopy) → NoneBefore 
 not_sooner moment None c w h = absurd h
 not_sooner moment (Some m) c w h = omega arith
 
--- what holds of those that pass two tests
+-- a property of those that pass two tests
 unfiltered : (P : RadioCopy → Type 0) (p q : RadioCopy → Bool) (xs : List RadioCopy) → Each P (filter (λ c. p c && q c) xs) → Each (λ c. p c ≡ true → q c ≡ true → P c) xs
 unfiltered P p q [] h = tt
 unfiltered P p q (x ∷ xs) h = elim (cases_Bool (p x && q x)) [
@@ -49,7 +49,7 @@ passed P p (x ∷ xs) h = elim (cases_Bool (p x)) [
   | inr e ↦ (let g = rw e at h in (λ a. absurd (cc), passed P p xs g))
 ]
 
--- what holds of the copies of each worker holds of all, if each copy has a worker
+-- a property of the copies of each worker is one of all, if each copy has a worker
 by_some : (workers : ℕ) (A : ℕ → RadioCopy → Type 0) (Q : RadioCopy → Type 0) (xs : List RadioCopy) → ((v : ℕ) → v < workers → Each (λ c. A v c → Q c) xs)
     → Each (λ c. (v : ℕ) × (v < workers) × A v c) xs → Each Q xs
 by_some workers A Q [] h k = tt

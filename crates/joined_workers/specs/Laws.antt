@@ -30,13 +30,13 @@ pub record GroupRunsUntil (n : NetTold) (of : List ℕ) (until : ℕ) (old new :
   pub inboxes : new.inboxes.items ≡ old.inboxes.items
   pub first : FirstOfAll done new.first_out
 
--- a window that begins where the workers stand, and is no longer than the lookahead, leads to its end
+-- a window that begins at the moment of the workers, and is no longer than the lookahead, leads to its end
 abbrev pub WindowMovesOn : Type 0
 WindowMovesOn = (n : NetTold) → RunsForward (system_of n) → (of : List ℕ) (from until : ℕ) (old new : Workers)
     → IsAt n of from old → from < until → until ≤ from + (system_of n).lookahead
     → GroupRunsUntil n of until old new → IsAt n of until new
 
--- the first pending event isn't before the moment at which the workers stand, and they stand at each moment up to it
+-- the first pending event isn't before the moment of the workers, and they are at each moment up to it
 abbrev pub StandsUntilNext : Type 0
 StandsUntilNext = (n : NetTold) → RunsForward (system_of n) → (of : List ℕ) (from : ℕ) (group : Workers)
     → (next : Option ℕ) → IsAt n of from group → IsNextOfAll group.first_out group.shares.items next

@@ -1,4 +1,4 @@
--- The windows of a run: where they begin, and where they end.
+-- The windows of a run: their first moments and their ends.
 use Rattle.std.specs.Prelude.{ℕ, zero, suc, ◌≡◌, ◌+◌, ◌<◌, ◌≤◌, min, List, Option, Some, None}
 use Rattle.mote_net.specs.Net.{NetTold}
 use Rattle.all_workers.specs.declared.workers.Workers.{Workers}
@@ -11,7 +11,7 @@ abbrev pub start_of_window : (end : ℕ) → (next : Option ℕ) → ℕ
 start_of_window end None = end + 1
 start_of_window end (Some moment) = min moment (end + 1)
 
--- where the next window of these workers begins
+-- the first moment of the next window of these workers
 pub record BeginsAt (end : ℕ) (group : Workers) (from : ℕ) : Type 0 where
   pub next : Option ℕ
   pub is : IsNextOfAll group.first_out group.shares.items next

@@ -35,8 +35,8 @@ pub record IsFirstOf (copies : List RadioCopy) (first : Option ℕ) : Type 0 whe
   pub none_before : Each (IsNotBefore first) copies
   pub greatest : (moment : ℕ) → Each (λ (copy : RadioCopy). moment ≤ copy.at) copies → NoneBefore moment first
 
--- At whatever moment, not after the window's end, the share was: if the window is no longer than the lookahead and
--- each copy that arrived is expected, the new share is what the window makes of it, on all that the worker has then
+-- If the share was at a moment that isn't after the window's end: if the window is no longer than the lookahead and
+-- each copy that arrived is expected, the new share is the result of the window, on everything that the worker has then
 -- taken, and these are the outgoing copies.
 abbrev pub RunsItsMotes : NetTold → (of : List ℕ) → (until : ℕ) → (arrived outgoing : List RadioCopy)
     → (old new : Worker) → Type 0

@@ -22,8 +22,8 @@ use std::sync::Wait;
 use std::thread::Threads;
 use worker_window::Gate;
 
-/// Where the next window begins: at the moment of the first pending event, or after the end, if nothing is pending up
-/// to the end.
+/// The first moment of the next window: that of the first pending event, or after the end, if nothing is pending up to
+/// the end.
 fn window_start(group: &Workers, end: u64) -> u64
     requires { end ≤ latest_end }
     ensures value { BeginsAt end group.now result }

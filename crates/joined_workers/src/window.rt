@@ -26,7 +26,8 @@ use std::sync::Wait;
 use std::thread::Threads;
 use worker_window::Gate;
 
-/// After a window: each worker's taker, which has gathered what was delivered to it. The only error is out of memory.
+/// The end of a window: each worker's taker, which has gathered the copies delivered to it. The only error is out of
+/// memory.
 fn gather_endpoints<R: Wait>(
     rt: &R,
     alloc: Global,
@@ -112,9 +113,9 @@ where
     })
 }
 
-/// One window: each worker takes in what was sent to it, runs its motes up to `until`, and delivers what they sent,
-/// all in threads of their own; then all senders are gathered. A wrapper of `run_threads`, whose proof turns what the
-/// workers did into a step of the run, by the law of windows.
+/// One window: each worker takes in the copies that were sent to it, runs its motes up to `until`, and delivers the
+/// copies that they sent, all in threads of their own; then all senders are gathered. A wrapper of `run_threads`, whose
+/// proof turns the workers' actions into a step of the run, by the law of windows.
 ///
 /// # Errors
 /// That of the first worker that has one; `Thread` if a thread couldn't be started, or the gate refused it; and

@@ -18,7 +18,7 @@ use std::sync::Wait;
 use std::sync::ledger::Ledger;
 use worker_window::Gate;
 
-/// What all workers of a window have in common.
+/// The common data of all workers of a window.
 #[derive(Clone, Copy)]
 pub struct WorkersWindow<'a> {
     pub net: &'a Net,
@@ -30,7 +30,7 @@ pub struct WorkersWindow<'a> {
     pub until: u64,
 }
 
-/// What each thread needs besides its worker: the runtime, the gate into its turns, and the window.
+/// The data of each thread besides its worker: the runtime, the gate into its turns, and the window.
 pub struct Runner<'a, R, G> {
     pub rt: &'a R,
     pub gate: &'a G,
@@ -74,8 +74,8 @@ fn first_of(copies: &[RadioCopy]) -> Option<u64>
     first
 }
 
-/// Runs a worker through the window: it takes in what other workers sent in earlier windows, while they may already
-/// send more; runs its motes; and delivers the outgoing copies.
+/// Runs a worker through the window: it takes in the copies that other workers sent in earlier windows, while they may
+/// already send more; runs its motes; and delivers the outgoing copies.
 fn run_worker<R: Wait + RandomSource + AllocGlobal, G: Gate>(
     rt: &R,
     gate: &G,

@@ -1,4 +1,4 @@
--- What all threads did ends at the end of the protocol.
+-- The actions of all threads end at the end of the protocol.
 use Rattle.std.proofs.Common.{◌≡◌, ℕ, suc, ◌<◌, List, length, refl, sym, ap, ◌∙◌, subst, arith}
 use Rattle.mote_net.specs.Net.{NetTold}
 use Rattle.copy_inbox.specs.Items.{part}

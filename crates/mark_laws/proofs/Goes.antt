@@ -54,7 +54,7 @@ module _ (p : Plan) (w : State) (s : Stand p w) where
     | inr over ↦ inl (λ lt. absurd (omega arith))
   ]
 
-  -- each worker that is in a window may push, may go on, or waits
+  -- each worker that is in a window may push, may continue, or waits
   module _ (v : ℕ) (lv : v < p.workers) (runs : w.finished v < p.windows) where
     record Missing (u : ℕ) : Type 0 where
       pair : IsPair p u v
@@ -81,7 +81,7 @@ module _ (p : Plan) (w : State) (s : Stand p w) where
     pub phase : Next v ⊎ (MayGoOn p w v ⊎ Waits p w v)
     phase = elim (worker_pushes v lv) [ inl out ↦ inr (goes_or_waits (out runs)) | inr next ↦ inl next ]
 
-  -- if all workers in a window have pushed all of it, one that no other lags behind takes something or goes on
+  -- if all workers in a window have pushed all of it, one that no other lags behind takes something or continues
   module _ (out : (v : ℕ) → v < p.workers → IsAllOut v) (v : ℕ) (lv : v < p.workers) (runs : w.finished v < p.windows) (least : (u : ℕ) → u < p.workers → w.finished v ≤ w.finished u) where
     marks_wait : (u : ℕ) → IsPair p u v → w.finished v < marks_in (w.pushed u v)
     marks_wait u pair =

@@ -28,8 +28,8 @@ module _ (p : Plan) (senders : Senders p) where
     pub pair : IsPair p from u
     pub at : x.sender ≡ senders.number from u
 
-  -- what was taken of each other worker, with its items in the queue after that, is what it pushed, in order; and the
-  -- queue holds nothing else
+  -- the items taken of each other worker, with its items in the queue after that, are those that it pushed, in order;
+  -- and the queue holds nothing else
   pub record InOrder (q : Queued) : Type 0 where
     pub stand : Stand p q.state
     pub parts : (v u : ℕ) → IsPair p v u → q.state.pushed v u ≡ q.state.taken v u ++ part (senders.number v u) (q.queue u)

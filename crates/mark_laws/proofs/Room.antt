@@ -31,7 +31,7 @@ shorter_in (x ∷ a) (y ∷ b) r s e le =
 shorter : (xs a b : List Carried) → BeginsWith xs a → BeginsWith xs b → length a ≤ length b → BeginsWith b a
 shorter xs a b h g le = shorter_in a b h.0 g.0 (sym h.1 ∙ g.1) le
 
--- a prefix with k marks is at least as long as what k windows push
+-- a prefix with k marks is at least as long as the items that k windows push
 long_by_marks : (m k : ℕ) (sent : ℕ → List RadioCopy) (taken : List Carried) → BeginsWith (pushes m sent) taken → k ≤ m → k ≤ marks_in taken → length (pushes k sent) ≤ length taken
 long_by_marks m k sent taken h le marks = elim (cases_lt (length taken) (length (pushes k sent))) [
   | inl lt ↦ (

@@ -1,4 +1,4 @@
--- Each step preserves where all workers stand.
+-- Each step preserves the positions of all workers.
 use Rattle.std.proofs.Common.{◌≡◌, ℕ, suc, ◌<◌, ◌≤◌, min, List, [], ◌∷◌, ◌++◌, refl, sym, ap, ◌∙◌, subst, inl, inr, arith}
 use Rattle.std.proofs.lemmas.Bool.{cases_eq}
 use Rattle.copy_inbox.specs.declared.items.Carried.{Carried}
@@ -69,7 +69,7 @@ module _ (p : Plan) where
     abbrev finished : ℕ → ℕ
     finished = set_at w.finished v (suc k)
 
-    -- what it has pushed is all of one more window
+    -- it has pushed all of one more window
     line_finished : (u : ℕ) → IsPair p v u → IsLine p.windows (suc k) (w.finished u) (p.sent v u) (w.pushed v u) (w.taken v u)
     line_finished u pair =
         let line = s.lines v u pair in
@@ -84,7 +84,7 @@ module _ (p : Plan) where
           heard = line.heard;
         }
 
-    -- what it has taken has one more mark
+    -- the items that it has taken have one more mark
     line_begun : (u : ℕ) → IsPair p u v → IsLine p.windows (w.finished u) (suc k) (p.sent u v) (w.pushed u v) (w.taken u v)
     line_begun u pair =
         let line = s.lines u v pair in

@@ -29,7 +29,7 @@ abbrev pub SomeoneGoesOn : Type 0
 SomeoneGoesOn = (p : Plan) (w : State) → IsReached p w → (v : ℕ) → v < p.workers → w.finished v < p.windows
     → (e : Event) × MayHappen p w e
 
--- a run that can't go on is at the end, and at the end no step is left
+-- a run that can't continue is at the end, and at the end no step is left
 abbrev pub StuckIsAtEnd : Type 0
 StuckIsAtEnd = (p : Plan) (w : State) → IsReached p w → IsStuck p w → IsAtEnd p w
 
@@ -40,17 +40,17 @@ EndIsStuck = (p : Plan) (w : State) → IsAtEnd p w → IsStuck p w
 abbrev pub RunsAreBounded : Type 0
 RunsAreBounded = (p : Plan) (events : List Event) (w : State) → Run p start events w → length events ≤ steps_of p
 
--- every run that can't go on has exactly this many steps
+-- every run that can't continue has exactly this many steps
 abbrev pub FullRunsAreOfOneLength : Type 0
 FullRunsAreOfOneLength = (p : Plan) (events : List Event) (w : State) → Run p start events w → IsStuck p w
     → length events ≡ steps_of p
 
--- every run can go on to the end
+-- every run can continue to the end
 abbrev pub EveryRunCanEnd : Type 0
 EveryRunCanEnd = (p : Plan) (w : State) → IsReached p w
     → (more : List Event) × (end : State) × Run p w more end × IsAtEnd p end
 
--- what one worker may do next, it may still do after a step of another
+-- a step that one worker may take, it may still take after a step of another
 abbrev pub NobodyIsHeldUp : Type 0
 NobodyIsHeldUp = (p : Plan) (w : State) (e f : Event) → MayHappen p w e → MayHappen p w f
     → worker_of e ≢ worker_of f → MayHappen p (after w f) e
@@ -60,8 +60,8 @@ abbrev pub IsOfWindow : (sent : ℕ → List RadioCopy) → (window : ℕ) → C
 IsOfWindow sent k (Packet copy) = Contains (sent k) copy
 IsOfWindow sent k (Mark n) = n ≡ k
 
--- What a worker may take is of the window that the worker is in, or of the next one, which the other has then begun:
--- of the window whose number is how many marks of the other it took before.
+-- An item that a worker may take is of the window that the worker is in, or of the next one, which the other has then
+-- begun: its window's number is the number of marks of the other that the worker took before.
 pub record ComesFrom (p : Plan) (w : State) (worker of window : ℕ) (x : Carried) : Type 0 where
   pub not_before : w.finished worker ≤ window
   pub not_behind : window ≤ suc (w.finished worker)
@@ -78,7 +78,7 @@ abbrev pub InBegunWindows : Plan → State → (from to : ℕ) → (ℕ → Radi
 InBegunWindows p w u v Holds = (k : ℕ) → k ≤ w.finished u → k < p.windows → Each (Holds k) (p.sent u v k)
 
 -- If windows end one after another, and in the windows that the other has begun each of its copies arrives no sooner
--- than the window's end, then what a worker takes arrives no sooner than the end of the window that it is in.
+-- than the window's end, then a copy that a worker takes arrives no sooner than the end of the window that it is in.
 abbrev pub NoCopyIsTooSoon : Type 0
 NoCopyIsTooSoon = (ends : ℕ → ℕ) → ((k : ℕ) → ends k ≤ ends (suc k)) → (p : Plan) (w : State) → IsReached p w
     → (v u : ℕ)
@@ -93,7 +93,7 @@ EachTakenPasses = (passes : ℕ → RadioCopy → Bool)
     → InBegunWindows p w u v (λ k c. passes k c ≡ true)
     → (copy : RadioCopy) → MayTake p w v u (Packet copy) → passes (w.finished v) copy ≡ true
 
--- what one worker has pushed to another that the other hasn't taken is no more than what two windows have
+-- the items that one worker has pushed to another and the other hasn't taken are no more than those of two windows
 abbrev pub TwoWindowsLieThere : Type 0
 TwoWindowsLieThere = (p : Plan) (w : State) → IsReached p w → (v u : ℕ) → IsPair p v u
     → length (w.pushed v u) ≤ length (w.taken v u)
@@ -120,7 +120,7 @@ NobodyQueuedIsHeldUp = (p : Plan) (senders : Senders p) (q : Queued) (e f : Even
     → MayHappenQueued p senders q f → worker_of e ≢ worker_of f
     → MayHappenQueued p senders (after_queued senders q f) e
 
--- a run that can't go on has made all its steps and is at the end, with every queue empty
+-- a run that can't continue has made all its steps and is at the end, with every queue empty
 abbrev pub QueuedStuckIsAtEnd : Type 0
 QueuedStuckIsAtEnd = (p : Plan) (senders : Senders p) (events : List Event) (q : Queued)
     → RunQueued p senders start_queued events q → IsStuckQueued p senders q

@@ -12,7 +12,7 @@ pub record Senders (p : Plan) : Type 0 where
   pub number : (from to : ℕ) → ℕ
   pub apart : (v w u : ℕ) → IsPair p v u → IsPair p w u → number v u ≡ number w u → v ≡ w
 
--- what each worker has done, and the items in each queue, the oldest first
+-- the actions of each worker, and the items in each queue, the oldest first
 pub record Queued : Type 0 where
   pub state : State
   pub queue : ℕ → List Item

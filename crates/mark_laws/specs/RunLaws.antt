@@ -17,7 +17,7 @@ use Rattle.marked_workers.specs.Run.{GroupRunsMarked}
 use Rattle.marked_workers.specs.WorkerHistory.{WorkerHistory}
 use Rattle.mark_laws.specs.Plan.{plan_of, number_of, state_of, RanWindow}
 
--- by the contract of `run_marked`, the takers of a run are those of what all threads did
+-- by the contract of `run_marked`, the takers of a run are those of all threads' actions
 abbrev pub EachRunHasAll : Type 0
 EachRunHasAll = (n : NetTold) (of : List ℕ) (width : ℕ) (old new : Workers)
     → IsCut (length n.motes) (length old.inboxes.items) of → GroupRunsMarked n of width old new

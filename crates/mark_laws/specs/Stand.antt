@@ -1,4 +1,4 @@
--- Where all workers stand, in whatever order they took their steps.
+-- The positions of all workers, in whatever order they took their steps.
 use Rattle.std.specs.Prelude.{◌≡◌, ℕ, suc, ◌<◌, ◌≤◌, min, List, []}
 use Rattle.radio_packet.specs.declared.copy.RadioCopy.{RadioCopy}
 use Rattle.copy_inbox.specs.declared.items.Carried.{Carried}

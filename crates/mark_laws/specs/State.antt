@@ -3,13 +3,15 @@ use Rattle.std.specs.Prelude.{ℕ, ◌≢◌, zero, suc, ◌+◌, ◌<◌, ◌==
 use Rattle.radio_packet.specs.declared.copy.RadioCopy.{RadioCopy}
 use Rattle.copy_inbox.specs.declared.items.Carried.{Carried}
 
--- how many workers and windows there are, and what the motes of one worker send to those of another in a window
+-- the number of workers and of windows, and the copies that the motes of one worker send to those of another in a
+-- window
 pub record Plan : Type 0 where
   pub workers : ℕ
   pub windows : ℕ
   pub sent : (from to window : ℕ) → List RadioCopy
 
--- how many windows each worker has finished, what one has pushed to another so far, and what the other has taken of it
+-- the number of windows that each worker has finished, the items that one has pushed to another so far, and those that
+-- the other has taken
 pub record State : Type 0 where
   pub finished : ℕ → ℕ
   pub pushed : (from to : ℕ) → List Carried

@@ -1,4 +1,4 @@
--- What may happen next, and whole runs.
+-- The next possible steps, and whole runs.
 use Rattle.std.specs.Prelude.{◌≡◌, ℕ, suc, ◌+◌, ◌==◌, ◌<◌, ◌≤◌, List, [], ◌∷◌, ◌++◌, length, if◌then◌else◌}
 use Rattle.copy_inbox.specs.declared.items.Carried.{Carried}
 use Rattle.copy_inbox.specs.Items.{BeginsWith}
@@ -6,7 +6,7 @@ use Rattle.copy_exchange.specs.Pushes.{marks_in, pushes}
 use Rattle.mark_laws.specs.State.{Plan, State, IsPair, set_at, set_pair, sum_below}
 
 -- one step of one worker, which is named first: it pushes an item to another, it takes an item of another, or it is
--- done with its window and goes on to the next, or ends after the last
+-- done with its window and continues with the next, or ends after the last
 pub data Event : Type 0 where
   Push : (worker to : ℕ) → Carried → Event
   Take : (worker of : ℕ) → Carried → Event
@@ -21,7 +21,7 @@ worker_of (GoOn v) = v
 abbrev pub HasPushed : Plan → State → ℕ → Type 0
 HasPushed p w v = (u : ℕ) → IsPair p v u → w.pushed v u ≡ pushes (suc (w.finished v)) (p.sent v u)
 
--- a worker that is in a window pushes the next item of what the windows up to this one have for the other
+-- a worker that is in a window pushes the next item of those that the windows up to this one have for the other
 pub record MayPush (p : Plan) (w : State) (worker to : ℕ) (x : Carried) : Type 0 where
   pub pair : IsPair p worker to
   pub runs : w.finished worker < p.windows
@@ -39,7 +39,7 @@ pub record MayTake (p : Plan) (w : State) (worker of : ℕ) (x : Carried) : Type
   pub waits : Waits p w worker
   pub next : BeginsWith (w.pushed of worker) (w.taken of worker ++ x ∷ [])
 
--- a worker that has pushed all, and has the marks of its window from all others, goes on
+-- a worker that has pushed all, and has the marks of its window from all others, continues
 pub record MayGoOn (p : Plan) (w : State) (worker : ℕ) : Type 0 where
   pub there : worker < p.workers
   pub runs : w.finished worker < p.windows
@@ -62,7 +62,7 @@ abbrev pub Run : Plan → State → List Event → State → Type 0
 Run p old [] new = new ≡ old
 Run p old (e ∷ events) new = MayHappen p old e × Run p (after old e) events new
 
--- nobody can go on
+-- no worker can continue
 abbrev pub IsStuck : Plan → State → Type 0
 IsStuck p w = (e : Event) → MayHappen p w e → ⊥
 

@@ -20,37 +20,37 @@ pub fn one_window_ahead()
     ensures { OneWindowAhead }
 {}
 
-/// While any worker has a window left, some worker can push, take or go on.
+/// While any worker has a window left, some worker can push, take or continue.
 pub fn someone_goes_on()
     ensures { SomeoneGoesOn }
 {}
 
-/// A run that can't go on is at the end, with all pushed and all taken; and at the end no step is left.
+/// A run that can't continue is at the end, with all pushed and all taken; and at the end no step is left.
 pub fn stuck_is_at_end()
     ensures stuck { StuckIsAtEnd }
     ensures end { EndIsStuck }
 {}
 
-/// No run has more steps than one for each window of each worker and two for each item, and each run that can't go on
-/// has exactly this many.
+/// No run has more steps than one for each window of each worker and two for each item, and each run that can't
+/// continue has exactly this many.
 pub fn runs_are_bounded()
     ensures bounded { RunsAreBounded }
     ensures full { FullRunsAreOfOneLength }
 {}
 
-/// Each run can go on to the end.
+/// Each run can continue to the end.
 pub fn every_run_can_end()
     ensures { EveryRunCanEnd }
 {}
 
-/// What one worker can do next, it can still do after a step of another.
+/// A step that one worker can take, it can still take after a step of another.
 pub fn nobody_is_held_up()
     ensures pairs { NobodyIsHeldUp }
     ensures queued { NobodyQueuedIsHeldUp }
 {}
 
-/// What a worker takes was sent in the window that the worker is in, or in the next one; and a mark has the number of
-/// its window.
+/// A copy that a worker takes was sent in the window that the worker is in, or in the next one; and a mark has the
+/// number of its window.
 pub fn taken_is_of_window()
     ensures { TakenIsOfWindow }
 {}
@@ -66,16 +66,16 @@ pub fn each_taken_passes()
     ensures { EachTakenPasses }
 {}
 
-/// What one worker has pushed to another that the other hasn't taken is no more than what two windows have.
+/// The items that one worker has pushed to another and the other hasn't taken are no more than those of two windows.
 pub fn two_windows_lie_there()
     ensures { TwoWindowsLieThere }
 {}
 
-/// The same if each worker has one queue for the items of all others, of which it takes the oldest: the senders on
-/// each queue can be numbered apart; each run is one of the runs of the laws above; somebody can go on while a window
-/// is left; a run that can't go on has made all its steps, and every queue is empty; every run can go on to the end;
-/// and a run that can't go on is at the end even if workers keep to an order of their own among the steps that they
-/// may take, such as all copies of a window before its marks.
+/// The same if each worker has one queue for the items of all others, of which it takes the oldest: the senders on each
+/// queue can be numbered apart; each run is one of the runs of the laws above; some worker can continue while a window
+/// is left; a run that can't continue has made all its steps, and every queue is empty; every run can continue to the
+/// end; and a run that can't continue is at the end even if workers keep to an order of their own among the steps that
+/// they may take, such as all copies of a window before its marks.
 pub fn queues_do_not_stick()
     ensures senders { SendersAreThere }
     ensures runs { QueuedRunsAreRuns }

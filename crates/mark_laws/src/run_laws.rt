@@ -1,17 +1,18 @@
-//! Laws of the threads: what they promise is a run of the protocol. Each is a theorem, stated as the contract of an
-//! empty function.
+//! Laws of the threads: their promises are a run of the protocol. Each is a theorem, stated as the contract of an empty
+//! function.
 
 ghost use Rattle.mark_laws.specs.RunLaws.{EachRunHasAll, RunsEndAtEnd, MarksLeadOn, SendersAreApart};
 ghost use Rattle.mark_laws.specs.RunLaws.{NoCopyIsUnexpected};
 
-/// If `run_marked` returns Ok, all threads together did what [`ends_at_the_end`] compares with the protocol.
+/// If `run_marked` returns Ok, the actions of all threads together are those that [`ends_at_the_end`] compares with the
+/// protocol.
 pub fn each_run_has_all()
     ensures { EachRunHasAll }
 {}
 
-/// The plan of the protocol is what the workers sent one another, window by window. Then what they have pushed and
-/// taken at the end of their threads is the end of the protocol, at which nothing is left to do; and each went on from
-/// a window to the next as the protocol lets it, with the marks of all others.
+/// The plan of the protocol consists of the copies that the workers sent one another, window by window. Then the items
+/// that they have pushed and taken at the end of their threads are those at the end of the protocol, at which nothing
+/// is left to do; and each continued from a window to the next as the protocol allows, with the marks of all others.
 pub fn ends_at_the_end()
     ensures end { RunsEndAtEnd }
     ensures marks { MarksLeadOn }

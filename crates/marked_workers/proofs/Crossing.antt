@@ -1,4 +1,4 @@
--- A run, and what else each worker's thread needs, may be shared by threads.
+-- A run, and the rest of the data of each worker's thread, may be shared by threads.
 use denote.Param.Send.{IsSync, sendable}
 use denote.Param.SendFields.{declared_sync}
 use denote.Ref.{NamedLft}

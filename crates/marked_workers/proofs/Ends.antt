@@ -1,4 +1,4 @@
--- What all threads promised, put together: all workers stand at the end.
+-- The promises of all threads, put together: all workers are at the end.
 use Rattle.std.proofs.Common.{◌≡◌, ◌≢◌, ℕ, suc, ◌<◌, ◌≤◌, false, List, [], length, get_or, refl, sym, ap, ◌∙◌, subst, inl, inr, arith, append-nil, Option, Some, None}
 use Rattle.std.specs.List.{slice_get, AllByRecursion as Each}
 use Rattle.std.proofs.lemmas.Bool.{cases_Bool, false≢true}
@@ -42,7 +42,7 @@ module _ (n : NetTold) (of : List ℕ) (width windows : ℕ) (group : Workers) (
   abbrev workers : ℕ
   workers = length group.inboxes.items
 
-  -- of one worker: its taker's state before it gathered, the senders that it gathered, and what it saw
+  -- of one worker: its taker's state before it gathered, the senders that it gathered, and the copies that it saw
   record Part : Type 0 where
     state : TakerState
     senders : List SenderView
@@ -119,7 +119,7 @@ module _ (n : NetTold) (of : List ℕ) (width windows : ℕ) (group : Workers) (
       let p = parts.1 v low in
       subst (GatheredSenders (all.made v) (all.taken v) (all.senders v)) (same_found (slice_get group.takers.items v) p.taker t p.taker_at is) p.gathers
 
-  -- what all workers did
+  -- the actions of all workers
   pub all_ran : (a : AllRan n of width windows (length group.inboxes.items)) × IsOfTakers a group.takers.items
   all_ran = (all, is_of_takers)
 
@@ -143,7 +143,7 @@ module _ (n : NetTold) (of : List ℕ) (width windows : ℕ) (group : Workers) (
       all_had : (s : ℕ) → from s (copies_of (z.history.taken windows)) ≡ from s (copies_of z.state.taken)
       all_had s = ap (λ l. from s (copies_of l)) p.ran.all
 
-      -- what was taken of the motes of others is all that was sent to this worker
+      -- the copies taken of the motes of others are all that were sent to this worker
       had_all : (s : ℕ) → is_own of v s ≡ false → (o : Option ℕ) → slice_get of s ≡ o → from s (copies_of z.state.taken) ≡ from s (sent_so_far n of width windows workers all h.cut are v windows)
       had_all s other None e =
           sym (all_had s)

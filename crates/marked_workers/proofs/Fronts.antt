@@ -1,4 +1,4 @@
--- What a worker had taken before a window is a prefix of all that it took.
+-- The items that a worker had taken before a window are a prefix of all that it took.
 use Rattle.std.proofs.Common.{◌≡◌, ℕ, zero, suc, ◌+◌, ◌-◌, ◌≤◌, List, [], ◌++◌, sym, ap, ◌∙◌, arith, append_assoc, append-nil}
 use Rattle.mote_net.specs.Net.{NetTold}
 use Rattle.copy_inbox.specs.declared.items.Carried.{Carried}

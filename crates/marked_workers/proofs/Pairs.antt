@@ -1,4 +1,5 @@
--- Who pushed what into whose inbox, and where the copies of a mote are among what a worker had taken before a window.
+-- Who pushed which items into whose inbox, and the copies of a mote among those that a worker had taken before a
+-- window.
 use Rattle.std.proofs.Common.{◌≡◌, ◌≢◌, ◌⊎◌, ℕ, ◌<◌, ◌≤◌, false, eqb, List, [], ◌++◌, length, map, get_or, sym, ap, ◌∙◌, subst, inl, inr, arith, append_assoc, Some}
 use Rattle.std.specs.List.{filter, slice_get, range_with_len, AllByRecursion as Each}
 use Rattle.std.specs.Option.{option_map_or}
@@ -39,7 +40,7 @@ foreign_none n of v s other outgoing goes =
     (every_weaker (IsOutgoing n of v) (λ (c : RadioCopy). is_from_sender s c ≡ false) (λ c g. ne_eqb c.sender s (λ e. false≢true (sym other ∙ (ap (is_own of v) (sym e) ∙ g.sender)))) outgoing goes)
 
 module _ (n : NetTold) (of : List ℕ) (width windows workers : ℕ) (all : AllRan n of width windows workers) where
-  -- what worker v sent to the motes of worker u, in each window
+  -- the copies that worker v sent to the motes of worker u, in each window
   abbrev pub sent_to : (v u : ℕ) → ℕ → List RadioCopy
   sent_to v u k = filter (is_to of u) ((all.histories v).outgoing k)
 
@@ -71,7 +72,7 @@ module _ (n : NetTold) (of : List ℕ) (width windows workers : ℕ) (all : AllR
       }
 
   module _ (u : ℕ) (lu : u < workers) (k : ℕ) (le : k ≤ windows) where
-    -- what had been taken of it before the window is a prefix of what was pushed
+    -- the items taken of it before the window are a prefix of those pushed
     pub front : (v : ℕ) (lv : v < workers) (ne : v ≢ u) → BeginsWith (pushes windows (sent_to v u)) (part (pair u v lu lv ne).number ((all.histories u).taken k))
     front v lv ne =
         let p = pair u v lu lv ne in

@@ -114,7 +114,7 @@ module _ (n : NetTold) (of : List ℕ) (width : ℕ) (old new : Workers) (cut : 
   takers_long : length new.takers.items ≡ length ids
   takers_long = ran.back.count ∙ (length-map ran.done (λ (x : Worker). x.endpoint) ∙ done_long)
 
-  -- what is at a worker's place
+  -- the element at a worker's place
   pub record Stands (v : ℕ) : Type 0 where
     pub w : Worker
     pub at_first : slice_get ran.first v ≡ Some w
@@ -157,7 +157,7 @@ module _ (n : NetTold) (of : List ℕ) (width : ℕ) (old new : Workers) (cut : 
     each_worker = each_ends;
   }
 
--- all workers stand at the end, if no window was longer than the lookahead
+-- all workers are at the end, if no window was longer than the lookahead
 pub ended : (n : NetTold) → RunsForward (system_of n) → (of : List ℕ) (width : ℕ) → 0 < width → width ≤ (system_of n).lookahead
     → (old new : Workers) → IsCut (length n.motes) (length old.inboxes.items) of → GroupRunsMarked n of width old new → IsAt n of (suc n.end) new × Each (λ (t : TakerView). Whole t.state.gathered t.state.taken) new.takers.items
 ended n fine of width wide short old new cut ran =

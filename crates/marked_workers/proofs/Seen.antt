@@ -1,4 +1,5 @@
--- What a window sees of what had been taken: the copies that were sent before it, and none that came early.
+-- The copies that a window sees of those that had been taken: the ones that were sent before it, and none that came
+-- early.
 use Rattle.std.proofs.Common.{◌≡◌, ◌≢◌, ℕ, suc, ◌+◌, ◌-◌, ◌<◌, ◌≤◌, Bool, true, false, ◌&&◌, ltb, eqb, List, [], length, refl, sym, ap, ◌∙◌, subst, arith, Option, Some, None}
 use Rattle.std.specs.List.{filter, slice_get, AllByRecursion as Each}
 use Rattle.std.specs.Option.{option_map_or}
@@ -49,7 +50,7 @@ module _ (n : NetTold) (of : List ℕ) (width windows workers : ℕ) (all : AllR
       none_before s (λ w. sent_before k (sent_to n of width windows workers all w u)) workers (λ w lw.
       none_before s (sent_to n of width windows workers all w u) k (λ j low. none_sent n of width windows workers all w u s j lw (omega arith) (nobodys of w s e)))
 
-  -- what window k sees for a mote
+  -- the copies that window k sees for a mote
   abbrev pub sees : (k mote : ℕ) → RadioCopy → Bool
   sees k mote = is_within mote (bound width n.end k) (bound width n.end (suc k))
 

@@ -172,7 +172,7 @@ module _ (workers worker : ℕ) (sender : ℕ → Option SenderView) (d : TakerS
     numbers = gathered_first.numbers;
   }
 
-  -- of each mote, what was gathered is what was taken
+  -- of each mote, the copies gathered are those taken
   pub same_of_each : (s : ℕ) → from s (copies_of d.taken) ≡ from s (copies_gathered then.gathered)
   same_of_each s =
       ap (λ l. from s (copies_of l)) (sym (append-nil d.taken))

@@ -86,7 +86,7 @@ module _ (n : NetTold) (fine : RunsForward (system_of n)) (of : List ℕ) (width
     own_out : (v : ℕ) → v < workers → (s : ℕ) → outgoing_by n (is_own of v) ((all.histories v).motes (suc k)) s ≡ outgoing_by n (is_own of v) (stage k) s ++ from s ((all.histories v).outgoing k)
     own_out v lv s = ((all.ran v lv).runs k low).out s ∙ ap (λ l. l ++ from s ((all.histories v).outgoing k)) (same_out v lv s)
 
-    -- what was sent, with one more window
+    -- the copies sent, with one more window
     sent_more : (v s : ℕ) (o : Option ℕ) → slice_get of s ≡ o
         → from s (so_far v (suc k)) ≡ from s (so_far v k) ++ option_map_or (λ u. from s (filter (is_to of v) ((all.histories u).outgoing k))) o []
     sent_more v s None e =

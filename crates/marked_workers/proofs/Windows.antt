@@ -1,4 +1,4 @@
--- A worker's windows, one after another: what each makes of what its thread promises.
+-- A worker's windows, one after another: the effect of each, by the promise of its thread.
 use Rattle.std.proofs.Common.{◌≡◌, ◌≢◌, ◌==◌, ℕ, suc, ◌<◌, ◌≤◌, List, [], ◌∷◌, ◌++◌, length, get_or, map, refl, sym, ap, ◌∙◌, subst, arith, None}
 use Rattle.std.specs.List.{filter, AllByRecursion as Each}
 use Rattle.std.proofs.lemmas.Bool.{ne_eqb}

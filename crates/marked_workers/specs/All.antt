@@ -1,4 +1,4 @@
--- What all workers did in a run with marks, worker by worker.
+-- The actions of all workers in a run with marks, worker by worker.
 use Rattle.std.specs.Prelude.{◌≡◌, ℕ, ◌<◌, List, [], slice_get, Option, Some}
 use Rattle.std.specs.List.{AllByRecursion as Each}
 use Rattle.mote_net.specs.Net.{NetTold}
@@ -10,8 +10,8 @@ use Rattle.copy_exchange.specs.Steps.{gather_senders}
 use Rattle.marked_workers.specs.Senders.{AreSenders}
 use Rattle.marked_workers.specs.WorkerHistory.{WorkerHistory, WorkerRunsWindows}
 
--- Each worker ran its windows as its history says, and has taken a prefix of what each sender on its inbox pushed.
--- `sender inbox worker` is the sender of a worker on an inbox.
+-- Each worker ran its windows as its history says, and has taken a prefix of the items that each sender on its inbox
+-- pushed. `sender inbox worker` is the sender of a worker on an inbox.
 pub record AllRan (n : NetTold) (of : List ℕ) (width windows workers : ℕ) : Type 0 where
   pub made : ℕ → ℕ
   pub taken : ℕ → List Item
@@ -32,7 +32,7 @@ pub record GatheredSenders (made : ℕ) (taken : List Item) (senders : List Send
   pub nobody : before.state.gathered ≡ []
   pub gathered : taker ≡ gather_senders before senders
 
--- These takers took and gathered what `all` says, and no more.
+-- These takers took and gathered the items of `all`, and no more.
 abbrev pub IsOfTakers : {n : NetTold} {of : List ℕ} {width windows workers : ℕ}
     → AllRan n of width windows workers → List TakerView → Type 0
 IsOfTakers {n} {of} {width} {windows} {workers} all takers = (v : ℕ) → v < workers → (taker : TakerView)

@@ -17,8 +17,9 @@ use Rattle.copy_exchange.specs.Steps.{gather_senders}
 use Rattle.marked_workers.specs.Senders.{AreSenders}
 use Rattle.marked_workers.specs.WorkerHistory.{WorkerRunsMarked}
 
--- One worker when all threads are joined: it ran all windows as it promised, had taken a prefix of what each sender on
--- its inbox pushed, and then gathered these senders. `sender inbox worker` is the sender of a worker on an inbox.
+-- One worker when all threads are joined: it ran all windows as it promised, had taken a prefix of the items that each
+-- sender on its inbox pushed, and then gathered these senders. `sender inbox worker` is the sender of a worker on an
+-- inbox.
 pub record EndsMarked (n : NetTold) (of : List ℕ) (width windows workers : ℕ)
     (sender : (inbox worker : ℕ) → Option SenderView) (worker : ℕ) (share : Share) (taker : TakerView) : Type 0 where
   pub before : TakerView
@@ -42,8 +43,8 @@ pub record EndAllMarked (n : NetTold) (of : List ℕ) (width windows : ℕ) (gro
       → EndsMarked n of width windows (length group.inboxes.items) sender worker
       (slice_index_or group.shares.items worker share) (slice_index_or group.takers.items worker taker)
 
--- However the threads were scheduled, all workers stand at the end, as if all copies had been exchanged between the
--- windows, and each has taken all that was pushed to it, every mark too.
+-- However the threads were scheduled, all workers are at the end, as if all copies had been exchanged between the
+-- windows, and each has taken all items that were pushed to it, with every mark.
 abbrev pub MarkedWindowsLeadToTheEnd : Type 0
 MarkedWindowsLeadToTheEnd = (n : NetTold) → RunsForward (system_of n) → (of : List ℕ) (width windows : ℕ)
     → width ≤ (system_of n).lookahead → AreWindows width n.end windows

@@ -1,4 +1,4 @@
--- What a worker's thread makes of its worker: in each window, and in all of them.
+-- The effect of a worker's thread on its worker: in each window, and in all of them.
 use Rattle.std.specs.Prelude.{ℕ, ◌≡◌, suc, ◌+◌, ◌≤◌, List, [], length}
 use Rattle.std.specs.List.{AllByRecursion as Each}
 use Rattle.radio_packet.specs.declared.copy.RadioCopy.{RadioCopy}

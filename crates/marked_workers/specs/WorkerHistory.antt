@@ -1,4 +1,4 @@
--- What one worker's thread promises of its own values, for all windows.
+-- The promises of one worker's thread about its own values, for all windows.
 use Rattle.std.specs.Prelude.{ℕ, ◌≡◌, ◌≢◌, suc, ◌<◌, ◌≤◌, true, List, [], ◌++◌}
 use Rattle.std.specs.List.{filter, AllByRecursion as Each}
 use Rattle.radio_packet.specs.declared.copy.RadioCopy.{RadioCopy}
@@ -16,8 +16,8 @@ use Rattle.worker_window.specs.Share.{Motes, Keeps}
 use Rattle.worker_window.specs.Window.{RunsOwnMote, IsOutgoing, outgoing_by}
 use Rattle.marked_workers.specs.Bounds.{bound}
 
--- What a worker had before each window, that is, its motes and all items that it had taken by then; and the outgoing
--- copies of the window.
+-- A worker before each window, that is, its motes and all items that it had taken by then; and the outgoing copies of
+-- the window.
 pub record WorkerHistory : Type 0 where
   pub motes : ℕ → Motes
   pub taken : ℕ → List Item
@@ -32,9 +32,9 @@ pub record RunsMotes (n : NetTold) (of : List ℕ) (worker from until : ℕ) (mo
   pub goes : Each (IsOutgoing n of worker) outgoing
   pub late : Each (λ (copy : RadioCopy). until ≤ copy.at) outgoing
 
--- The first windows of one worker, this many. Before each window it had taken, of each sender that was
--- made on its inbox, the marks of all windows before. What it pushed to another worker is, window by window, the
--- copies for that worker's motes and then the mark.
+-- The first windows of one worker, this many. Before each window it had taken, of each sender that was made on its
+-- inbox, the marks of all windows before. The items that it pushed to another worker are, window by window, the copies
+-- for that worker's motes and then the mark.
 pub record WorkerRunsWindows (n : NetTold) (of : List ℕ) (width windows workers worker made : ℕ) (taken : List Item)
     (pushed : ℕ → List Carried) (history : WorkerHistory) : Type 0 where
   pub first : history.motes 0 ≡ first_mote (system_of n)

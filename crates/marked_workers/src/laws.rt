@@ -2,9 +2,9 @@
 
 ghost use Rattle.marked_workers.specs.AtEnd.{MarkedWindowsLeadToTheEnd};
 
-/// What each worker's thread promises of its own values, put together: if each worker ran all windows, beginning each
-/// once the marks of all windows before had come from each other worker, and if all senders were then gathered, the
-/// motes have come to the end by windows of the law of windows, each worker keeps its own, and has taken all copies
+/// The promises of the workers' threads about their own values, put together: if each worker ran all windows, beginning
+/// each once the marks of all windows before had come from each other worker, and if all senders were then gathered,
+/// the motes have come to the end by windows of the law of windows, each worker keeps its own, and has taken all copies
 /// for its own.
 pub fn marked_windows_lead_to_the_end()
     ensures { MarkedWindowsLeadToTheEnd }

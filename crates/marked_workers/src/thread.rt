@@ -25,7 +25,7 @@ use std::sync::Wait;
 use std::sync::ledger::Ledger;
 use worker_window::Gate;
 
-/// What each thread needs besides its worker: the runtime, the gate into its turns, and the run.
+/// The data of each thread besides its worker: the runtime, the gate into its turns, and the run.
 pub struct MarkRunner<'a, R, G> {
     pub rt: &'a R,
     pub gate: &'a G,
@@ -74,8 +74,8 @@ fn send_window<R: Wait + RandomSource + AllocGlobal, G: Gate>(
     Ok(())
 }
 
-/// Why a worker gave up, if it stopped taking items. A copy that isn't expected comes only if another worker has
-/// broken the protocol, which none does; it counts as an error of what ran in the thread.
+/// The reason why a worker gave up, if it stopped taking items. A copy that isn't expected comes only if another worker
+/// has broken the protocol, which none does; it counts as an error of the thread's work.
 fn gave_up(error: MarkError) -> Refused
     ensures { result ≡ refused_of_marks error }
 {

@@ -12,7 +12,7 @@ pub struct MarkWorker {
     pub endpoint: MarkEndpoint,
 }
 
-/// What all workers of a run have in common.
+/// The common data of all workers of a run.
 #[derive(Clone, Copy)]
 pub struct WorkersRun<'a> {
     pub net: &'a Net,
@@ -20,6 +20,6 @@ pub struct WorkersRun<'a> {
     pub of: &'a [u16],
     /// The inbox of each worker.
     pub inboxes: &'a [Inbox],
-    /// How long a window is.
+    /// The length of a window.
     pub width: u64,
 }

@@ -1,4 +1,4 @@
--- What is written of the report of a scenario's net, and why a text was refused.
+-- The text written for the report of a scenario's net, and the reason why a text was refused.
 use Rattle.std.proofs.Common.{◌≡◌, ℕ, List, ◌++◌, Option, Result, Ok, Err, ap, sym, ◌∙◌, subst}
 use Rattle.net_scenario.specs.Laws.{OneNet}
 use Rattle.mote_net.specs.Net.{NetTold}
@@ -52,6 +52,6 @@ same_report : OneNet → ReportIsOne → (bytes old a b : List ℕ) → Reported
 same_report one_net one_run bytes old a b x y =
     x.got ∙ ap (λ text. old ++ text) (same_text one_run x.from.net y.from.net x.report y.report (one_net bytes x.from.net y.from.net x.from.told y.from.told) x.run y.run) ∙ sym y.got
 
--- two runs on the same bytes that write a whole report write the same, whoever ran them
+-- two runs on the same bytes that write a whole report write the same, whatever made them
 pub one_report : OneNet → ReportIsOne → OneReport
 one_report one_net one_run bytes old a b v w x y = same_report one_net one_run bytes old a b x.1 y.1

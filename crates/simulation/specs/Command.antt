@@ -1,4 +1,4 @@
--- What the command does with its arguments, and the exit status that it returns.
+-- The effect of the command with its arguments, and the exit status that it returns.
 use Rattle.std.specs.Prelude.{◌≡◌, ◌≢◌, ◌⊎◌, ℕ, List, Option, None, IsSome, IfSome, IfErr, Result, Ok, Err}
 use Rattle.std.specs.Io.KnownBytes.{Keeps}
 use Rattle.clap.specs.declared.error.kind.ErrorKind.{ErrorKind}
@@ -13,7 +13,7 @@ abbrev pub status_of : Result (Unit {0}) SimError → ℕ
 status_of (Ok u) = 0
 status_of (Err e) = 1
 
--- the contents of the command's streams, where they are known
+-- the contents of the command's streams, if they are known
 pub record Streams : Type 0 where
   pub input : Option (List ℕ)
   pub output : Option (List ℕ)
@@ -36,7 +36,7 @@ pub record Simulates (asked : Asked) (old new : Streams) (status : ℕ) : Type 0
   pub status_is : status ≡ status_of answer
   pub quiet : answer ≡ Ok tt → Keeps old.errors new.errors
 
--- the exit status where the words are refused, or ask for help
+-- the exit status if the arguments are refused, or ask for help
 abbrev pub status_of_words : ErrorKind → ℕ
 status_of_words kind.OutOfMemory = 1
 status_of_words kind.DisplayHelp = 0
@@ -50,8 +50,8 @@ pub record RefusesWords (k : ErrorKind) (old new : Streams) (status : ℕ) : Typ
   pub fault : status ≢ 0 → Keeps old.output new.output
   pub help : status ≡ 0 → Keeps old.errors new.errors
 
--- what the command leaves on its streams with these arguments, of which the first is the program's name, and the exit
--- status that it returns
+-- the contents of the command's streams after it ran with these arguments, of which the first is the program's name,
+-- and the exit status that it returns
 abbrev pub Commands : (words : List (List ℕ)) → (old new : Streams) → (status : ℕ) → Type 0
 Commands words old new status = ((asked : Asked) × AsksFor words asked × Simulates asked old new status)
     ⊎ ((k : ErrorKind) × FaultOf words k × RefusesWords k old new status)
@@ -60,7 +60,7 @@ Commands words old new status = ((asked : Asked) × AsksFor words asked × Simul
 abbrev pub RunsSome : (old new : Streams) → (status : ℕ) → Type 0
 RunsSome old new status = (words : List (List ℕ)) × Commands words old new status
 
--- the process returns what the command returned with some arguments; or it couldn't get them, and then nothing is read
+-- the process returns the status of the command with some arguments; or it couldn't get them, and then nothing is read
 -- or reported
 abbrev pub ReturnsSome : (old new : Streams) → (status : ℕ) → Type 0
 ReturnsSome old new status =

@@ -1,4 +1,4 @@
--- What reading the whole of an input answers.
+-- The result of reading the whole of an input.
 use Rattle.std.specs.Prelude.{◌≡◌, ℕ, ◌<◌, ◌≤◌, List, length, Result, Ok, Err, Vec, String, string_bytes}
 use Rattle.std.specs.Str.{IsUtf8}
 use Rattle.std.specs.declared.alloc.Global.{Global}

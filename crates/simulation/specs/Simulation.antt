@@ -1,4 +1,4 @@
--- What a simulation of some bytes answers.
+-- The result of a simulation of some bytes.
 use Rattle.std.specs.Prelude.{◌≡◌, ◌≤◌, ℕ, List, Option, Some, None, IsSome, Result, Ok, Err}
 use Rattle.std.specs.Io.KnownBytes.{Keeps, Appends}
 use Rattle.mote_net.specs.Net.{NetTold}
@@ -92,7 +92,7 @@ SimulatedWith way bytes old new (Err (fault.Run e)) = IsScenario bytes × Refuse
 SimulatedWith way bytes old new (Err (fault.Print e)) = MayRun way × Reported bytes (AppendsFront old new)
 SimulatedWith way bytes old new (Err fault.Memory) = Unit {0}
 
--- what an answer says of some bytes, whichever the reader gave; one about reading, or out of memory, says nothing
+-- the meaning of a result for some bytes, whichever the reader gave; one about reading, or out of memory, has none
 abbrev pub SimulatedSome : Way → (old new : Option (List ℕ)) → Result (Unit {0}) SimError → Type 0
 SimulatedSome way old new (Ok u) = (bytes : List ℕ) × SimulatedWith way bytes old new (Ok u)
 SimulatedSome way old new (Err (fault.Scenario e)) =

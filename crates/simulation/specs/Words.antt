@@ -1,4 +1,4 @@
--- What the words of the command line ask for, by the matches and the faults that `clap` gives them.
+-- The request of the command line's arguments, by the matches and the errors that `clap` gives them.
 use Rattle.std.specs.Prelude.{◌≡◌, ◌⊎◌, ℕ, pos, List, [], ◌∷◌, Option, Some, None}
 use Rattle.std.specs.Prelude.{codes, map, option_map, if◌then◌else◌}
 use Rattle.std.specs.Str.{bytes_eq}
@@ -70,7 +70,7 @@ abbrev pub ReadsWorkers : Option Text → Option ℕ → Type 0
 ReadsWorkers None workers = workers ≡ None
 ReadsWorkers (Some text) workers = ReadsCount text workers
 
--- what is asked for where these values were found
+-- the request if these values were found
 pub record AskedIn (rows : List Row) (asked : Asked) : Type 0 where
   pub file : option_map (λ s. s.now) asked.file ≡ first_of (codes "FILE") rows
   pub workers : ReadsWorkers (one_of (codes "workers") rows) asked.options.workers

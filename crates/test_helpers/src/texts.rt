@@ -1,4 +1,4 @@
-//! Texts of what parts answered, and their comparison.
+//! Texts of the results of parts, and their comparison.
 
 use radio_packet::{RadioCopy, Sent};
 use std::alloc::AllocError;
@@ -13,7 +13,7 @@ pub fn same_text(told: &str, want: &str) -> Result<(), Fail> {
     Err(Fail::new(format_args!("{told} in place of {want}")))
 }
 
-/// Writes down each copy: when it arrives and where, its sender, its number and its value.
+/// Writes each copy down: its moment and receiver, its sender, its number and its value.
 pub fn write_copies(text: &mut String, copies: &[RadioCopy]) -> Result<(), AllocError> {
     for copy in copies {
         write!(
@@ -25,7 +25,7 @@ pub fn write_copies(text: &mut String, copies: &[RadioCopy]) -> Result<(), Alloc
     Ok(())
 }
 
-/// Writes each line down as its moment and what happened.
+/// Writes each line down as its moment and its event.
 pub fn write_lines(text: &mut String, lines: &[Line]) -> Result<(), AllocError> {
     for line in lines {
         write!(text, "{} {:?}|", line.at, line.what)?;

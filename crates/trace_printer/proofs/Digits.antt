@@ -6,7 +6,7 @@ use Rattle.itoa.proofs.Decimal.{decimal_pair, length_one, length_pair}
 pub length_three : (n : ℕ) → 100 ≤ n → n < 1000 → length (decimal n) ≡ 3
 length_three n low high = omega (arith, length_pair n low (omega arith), length_one (n / 100) (omega arith))
 
--- the last three digits stand after those of the thousands
+-- the last three digits come after those of the thousands
 pub decimal_thousands : (n : ℕ) → 1000 ≤ n → n < 1000000 → decimal n ≡ decimal (n / 1000) ++ (48 + n / 100 % 10) ∷ (48 + n / 10 % 10) ∷ (48 + n % 10) ∷ []
 decimal_thousands n low high =
     let hundreds : n / 10 / 10 ≡ n / 100 = omega arith in

@@ -1,4 +1,4 @@
--- Texts in pieces: what the next piece is, and what is left after it.
+-- Texts in pieces: the next piece, and the rest after it.
 use Rattle.std.proofs.Common.{◌≡◌, ◌+◌, ◌<◌, ◌≤◌, append_assoc, append-nil, ℕ, zero, suc, List, [], map, ◌∷◌, ◌++◌, length, get_or, drop, refl, ap, sym, ◌∙◌, add-one, arith, Vec, Global, Some, slice_get, option_map, codes, decimal}
 use Rattle.std.specs.List.{flat_map}
 use Rattle.program_tree.specs.Code.{Tree}
@@ -56,7 +56,7 @@ pub spaced_end : {X : Type 0} (f : X → List ℕ) (xs : List X) (i : ℕ) (p wh
     → p ++ flat_map (λ w. 32 ∷ w) (map f (drop i xs)) ≡ whole → p ≡ whole
 spaced_end f = mapped_end (λ w. 32 ∷ w) f
 
--- what a mote with this name and this program shows
+-- the text of a mote with this name and this program
 mote_shows : (n : ℕ) (m : MoteSetup) (name : List ℕ) (tree : Tree) (lines : List Line) → Some m.program ≡ Some name → Some m.tree ≡ Some tree
     → mote_text n m lines ≡ line_of (codes "mote") (decimal n ∷ name ∷ []) ++ flat_map (line_text tree) lines
 mote_shows n m name tree lines named grown =

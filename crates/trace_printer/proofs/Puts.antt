@@ -5,7 +5,7 @@ use Rattle.std.proofs.lemmas.Slice.{take-put_mid}
 use Rattle.std.proofs.Math.Seq.{take-append-add, take-set-lt, set-append_seam}
 use borrow.Rule.Slice.PartMut.{put_mid, post_of}
 
--- a prefix of what was put
+-- a prefix of the appended text
 pub put_front : (at k n : ℕ) (room put front : List ℕ) → at ≤ length room → n ≡ at + length front → take (length front) put ≡ front → length front ≤ length put → take n (put_mid at k room put) ≡ take at room ++ front
 put_front at k n room put front within is begins few =
     let there : length (take at room) ≡ at = length-take-le at room within in

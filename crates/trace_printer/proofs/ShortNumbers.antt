@@ -8,7 +8,7 @@ use Rattle.std.proofs.Math.Seq.{take-append_seam, take-append-add, drop-append-a
 use Rattle.itoa.proofs.Decimal.{decimal_two, decimal_pair, pair}
 use Rattle.trace_printer.specs.declared.short.TheConstants.{SHORT}
 
--- what stands in the table for a number
+-- the entry of the table for a number
 entry : ℕ → List ℕ
 entry n =
     if nat_lt n 10 then (48 + n) ∷ 46 ∷ 46 ∷ 49 ∷ []

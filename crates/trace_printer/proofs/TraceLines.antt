@@ -32,7 +32,7 @@ drop_drop zero b xs = let same : 0 + b ≡ b = omega arith in rw same refl
 drop_drop (suc a) b [] = rw (drop-nil {A = List ℕ} b, drop-nil {A = List ℕ} (suc a + b)) refl
 drop_drop (suc a) b (x ∷ xs) = let more : suc a + b ≡ suc (a + b) = omega arith in rw more (drop_drop a b xs)
 
--- what a mote with this name and this program shows
+-- the text of a mote with this name and this program
 mote_shows : (n : ℕ) (m : MoteSetup) (name : List ℕ) (tree : Tree) (lines : List Line) → Some m.program ≡ Some name → Some m.tree ≡ Some tree
     → mote_lines n m lines ≡ line_of (codes "mote") (decimal n ∷ name ∷ []) ∷ map (line_text tree) lines
 mote_shows n m name tree lines named grown =

@@ -43,7 +43,7 @@ written_next a b c text rest piece left part w is more =
       appended = Appends-trans a b c w.done more.done w.appended more.appended;
     }
 
--- what is written has a rest that isn't empty
+-- the written text has a rest that isn't empty
 pub written_front : (a b : Option (List ℕ)) (text rest : List ℕ) (byte : ℕ) (left : List ℕ) → Written a b text (rest ++ byte ∷ left) → AppendsFront a b text
 written_front a b text [] byte left w = (w.done, byte, left, w.whole, w.appended)
 written_front a b text (x ∷ rest) byte left w = (w.done, x, rest ++ byte ∷ left, w.whole, w.appended)
@@ -82,7 +82,7 @@ printed_put a p q text is = subst (λ l. Written a a l q) is (written_none a q)
 pub printed_nothing : (a : Option (List ℕ)) (p : List ℕ) → Written a a (p ++ []) p
 printed_nothing a p = printed_put a p p [] (sym (append-nil p))
 
--- a text is put on the page, which is then written where it is full
+-- a text is appended to the page, which is then written if it is full
 pub put_printed : (a b : Option (List ℕ)) (p q s text : List ℕ) → q ≡ p ++ text → Written a b (q ++ []) s → Written a b (p ++ text) s
 put_printed a b p q s text is w = subst (λ l. Written a b l s) (append-nil q ∙ is) w
 

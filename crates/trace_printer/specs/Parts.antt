@@ -18,7 +18,7 @@ HasTraces t = (length t.traces.now ≡ length (net_of t.net.now).motes) × (leng
 abbrev pub lines_told : Traces → List (List ℕ)
 lines_told t = traces_told t ++ medium_lines (map told_line t.medium.now)
 
--- from the first line to the last each part begins where the one before it ends, and nothing is put on its page yet
+-- from the first line to the last each part begins at the end of the one before it, and nothing is on its page yet
 abbrev pub Adjoin : (first : ℕ) → List Part → (last : ℕ) → Type 0
 Adjoin first [] last = first ≡ last
 Adjoin first (p ∷ ps) last = (p.skip ≡ first) × (p.page ≡ []) × Adjoin (first + p.count) ps last

@@ -8,15 +8,15 @@ use Rattle.mote_net.specs.Net.{MoteSetup, NetTold}
 use Rattle.mote_net.specs.Report.{Packet, ReportTold}
 use Rattle.trace_printer.specs.Words.{line_of, words_of, fate_word}
 
--- a line of a trace: the moment, and the words of what happened in a mote with this program
+-- a line of a trace: the moment, and the words of the event in a mote with this program
 abbrev pub line_text : Tree → Line → List ℕ
 line_text program l = line_of (decimal l.at) (words_of program l.what)
 
--- what the mote with this number shows
+-- the text of the mote with this number
 abbrev pub mote_text : (mote : ℕ) → MoteSetup → List Line → List ℕ
 mote_text mote m trace = line_of (codes "mote") (decimal mote ∷ m.program ∷ []) ++ flat_map (line_text m.tree) trace
 
--- what the motes from this number on show
+-- the text of the motes from this number on
 abbrev pub motes_text : (mote : ℕ) → List MoteSetup → List (List Line) → List ℕ
 motes_text mote (m ∷ ms) (t ∷ ts) = mote_text mote m t ++ motes_text (mote + 1) ms ts
 motes_text mote [] ts = []

@@ -7,7 +7,7 @@ use Rattle.mote_net.specs.Report.{Packet}
 use Rattle.trace_printer.specs.ReportText.{line_text, packet_text}
 use Rattle.trace_printer.specs.Words.{line_of}
 
--- the line that begins what a mote shows, and those of its trace
+-- the line that begins the text of a mote, and those of its trace
 abbrev pub mote_lines : (mote : ℕ) → MoteSetup → List Line → List (List ℕ)
 mote_lines mote m trace = line_of (codes "mote") (decimal mote ∷ m.program ∷ []) ∷ map (line_text m.tree) trace
 

@@ -1,4 +1,4 @@
--- What the workers report is the report of the net, and what went through their inboxes are the copies of its log.
+-- The report of the workers is that of the net, and the copies that went through their inboxes are those of its log.
 use Rattle.std.proofs.Common.{◌≡◌, ℕ, zero, suc, ◌+◌, ◌<◌, List, [], ◌∷◌, length, map, get_or, refl, sym, ap, ◌∙◌, subst, arith, Some, None, Vec, length-append}
 use Rattle.std.specs.Prelude.{All}
 use Rattle.std.specs.declared.alloc.Global.{Global}
@@ -69,7 +69,7 @@ module _ (n : NetTold) (fault : medium_fault n.radio ≡ None) (placed : length 
             ∙ w.told));
       }
 
-  -- what the workers report, joined, is the report of the net
+  -- the results of the workers, joined, are the report of the net
   pub told_is : (r : Report) → AreTracesOf of ended r.traces.items → IsLogOf n (logs_of ended) (map told_line r.medium.items)
       → sum_by (λ (one : Ended). one.left) ended + sum_by (λ (pair : Pair). length (gathered_by pair.1)) (zip group.inboxes.items group.takers.items)
       ≡ r.left + sum_by (λ (pair : Pair). length (taken_by pair.1)) (zip group.inboxes.items group.takers.items)
@@ -101,7 +101,7 @@ module _ (n : NetTold) (fault : medium_fault n.radio ≡ None) (placed : length 
   pub all_crossed : (r : ReportTold) → IsReportOf n r → AllCrossed n of r (zip group.inboxes.items group.takers.items)
   all_crossed r report v pair e = crossed_to r report v (zip_inside group.inboxes.items group.takers.items v pair e) pair.1 (second_at group.inboxes.items group.takers.items v pair e)
 
--- ---- what every report has
+-- ---- the properties of every report
 pub one_trace_each : (n : NetTold) (r : Report) → IsReportOf n (report_of r) → length r.traces.items ≡ length n.motes
 one_trace_each n r report =
     sym (length-map r.traces.items lines_in) ∙ (ap (λ (t : ReportTold). length t.traces) report.told ∙ (length-map (up_to (length n.motes)) report.last.traces ∙ counted (length n.motes)))

@@ -1,4 +1,4 @@
--- What the workers report at the end, joined: the packets, the traces and the count of copies left.
+-- The results of the workers at the end, joined: the packets, the traces and the count of copies left.
 use Rattle.std.proofs.Common.{◌≡◌, ◌⊎◌, ℕ, suc, ◌+◌, ◌<◌, ◌≤◌, ◌^◌, true, false, cond, eqb, ltb, List, [], ◌∷◌, length, map, get_or, refl, sym, ap, ◌∙◌, subst, inl, inr, arith, Some, Vec}
 use Rattle.std.specs.declared.alloc.Global.{Global}
 use Rattle.std.specs.List.{filter, slice_get, sum_by, AllByRecursion as Each, AllZip}

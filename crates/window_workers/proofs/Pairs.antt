@@ -43,12 +43,12 @@ module _ {X Y : Type 0} where
   each_mapped P f [] h = tt
   each_mapped P f (x ∷ xs) h = (h.0, each_mapped P f xs h.1)
 
--- what holds of the second of each pair holds of all seconds
+-- a property of the second of each pair is one of all seconds
 pub seconds_have : {A B : Type 0} (P : B → Type 0) (ps : List (A × B)) → Each (λ (p : A × B). P p.1) ps → Each P (map (λ (p : A × B). p.1) ps)
 seconds_have P [] h = tt
 seconds_have P (p ∷ ps) h = (h.0, seconds_have P ps h.1)
 
--- what holds of a result, weakened
+-- a property of a result, weakened
 pub if_ok : {X E : Type 0} (P Q : X → Type 0) (r : Result X E) → ((x : X) → P x → Q x) → IfOk r P → IfOk r Q
 if_ok P Q (Ok x) f h = f x h
 if_ok P Q (Err e) f h = tt

@@ -1,4 +1,4 @@
--- What is left at the end for one worker: what is pending for its motes, and what is in its inbox.
+-- The copies left at the end for one worker: those pending for its motes, and those in its inbox.
 use Rattle.std.proofs.Common.{◌≡◌, ℕ, suc, ◌+◌, ◌≤◌, false, not, ltb, List, [], ◌++◌, length, sym, ap, ◌∙◌, arith, append-nil, length-append, Option}
 use Rattle.std.specs.Prelude.{IsPermutation}
 use Rattle.std.specs.List.{filter}
@@ -33,7 +33,7 @@ module _ (n : NetTold) (fine : RunsForward (system_of n)) (of : List ℕ) (from 
   abbrev taken_of : ℕ → List RadioCopy
   taken_of s = filter (is_from_sender s) (taken_by taker)
 
-  -- this worker's part of what is left
+  -- this worker's part of the copies left
   pub left_here : (left : ℕ) (rest : List RadioCopy) → left ≡ length rest → ((s : ℕ) → filter (is_from_sender s) rest ≡ filter (is_to_come (is_own of v) from) (copies_seen (system_of n) (is_own of v) motes (taken_by taker) s))
       → left + length (gathered_by taker) ≡ length (filter (is_to of v) (coming (system_of n) fine from motes)) + length (taken_by taker)
   left_here left rest is told =
@@ -43,7 +43,7 @@ module _ (n : NetTold) (fine : RunsForward (system_of n)) (of : List ℕ) (from 
       let rest_and = length-append rest lying in
       omega arith
 
-  -- what was gathered and comes by the end was taken
+  -- the copies gathered that arrive by the end were taken
   pub taken_by_end : (end : ℕ) → from ≡ suc end → IsPermutation (filter (is_by end) (gathered_by taker)) (filter (is_by end) (taken_by taker))
   taken_by_end end is = same_copies (filter (is_by end) (gathered_by taker)) (filter (is_by end) (taken_by taker)) each
     where

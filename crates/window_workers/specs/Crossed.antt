@@ -1,4 +1,4 @@
--- What came to the workers through their inboxes.
+-- The copies that came to the workers through their inboxes.
 use Rattle.std.specs.Prelude.{ℕ, ◌≡◌, List, map, IsPermutation, Some, slice_get}
 use Rattle.std.specs.List.{filter}
 use Rattle.radio_packet.specs.declared.sent.Sent.{Sent}

@@ -1,4 +1,4 @@
--- Whether a cut fits a net, and what is reported of one that doesn't.
+-- Whether a partition fits a net, and the error that is reported if it doesn't.
 use Rattle.std.specs.Prelude.{ℕ, ◌≡◌, ◌==◌, ◌||◌, nat_lt, not, if◌then◌else◌, List, length, Option, Some, None}
 use Rattle.std.specs.List.{list_all}
 use Rattle.serial_run.specs.declared.error.RunError.{RunError}

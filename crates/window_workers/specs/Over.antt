@@ -1,4 +1,4 @@
--- What the workers leave at the end.
+-- The results of the workers at the end.
 use Rattle.std.specs.Prelude.{ℕ, ◌≡◌, ◌<◌, Bool, List, length, map, slice_index, slice_index_or, Vec, IsPermutation}
 use Rattle.std.specs.List.{flat_map}
 use Rattle.std.specs.List.Sorted.{IsSortedBy}
@@ -17,7 +17,7 @@ use Rattle.mote_net.specs.declared.report.LogLine.{LogLine}
 use Rattle.mote_net.specs.Report.{Packet}
 use Rattle.serial_run.specs.NetRun.{packet_with_fates}
 
--- a share that is taken apart yields what it kept
+-- a share that is taken apart yields its contents
 abbrev pub TellsWhatItKept : Share → Ended → Type 0
 TellsWhatItKept share ended = (n : NetTold) (of : List ℕ) (worker from : ℕ) (motes : Motes) (taken : List RadioCopy)
     → Keeps n of worker from motes taken share → TellsAtEnd n of worker from motes taken ended

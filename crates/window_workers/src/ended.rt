@@ -1,4 +1,4 @@
-//! What the workers have at the end, taken apart, and how many copies are left.
+//! The parts of the workers at the end, and the number of copies left.
 
 ghost use Rattle.std.specs.Prelude.{◌≡◌, ◌+◌, length, IfOk};
 ghost use Rattle.std.specs.List.{AllByRecursion as Each, AllZip, sum_by};
@@ -30,7 +30,7 @@ fn plus(one: u64, other: u64) -> Result<u64, AllocError>
     one.checked_add(other).ok_or(AllocError)
 }
 
-/// How many copies were still on their way to the workers' motes.
+/// The number of copies that were still on their way to the workers' motes.
 fn left_to_come(ended: &[Ended]) -> Result<u64, AllocError>
     ensures { IfOk result (λ left. left ≡ sum_by (λ one. one.left) ended.now) }
 {
@@ -41,7 +41,7 @@ fn left_to_come(ended: &[Ended]) -> Result<u64, AllocError>
     Ok(left)
 }
 
-/// How many copies are in the inboxes.
+/// The number of copies in the inboxes.
 fn left_in_inboxes(pairs: &[(Inbox, Taker)]) -> Result<u64, AllocError>
     requires { Each (λ pair. IsSettled pair.0 pair.1) pairs.now }
     ensures { IfOk result (λ left. sum_by (λ pair. length (gathered_by pair.1)) pairs.now
@@ -54,7 +54,7 @@ fn left_in_inboxes(pairs: &[(Inbox, Taker)]) -> Result<u64, AllocError>
     Ok(left)
 }
 
-/// How many copies are left, with the workers and in the inboxes.
+/// The number of copies left, with the workers and in the inboxes.
 pub fn left_of_all(ended: &[Ended], pairs: &[(Inbox, Taker)]) -> Result<u64, AllocError>
     requires { Each (λ pair. IsSettled pair.0 pair.1) pairs.now }
     ensures { IfOk result (λ left. sum_by (λ one. one.left) ended.now

@@ -1,4 +1,4 @@
-//! Whether a cut fits a net.
+//! The test whether a partition fits a net.
 
 ghost use Rattle.std.specs.Prelude.{◌≡◌, nat_lt};
 ghost use Rattle.std.specs.List.{list_all};
@@ -9,7 +9,7 @@ use serial_run::RunError;
 /// The most workers that a run may have.
 pub const MOST_WORKERS: u16 = 16;
 
-/// Whether each mote's worker is one of this many workers.
+/// Returns whether each mote's worker is one of this many workers.
 fn are_there(workers: usize, of: &[u16]) -> bool
     ensures { result ≡ list_all (λ worker. nat_lt worker workers) of.now }
 {

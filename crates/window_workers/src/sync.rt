@@ -15,7 +15,7 @@ pub enum SyncKind {
 }
 
 impl SyncKind {
-    /// Whether the inboxes for it have marks.
+    /// Returns whether the inboxes for it have marks.
     pub fn has_marks(self) -> bool
         ensures { result ≡ has_marks self }
     {

@@ -1,5 +1,5 @@
-//! Most tests write what they see into one text and compare it once, in a function that they share: so a test owns
-//! little where it can end early, which would cost its proof most.
+//! Most tests write their observations into one text and compare it once, in a function that they share: so a test owns
+//! little at the points at which it can end early, which would cost its proof most.
 
 mod failing_executor;
 mod held_back;
@@ -27,7 +27,7 @@ use std::thread::Threads;
 use test_helpers::same_text;
 use window_workers::{Cut, Gate, NoGate, Report, RunError, SyncKind, run_serial, run_workers};
 
-/// A mote that sends at 2 to one beside it, which gets the packet at 5.
+/// A mote that sends at 2 to one next to it, which gets the packet at 5.
 const PACKET_AFTER_TIMER: &str = "\
     version = 1\n\
     end = 5\n\
@@ -113,7 +113,7 @@ const BUSY_TRIO: &str = "\
     y = 0\n\
     program = \"p\"\n";
 
-/// What runs share: a net, the text of its report by one thread, and a kind of synchronization.
+/// The common data of runs: a net, the text of its report by one thread, and a kind of synchronization.
 #[derive(Clone, Copy)]
 struct Scene<'a> {
     net: &'a Net,
@@ -121,28 +121,28 @@ struct Scene<'a> {
     sync: SyncKind,
 }
 
-/// What is watched in a run.
+/// The observation in a run.
 #[derive(Clone, Copy)]
 enum Watch {
-    /// How many starts are asked for, and how many turns the motes' own workers take. This worker isn't allowed to
-    /// start.
+    /// The number of starts that are requested, and of turns that the motes' own workers take. This worker isn't
+    /// allowed to start.
     Starts(Option<u16>),
-    /// Whether worker 0 gets ahead of worker 1.
+    /// Worker 0 gets ahead of worker 1, or not.
     Ahead,
-    /// How many workers meet inside their turns.
+    /// The number of workers that meet inside their turns.
     Meetings { over_inboxes: bool },
-    /// What lies in the inboxes at the end.
+    /// The contents of the inboxes at the end.
     Inboxes,
 }
 
 /// A run in which all workers are allowed to start.
 const STARTS: Watch = Watch::Starts(None);
 
-/// A run: what is watched, how many workers there are, the worker of each mote, and how long windows are at most; 0
-/// asks for no such limit.
+/// A run: the observation, the number of workers, the worker of each mote, and the greatest length of windows; 0 for no
+/// such limit.
 type Case<'a> = (Watch, u16, &'a [u16], u32);
 
-/// Runs of one scenario, and what is written down of them with joins and with marks.
+/// Runs of one scenario, and the texts that are written of them with fork-join and with null messages.
 #[derive(Clone, Copy)]
 struct Trials<'a> {
     scenario: &'a str,
@@ -166,7 +166,7 @@ fn write_report(
     }
 }
 
-/// Writes down what comes of a run: a report or a fault.
+/// Writes the result of a run down: a report or an error.
 fn write_told(
     alloc: Global,
     one: &str,
@@ -179,7 +179,7 @@ fn write_told(
     }
 }
 
-/// Writes down what comes of a run with this gate.
+/// Writes the result of a run with this gate down.
 fn write_run<R, G>(
     rt: &R,
     scene: Scene<'_>,
@@ -196,7 +196,7 @@ where
     write_told(rt.alloc(), scene.one, told, text)
 }
 
-/// Writes down what is watched in a run.
+/// Writes the observation in a run down.
 fn write_case<R>(rt: &R, scene: Scene<'_>, case: &Case<'_>, text: &mut String) -> Result<(), Fail>
 where
     R: Threads + Wait + Sync + RandomSource + AllocGlobal,
@@ -233,7 +233,7 @@ fn told_by_one_thread(alloc: Global, net: &Net) -> Result<String, Fail> {
     Ok(format!(in alloc; "{report:?}")?)
 }
 
-/// Fails unless what is wanted is written of these runs, with joins and with marks.
+/// Fails unless the expected text is written of these runs, with fork-join and with null messages.
 fn tells<R>(rt: &R, runs: &Trials<'_>) -> Result<(), Fail>
 where
     R: Threads + Wait + Sync + RandomSource + AllocGlobal,

@@ -1,12 +1,12 @@
 //! A way into the turns of workers, for tests and measurements.
 
-/// What is called from inside the workers.
+/// A hook that is called from inside the workers.
 pub trait Gate {
     /// Called once inside each turn, after the copies for the turn were collected and before the mote takes them, with
     /// the worker, the turn's moment and the mote.
     fn inside(&self, worker: u16, moment: u64, mote: u16);
 
-    /// Whether a worker's thread may start. Called before each start; `false` counts as a start that failed.
+    /// Returns whether a worker's thread may start. Called before each start; `false` counts as a start that failed.
     fn start(&self, _worker: u16) -> bool {
         true
     }

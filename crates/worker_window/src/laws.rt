@@ -17,8 +17,8 @@ pub fn ends_with_its_wake()
     ensures { EndsWithItsWake }
 {}
 
-/// After a turn of a window, what comes next comes later. So only a window's first turn can return `Past`: if its
-/// moment isn't after that of the mote's last turn before the window.
+/// After a turn of a window, the next event comes later. So only a window's first turn can return `Past`: if its moment
+/// isn't after that of the mote's last turn before the window.
 pub fn no_turn_is_past()
     ensures { NoTurnIsPast }
 {}

@@ -1,6 +1,6 @@
-//! Windows of time. A mote's window: what a mote does alone up to a bound, as a relation; the state of such a window,
-//! and a future that takes one turn of it per poll; a worker's own future over the windows of its motes. And what one
-//! worker of a net has, and its run through one window.
+//! Windows of time. A mote's window: the run of a mote alone up to a bound, as a relation; the state of such a window,
+//! and a future that takes one turn of it per poll; a worker's own future over the windows of its motes. And the data
+//! of one worker of a net, and its run through one window.
 #![tactic(auto)]
 
 mod calls;

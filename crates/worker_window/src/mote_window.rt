@@ -88,8 +88,8 @@ impl<'a, G: Gate> MoteWindow<'a, G> {
     }
 }
 
-/// Takes the window, once no turn is left, and returns what it gives. A separate function, so that a turn clears no
-/// stack space for it.
+/// Takes the window, once no turn is left, and returns its result. A separate function, so that a turn clears no stack
+/// space for it.
 #[inline(always)]
 fn finish(own: &mut Option<OwnWindow<'_>>, room: &mut Option<Box<TurnRoom>>) -> WindowOut
     requires { IsSome own.old }
@@ -113,8 +113,8 @@ impl<G: Gate> Future for MoteWindow<'_, G> {
 
     ghost gives = { λ w r. MayAnswer w.own r };
 
-    /// Takes one turn and yields, or is ready. A mote that had failed before takes none: it is ready with what it had,
-    /// if nothing comes to it in the window.
+    /// Takes one turn and yields, or is ready. A mote that had failed before takes none: it is ready with its earlier
+    /// result, if nothing comes to it in the window.
     ///
     /// # Errors
     /// That of the turn, and then the mote is dropped; `Failed` at a poll after that, and if something comes to a mote

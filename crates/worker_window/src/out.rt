@@ -1,4 +1,4 @@
-//! What a mote's window gives.
+//! The result of a mote's window.
 
 use mote_node::Mote;
 use process_kernel::Line;

@@ -139,8 +139,8 @@ impl<'a> OwnWindow<'a> {
         Ok(())
     }
 
-    /// What the window gives, once no turn is left. If there are scratch buffers, its list of copies goes to them, for
-    /// a later window.
+    /// The result of the window, once no turn is left. If there are scratch buffers, its list of copies goes to them,
+    /// for a later window.
     #[tactic(auto, unfolding(crate::specs::Own::window_in, crate::specs::Own::course_in))]
     pub fn finish(self, room: &mut Option<Box<TurnRoom>>) -> WindowOut
         ensures made { IfSome (window_in self.entry) (λ w. shown w.program result ≡ Some w.mote) }

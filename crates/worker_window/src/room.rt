@@ -6,9 +6,9 @@ use process_kernel::Out;
 use radio_packet::{Arrival, RadioCopy};
 use std::alloc::{AllocError, Global};
 
-/// Scratch buffers of a turn, for what comes to a mote and what it writes and sends. Each turn begins by clearing
-/// both, so they are passed from turn to turn, and from mote to mote. With them are lists that held the copies of
-/// earlier windows; what those lists hold is unspecified.
+/// Scratch buffers of a turn, for the copies that come to a mote and its lines and packets. Each turn begins by
+/// clearing both, so they are passed from turn to turn, and from mote to mote. With them are lists that held the copies
+/// of earlier windows; the contents of those lists are unspecified.
 #[derive(Drop)]
 pub struct TurnRoom {
     pub(crate) arrivals: Vec<Arrival>,

@@ -6,8 +6,8 @@ use crate::room::{TurnRoom, copies_in};
 use radio_packet::{RadioCopy, Sent};
 use std::alloc::{AllocError, Global};
 
-/// Buffers for the packets that a mote sends in a window, and those of the turns. What they hold between two windows
-/// is unspecified.
+/// Buffers for the packets that a mote sends in a window, and those of the turns. Their contents between two windows
+/// are unspecified.
 pub(crate) struct Rooms {
     alloc: Global,
     buffers: Vec<Vec<Sent>>,

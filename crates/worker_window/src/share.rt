@@ -20,9 +20,9 @@ use process_kernel::Line;
 use std::alloc::{AllocError, Global};
 use worker_cut::is_own;
 
-/// What one worker of a net has: its motes and their traces, each by the number of the mote, with no mote and an empty
-/// trace for the motes of other workers; the packets of its motes, each mote's in order; the pending events of its
-/// motes; and scratch buffers of windows.
+/// The data of one worker of a net: its motes and their traces, each by the number of the mote, with no mote and an
+/// empty trace for the motes of other workers; the packets of its motes, each mote's in order; the pending events of
+/// its motes; and scratch buffers of windows.
 pub struct Share {
     pub(crate) alloc: Global,
     pub(crate) worker: u16,
@@ -48,8 +48,8 @@ impl Drop for Share {
     }
 }
 
-/// What a worker reports at the end: the traces of its motes, by number, the packets that they sent, each mote's in
-/// order, and how many copies of packets are still on their way to them.
+/// A worker's results at the end: the traces of its motes, by number, the packets that they sent, each mote's in order,
+/// and the number of copies of packets that are still on their way to them.
 #[derive(Drop)]
 pub struct Ended {
     pub traces: Vec<Vec<Line>>,

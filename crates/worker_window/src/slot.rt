@@ -1,4 +1,4 @@
-//! One mote of a worker: its window, and then what that gave.
+//! One mote of a worker: its window, and then the window's result.
 
 ghost use Rattle.std.specs.Prelude.{◌≡◌, ◌<◌, ◌≤◌, ◌^◌, true, length, OnOk, IfErr};
 ghost use Rattle.futures.specs.Task.{Keeps};
@@ -21,7 +21,7 @@ use mote_net::Net;
 use mote_node::MoteError;
 use std::alloc::Global;
 
-/// A mote's window, until it is ready, and then what it gave.
+/// A mote's window, until it is ready, and then its result.
 pub enum Slot<'a, G> {
     Open(MoteWindow<'a, G>),
     Done(WindowOut),
@@ -79,7 +79,7 @@ impl<'a, G: Gate> Slot<'a, G> {
         }
     }
 
-    /// What the window gave, once it was ready.
+    /// The result of the window, once it was ready.
     pub fn into_out(self) -> WindowOut
         requires { is_done self ≡ true }
         ensures { self.entry ≡ Done result }

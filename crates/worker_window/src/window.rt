@@ -167,7 +167,7 @@ fn send_fate(
     send_copy(of, worker, &copy, agenda, outgoing)
 }
 
-/// Whether all of these fates are of copies for motes of the worker.
+/// Returns whether all of these fates are of copies for motes of the worker.
 fn are_own(of: &[u16], worker: u16, fates: &[Fate]) -> bool
     ensures { result ≡ list_all (λ fate. is_own of.now worker fate.to) fates.now }
 {

@@ -82,8 +82,8 @@ fn all_done<G: Gate>(slots: &[Slot<'_, G>]) -> bool
     slots.iter().all(|slot| slot.is_done())
 }
 
-/// Runs the windows of a worker's motes by the worker's future, until each has given something. No mote has failed, and
-/// what comes to each comes after its last turn. The scratch buffers of the turns are passed from window to window.
+/// Runs the windows of a worker's motes by the worker's future, until each has a result. No mote has failed, and the
+/// next event of each comes after its last turn. The scratch buffers of the turns are passed from window to window.
 ///
 /// # Errors
 /// `Memory`, and `Thread` if the executor returned an error.

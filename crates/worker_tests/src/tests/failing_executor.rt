@@ -51,7 +51,7 @@ impl<R: RandomSource> RandomSource for FewBytes<R> {
     }
 }
 
-/// Writes down what comes of runs by two workers in three windows each, if executors fail after so many.
+/// Writes the results of runs by two workers in three windows each down, if executors fail after so many.
 fn write_failing<R>(
     rt: &R,
     scene: Scene<'_>,

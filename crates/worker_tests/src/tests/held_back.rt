@@ -35,7 +35,7 @@ impl Gate for Ahead {
     }
 }
 
-/// Writes down what comes of a run, and whether worker 0 got ahead.
+/// Writes the result of a run down, and whether worker 0 got ahead.
 pub(super) fn write_ahead<R>(
     rt: &R,
     scene: Scene<'_>,

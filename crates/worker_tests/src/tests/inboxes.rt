@@ -1,4 +1,4 @@
-//! What lies in the inboxes at the end.
+//! The contents of the inboxes at the end.
 ghost use Rattle.std.specs.List.{AllByRecursion as Each};
 ghost use Rattle.copy_exchange.specs.Inboxes.{IsSettled};
 
@@ -41,7 +41,7 @@ fn write_all_closed<R: Wait>(
     Ok(())
 }
 
-/// Writes down what comes of a run over new inboxes, one for each worker, and what then lies in each.
+/// Writes the result of a run over new inboxes down, one for each worker, and the contents of each after it.
 pub(super) fn write_inboxes<R, G>(
     rt: &R,
     scene: Scene<'_>,

@@ -157,7 +157,7 @@ fn alternate<R: Wait + RandomSource + AllocGlobal>(rt: &R, net: &Net) -> Result<
     Err(Fail::new(format_args!("otherwise")))
 }
 
-/// What two motes of one worker give if a copy comes to one of them, and that they take their turns alternately.
+/// The results of two motes of one worker if a copy comes to one of them, and that they take their turns alternately.
 #[test]
 fn a_share_of_two_motes(rt: HostRuntime) -> Result<(), Fail> {
     let net = read_scenario(rt.alloc(), TWO_SENDERS)?;

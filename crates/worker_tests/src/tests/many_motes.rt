@@ -69,7 +69,7 @@ fn write_counts(text: &mut String, counts: u64) -> Result<(), AllocError> {
     text.push_str("|")
 }
 
-/// Writes down what comes of a run by four workers, and how often each was started and took a turn.
+/// Writes the result of a run by four workers down, and how often each was started and took a turn.
 fn write_tally<R>(rt: &R, scene: Scene<'_>, cut: &Cut, text: &mut String) -> Result<(), AllocError>
 where
     R: Threads + Wait + Sync + RandomSource + AllocGlobal,

@@ -125,8 +125,8 @@ fn write_window<R: Wait, L: Ledger>(
     }
 }
 
-/// Worker 0 pushes windows 0 and 1, worker 1 window 0. Taking window 0 gives what worker 0 sent in both; once worker 1
-/// has pushed its next mark, taking window 1 gives nothing more. Then a copy comes too soon.
+/// Worker 0 pushes windows 0 and 1, worker 1 window 0. Taking window 0 returns the copies that worker 0 sent in both;
+/// once worker 1 has pushed its next mark, taking window 1 returns nothing more. Then a copy comes too soon.
 fn write_windows<R: Wait, L: Ledger>(
     rt: &R,
     alloc: Global,
@@ -157,7 +157,7 @@ fn write_windows<R: Wait, L: Ledger>(
     Ok(())
 }
 
-/// What is written where the mark of worker 1 is missing, and the flag is set.
+/// The text that is written if the mark of worker 1 is missing, and the flag is set.
 fn write_stopped<R: Wait, L: Ledger>(
     rt: &R,
     alloc: Global,
@@ -265,7 +265,7 @@ fn write_woken<R: Threads + Wait + Clock + Sync, L: Ledger>(
     Ok(took?)
 }
 
-/// What the workers do.
+/// The actions of the workers.
 #[derive(Clone, Copy)]
 enum Scene {
     Windows,
@@ -274,7 +274,7 @@ enum Scene {
     Late,
 }
 
-/// What is written of a scene.
+/// The text that is written of a scene.
 fn write_scene<R: Threads + Wait + Clock + Sync, L: Ledger>(
     rt: &R,
     alloc: Global,
@@ -390,7 +390,7 @@ impl<R: Threads + Wait + Clock + Sync> Work<bool> for Team<'_, R> {
     }
 }
 
-/// Runs a scene, and writes down what the team returns, and what worker 2 took.
+/// Runs a scene, and writes the result of the team down, and the items that worker 2 took.
 fn write_team<R: Threads + Wait + Clock + Sync>(
     rt: &R,
     alloc: Global,

@@ -110,7 +110,7 @@ fn write_drained<R: Wait>(
     Ok(())
 }
 
-/// Closes the inbox, and writes down what was left in it.
+/// Closes the inbox, and writes the rest of its items down.
 fn write_rest<R: Wait>(
     rt: &R,
     text: &mut String,
@@ -182,7 +182,7 @@ fn write_counts(text: &mut String, copies: &[RadioCopy]) -> Result<(), AllocErro
     write!(text, "{} {next:?}|", copies.len())
 }
 
-/// What is left once three senders were gathered that pushed 1,000 copies each.
+/// The rest once three senders were gathered that pushed 1,000 copies each.
 fn write_thousands<R: Wait>(
     rt: &R,
     text: &mut String,

@@ -16,11 +16,11 @@ use window_workers::{Cut, Gate};
 /// 1 and 2 are bytes of one number.
 #[derive(Drop)]
 struct Rendezvous {
-    /// How many workers there are, with a mote each.
+    /// The number of workers, with a mote each.
     all: u64,
-    /// How many workers came to their turn of a moment.
+    /// The number of workers that came to their turn of a moment.
     came: AtomicU64,
-    /// How many of them saw that all came.
+    /// The number of them that saw that all came.
     met: AtomicU64,
 }
 
@@ -51,8 +51,8 @@ impl Gate for Rendezvous {
     }
 }
 
-/// Writes down what comes of a run, perhaps over inboxes made for it, and how many workers saw all others inside their
-/// turns of each moment.
+/// Writes the result of a run down, perhaps over inboxes made for it, and the number of workers that saw all others
+/// inside their turns of each moment.
 pub(super) fn write_meetings<R>(
     rt: &R,
     scene: Scene<'_>,

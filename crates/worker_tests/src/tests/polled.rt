@@ -25,14 +25,14 @@ const THREE_TIMERS: &str = "\
     process a; autostart a; code a { etimer s; etimer t; etimer u; body { set s 2; set t 4; set u 4; reset \
     s; while 1 { yield; if is(timer) { print data; } } } }";
 
-/// What three polls of its window give.
+/// The results of three polls of its window.
 const THREE_TIMERS_TOLD: &str = "\
     pending|pending|0 Start(Etimer)|0 Start(Ctimer)|0 Start(Radio)|0 Start(Own(0))|\
     4 Post(0, One(Own(0)), 136, 2)|4 Post(1, One(Own(0)), 136, 1)|4 Post(2, One(Own(0)), 136, 0)|\
     4 Take(0, Own(0))|4 Print(Own(0), 2)|4 Take(1, Own(0))|4 Print(Own(0), 1)|4 Take(2, Own(0))|\
     4 Print(Own(0), 0)|";
 
-/// Polls a window once, and writes down what it answers.
+/// Polls a window once, and writes its answer down.
 fn write_poll(
     text: &mut String,
     task: &MockTask,
@@ -45,7 +45,7 @@ fn write_poll(
     }
 }
 
-/// Polls a mote's window up to 6 three times, and writes down what it answers.
+/// Polls a mote's window up to 6 three times, and writes its answers down.
 fn write_three_polls(
     text: &mut String,
     alloc: Global,
@@ -77,8 +77,8 @@ fn one_copy(alloc: Global) -> Result<Vec<RadioCopy>, AllocError>
     Ok(vec![in alloc; copy]?)
 }
 
-/// Writes down what three polls give of the window of a new mote to which no copy comes, or of a mote that had a turn
-/// at 5 and to which a copy comes too late.
+/// Writes the results of three polls of the window of a new mote to which no copy comes down, or of a mote that had a
+/// turn at 5 and to which a copy comes too late.
 fn write_mote(
     text: &mut String,
     alloc: Global,
@@ -114,11 +114,11 @@ const BUSY: &str = "\
     process a; autostart a; code a { var n = 0; body { poll a; while 1 { yield; n = (n + 1); poll a; \
     if (n == 192) { print n; } } } }";
 
-/// What the polls of its window up to 3 give.
+/// The results of the polls of its window up to 3.
 const BUSY_TOLD: &str = "\
     pending|pending|pending|0 Start(Etimer)|0 Start(Ctimer)|0 Start(Radio)|0 Start(Own(0))|2 Print(Own(0), 192)|";
 
-/// Polls the windows of two new motes, up to 5 and up to 3, in this order, and writes down what each answers.
+/// Polls the windows of two new motes, up to 5 and up to 3, in this order, and writes the answer of each down.
 fn write_two_windows(
     texts: &mut (String, String),
     alloc: Global,
@@ -142,7 +142,7 @@ fn write_two_windows(
     Ok(())
 }
 
-/// Fails unless the two windows give what is wanted when polled in this order.
+/// Fails unless the two windows have the expected results when polled in this order.
 fn tell_two<R>(rt: &R, programs: (&Program, &Program), is_second: &[bool]) -> Result<(), Fail>
 where
     R: RandomSource + AllocGlobal,
@@ -166,7 +166,7 @@ fn two_mote_futures(rt: HostRuntime) -> Result<(), Fail> {
     tell_two(&rt, programs, &one_first)
 }
 
-/// What three polls give of the window of a mote that has one turn: pending, then ready; polled again it fails.
+/// The results of three polls of the window of a mote that has one turn: pending, then ready; polled again it fails.
 const ONE_TURN_TOLD: &str =
     "pending|0 Start(Etimer)|0 Start(Ctimer)|0 Start(Radio)|0 Start(Own(0))|0 Print(Own(0), 1)|Failed|";
 

@@ -1,4 +1,4 @@
-//! Runs by any cut: what comes of them, how often threads are started, and who takes the turns.
+//! Runs with any partition: their results, the number of starts of threads, and the workers that take the turns.
 
 use super::{
     BUSY_PAIR, BUSY_TRIO, COPY_PAST_THE_END, Case, PACKET_AFTER_TIMER, STARTS, Scene, Trials,
@@ -39,8 +39,8 @@ impl Gate for Starts<'_> {
     }
 }
 
-/// Writes down what comes of a run in which this worker isn't allowed to start, how many starts were asked for, and
-/// how many turns the motes' own workers took.
+/// Writes the result of a run in which this worker isn't allowed to start down, the number of starts that were
+/// requested, and the number of turns that the motes' own workers took.
 pub(super) fn write_starts<R>(
     rt: &R,
     scene: Scene<'_>,
@@ -76,7 +76,7 @@ const LENGTHS: [Case<'static>; 5] = [
 /// Sixteen workers, of whom three have a mote, by windows of one moment.
 const SPARSE: Case<'static> = (STARTS, 16, &[0, 5, 10], 1);
 
-/// Runs by any cut, with what is watched in them.
+/// Runs with any partition, with the observations in them.
 static RUNS: [Trials<'static>; 11] = [
     // Each of these cuts gives the report of one thread: in blocks and in stripes, with workers that have no mote, and
     // with the motes the other way round. With joins each worker is started in each of two windows, with marks once.
@@ -212,7 +212,8 @@ const REFUSED_OF_SIXTEEN: &str = "Fault(Thread) 13 9|Fault(Thread) 13 3|Fault(Th
 const REFUSED_INBOXES: &str =
     "Fault(Workers)|Fault(Workers)|Fault(CutWorker)|Fault(CutLength)|Same(0)|0 []|0 []|";
 
-/// What comes of runs, how often threads are started, who takes the turns, and what lies in the inboxes.
+/// The results of runs, the number of starts of threads, the workers that take the turns, and the contents of the
+/// inboxes.
 #[test]
 fn runs_by_any_cut(rt: HostRuntime) -> Result<(), Fail> {
     all_tell(&rt, RUNS.as_slice())

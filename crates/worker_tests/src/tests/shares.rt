@@ -21,7 +21,7 @@ fn copy_at(at: u64, number: u64) -> RadioCopy {
     }
 }
 
-/// How many copies are pending once a share has taken in two for mote 1, and then one more.
+/// The number of pending copies once a share has taken in two for mote 1, and then one more.
 fn left_of_three(alloc: Global, net: &Net) -> Result<u64, AllocError>
     requires { length (net_of net.now).motes ≡ 2 }
 {

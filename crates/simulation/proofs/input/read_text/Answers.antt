@@ -5,7 +5,7 @@ use Rattle.std.proofs.lemmas.Str.{IsUtf8-string_bytes}
 use Rattle.simulation.specs.Input.{ReadsBytes, ReadsText}
 use Rattle.simulation.proofs.input.read_text.Goals as goal
 
--- a text of the bytes that were read is what reading the input as a text answers
+-- a text of the bytes that were read is the result of reading the input as a text
 text_read : (known : Option (List ℕ)) (bytes : Vec ℕ Global) (text : String Global) → string_vec text ≡ bytes
     → IfSome known (λ input. ReadsBytes input (Ok bytes)) → IfSome known (λ input. ReadsText input (Ok text))
 text_read None bytes text is told = tt

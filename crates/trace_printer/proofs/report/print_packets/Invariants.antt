@@ -5,6 +5,6 @@ use Rattle.trace_printer.specs.Page.{Written}
 use Rattle.trace_printer.specs.ReportText.{packet_text}
 use Rattle.trace_printer.proofs.report.print_packets.Given as goal
 
--- what waits on the page and the remaining packets are left to write
+-- the waiting text of the page and the remaining packets are left to write
 abbrev pub invariant-loop-line : goal.invariant-loop-line
 invariant-loop-line g l = Written (g.W.Write.contents l.fn.writer) (g.W.Write.contents l.writer) (l.fn.page ++ flat_map packet_text (map told_line l.log)) (l.page ++ flat_map packet_text (map told_line (drop l.line-index l.log)))

@@ -16,7 +16,7 @@ push_copy-requires g c =
     let P : Option SenderView → Type 0 = λ s. IsSomeAnd s (λ sender. sender.inbox ≡ c.index-inboxes-to.result) in
     subst P c.in-Some.is there
 
--- what was pushed, and through which sender
+-- the item that was pushed, and its sender
 told : (g : _) (c : In_ok-map_err g) → (c.push_copy.new.sender.state ≡ after_pushing c.in-Some.sender.state (Packet c.args.copy)) × (Some c.in-Some.sender ≡ get_or c.args.self.now.senders.items c.from-to.result (Some c.in-Some.sender))
 told g c =
     let value = c.index_mut.ensures.value in

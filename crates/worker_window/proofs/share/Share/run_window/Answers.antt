@@ -62,9 +62,11 @@ run_slots-requires g c =
     let r = c.requires.ready in
     let at = subst (λ l. Holds c.put_copies.new.self.buckets (r.keeps.agenda.items ++ map Packet l)) c.deref.ensures.value (c.in_ok-put_copies.ensures r.keeps.agenda.items r.keeps.agenda.holds) in
     let lends = c.in_ok-slots.ensures in
-    record { go_on = slots_go_on n c.args.until lends.lent_motes c.in_ok-slots.slots.items lends.opened
-    (go_on n c.args.of.now r.worker r.from c.args.until r.motes r.taken c.args.arrived.items c.args.self.now c.lend.new.share r.keeps r.order r.expected c.requires.of c.in_ok-calls.calls.copies.items
-    lends.lent_motes c.lend.new.wakes.items (c.in_ok-calls.ensures.taken _ at) (held_still lends.agenda (c.in_ok-calls.ensures.rest _ at)) lends.lent) }
+    record {
+      go_on = slots_go_on n c.args.until lends.lent_motes c.in_ok-slots.slots.items lends.opened
+          (go_on n c.args.of.now r.worker r.from c.args.until r.motes r.taken c.args.arrived.items c.args.self.now c.lend.new.share r.keeps r.order r.expected c.requires.of c.in_ok-calls.calls.copies.items
+          lends.lent_motes c.lend.new.wakes.items (c.in_ok-calls.ensures.taken _ at) (held_still lends.agenda (c.in_ok-calls.ensures.rest _ at)) lends.lent);
+    }
 
 pub loop-slot-init : goal.loop-slot-init
 loop-slot-init g c =
