@@ -156,11 +156,11 @@ def measure(name: str, sizes: Sequence[int], programs: Sequence[str], rounds: in
             show('one thread, and the host', [programs[0], built_host(scenario, room / 'host')], [])
         if counts:
             scenario.write_bytes(generated(name, SCENARIOS[name][1]))
-            found = [instructions(program, scenario) for program in programs]
-            if found[0] is None:
+            found = [instructions(program, scenario) or 0 for program in programs]
+            if not found[0]:
                 print('  instructions are not counted: on Debian `apt-get install valgrind` installs what counts them')
             else:
-                print('  %s' % cell('instructions of a tenth, on one thread', found[:1], [it or 0 for it in found[1:]], millions))
+                print('  %s' % cell('instructions of a tenth, on one thread', found[:1], found[1:], millions))
     if len(reports) > 1:
         print('  THE REPORTS DIFFER')
     return len(reports) == 1

@@ -34,8 +34,9 @@ FILES = ['tests/cases/nets/two_senders.toml', 'tests/cases/nets/ring_overflows.t
          'tests/cases/queues/full_queue.toml', 'tests/cases/queues/refused_timer_waits.toml', 'examples/wrong.toml']
 WORKERS = [['--workers', workers, '--sync', sync] for sync in ('joins', 'marks') for workers in '23']
 # (the last has a fault, which is found before there are workers)
+ALONE: list[str] = []
 SMALL: list[tuple[Path, list[str]]] = [
-    (TOP / file, words) for words in [[], *WORKERS] for file in (FILES if words in ([], WORKERS[0]) else FILES[:-1])]
+    (TOP / file, words) for words in [ALONE, *WORKERS] for file in (FILES if words in ([], WORKERS[0]) else FILES[:-1])]
 REFUSES = TOP / 'tools/project/refuses.c'
 CALLS = TOP / 'crates/part_tests'
 CALLS_TEST = 'tests::refused::once_out_of_memory'

@@ -9,7 +9,7 @@ from pathlib import Path
 
 from motesim.faults import Fault, command
 from motesim.words import words_of
-from project.headline import Wrong, about, crates_of, item
+from project.headline import about, crates_of, item
 from project.tree import TOP
 
 PAGE = Path('docs/dev/SPECS.md')
@@ -49,7 +49,7 @@ def main() -> int:
             return 0
         before, begin, rest = (TOP / PAGE).read_text('utf-8').partition(BEGIN)
         between, end, after = rest.partition(END)
-    except (Wrong, OSError) as fault:
+    except OSError as fault:
         raise Fault(str(fault)) from None
     if not begin or not end:
         raise Fault('%s lacks the mark %s' % (PAGE, (END if begin else BEGIN).strip()))

@@ -200,5 +200,6 @@ def main() -> int:
         print('skipped: open, since only an answer by hand no longer fits, or at a limit: %s' % ' '.join(still))
     if failed:
         print('not refused: %s' % ' '.join(failed))
+    print('all mutants, when each was last tried: %s' % log.counts(digests))
     print('%d passed, %d failed, %d skipped' % (len(found) - len(still) - len(failed), len(failed), len(still)))
     return 1 if failed else 0

@@ -1,4 +1,6 @@
 """Where faults are found, and that each kind of fault of the pages has its words."""
+from __future__ import annotations
+
 import contextlib
 import io
 import os
@@ -8,6 +10,7 @@ import tempfile
 import time
 import tomllib
 import unittest
+from collections.abc import Iterator, Sequence
 from pathlib import Path
 from unittest import mock
 
@@ -117,7 +120,7 @@ SCENARIOS = [
 ]
 
 
-def changed(changes):
+def changed(changes: dict[str, str]) -> str:
     text = SCENARIO
     for old, new in changes.items():
         assert old in text, old
@@ -125,48 +128,51 @@ def changed(changes):
     return text
 
 
-def mark_of(lines):
+def mark_of(lines: Sequence[str]) -> tuple[int, str]:
     """The line number of what is shown, and the part of it that is marked."""
-    number = int(re.search(r'line (\d+)', lines[0])[1])
+    number = int(re.findall(r'line (\d+)', lines[0])[0])
     shown, mark = lines[1], lines[2]
     return number, shown[mark.index('^'):mark.rindex('^') + 1]
 
 
 class Programs(unittest.TestCase):
-    def test_the_first_fault(self):
+    def test_the_first_fault(self) -> None:
         for text, kind, line, column, word, may in PROGRAMS:
             with self.subTest(text[:60]):
                 fault = program_faults.find_fault(text)
                 if not kind:
                     self.assertIsNone(fault)
                     continue
+                assert fault
                 self.assertEqual((fault.kind, fault.token), (kind, program_faults.Token(word, line, column)))
                 self.assertTrue(any(may in it for it in fault.may), fault.may)
 
-    def test_the_examples_of_the_page(self):
+    def test_the_examples_of_the_page(self) -> None:
         page = (TOP / 'docs/use/NOTATION.md').read_text('utf-8')
         rows = re.findall(r'^\| `(code a .*)` \| (\d+) on line 2', page, re.M)
         self.assertGreater(len(rows), 3)
         for text, kind in rows:
             fault = program_faults.find_fault('process a;\n' + text)
+            assert fault
             self.assertEqual((fault.kind, fault.token.line), (int(kind), 2))
 
 
 class Scenarios(unittest.TestCase):
-    def test_a_scenario_in_order(self):
+    def test_a_scenario_in_order(self) -> None:
         self.assertIsNone(scenario_faults.find_fault(SCENARIO.encode()))
 
-    def test_the_place_of_a_fault(self):
+    def test_the_place_of_a_fault(self) -> None:
         for changes, told, line, marked in SCENARIOS:
             with self.subTest(str(changes)):
                 text = changed(changes)
-                self.assertEqual(scenario_faults.find_fault(text.encode()).told, told)
+                fault = scenario_faults.find_fault(text.encode())
+                self.assertEqual(fault and fault.told, told)
                 lines = explain.explanation('s.toml', text.encode(), 'motesim: ' + told)
                 found = mark_of(lines)
                 self.assertEqual((found[0], found[1].strip()), (line, marked))
                 self.assertTrue(any(it.startswith('Allowed here: ') for it in lines))
 
-    def test_what_is_lacking_at_the_top_is_shown_and_nothing_is_marked(self):
+    def test_what_is_lacking_at_the_top_is_shown_and_nothing_is_marked(self) -> None:
         for changes, head, begin, more in LACKS:
             with self.subTest(head + more):
                 text = changed(changes)
@@ -176,7 +182,7 @@ class Scenarios(unittest.TestCase):
                 self.assertEqual(sum('^' in line for line in lines), head.endswith('line 3:'))
                 self.assertTrue(all(len(line) < 120 for line in lines))
 
-    def test_what_is_shown_mends_the_scenario(self):
+    def test_what_is_shown_mends_the_scenario(self) -> None:
         for version, collide in ('1', ''), ('2', 'collide = true\n'):
             text = changed({'version = 1': 'version = ' + version, 'per = 100\n': 'per = 100\n' + collide})
             whole = tomllib.loads(text[:text.index('[[loss]]')])
@@ -186,47 +192,49 @@ class Scenarios(unittest.TestCase):
                 Scenario({**tables, **shown})
                 self.assertEqual(list(shown), [name])
 
-    def test_a_report_is_named(self):
+    def test_a_report_is_named(self) -> None:
         lines = explain.explanation('r', b'mote 0 p\nmedium\nleft 0\n', 'motesim: scenario fault 1')
         self.assertIn('Hint: This is a report, and no scenario', lines[-1])
 
-    def test_a_text_in_another_encoding_is_named(self):
+    def test_a_text_in_another_encoding_is_named(self) -> None:
         for codec, name, taken, why in [
                 ('utf-16', 'UTF-16', 'UTF-16', 'by the byte order mark'),
                 ('utf-16-le', 'UTF-16', 'UTF-16LE', 'as every second'),
                 ('utf-16-be', 'UTF-16', 'UTF-16BE', 'as every second'),
                 ('utf-32', 'UTF-32', 'UTF-32', 'by the byte order mark')]:
             data = SCENARIO.encode(codec)
-            lines = explain.explanation('s.toml', data, 'motesim: ' + scenario_faults.find_fault(data).told)
+            fault = scenario_faults.find_fault(data)
+            assert fault
+            lines = explain.explanation('s.toml', data, 'motesim: ' + fault.told)
             self.assertTrue(lines[0].startswith('s.toml looks like a text in %s, %s' % (name, why)), lines)
             self.assertIn('`iconv -f %s -t UTF-8 s.toml >NEW`' % taken, ' '.join(line.strip() for line in lines))
             self.assertFalse(any('\0' in line or '^' in line for line in lines))
         self.assertIsNone(encodings.encoding_of(b'\xef\xbb\xbf' + SCENARIO.encode()))
 
-    def test_a_byte_of_latin_1_is_named(self):
+    def test_a_byte_of_latin_1_is_named(self) -> None:
         data = SCENARIO.replace('version', '# Zürich\nversion', 1).encode('cp1252')
         lines = explain.explanation('s.toml', data, 'motesim: scenario is not UTF-8')
         self.assertEqual(mark_of(lines)[0], 1)
         self.assertIn('this byte is `ü`', lines[-1])
 
-    def test_no_sign_that_a_terminal_takes_for_a_command_is_shown(self):
+    def test_no_sign_that_a_terminal_takes_for_a_command_is_shown(self) -> None:
         lines = explain.explanation('s.toml', b'\x1b[2J = 5\n', 'motesim: scenario fault 1')
         self.assertEqual(lines[1], '  \ufffd[2J = 5')
 
-    def test_bytes_that_are_no_text(self):
+    def test_bytes_that_are_no_text(self) -> None:
         lines = explain.explanation('s', b'version = 1\nx = "\xff"\n', 'motesim: scenario is not UTF-8')
         self.assertEqual(mark_of(lines)[0], 2)
 
-    def test_a_text_that_is_too_long(self):
+    def test_a_text_that_is_too_long(self) -> None:
         lines = explain.explanation('s', b'#\n' * 524_289, 'motesim: scenario too long')
         self.assertEqual(mark_of(lines)[0], 524_289)
 
-    def test_a_fault_of_which_no_place_is_known(self):
+    def test_a_fault_of_which_no_place_is_known(self) -> None:
         for line in 'motesim: out of memory', 'motesim: scenario fault 4', 'motesim: anything':
             lines = explain.explanation('s', SCENARIO.encode(), line)
             self.assertEqual(lines[-1], 'Where it is, this tool does not know.')
 
-    def test_a_long_line_is_shown_around_the_mark(self):
+    def test_a_long_line_is_shown_around_the_mark(self) -> None:
         text = 'process a; code a { body { %s print zz; } }' % ('yield; ' * 100)
         scenario = re.sub(r"'''\n.*?'''", '"%s"' % text, SCENARIO, flags=re.S)
         lines = explain.explanation('s', scenario.encode(), 'motesim: program p fault 3 line 1')
@@ -235,7 +243,7 @@ class Scenarios(unittest.TestCase):
 
 
 class Pages(unittest.TestCase):
-    def test_each_kind_of_the_notation_has_its_words(self):
+    def test_each_kind_of_the_notation_has_its_words(self) -> None:
         page = (TOP / 'docs/use/NOTATION.md').read_text('utf-8')
         rows = re.findall(r'^\| (\d+) \| (\w+) \|', page, re.M)
         self.assertEqual([int(kind) for kind, _ in rows], list(range(1, 12)))
@@ -243,7 +251,7 @@ class Pages(unittest.TestCase):
         for kind, name in rows:
             self.assertIn(name, explain.rule_of('program p fault %s line 1' % kind))
 
-    def test_each_line_of_the_scenarios_page_has_its_words(self):
+    def test_each_line_of_the_scenarios_page_has_its_words(self) -> None:
         page = (TOP / 'docs/use/SCENARIO.md').read_text('utf-8').split('## Errors')[1].split('## Appendix')[0]
         lines = re.findall(r'^\| `motesim: ([^`]+)` \|', page, re.M)
         self.assertGreater(len(lines), 14)
@@ -269,13 +277,13 @@ class Deep(unittest.TestCase):
 
 
 class Cases(unittest.TestCase):
-    def cases(self, folder):
+    def cases(self, folder: str) -> Iterator[tuple[str, bytes, str]]:
         """The scenarios of a folder of cases that are refused, each with its line."""
         for path in sorted((TOP / 'tests/cases' / folder).glob('*.stderr')):
             if path.with_suffix('.toml').is_file():
                 yield path.stem, path.with_suffix('.toml').read_bytes(), path.read_text('utf-8').rstrip('\n')
 
-    def test_each_fault_has_a_place_and_a_rule(self):
+    def test_each_fault_has_a_place_and_a_rule(self) -> None:
         count = 0
         for folder in 'faults', 'programs':
             for name, data, line in self.cases(folder):
@@ -289,7 +297,7 @@ class Cases(unittest.TestCase):
                     self.assertTrue(any(it.startswith('Allowed here: ') for it in lines))
         self.assertGreater(count, 80)
 
-    def test_what_has_a_report_has_no_fault(self):
+    def test_what_has_a_report_has_no_fault(self) -> None:
         for path in (TOP / 'tests/cases/motes').glob('*.toml'):
             self.assertIsNone(scenario_faults.find_fault(path.read_bytes()), path.name)
 
@@ -308,15 +316,16 @@ UnknownName: """
 
 
 class Command(unittest.TestCase):
-    def test_what_is_printed(self):
+    def test_what_is_printed(self) -> None:
         with tempfile.TemporaryDirectory() as room:
             program, scenario = Path(room) / 'motesim', Path(room) / 's.toml'
             program.write_text(PROGRAM)
             program.chmod(0o755)
-            for changes, status, begin in [
+            tried: list[tuple[dict[str, str], int, str]] = [
                 ({'print 1': 'print z', 'end = 5': 'end = 6'}, 1, EXPLAINED % scenario),
                 ({}, 0, '%s has a report, and no fault\n' % scenario),
-            ]:
+            ]
+            for changes, status, begin in tried:
                 scenario.write_text(changed(changes))
                 said = io.StringIO()
                 with mock.patch.dict(os.environ, MOTESIM=str(program)), contextlib.redirect_stdout(said):

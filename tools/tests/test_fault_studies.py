@@ -1,4 +1,6 @@
 """The fault studies of the examples come out as they say; and what is told of one that doesn't, or can't be read."""
+from __future__ import annotations
+
 import contextlib
 import io
 import os
@@ -33,14 +35,14 @@ counts = [0, 4]
 
 
 class Studies(unittest.TestCase):
-    def check(self, text):
+    def check(self, text: str) -> tuple[int, int, str]:
         with tempfile.TemporaryDirectory() as folder, contextlib.redirect_stdout(io.StringIO()) as said:
             Path(folder, 'diamond.toml').write_text(DIAMOND)
             path = Path(folder, 'study.toml')
             path.write_text(text)
             return *check_studies(path, 2), said.getvalue()
 
-    def test_of_the_examples(self):
+    def test_of_the_examples(self) -> None:
         need_program(self)
         files = sorted((TOP / 'examples/faults').glob('*.toml'))
         names = {it.name for it in files}
@@ -50,7 +52,7 @@ class Studies(unittest.TestCase):
             with self.subTest(path.name), contextlib.redirect_stdout(io.StringIO()) as said:
                 self.assertEqual(check_studies(path, os.cpu_count() or 1)[1], 0, said.getvalue())
 
-    def test_what_is_told(self):
+    def test_what_is_told(self) -> None:
         need_program(self)
         passed, failed, said = self.check(STUDY)
         self.assertEqual((passed, failed), (2, 1))
@@ -58,7 +60,7 @@ class Studies(unittest.TestCase):
         self.assertIn('nothing is broken any more by: mote 1 is silent\n', said)
         self.assertIn('broken, though not expected, by: mote 0 is silent\n', said)
 
-    def test_what_cannot_be_read(self):
+    def test_what_cannot_be_read(self) -> None:
         for text, wanted in (('a = [', 'is no TOML'), ('scenario = "x"', r'no tables \[\[study\]\]'),
                              (STUDY.replace('faults = "links"', 'faults = 5', 1), 'study 1 of .* `faults` is not allowed there'),
                              (STUDY.replace('breaks = []', '', 1), 'study 1 of .* lacks')):

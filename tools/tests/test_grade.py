@@ -249,10 +249,10 @@ class Forms(Folder):
         self.grade('-o', 'marks.html', '--net', 'task.toml')
         page = (self.top / 'marks.html').read_text()
         link = re.search(r'<a href="(marks_runs/[0-9]+\.html)">1\. every mote prints a 3</a>', page)
-        self.assertIsNotNone(link)
+        assert link
         picture = (self.top / link[1]).read_text()
         self.assertIn('&lt;script&gt;.toml', picture)
-        note = json.loads(re.search('id="data" type="application/json">(.*)</script>', picture)[1])['note']
+        note = json.loads(re.findall('id="data" type="application/json">(.*)</script>', picture)[0])['note']
         # (the stub is no kernel, so nothing more is known of what came near)
         self.assertEqual((note['title'], note['why'], note['mote'], note['at']), (
             'every mote prints a 3', 'mote 0 has 0 such lines; wanted: at least 1', 0, 60))

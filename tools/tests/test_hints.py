@@ -15,7 +15,7 @@ from motesim.explain.advice import advice
 from motesim.scenario import faults as scenario_faults
 from motesim.summary.flows import FlowFault, flow_rows, read_flow
 from motesim.explain.lint import warnings
-from motesim.notation.faults import find_fault
+from motesim.notation.faults import ProgramError, find_fault
 from motesim.report import Report
 from motesim.runner.run import Answer
 from motesim.scenario import Scenario
@@ -66,8 +66,15 @@ def scenario(version: str = '1', medium: str = '', program: str = CODE % 'set t 
     return SCENARIO % (version, medium, program, x)
 
 
+def fault_of(text: str) -> ProgramError:
+    fault = find_fault(text)
+    assert fault
+    return fault
+
+
 def hint_of(text: str) -> str:
     fault = scenario_faults.find_fault(text.encode())
+    assert fault
     return hints.of_scenario(explain.tables_or_none(text), fault, text) or ''
 
 
@@ -96,7 +103,7 @@ class Hints(unittest.TestCase):
         for text, wanted in ('process a; code a { var count = 0; body { } }', '`count` is a word'), (
                 'process a; code a { var x; body { } }', '`var x = 0;`'), (
                 'process a; code a { timer t; body { } }', '`etimer`'):
-            self.assertIn(wanted, hints.of_program(text, find_fault(text)) or '')
+            self.assertIn(wanted, hints.of_program(text, fault_of(text)) or '')
 
     def test_a_scenario(self) -> None:
         for text, wanted in [
@@ -121,7 +128,7 @@ class Hints(unittest.TestCase):
 
     def test_none_where_nothing_is_known(self) -> None:
         text = CODE % 'print 1; }'
-        self.assertIsNone(hints.of_program(text, find_fault(text)))
+        self.assertIsNone(hints.of_program(text, fault_of(text)))
 
 
 class Warnings(unittest.TestCase):

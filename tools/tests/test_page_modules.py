@@ -117,6 +117,7 @@ def given() -> dict[str, Any]:
     sums = Run('sums', Report.parse(test_summary.REPORT), Scenario.parse(scenario))
     runs = {'small_network': test_timeline.small_network(), 'small': small, 'many': many, 'silent': silent,
             'sums': sums, **{name: test_timeline.case(name) for name in CASES}}
+    assert small.scenario
     source = Source('small', test_why.REPORT.encode(), small.scenario)
     chains = [{'row': source.traces.row(At(*where)),
                'because': ['mote %d: %s' % (hop.where.mote, hop.because) for hop in chain(source, At(*where))]}

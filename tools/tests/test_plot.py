@@ -8,6 +8,7 @@ from pathlib import Path
 from xml.etree import ElementTree
 
 from here import TOOLS
+from motesim.analysis.points import Wish, shown_of
 from motesim.experiments import packages, plot
 from motesim.faults import Fault
 from motesim.experiments.results import Row
@@ -116,7 +117,7 @@ class PlotTest(unittest.TestCase):
     def test_texts_are_no_measure(self) -> None:
         rows: list[Row] = [{'a': 1, 'said': 'so', 'fault': None, 'parameters': 'a'}]
         with self.assertRaisesRegex(Fault, 'has texts'):
-            plot.shown_of(rows, plot.Wish('said', 'a'))
+            shown_of(rows, Wish('said', 'a'))
 
     def test_what_a_plan_says_is_drawn(self) -> None:
         interpreter_with(self, 'matplotlib')

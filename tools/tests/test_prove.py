@@ -107,9 +107,15 @@ class Libraries(unittest.TestCase):
             low: Any = types.SimpleNamespace(rlib=room + '/out/rlib/low.rlib', stamp=lambda: 'sum',
                                         words=lambda flags, keeps: ['words', *flags])
             called: list[tuple[str, ...]] = []
+            status = 0
+
+            def call(*words: str) -> int:
+                called.append(words[1:])
+                return status
+
             for status, is_stamped in [(1, False), (0, True), (1, False)]:
                 called.clear()
-                low.call = lambda *words, status=status: (called.append(words[1:]), status)[1]
+                low.call = call
                 self.assertEqual(kit.write_rlib(low, ['--jobs', '2']), status)
                 self.assertEqual(called, [('build', 'words', '--jobs', '2', '--statements', '-o', low.rlib)])
                 self.assertEqual(Path(low.rlib).with_name('stamp').is_file(), is_stamped)

@@ -1,5 +1,7 @@
 """Searches for faults: what each kind changes in the text, which sets are minimal, what is said to be covered, and what
 becomes of interrupted searches, hostile programs and texts that can't be changed."""
+from __future__ import annotations
+
 import contextlib
 import csv
 import itertools
@@ -11,7 +13,9 @@ import tempfile
 import time
 import unittest
 from concurrent.futures import ThreadPoolExecutor
+from collections.abc import Iterator, Sequence
 from pathlib import Path
+from typing import Any
 
 from here import TOOLS, TOP
 from motesim.faults import Fault
@@ -23,7 +27,7 @@ from motesim.runner.run import answer, program_path
 from motesim.scenario.scenario import Scenario
 from motesim.search.added import DIES, LATE, NoRoom, changed_program
 from motesim.search.change import Base, CannotChange
-from motesim.search.faults import Asked, change_of, faults_of
+from motesim.search.faults import Asked, FaultyPart, change_of, faults_of
 from motesim.search.one_program import Limits, OneProgram
 from motesim.search.quick_judge import QuickJudge
 from motesim.search.sets import Known, count_of
@@ -85,15 +89,15 @@ program = "p"
 REACHED = 'mote 3 prints flood 7'
 
 
-def base_of(text=DIAMOND):
+def base_of(text: str = DIAMOND) -> Base:
     return Base(text, 'diamond.toml')
 
 
-def faults_by_words(base, **asked):
+def faults_by_words(base: Base, **asked: Any) -> dict[str, Any]:
     return {fault.words: fault for fault in faults_of(base, Asked(**asked))}
 
 
-def lines_changed(before, after):
+def lines_changed(before: str, after: str) -> tuple[list[str], list[str]]:
     """The lines that are gone, and those that came, in order."""
     import difflib
     rows = list(difflib.ndiff(before.split('\n'), after.split('\n')))
@@ -101,7 +105,7 @@ def lines_changed(before, after):
 
 
 @contextlib.contextmanager
-def folder_with(text=DIAMOND, sentences=(REACHED,)):
+def folder_with(text: str = DIAMOND, sentences: Sequence[object] = (REACHED,)) -> Iterator[Path]:
     with tempfile.TemporaryDirectory() as folder:
         path = Path(folder, 'diamond.toml')
         path.write_text(text)
@@ -109,19 +113,19 @@ def folder_with(text=DIAMOND, sentences=(REACHED,)):
         yield Path(folder)
 
 
-def search(folder, *words, scenario='diamond.toml'):
+def search(folder: str | Path, *words: str, scenario: str = 'diamond.toml') -> tuple[int, str, str]:
     done = subprocess.run([sys.executable, '-B', str(TOOLS / 'search'), scenario, *words], cwd=folder,
                           capture_output=True, text=True)
     return done.returncode, done.stdout, done.stderr
 
 
-def minimal_sets(folder, *words):
+def minimal_sets(folder: str | Path, *words: str) -> tuple[dict[str, Any], Any, str]:
     """The minimal sets that a search finds, by expectation."""
     status, said, told = search(folder, *words, '--json', 'found.json')
     if status not in (0, 1):
         raise AssertionError(told)
     found = json.loads(Path(folder, 'found.json').read_text())
-    sets = {}
+    sets: dict[str, Any] = {}
     for it in found['found']:
         for sentence in it['expectations']:
             sets.setdefault(sentence, set()).add(frozenset(it['faults']))
@@ -131,24 +135,24 @@ def minimal_sets(folder, *words):
 class Texts(unittest.TestCase):
     """Each kind of fault is a change of a few lines."""
 
-    def one(self, words, text=DIAMOND, **asked):
+    def one(self, words: str, text: str = DIAMOND, **asked: Any) -> Any:
         base = base_of(text)
         change = change_of([faults_by_words(base, **asked)[words]], base)
         changed = base.text(change)
         return *lines_changed(text, changed), Scenario.parse(changed)
 
-    def test_link(self):
+    def test_link(self) -> None:
         gone, came, read = self.one('link 0 to 1 loses everything', kinds=('links',))
         self.assertEqual((gone, came), ([], ['[[loss]]', 'from = 0', 'to = 1', 'every = 1']))
         self.assertEqual(read.losses, {(0, 1): 1})
 
-    def test_link_that_loses_some_already(self):
+    def test_link_that_loses_some_already(self) -> None:
         text = DIAMOND + '[[loss]]\nfrom = 0 # here\nto = 1\nevery = 5 # of five\n'
         gone, came, read = self.one('link 0 to 1 loses everything', text, kinds=('links',))
         self.assertEqual((gone, came), (['every = 5 # of five'], ['every = 1 # of five']))
         self.assertEqual(read.losses, {(0, 1): 1})
 
-    def test_link_that_loses_all_already_has_no_fault(self):
+    def test_link_that_loses_all_already_has_no_fault(self) -> None:
         base = base_of(DIAMOND + '[[loss]]\nfrom = 0\nto = 1\nevery = 1\n')
         found = faults_by_words(base, kinds=('links', 'motes'))
         self.assertNotIn('link 0 to 1 loses everything', found)
@@ -156,23 +160,23 @@ class Texts(unittest.TestCase):
         # (the other link of mote 0 is left)
         self.assertIn('mote 0 is silent', found)
 
-    def test_both_ways(self):
+    def test_both_ways(self) -> None:
         _, came, read = self.one('link 1 and 3 loses everything both ways', kinds=('both-ways',))
         self.assertEqual(read.losses, {(1, 3): 1, (3, 1): 1})
         self.assertEqual(len(came), 8)
 
-    def test_every(self):
+    def test_every(self) -> None:
         found = faults_by_words(base_of(), kinds=('every',), every=(2, 3))
         self.assertEqual(len(found), 16)
         self.assertEqual(self.one('link 2 to 3 loses each 3. packet', kinds=('every',), every=(3,))[2].losses,
                          {(2, 3): 3})
 
-    def test_every_is_no_fault_where_as_much_is_lost(self):
+    def test_every_is_no_fault_where_as_much_is_lost(self) -> None:
         base = base_of(DIAMOND + '[[loss]]\nfrom = 0\nto = 1\nevery = 3\n')
         words = [it.words for it in faults_of(base, Asked(('every',), every=(2, 3, 4))) if it.slot[1:] == (0, 1)]
         self.assertEqual(words, ['link 0 to 1 loses each 2. packet'])
 
-    def test_packets(self):
+    def test_packets(self) -> None:
         # (of five packets 2 is lost by every = 3, which next loses packet 5; packet 1 can't be lost alone)
         base = base_of()
         found = [it for it in faults_of(base, Asked(('packets',), sent=(5, 1, 0, 2))) if it.slot[1] in (0, 3)]
@@ -180,28 +184,28 @@ class Texts(unittest.TestCase):
         self.assertEqual(lost, {((0, 1), 3), ((0, 1), 4), ((0, 1), 5), ((0, 2), 3), ((0, 2), 4), ((0, 2), 5),
                                 ((3, 1), 2), ((3, 2), 2)})
 
-    def test_silent_mote(self):
+    def test_silent_mote(self) -> None:
         self.assertEqual(self.one('mote 3 is silent', kinds=('motes',))[2].losses, {(3, 1): 1, (3, 2): 1})
 
-    def test_collisions_take_version_2(self):
+    def test_collisions_take_version_2(self) -> None:
         gone, came, read = self.one('packets collide', kinds=('collisions',))
         self.assertEqual((gone, came), (['version = 1'], ['version = 2', 'collide = true']))
         self.assertTrue(read.collide)
 
-    def test_queue(self):
+    def test_queue(self) -> None:
         gone, came, read = self.one('the event queue of p has room for 4', kinds=('queues',), queues=(4,))
         self.assertEqual((gone, came), (['version = 1'], ['version = 2', 'collide = false', '[queue]', 'p = 4']))
         self.assertEqual((read.queue, read.collide), ({'p': 4}, False))
 
-    def test_value(self):
+    def test_value(self) -> None:
         gone, came, read = self.one('range is 8', kinds=('values',), values={'range': (8,)})
         self.assertEqual((gone, came), (['range = 10   # neighbours only'], ['range = 8   # neighbours only']))
 
-    def test_place(self):
+    def test_place(self) -> None:
         _, _, read = self.one('mote 1 is at 9, 6', kinds=('places',), step=3)
         self.assertEqual((read.places[1].x, read.places[1].y), (9, 6))
 
-    def test_failing_mote(self):
+    def test_failing_mote(self) -> None:
         gone, came, read = self.one('mote 1 fails at 50', kinds=('deaths',), moments=(50,))
         self.assertEqual([it.program for it in read.places], ['p', 'p_fails_1', 'p', 'p'])
         self.assertEqual(gone, ['program = "p"'])
@@ -211,39 +215,39 @@ class Texts(unittest.TestCase):
         self.assertTrue(program.endswith('code failing {\n  etimer wait;\n  body {\n    set wait 50;\n'
                                          '    yield_until fired(wait);\n    kill flood;\n  }\n}\n'), program)
 
-    def test_failing_mote_keeps_its_queue(self):
+    def test_failing_mote_keeps_its_queue(self) -> None:
         text = DIAMOND.replace('version = 1', 'version = 2').replace('per = 1000', 'per = 1000\ncollide = false')
         text = text.replace('[[mote]]', '[queue]\np = 5\n[[mote]]', 1)
         _, _, read = self.one('mote 1 fails at 50', text, kinds=('deaths',), moments=(50,))
         self.assertEqual(read.queue, {'p': 5, 'p_fails_1': 5})
 
-    def test_late_mote(self):
+    def test_late_mote(self) -> None:
         _, _, read = self.one('mote 2 starts at 70', kinds=('late',), moments=(70,))
         program = read.programs['p_late_2']
         self.assertIn('process flood, starting;\nautostart starting;', program)
         self.assertIn('yield_until fired(wait);\n    start flood;\n', program)
 
-    def test_long_waits_take_rounds(self):
+    def test_long_waits_take_rounds(self) -> None:
         program = changed_program(PROGRAM, DIES, 130_000)
         self.assertIn('while (rounds < 2) {', program)
         self.assertIn('set wait 10000;', program)
 
-    def test_mote_that_could_go_on_halts(self):
+    def test_mote_that_could_go_on_halts(self) -> None:
         program = changed_program(PROGRAM.replace('etimer t;', 'etimer t;\n  ctimer c { send 1; }'), DIES, 5)
         self.assertIn('while 1 {\n    }\n', program)
         self.assertNotIn('kill flood', program)
 
-    def test_names_that_are_taken(self):
+    def test_names_that_are_taken(self) -> None:
         text = PROGRAM.replace('flood', 'failing').replace('etimer t', 'etimer wait').replace(' t ', ' wait ')
         self.assertIn('process failing, failing2;', changed_program(text.replace('(t)', '(wait)'), DIES, 5))
 
-    def test_no_room_for_a_process(self):
+    def test_no_room_for_a_process(self) -> None:
         names = ['a%d' % number for number in range(64)]
         full = 'process %s;\n' % ', '.join(names) + ''.join('code %s { body { } }\n' % name for name in names)
         with self.assertRaisesRegex(NoRoom, 'at most 64: processes of a program'):
             changed_program(full, LATE, 5)
 
-    def test_text_that_cannot_be_changed(self):
+    def test_text_that_cannot_be_changed(self) -> None:
         head, _, motes = DIAMOND.partition('[[mote]]\n')
         rows = ', '.join('{x = %d, y = %d, program = "p"}' % at for at in ((0, 0), (6, 6), (6, -6), (12, 0)))
         base = base_of('mote = [%s]\n' % rows + head)
@@ -255,13 +259,13 @@ class Texts(unittest.TestCase):
         with self.assertRaisesRegex(CannotChange, 'losses in one array'):
             base.text(change_of([link], base))
 
-    def test_scenario_with_a_fault(self):
+    def test_scenario_with_a_fault(self) -> None:
         with self.assertRaisesRegex(Fault, 'diamond.toml has no report: motesim: scenario fault 2'):
             base_of('version = 1\n')
 
 
 class Counts(unittest.TestCase):
-    def test_sets_are_those_of_a_naive_count(self):
+    def test_sets_are_those_of_a_naive_count(self) -> None:
         faults = faults_of(base_of(), Asked(('links', 'every', 'motes', 'values'), every=(2, 3),
                                             values={'range': (5, 6, 7)}))
         known = Known(faults, 1)
@@ -285,7 +289,7 @@ class QuickJudging(unittest.TestCase):
             'at least 50 % of the motes send', 'mote 1 sends after mote 0 sends',
             'every mote receives at 12 plus 4 for each hop from mote 0', 'no mote but 0 sends its number']
 
-    def test_of_examples_with_faults(self):
+    def test_of_examples_with_faults(self) -> None:
         need_program(self)
         for path in sorted((TOP / 'examples').glob('*.toml')):
             if path.name.endswith('.expect.toml') or path.name == 'wrong.toml':
@@ -298,7 +302,8 @@ class QuickJudging(unittest.TestCase):
             sentences = read_all([*part.sentences, *more], names)
             quick = QuickJudge(sentences)
             faults = faults_of(base, Asked(('links', 'motes', 'collisions')))
-            for found in [[], *([it] for it in faults[::max(1, len(faults) // 4)])]:
+            sets: list[list[FaultyPart]] = [[], *([it] for it in faults[::max(1, len(faults) // 4)])]
+            for found in sets:
                 change = change_of(found, base)
                 changed = base.text(change)
                 report, scenario = answer(changed.encode()).report, Scenario.parse(changed)
@@ -308,10 +313,10 @@ class QuickJudging(unittest.TestCase):
 
 
 class Searches(unittest.TestCase):
-    def setUp(self):
+    def setUp(self) -> None:
         need_program(self)
 
-    def test_minimal_sets_worked_out_by_hand(self):
+    def test_minimal_sets_worked_out_by_hand(self) -> None:
         # The message takes 0-1-3 or 0-2-3, so one link of each way has to fail.
         with folder_with() as folder:
             sets, found, said = minimal_sets(folder, '--faults', 'links', '--at-most', '3')
@@ -330,7 +335,7 @@ class Searches(unittest.TestCase):
             self.assertEqual(triples['run'], holding)
             self.assertIn('all 28 pairs: 28 run\n', said)
 
-    def test_as_a_naive_search_finds(self):
+    def test_as_a_naive_search_finds(self) -> None:
         sentences = [REACHED, 'exactly 4 packets are sent', 'mote 1 receives at least 2']
         kinds = ('links', 'motes', 'values')
         with folder_with(sentences=sentences) as folder:
@@ -346,14 +351,14 @@ class Searches(unittest.TestCase):
                 names = names_of(scenario)
                 breaks[frozenset(it.words for it in found)] = {
                     it for it in sentences if judge.broken(read_sentence(it, names))}
-        wanted = {}
-        for found, broken in breaks.items():
+        wanted: dict[str, Any] = {}
+        for names_found, broken in breaks.items():
             for sentence in broken:
-                if not any(part < found and sentence in breaks[part] for part in breaks):
-                    wanted.setdefault(sentence, set()).add(found)
+                if not any(part < names_found and sentence in breaks[part] for part in breaks):
+                    wanted.setdefault(sentence, set()).add(names_found)
         self.assertEqual(sets, wanted)
 
-    def test_counter_examples_are_scenarios_with_expectations(self):
+    def test_counter_examples_are_scenarios_with_expectations(self) -> None:
         with folder_with() as folder:
             status, said, _ = search(folder, '--faults', 'motes', '-o', 'here', '--csv', 'found.csv')
             self.assertEqual(status, 1)
@@ -368,7 +373,7 @@ class Searches(unittest.TestCase):
             self.assertEqual(done.returncode, 1, done.stderr)
             self.assertIn('broken  mote 3 prints flood 7', done.stdout)
 
-    def test_other_forms_of_text(self):
+    def test_other_forms_of_text(self) -> None:
         for text in DIAMOND.replace('\n', '\r\n'), '\ufeff' + DIAMOND, DIAMOND[:-1]:
             with folder_with() as folder:
                 (folder / 'diamond.toml').write_text(text, newline='')
@@ -378,21 +383,21 @@ class Searches(unittest.TestCase):
                     found = answer((folder / 'diamond.search' / (name + '.toml')).read_bytes())
                     self.assertEqual((found.status, found.fault), (0, b''))
 
-    def test_all_hold(self):
+    def test_all_hold(self) -> None:
         with folder_with() as folder:
             status, said, _ = search(folder, '--faults', 'links')
             self.assertEqual(status, 0)
             self.assertIn('all 8 single faults: 8 run', said)
             self.assertIn('1 of 1 expectations hold in every run; 8 runs\n', said)
 
-    def test_failing_and_late_motes(self):
+    def test_failing_and_late_motes(self) -> None:
         with folder_with(sentences=[REACHED, 'no mote halts']) as folder:
             sets, found, said = minimal_sets(folder, '--faults', 'deaths,late', '--moments', '5,90')
             self.assertEqual(sets, {REACHED: {frozenset((it,)) for it in (
                 'mote 0 fails at 5', 'mote 3 fails at 5', 'mote 0 starts at 90', 'mote 3 starts at 90')}})
             self.assertEqual(found['notes'], [])
 
-    def test_added_process_that_changes_something_is_left_out(self):
+    def test_added_process_that_changes_something_is_left_out(self) -> None:
         text = DIAMOND.replace('    while 1 {\n      yield_until', '    broadcast msg 1;\n    while 1 {\n'
                                '      if is(exited) { print 5; }\n      yield_until')
         text = text.replace('process flood;', 'process flood, other;').replace(
@@ -401,7 +406,7 @@ class Searches(unittest.TestCase):
             status, said, told = search(folder, '--faults', 'late', '--moments', '5')
             self.assertIn(status, (0, 1), told)
 
-    def test_expectation_that_the_added_process_breaks(self):
+    def test_expectation_that_the_added_process_breaks(self) -> None:
         with folder_with(sentences=[REACHED, 'the report has exactly 46 lines']) as folder:
             lines = len(answer(DIAMOND.encode()).report.split(b'\n')) - 1
             sets, found, said = minimal_sets(folder, '--expect', 'the report has exactly %d lines' % lines, '--expect',
@@ -415,19 +420,19 @@ class Searches(unittest.TestCase):
             self.assertIn('4 NOT JUDGED', said)
             self.assertNotIn('holds in', said)
 
-    def test_kind_without_a_fault(self):
+    def test_kind_without_a_fault(self) -> None:
         # (each mote sends one packet, which can't be lost alone)
         with folder_with() as folder:
             status, said, _ = search(folder, '--faults', 'packets,links')
             self.assertIn('there is no fault of the kind packets in this scenario\n', said)
 
-    def test_broken_without_a_fault(self):
+    def test_broken_without_a_fault(self) -> None:
         with folder_with(sentences=['mote 0 prints', REACHED]) as folder:
             status, said, _ = search(folder, '--faults', 'links')
             self.assertIn('broken without a fault, so left out: mote 0 prints\n', said)
             self.assertIn('1 of 1 expectations hold', said)
 
-    def test_the_bug_of_the_tutorial(self):
+    def test_the_bug_of_the_tutorial(self) -> None:
         page = (TOP / 'docs/use/TUTORIAL.md').read_text()
         text = page.split('```toml transfer.toml\n')[1].split('```\n')[0].replace('patience = 8', 'patience = 12')
         words = '--faults', 'values', '--set', 'base=1..10'
@@ -439,7 +444,7 @@ class Searches(unittest.TestCase):
         with folder_with(mended, ['mote 0 sends at most 10 times']) as folder:
             self.assertEqual(minimal_sets(folder, *words)[0], {})
 
-    def test_parameters_of_a_plan(self):
+    def test_parameters_of_a_plan(self) -> None:
         plan = """end = 100
 [medium]
 range = 10
@@ -474,7 +479,7 @@ program = "flood.mote"
             text = (folder / 'net.search/net_parameter_motes_2.toml').read_text()
             self.assertEqual(Scenario.parse(text).motes, 2)
 
-    def test_limit_on_runs(self):
+    def test_limit_on_runs(self) -> None:
         with folder_with() as folder:
             status, said, _ = search(folder, '--faults', 'links', '--at-most', '2', '--most-runs', '20', '--jobs', '1')
             self.assertIn('NOT ALL WAS TRIED: the limit of 20 runs was reached', said)
@@ -483,7 +488,7 @@ program = "flood.mote"
             status, said, _ = search(folder, '--faults', 'links', '--at-most', '2', '--resume')
             self.assertIn('all 28 pairs: 28 run', said)
 
-    def test_sample_is_called_one(self):
+    def test_sample_is_called_one(self) -> None:
         with folder_with() as folder:
             sets, found, said = minimal_sets(folder, '--faults', 'links', '--random', '40', '--seed', '3')
             self.assertIn('a sample of', said)
@@ -494,7 +499,7 @@ program = "flood.mote"
             again = minimal_sets(folder, '--faults', 'links', '--random', '40', '--seed', '3')
             self.assertEqual(again[0], sets)
 
-    def test_hostile_programs_are_stopped(self):
+    def test_hostile_programs_are_stopped(self) -> None:
         # A mote that misses the message prints 3,000 lines at each of a million moments.
         text = DIAMOND.replace('end = 100', 'end = 1000000').replace("'''\n[[mote]]", """'''
 loud = '''
@@ -524,7 +529,7 @@ code flood {
             self.assertNotIn('in every run;', said)
             self.assertLess(time.monotonic() - begin, 30)
 
-    def test_interruption_and_resumption(self):
+    def test_interruption_and_resumption(self) -> None:
         words = ['--faults', 'links,motes,every', '--at-most', '3']
         with folder_with() as folder:
             whole = minimal_sets(folder, *words, '-o', 'whole')[0]
@@ -545,12 +550,12 @@ code flood {
             self.assertEqual(status, 2)
             self.assertIn('is of another search', told)
 
-    def test_values_that_are_set_need_no_kind(self):
+    def test_values_that_are_set_need_no_kind(self) -> None:
         with folder_with() as folder:
             alone = search(folder, '--set', 'range=5,10')
             self.assertEqual(alone, search(folder, '--faults', 'values', '--set', 'range=5,10'))
 
-    def test_what_is_told_of_wrong_words(self):
+    def test_what_is_told_of_wrong_words(self) -> None:
         with folder_with() as folder:
             for words, wanted in ((('--faults', 'lynx'), 'there is no kind of fault lynx'),
                                   (('--faults', 'values'), 'needs --set'),
@@ -569,7 +574,7 @@ code flood {
 
 
 class Clusters(unittest.TestCase):
-    def test_a_cluster_finds_the_same(self):
+    def test_a_cluster_finds_the_same(self) -> None:
         need_program(self)
         interpreter = interpreter_with(self, 'distributed')
         words = '--faults', 'links,motes', '--at-most', '2'
@@ -578,6 +583,7 @@ class Clusters(unittest.TestCase):
             (folder / 'cluster.py').write_text(CLUSTER)
             cluster = subprocess.Popen([interpreter, 'cluster.py'], cwd=folder, text=True, stdin=subprocess.PIPE,
                                        stdout=subprocess.PIPE, stderr=subprocess.DEVNULL)
+            assert cluster.stdin and cluster.stdout
             try:
                 address = cluster.stdout.readline().strip()
                 there = minimal_sets(folder, *words, '--dask', address)
@@ -595,27 +601,27 @@ class Clusters(unittest.TestCase):
 class Programs(unittest.TestCase):
     """Runs one after the other, each within limits."""
 
-    def program(self, folder, body):
+    def program(self, folder: str | Path, body: str) -> str:
         path = Path(folder, 'program')
         path.write_text('#!/bin/sh\n' + body)
         path.chmod(0o755)
         return str(path)
 
-    def test_answers(self):
+    def test_answers(self) -> None:
         with tempfile.TemporaryDirectory() as folder:
             one = OneProgram(self.program(folder, 'cat; echo told >&2; exit 3\n'), Limits())
             for text in b'a long text', b'short':
                 found = one.run(text)
                 self.assertEqual((found.status, found.report, found.fault), (3, text, 'told'))
 
-    def test_limits_in_another_thread(self):
+    def test_limits_in_another_thread(self) -> None:
         with tempfile.TemporaryDirectory() as folder, ThreadPoolExecutor(1) as thread:
             one = OneProgram(self.program(folder, 'cat\n'), Limits())
             self.assertEqual(thread.submit(one.run, b'text').result().report, b'text')
             late = OneProgram(self.program(folder, 'exec sleep 60\n'), Limits(seconds=0.2))
             self.assertEqual(thread.submit(late.run, b'').result().stopped, 'no answer in 0.2 seconds')
 
-    def test_limit_on_memory(self):
+    def test_limit_on_memory(self) -> None:
         need_program(self)
         # (2,000 lines at each of a million moments, which the program keeps until the end)
         text = DIAMOND.replace('end = 100', 'end = 1000000').replace(
@@ -626,7 +632,7 @@ class Programs(unittest.TestCase):
         self.assertEqual(one.run(text.encode()).stopped, 'more than 50,000,000 bytes of memory')
         self.assertEqual(one.run(DIAMOND.encode()).stopped, '')
 
-    def test_limits(self):
+    def test_limits(self) -> None:
         with tempfile.TemporaryDirectory() as folder:
             late = OneProgram(self.program(folder, 'exec sleep 60\n'), Limits(seconds=0.2))
             begin = time.monotonic()

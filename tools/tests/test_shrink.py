@@ -1,9 +1,12 @@
 """Scenarios made small: that the result still fails in the same way, that no step more is possible, that sentences
 follow motes with other numbers, and that programs are read and written without a change."""
+from __future__ import annotations
+
 import subprocess
 import sys
 import tomllib
 import unittest
+from typing import Any
 
 from here import TOOLS, TOP
 from motesim.faults import Fault
@@ -88,13 +91,13 @@ ALL = ALL.replace('event full, unused;', 'event full;\nevent unused;')
 
 
 class Programs(unittest.TestCase):
-    def test_layout_is_the_canonical_one(self):
+    def test_layout_is_the_canonical_one(self) -> None:
         self.assertEqual(program_text(read_program(LOOSE)), CANONICAL)
 
-    def test_each_form_is_kept(self):
+    def test_each_form_is_kept(self) -> None:
         self.assertEqual(program_text(read_program(ALL)), ALL)
 
-    def test_examples_run_as_before(self):
+    def test_examples_run_as_before(self) -> None:
         need_program(self)
         for path in sorted((TOP / 'examples').glob('*.toml')):
             if path.name.endswith('.expect.toml') or path.name == 'wrong.toml' or 'mote' not in tomllib.loads(
@@ -106,16 +109,16 @@ class Programs(unittest.TestCase):
 
 
 class Steps(unittest.TestCase):
-    def test_smaller_numbers(self):
+    def test_smaller_numbers(self) -> None:
         self.assertEqual(list(smaller_numbers(0)), [])
         self.assertEqual(list(smaller_numbers(1)), [0])
         self.assertEqual(list(smaller_numbers(9)), [0, 5, 7, 8])
 
-    def test_parts(self):
+    def test_parts(self) -> None:
         self.assertEqual(list(parts(3)), [(0, 3), (0, 1), (1, 2), (2, 3)])
         self.assertEqual(list(parts(0)), [])
 
-    def test_a_process_goes_with_all_that_names_it(self):
+    def test_a_process_goes_with_all_that_names_it(self) -> None:
         net = net_of(Scenario.parse(DIAMOND.replace(DIAMOND.split("'''")[1], '\n' + ALL)))
         found = {step.words: dict(step.net.programs)['p'] for step in program_steps(net)}
         text = program_text(found['p: removes the process b'])
@@ -128,11 +131,11 @@ class Steps(unittest.TestCase):
 class Following(unittest.TestCase):
     NAMES = Names(('flood',), 10)
 
-    def test_places_of_motes(self):
+    def test_places_of_motes(self) -> None:
         self.assertEqual(motes_named('motes 1, 3 and 5 print flood 2 by 60', self.NAMES), [(6, 1), (9, 3), (15, 5)])
         self.assertEqual(motes_named('every mote prints flood 3', self.NAMES), [])
 
-    def test_numbers_follow(self):
+    def test_numbers_follow(self) -> None:
         for sentence, removed, wanted in (
                 ('mote 6 prints flood 1 by 60', {1, 2}, 'mote 4 prints flood 1 by 60'),
                 ('mote 6 prints flood 1', {6}, None),
@@ -147,12 +150,12 @@ class Following(unittest.TestCase):
 
 
 class Shrinks(unittest.TestCase):
-    def setUp(self):
+    def setUp(self) -> None:
         need_program(self)
         self.program = OneProgram(str(program_path().resolve()), Limits())
         self.addCleanup(self.program.close)
 
-    def way(self, text, sentence):
+    def way(self, text: str, sentence: Any) -> Any:
         """Whether, and by how many lines shown, a scenario breaks a sentence, found out by the judge alone."""
         found = answer(text.encode())
         if found.status:
@@ -164,7 +167,7 @@ class Shrinks(unittest.TestCase):
             return None
         return broken and (broken.row is None, len(found.report))
 
-    def test_no_single_step_more_is_possible(self):
+    def test_no_single_step_more_is_possible(self) -> None:
         # Both ways of the diamond are cut, in a net that has two motes more; mote 3 hears nothing.
         text = DIAMOND + ''.join('[[mote]]\nx = %d\ny = 40\nprogram = "p"\n' % (5 * it) for it in (0, 1))
         text += ''.join('[[loss]]\nfrom = %d\nto = %d\nevery = 1\n' % it for it in ((0, 1), (2, 3), (3, 2)))
@@ -192,11 +195,11 @@ class Shrinks(unittest.TestCase):
                 self.assertFalse(is_smaller, step.words)
         self.assertGreater(tried, 10)
 
-    def test_a_scenario_that_keeps_the_sentence(self):
+    def test_a_scenario_that_keeps_the_sentence(self) -> None:
         with self.assertRaisesRegex(Fault, 'does not break `mote 3 prints flood 7`'):
             Shrinking(self.program, case_of(DIAMOND, REACHED))
 
-    def test_faults_stay_what_breaks_it(self):
+    def test_faults_stay_what_breaks_it(self) -> None:
         # Without the fault the message arrives, with it it doesn't, in the small scenario too.
         text = DIAMOND + '[[mote]]\nx = 18\ny = 6\nprogram = "p"\n'
         shrinking = Shrinking(self.program, case_of(text, REACHED, (('silent', 0),)))
@@ -206,7 +209,7 @@ class Shrinks(unittest.TestCase):
         self.assertEqual(len(shrinking.case.net.motes), 2)
         self.assertEqual(shrinking.case.effects, (('silent', 0),))
 
-    def test_the_command(self):
+    def test_the_command(self) -> None:
         text = DIAMOND + '[[loss]]\nfrom = 0\nto = 1\nevery = 1\n[[loss]]\nfrom = 2\nto = 3\nevery = 1\n'
         with folder_with(text) as folder:
             done = subprocess.run([sys.executable, '-B', str(TOOLS / 'shrink'), 'diamond.toml', '--steps'], cwd=folder,
@@ -222,7 +225,7 @@ class Shrinks(unittest.TestCase):
             self.assertEqual(wrong.returncode, 2)
             self.assertIn('sentence 1 is not known', wrong.stderr)
 
-    def test_the_command_with_a_fault(self):
+    def test_the_command_with_a_fault(self) -> None:
         with folder_with() as folder:
             words = [sys.executable, '-B', str(TOOLS / 'shrink'), 'diamond.toml', REACHED, '--fault']
             done = subprocess.run([*words, 'silent 0'], cwd=folder, capture_output=True, text=True)
@@ -235,7 +238,7 @@ class Shrinks(unittest.TestCase):
                 self.assertEqual((done.returncode, done.stdout), (2, ''))
                 self.assertIn(wanted, done.stderr)
 
-    def test_a_search_shrinks_what_it_finds(self):
+    def test_a_search_shrinks_what_it_finds(self) -> None:
         with folder_with() as folder:
             status, said, _ = search(folder, '--faults', 'motes', '--shrink')
             self.assertEqual(status, 1)

@@ -64,8 +64,9 @@ class Estimates(unittest.TestCase):
     def test_the_interval_of_a_share_stays_within_0_and_1(self) -> None:
         shares = [0.99, 1.0, 1.0, 0.9, 1.0]
         self.assertGreater(estimates.mean_by_t(shares, 0.95).high or 0, 1)
-        for values, method in ((shares, 'bootstrap'), ([0.5, 0.6, 0.55], 't'), ([1, 1, 1, 0], 'wilson'), ([1, 1, 3],
-                                                                                                          't')):
+        methods: list[tuple[list[float], str]] = [
+            (shares, 'bootstrap'), ([0.5, 0.6, 0.55], 't'), ([1, 1, 1, 0], 'wilson'), ([1, 1, 3], 't')]
+        for values, method in methods:
             kind = estimates.measured(values)
             self.assertEqual(estimates.method_of(values, 0.95, 't', kind), method)
             found = Wish('m', show='mean').estimate(values, kind)

@@ -1,4 +1,6 @@
 """The studio without a browser: edits of the text, files, runs under limits, and who is answered."""
+from __future__ import annotations
+
 import http.client
 import json
 import os
@@ -12,6 +14,7 @@ import time
 import tomllib
 import unittest
 from pathlib import Path
+from typing import Any
 from unittest import mock
 
 from here import TOOLS, TOP
@@ -38,29 +41,29 @@ every = 3'''
 
 
 class Edits(unittest.TestCase):
-    def edited(self, text, **wish):
+    def edited(self, text: str, **wish: Any) -> str:
         return applied(text, edit(text, wish)[0])
 
-    def refused(self, text, **wish):
+    def refused(self, text: str, **wish: Any) -> str:
         with self.assertRaises(Fault) as caught:
             edit(text, wish)
         return str(caught.exception)
 
-    def test_a_moved_mote_changes_two_numbers(self):
+    def test_a_moved_mote_changes_two_numbers(self) -> None:
         note = '               # the first\ny = '
         self.assertEqual(self.edited(NET, what='move', mote=0, x=-5, y=1_000),
                          NET.replace('x = 0' + note + '0', 'x = -5' + note + '1000'))
 
-    def test_an_added_mote_stands_behind_the_others(self):
+    def test_an_added_mote_stands_behind_the_others(self) -> None:
         text = self.edited(LOSSES, what='add', x=4, y=-4, program='talk')
         self.assertIn('program = "talk"\n\n[[mote]]\nx = 4\ny = -4\nprogram = "talk"\n\n# what is lost\n', text)
         self.assertEqual(len(tomllib.loads(text)['mote']), 4)
 
-    def test_a_mote_is_added_behind_a_text_without_a_last_line_end(self):
+    def test_a_mote_is_added_behind_a_text_without_a_last_line_end(self) -> None:
         text = self.edited(NET.rstrip('\n'), what='add', x=4, y=-4, program='talk')
         self.assertEqual(tomllib.loads(text)['mote'][3], {'x': 4, 'y': -4, 'program': 'talk'})
 
-    def test_a_removed_mote_takes_its_losses_and_renumbers_the_others(self):
+    def test_a_removed_mote_takes_its_losses_and_renumbers_the_others(self) -> None:
         text = self.edited(LOSSES, what='remove', mote=1)
         self.assertEqual(tomllib.loads(text)['loss'], [{'from': 1, 'to': 0, 'every': 3}])
         for words in ('# the first', '# what is lost', '# Two motes'):
@@ -68,13 +71,13 @@ class Edits(unittest.TestCase):
         self.assertNotIn('x = 8', text)
         self.assertEqual(tomllib.loads(self.edited(NET, what='remove', mote=2)).get('loss'), None)
 
-    def test_the_last_mote_stays(self):
+    def test_the_last_mote_stays(self) -> None:
         text = NET
         for _ in range(2):
             text = self.edited(text, what='remove', mote=0)
         self.assertIn('at least one mote', self.refused(text, what='remove', mote=0))
 
-    def test_losses_are_set_changed_and_taken_away(self):
+    def test_losses_are_set_changed_and_taken_away(self) -> None:
         text = self.edited(NET, what='lose', **{'from': 1, 'to': 0}, every=4)
         self.assertTrue(text.endswith('[[loss]]\nfrom = 1\nto = 0\nevery = 4\n'))
         self.assertEqual(self.edited(text, what='lose', **{'from': 1, 'to': 0}, every=1), text.replace('= 4', '= 1'))
@@ -86,28 +89,30 @@ class Edits(unittest.TestCase):
         self.assertIn('# what is lost', one)
         self.assertEqual(edit(NET, {'what': 'lose', 'from': 0, 'to': 1, 'every': 0})[0], [])
 
-    def test_a_program_text_that_looks_like_tables_is_left_alone(self):
+    def test_a_program_text_that_looks_like_tables_is_left_alone(self) -> None:
         text = NET.replace('  var n = 0;', '  var n = 0;\n// [[mote]]\n// x = 8\n[[mote]]\nx = 8')
         self.assertEqual(self.edited(text, what='move', mote=1, x=9, y=0),
                          text.replace('x = 8\ny = 0', 'x = 9\ny = 0'))
 
-    def test_what_the_map_cannot_change_is_refused_and_why(self):
+    def test_what_the_map_cannot_change_is_refused_and_why(self) -> None:
         inline = 'version = 1\nend = 1\nmote = [{x = 1, y = 2, program = "p"}, {x = 3, y = 2, program = "p"}]\n'
         self.assertIn('cannot change', self.refused(inline, what='move', mote=0, x=1, y=1))
         self.assertIn('is not a table [[mote]] of its own', self.refused(inline, what='remove', mote=0))
         self.assertIn('has an error', self.refused(NET + '[', what='move', mote=0, x=1, y=1))
-        for wish in ({'mote': 3, 'x': 0, 'y': 0}, {'mote': 0, 'x': 30_001, 'y': 0}, {'mote': 0, 'x': 0.5, 'y': 0},
-                     {'mote': True, 'x': 0, 'y': 0}, {'mote': 0, 'x': 0}):
+        wishes: list[dict[str, Any]] = [
+            {'mote': 3, 'x': 0, 'y': 0}, {'mote': 0, 'x': 30_001, 'y': 0}, {'mote': 0, 'x': 0.5, 'y': 0},
+            {'mote': True, 'x': 0, 'y': 0}, {'mote': 0, 'x': 0}]
+        for wish in wishes:
             self.assertIn('is a whole number', self.refused(NET, what='move', **wish))
         self.assertIn('has no program', self.refused(NET, what='add', x=0, y=0, program='q'))
         self.assertIn('no edit', self.refused(NET, what='burn'))
 
-    def test_places_are_counted_as_browsers_do(self):
+    def test_places_are_counted_as_browsers_do(self) -> None:
         self.assertEqual(answers.place16('a\n\U0001f600b', 3), [1, 2])
 
 
 class Files(unittest.TestCase):
-    def setUp(self):
+    def setUp(self) -> None:
         room = tempfile.TemporaryDirectory()
         self.addCleanup(room.cleanup)
         self.room = Path(room.name).resolve()
@@ -115,10 +120,10 @@ class Files(unittest.TestCase):
         self.file.write_text(NET)
         self.desk = Desk(self.file)
 
-    def document(self, **words):
+    def document(self, **words: Any) -> dict[str, Any]:
         return {**self.desk.read('folder', 'net.toml')._asdict(), **words}
 
-    def test_plans_are_no_scenarios(self):
+    def test_plans_are_no_scenarios(self) -> None:
         (self.room / 'net.plan.toml').write_text('end = 1\n')
         self.assertEqual(self.desk.names('folder'), ['net.toml'])
         with self.assertRaisesRegex(Fault, 'net.plan.toml is a plan, .*: tools/scenario makes a scenario of it$'):
@@ -126,11 +131,11 @@ class Files(unittest.TestCase):
         with self.assertRaisesRegex(Fault, 'is a name of a plan, and not of a scenario'):
             self.desk.save_new(self.document(), 'other.plan.toml')
 
-    def test_two_saves_at_once_both_end(self):
+    def test_two_saves_at_once_both_end(self) -> None:
         """Each has a scratch file of its own: the name of the process doesn't tell two threads apart."""
         faults = []
 
-        def save(text):
+        def save(text: bytes) -> None:
             for _ in range(30):
                 try:
                     self.desk.write(self.file, text)
@@ -145,7 +150,7 @@ class Files(unittest.TestCase):
         self.assertEqual((faults, [it.name for it in self.room.iterdir()]), ([], ['net.toml']))
         self.assertIn(self.file.read_bytes(), texts)
 
-    def test_only_scenarios_of_the_folder_and_examples_are_read(self):
+    def test_only_scenarios_of_the_folder_and_examples_are_read(self) -> None:
         (self.room / 'secret.txt').write_text('no')
         (self.room / 'link.toml').symlink_to('/etc/hostname')
         (self.room / 'net.expect.toml').write_text('expect = []')
@@ -157,7 +162,7 @@ class Files(unittest.TestCase):
             with self.assertRaises(Fault, msg=name):
                 self.desk.read(where, name)
 
-    def test_a_file_is_written_whole_and_only_the_one_that_was_named(self):
+    def test_a_file_is_written_whole_and_only_the_one_that_was_named(self) -> None:
         self.desk.save(self.document(text='# new\n'))
         self.assertEqual(self.file.read_text(), '# new\n')
         self.assertEqual(sorted(os.listdir(self.room)), ['net.toml'])
@@ -166,7 +171,7 @@ class Files(unittest.TestCase):
             with self.assertRaises(Fault):
                 self.desk.save(document)
 
-    def test_a_change_made_elsewhere_is_not_written_over_unasked(self):
+    def test_a_change_made_elsewhere_is_not_written_over_unasked(self) -> None:
         document = self.document(text='# mine\n')
         self.file.write_text('# another\n')
         with self.assertRaises(Changed):
@@ -178,7 +183,7 @@ class Files(unittest.TestCase):
         with self.assertRaises(Changed):
             self.desk.save(self.document(stamp='x') if self.file.exists() else document)
 
-    def test_a_new_file_takes_no_other_ones_name(self):
+    def test_a_new_file_takes_no_other_ones_name(self) -> None:
         (self.room / 'other.toml').write_text(NET)
         for name in ('other.toml', 'other', '../x', 'a/b', 'x.expect.toml', '', '.toml'):
             with self.assertRaises(Fault, msg=name):
@@ -188,7 +193,7 @@ class Files(unittest.TestCase):
         self.desk.save(self.document(name='mine.toml', text='# again\n', stamp=stamp))
         self.assertEqual((self.room / 'mine.toml').read_text(), '# again\n')
 
-    def test_line_ends_and_a_mark_stay_as_they_were(self):
+    def test_line_ends_and_a_mark_stay_as_they_were(self) -> None:
         data = ('\ufeff' + NET.replace('\n', '\r\n')).encode()
         self.file.write_bytes(data)
         document = self.document()
@@ -200,14 +205,14 @@ class Files(unittest.TestCase):
         self.desk.save(self.document())
         self.assertEqual(self.file.read_bytes(), mixed)
 
-    def test_a_file_that_is_not_there_begins_with_a_first_scenario(self):
+    def test_a_file_that_is_not_there_begins_with_a_first_scenario(self) -> None:
         desk = Desk(self.room / 'new.toml')
         document = desk.first()
         self.assertIn('process hello', document.text)
         desk.save(document._asdict())
         self.assertEqual((self.room / 'new.toml').read_text(), document.text)
 
-    def test_names_that_the_studio_does_not_open(self):
+    def test_names_that_the_studio_does_not_open(self) -> None:
         for name in (self.room, self.room / 'a.txt', self.room / 'none' / 'a.toml'):
             with self.assertRaises(Fault):
                 Desk(name)
@@ -217,22 +222,22 @@ class Files(unittest.TestCase):
 
 
 class Running(unittest.TestCase):
-    def setUp(self):
+    def setUp(self) -> None:
         program = stand_in.program()
         program.__enter__()
         self.addCleanup(program.__exit__, None, None, None)
 
-    def run_text(self, text, **limits):
+    def run_text(self, text: str, **limits: Any) -> Any:
         runs = Runs(Limits(**limits))
         return runs.run(runs.ask(), text.encode())
 
-    def test_a_run_answers_what_the_program_does(self):
+    def test_a_run_answers_what_the_program_does(self) -> None:
         got = self.run_text(NET)
         self.assertEqual((got.status, got.fault, got.report[:12]), (0, b'', b'mote 0 talk\n'))
         got = self.run_text(NET.replace('base = 3', 'base = 0'))
         self.assertEqual((got.status, got.report, got.fault), (1, b'', b'motesim: medium fault 2\n'))
 
-    def test_each_limit_stops_a_run_and_says_how_to_raise_it(self):
+    def test_each_limit_stops_a_run_and_says_how_to_raise_it(self) -> None:
         for word, limits, limit, option in [
                 ('never_ends', {'seconds': 1}, 'after 1 second', '--seconds 6'),
                 ('long_report', {'output': 1}, 'after 1 megabyte of report', '--report'),
@@ -243,10 +248,11 @@ class Running(unittest.TestCase):
             self.assertIn('%s. Start tools/studio with %s' % (limit, option), str(caught.exception))
             self.assertLess(time.monotonic() - begin, 20)
 
-    def test_a_newer_text_stops_the_run_before_and_none_run_at_once(self):
-        runs, ended, alive = Runs(Limits(seconds=60)), [], []
+    def test_a_newer_text_stops_the_run_before_and_none_run_at_once(self) -> None:
+        ended: list[object] = []
+        runs, alive = Runs(Limits(seconds=60)), []
 
-        def one(text):
+        def one(text: str) -> None:
             ticket = runs.ask()
             try:
                 ended.append(runs.run(ticket, text.encode()).status)
@@ -272,7 +278,7 @@ class Running(unittest.TestCase):
 class Answering(unittest.TestCase):
     """The server over HTTP."""
 
-    def setUp(self):
+    def setUp(self) -> None:
         program = stand_in.program()
         program.__enter__()
         self.addCleanup(program.__exit__, None, None, None)
@@ -286,7 +292,7 @@ class Answering(unittest.TestCase):
         self.addCleanup(self.server.server_close)
         self.addCleanup(self.server.shutdown)
 
-    def request(self, method, path, body=None, **headers):
+    def request(self, method: str, path: str, body: Any = None, **headers: str) -> Any:
         connection = http.client.HTTPConnection('127.0.0.1', self.server.port, timeout=20)
         names = {name.replace('_', '-'): value for name, value in headers.items()}
         if body is not None:
@@ -297,21 +303,21 @@ class Answering(unittest.TestCase):
         connection.close()
         return answer.status, answer.headers, data
 
-    def ask(self, what, **asked):
+    def ask(self, what: str, **asked: Any) -> Any:
         status, _, data = self.request('POST', '/%s/%s' % (self.server.token, what), asked)
         self.assertEqual(status, 200)
         return data
 
-    def run_text(self, text, **words):
+    def run_text(self, text: str, **words: Any) -> Any:
         data = self.ask('run', text=text, name='net.toml', **words)
         length, = struct.unpack('<I', data[:4])
         return json.loads(data[4:4 + length])
 
-    def judge(self, number, against, saved=NET, **words):
+    def judge(self, number: int, against: Any, saved: str = NET, **words: Any) -> Any:
         return json.loads(self.ask('judge', number=number, against=against, where='folder', name='net.toml',
                                    saved=saved, **words))
 
-    def test_an_error_of_the_studio_itself_is_an_answer_too(self):
+    def test_an_error_of_the_studio_itself_is_an_answer_too(self) -> None:
         """Without an answer the page would take the studio for lost, connect again, and ask the same, for ever."""
         with mock.patch.object(self.server.session, 'answer', side_effect=KeyError('x')), \
                 mock.patch('sys.stderr') as said:
@@ -320,15 +326,16 @@ class Answering(unittest.TestCase):
         self.assertIn("KeyError: 'x'", ''.join(str(it.args[0]) for it in said.write.call_args_list))
         self.assertIn('document', json.loads(self.ask('begin')))
 
-    def test_it_listens_on_the_loopback_address_alone(self):
+    def test_it_listens_on_the_loopback_address_alone(self) -> None:
         self.assertEqual(self.server.server_address[0], '127.0.0.1')
         self.assertGreaterEqual(len(self.server.token), 32)
 
-    def test_only_its_own_page_with_the_token_is_answered(self):
+    def test_only_its_own_page_with_the_token_is_answered(self) -> None:
         own, port = '/%s/' % self.server.token, self.server.port
         self.assertEqual(self.request('GET', own)[0], 200)
         self.assertEqual(self.request('GET', own, Host='localhost:%d' % port)[0], 200)
-        wrong = [('/', {}), ('/studio.js', {}), ('/x' + own, {}), (own[:-2] + '/', {}),
+        wrong: list[tuple[str, dict[str, str]]] = [
+                 ('/', {}), ('/studio.js', {}), ('/x' + own, {}), (own[:-2] + '/', {}),
                  (own, {'Host': 'evil.example'}), (own, {'Host': '127.0.0.1:1'}), (own, {'Host': '0.0.0.0:%d' % port}),
                  (own, {'Origin': 'http://evil.example'}), (own, {'Origin': 'null'}),
                  (own, {'Sec_Fetch_Site': 'cross-site', 'Sec_Fetch_Mode': 'no-cors'})]
@@ -340,18 +347,18 @@ class Answering(unittest.TestCase):
             self.assertEqual(self.request('POST', path + 'begin', {}, **headers)[0], 403, (path, headers))
         self.assertEqual(self.request('POST', own + 'begin', {}, Content_Type='text/plain')[0], 403)
 
-    def test_pages_say_that_nothing_else_may_be_fetched(self):
+    def test_pages_say_that_nothing_else_may_be_fetched(self) -> None:
         _, headers, data = self.request('GET', '/%s/' % self.server.token)
         self.assertIn("default-src 'none'", headers['Content-Security-Policy'])
         self.assertEqual(headers['Referrer-Policy'], 'no-referrer')
         for word in (b'http:', b'https:'):
             self.assertNotIn(word, data)
 
-    def test_files_that_are_not_the_pages_are_not_there(self):
+    def test_files_that_are_not_the_pages_are_not_there(self) -> None:
         for name in ('studio.html', '../server.py', 'codemirror/lib/../../x', 'codemirror/keymap/vim.js', 'net.toml'):
             self.assertEqual(self.request('GET', '/%s/%s' % (self.server.token, name))[0], 404, name)
 
-    def test_questions_that_are_none_are_told_so(self):
+    def test_questions_that_are_none_are_told_so(self) -> None:
         path = '/%s/' % self.server.token
         self.assertEqual(self.request('POST', path + 'run', ['x'])[0], 400)
         self.assertIn('refused', json.loads(self.ask('nothing')))
@@ -360,7 +367,7 @@ class Answering(unittest.TestCase):
         self.assertIn('refused', json.loads(self.ask('edit', text=NET, edit=5)))
         self.assertIn('refused', json.loads(self.ask('export', number=99, title='x')))
 
-    def test_a_run_is_judged_beside_another(self):
+    def test_a_run_is_judged_beside_another(self) -> None:
         first, second = self.run_text(NET)['number'], self.run_text(NET.replace('print 1', 'print 4'))['number']
         said = self.judge(second, first)
         self.assertEqual(said['difference']['first'], {
@@ -372,14 +379,14 @@ class Answering(unittest.TestCase):
         self.assertEqual(said['sums']['motes'][-1][0], 'net')
         self.assertTrue(self.judge(99, 0, '')['gone'])
 
-    def test_a_fault_has_its_place_and_the_words_of_explain(self):
+    def test_a_fault_has_its_place_and_the_words_of_explain(self) -> None:
         fault = self.run_text(NET.replace('print 1', 'print nothing'))['fault']
         self.assertEqual((fault['line'], fault['place']), ('motesim: program talk fault 3 line 8', [17, 10, 17]))
         self.assertTrue(any(line.startswith('UnknownName: ') for line in fault['words']))
         self.assertTrue(any(line.startswith('Allowed here: ') for line in fault['words']))
         self.assertEqual(self.run_text('x = ')['fault']['line'], 'motesim: scenario fault 1')
 
-    def test_the_pinned_run_is_kept_however_many_come(self):
+    def test_the_pinned_run_is_kept_however_many_come(self) -> None:
         pinned = self.run_text(NET)['number']
         for number in range(8):
             last = self.run_text(NET + '# %d\n' % number, pinned=pinned)['number']
@@ -387,7 +394,7 @@ class Answering(unittest.TestCase):
         self.assertTrue(said['difference']['same'])
         self.assertIn('A: the pinned run', said['difference']['lines'])
 
-    def test_a_changed_text_is_judged_by_the_sentences_of_its_change(self):
+    def test_a_changed_text_is_judged_by_the_sentences_of_its_change(self) -> None:
         text = NET.replace('print 1', 'print 9')
         checks = self.judge(self.run_text(text)['number'], 0)['checks']
         self.assertEqual((checks['about'], checks['fault']), ('another value', ''))
@@ -395,12 +402,12 @@ class Answering(unittest.TestCase):
 
 
 class Guides(unittest.TestCase):
-    def test_each_example_says_what_to_look_at(self):
+    def test_each_example_says_what_to_look_at(self) -> None:
         for path in sorted((TOP / 'examples').glob('*.toml')):
             if not path.name.endswith('.expect.toml'):
                 self.assertTrue(guides.guide(path.name, path.read_text()), path.name)
 
-    def test_tasks_are_those_of_the_page_on_examples(self):
+    def test_tasks_are_those_of_the_page_on_examples(self) -> None:
         found = guides.guide('flooding.toml', (TOP / 'examples/flooding.toml').read_text())
         self.assertTrue(any(it['kind'] == 'task' and 'broadcast storm' in it['text'] for it in found))
         self.assertTrue(any(it['kind'] == 'look' for it in found))
@@ -408,12 +415,12 @@ class Guides(unittest.TestCase):
 
 
 class Command(unittest.TestCase):
-    def start(self, *words, **variables):
+    def start(self, *words: str, **variables: str) -> Any:
         return subprocess.Popen([sys.executable, '-B', str(TOOLS / 'studio'), '--no-open', *words], text=True,
                                 stdout=subprocess.PIPE, stderr=subprocess.PIPE, env={**os.environ, **variables},
                                 start_new_session=True)
 
-    def test_ctrl_c_ends_it_cleanly(self):
+    def test_ctrl_c_ends_it_cleanly(self) -> None:
         with stand_in.program() as path:
             process = self.start(str(TOP / 'examples/counter.toml'), MOTESIM=str(path))
             self.assertRegex(process.stdout.readline(), r'\Ahttp://127\.0\.0\.1:\d+/[\w-]{32,}/\n\Z')
@@ -423,16 +430,17 @@ class Command(unittest.TestCase):
         self.assertNotIn('Traceback', said)
         self.assertTrue(said.endswith('studio: ended\n'), said)
 
-    def test_what_is_missing_is_said_in_one_line(self):
-        for words, variables in [([], {'MOTESIM': '/nowhere/motesim'}), (['/nowhere/x.toml'], {}), (['x.txt'], {}),
-                                 (['.'], {})]:
+    def test_what_is_missing_is_said_in_one_line(self) -> None:
+        tried: list[tuple[list[str], dict[str, str]]] = [
+            ([], {'MOTESIM': '/nowhere/motesim'}), (['/nowhere/x.toml'], {}), (['x.txt'], {}), (['.'], {})]
+        for words, variables in tried:
             with stand_in.program() as path:
                 process = self.start(*words, **{'MOTESIM': str(path), **variables})
                 said, fault = process.communicate(timeout=20)
             self.assertEqual((process.returncode, said), (2, ''), words)
             self.assertRegex(fault, r'\Astudio: .+\n\Z')
 
-    def test_a_missing_editor_is_no_fault(self):
+    def test_a_missing_editor_is_no_fault(self) -> None:
         with mock.patch('motesim.studio.server.CODEMIRROR', None), tempfile.TemporaryDirectory() as room:
             server = Server(Session(Desk(Path(room, 'a.toml')), Runs(Limits())), None)
             self.assertFalse(server.session.has_editor)

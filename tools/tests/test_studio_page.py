@@ -1,4 +1,6 @@
 """The page of tools/studio in a headless browser, where there is one: what is typed, shown, dragged and clicked."""
+from __future__ import annotations
+
 import contextlib
 import json
 import sys
@@ -6,6 +8,7 @@ import tempfile
 import threading
 import unittest
 from pathlib import Path
+from typing import Any
 
 from here import TOP
 import stand_in
@@ -63,9 +66,11 @@ READY = 'window.motesim && motesim.ready && (motesim.studio.judged || document.b
 
 class Page(unittest.TestCase):
     """The page of a small net, run by a program that stands in for the built one."""
+    browser: Any
+    server: Any
 
     @classmethod
-    def setUpClass(cls):
+    def setUpClass(cls) -> None:
         cls.browser, why = Browser.start()
         if cls.browser is None:
             said = 'the page of tools/studio is not tried: ' + why
@@ -74,11 +79,11 @@ class Page(unittest.TestCase):
             raise unittest.SkipTest('browser: %s' % said)
 
     @classmethod
-    def tearDownClass(cls):
+    def tearDownClass(cls) -> None:
         if cls.browser is not None:
             cls.browser.close()
 
-    def setUp(self):
+    def setUp(self) -> None:
         self.stack = contextlib.ExitStack()
         self.addCleanup(self.stack.close)
         self.room = Path(self.stack.enter_context(tempfile.TemporaryDirectory()))
@@ -89,20 +94,20 @@ class Page(unittest.TestCase):
         self.server = None
         self.browser.faults.clear()
 
-    def serve(self, server):
+    def serve(self, server: Any) -> threading.Thread:
         self.server = server
         thread = threading.Thread(target=server.serve_forever, kwargs={'poll_interval': 0.05}, daemon=True)
         thread.start()
         return thread
 
-    def stop(self):
+    def stop(self) -> None:
         if self.server:
             self.server.session.runs.ask()
             self.server.shutdown()
             self.server.server_close()
             self.server = None
 
-    def open(self, limits=Limits(), codemirror=CODEMIRROR, named=None):
+    def open(self, limits: Limits = Limits(), codemirror: Any = CODEMIRROR, named: Path | None = None) -> None:
         session = Session(Desk(named or self.file), Runs(limits))
         self.serve(Server(session, codemirror))
         self.stack.callback(self.stop)
@@ -110,23 +115,23 @@ class Page(unittest.TestCase):
         self.visit(self.server.address, READY)
         self.browser.settle()
 
-    def visit(self, address, ready):
+    def visit(self, address: str, ready: str) -> None:
         """Leaves the page, which asks nothing even where its text was changed, for another."""
         self.browser.run('if (window.motesim && motesim.studio) motesim.studio.asks = false')
         self.browser.visit(address, ready)
 
-    def tearDown(self):
+    def tearDown(self) -> None:
         self.assertEqual(self.browser.faults, [])
 
-    def value(self, script):
+    def value(self, script: str) -> Any:
         known = 'const m = motesim, pane = m.panes[0], run = pane && pane.run, text = m.editor().text'
         return self.browser.run('(() => { %s; return %s; })()' % (known, script))
 
-    def wait(self, script):
+    def wait(self, script: str) -> None:
         self.browser.wait('(() => { const m = motesim, pane = m.panes[0], run = pane && pane.run, '
                           'text = m.editor().text; return %s; })()' % script)
 
-    def type_behind(self, mark, typed):
+    def type_behind(self, mark: str, typed: str) -> None:
         """Puts the caret behind a piece of the text, and types."""
         self.value('''(() => {
           const before = text.slice(0, text.indexOf(%s) + %d).split("\\n");
@@ -134,26 +139,26 @@ class Page(unittest.TestCase):
         })()''' % (json.dumps(mark), len(mark)))
         self.browser.type(typed)
 
-    def lines(self, mote):
+    def lines(self, mote: int) -> Any:
         return self.value('Array.from({length: run.traceStart[%d] - run.traceStart[%d]}, (_, i) => '
                           'run.text(run.traceStart[%d] + i))' % (mote + 1, mote, mote))
 
-    def shown(self, name):
+    def shown(self, name: str) -> Any:
         return self.value('document.getElementById(%s).innerText' % json.dumps(name))
 
-    def on_map(self, mote):
+    def on_map(self, mote: int) -> Any:
         """Where a mote is in the window, once all of its run is shown."""
         self.wait('m.studio.judged === m.studio.number')
         self.browser.settle()
         return self.value('(() => { const map = m.maps[0], at = map.canvas.getBoundingClientRect(); '
                           'return [at.x + map.x(%d), at.y + map.y(%d)]; })()' % (mote, mote))
 
-    def is_drawn(self, line):
+    def is_drawn(self, line: str) -> Any:
         """Whether a line of the report has a mark on the lanes."""
         return self.value('(() => { for (let i = 2; i < pane.hits.length; i += 3) '
                           'if (run.text(pane.hits[i]) === %s) return true; return false; })()' % json.dumps(line))
 
-    def test_what_is_typed_is_on_the_lanes(self):
+    def test_what_is_typed_is_on_the_lanes(self) -> None:
         self.open()
         self.assertNotIn('0 print talker 7', self.lines(1))
         self.type_behind('print 1;', ' print 7;')
@@ -167,7 +172,7 @@ class Page(unittest.TestCase):
         self.value('m.drawAll()')
         self.assertTrue(self.is_drawn('0 print talker 7'))
 
-    def test_zoom_place_and_selection_stay(self):
+    def test_zoom_place_and_selection_stay(self) -> None:
         self.open()
         self.value('m.act("zoom-in")')
         self.value('m.act("zoom-in")')
@@ -180,7 +185,7 @@ class Page(unittest.TestCase):
         self.assertEqual(self.value('[m.time.begin, m.time.scale, pane.lane, pane.top, m.play.now]'), before)
         self.assertEqual(self.value('run.text(m.chosen().line)'), '23 recv 0 1 6')
 
-    def test_a_fault_is_shown_at_its_place_and_goes(self):
+    def test_a_fault_is_shown_at_its_place_and_goes(self) -> None:
         self.open()
         lines = self.lines(0)
         self.type_behind('print 1', '; prin 2')
@@ -197,7 +202,7 @@ class Page(unittest.TestCase):
         self.wait('document.getElementById("fault").hidden && !document.body.classList.contains("stale")')
         self.assertEqual(self.value('document.querySelectorAll(".fault-mark, .fault-line").length'), 0)
 
-    def test_faults_are_searched_shown_and_shrunk(self):
+    def test_faults_are_searched_shown_and_shrunk(self) -> None:
         self.open()
         before = self.value('text')
         self.value('document.getElementById("tab-faults").click()')
@@ -222,7 +227,7 @@ class Page(unittest.TestCase):
         self.wait('document.getElementById("notice").innerText.includes("smallest scenario")')
         self.assertEqual(self.value('run.begins.length'), 2)
 
-    def test_a_changed_text_stops_the_search(self):
+    def test_a_changed_text_stops_the_search(self) -> None:
         self.open()
         self.value('document.getElementById("faults-most").value = "3"')
         self.value('document.querySelectorAll("#faults-kinds input").forEach('
@@ -236,7 +241,7 @@ class Page(unittest.TestCase):
         self.wait('Array.from(run.w).includes(7) && m.studio.judged === m.studio.number')
         self.assertIsNone(self.server.session.searches.going)
 
-    def test_it_begins_at_the_first_difference_from_another_scenario(self):
+    def test_it_begins_at_the_first_difference_from_another_scenario(self) -> None:
         other = NET.replace('send 6;', 'send 9;')
         session = Session(Desk(self.file), Runs(Limits()), against=other)
         self.serve(Server(session, CODEMIRROR))
@@ -247,7 +252,7 @@ class Page(unittest.TestCase):
         self.assertEqual(self.value('m.differs.first.at'), 20)
         self.assertEqual(self.value('text'), NET)
 
-    def test_separators_change_the_width_of_the_text_and_the_height_of_the_lanes(self):
+    def test_separators_change_the_width_of_the_text_and_the_height_of_the_lanes(self) -> None:
         self.open()
         sizes = '["write", "panes", "more"].map(id => document.getElementById(id).getBoundingClientRect()).map(' \
                 'it => [it.width, it.height])'
@@ -266,12 +271,12 @@ class Page(unittest.TestCase):
         self.browser.key('ArrowRight', number=39)
         self.assertAlmostEqual(self.value(sizes)[0][0], after[0][0] + 12, delta=4)
 
-    def test_the_comment_of_a_scenario_is_its_guide(self):
+    def test_the_comment_of_a_scenario_is_its_guide(self) -> None:
         self.open()
         self.assertEqual(self.value('document.querySelector("#guide pre.comment").textContent'),
                          'Two motes hear each other, and one stands apart.')
 
-    def test_a_run_with_a_fault_leaves_no_difference(self):
+    def test_a_run_with_a_fault_leaves_no_difference(self) -> None:
         """Back at the text nothing has changed, so nothing is marked as changed."""
         self.open()
         self.value('document.getElementById("faults-search").click()')
@@ -282,7 +287,7 @@ class Page(unittest.TestCase):
         self.wait('m.studio.judged === m.studio.number && !m.differs.first')
         self.assertIn('The same report as that of the run before', self.shown('change'))
 
-    def test_what_is_hardly_meant_is_warned_of(self):
+    def test_what_is_hardly_meant_is_warned_of(self) -> None:
         self.open()
         self.assertIn('Warning: the timer `beat` is never set.', self.shown('warnings'))
         self.value('document.querySelector("#warnings button").click()')
@@ -291,14 +296,14 @@ class Page(unittest.TestCase):
         self.value('m.editor().replace("etimer beat;", "")')
         self.wait('!document.getElementById("warnings").innerText.includes("beat")')
 
-    def test_a_fault_of_the_tables_is_shown_too(self):
+    def test_a_fault_of_the_tables_is_shown_too(self) -> None:
         self.open()
         self.value('m.editor().replace("end = 60", "end = 2_000_000")')
         self.wait('!document.getElementById("fault").hidden')
         self.assertIn('scenario fault 5', self.shown('fault'))
         self.assertIn('line 3', self.shown('state'))
 
-    def test_the_first_difference_is_named_and_marked(self):
+    def test_the_first_difference_is_named_and_marked(self) -> None:
         self.open()
         self.assertIn('Change the text', self.shown('change'))
         self.type_behind('send 6;', ' send 8;')
@@ -315,7 +320,7 @@ class Page(unittest.TestCase):
         self.wait('m.studio.judged === m.studio.number && !m.differs.first')
         self.assertIn('The same report as that of the run before', self.shown('change'))
 
-    def test_a_pinned_run_is_the_one_to_compare_with(self):
+    def test_a_pinned_run_is_the_one_to_compare_with(self) -> None:
         self.open()
         self.value('document.getElementById("pin").click()')
         self.type_behind('send 6;', ' send 8;')
@@ -328,7 +333,7 @@ class Page(unittest.TestCase):
         self.wait('m.differs.first && Array.from(run.w).includes(3)')
         self.assertIn('The first difference from the run before is at moment 50', self.shown('change'))
 
-    def test_a_dragged_mote_changes_the_text(self):
+    def test_a_dragged_mote_changes_the_text(self) -> None:
         self.open()
         x, y = self.on_map(1)
         to_x, to_y = self.on_map(2)
@@ -340,7 +345,7 @@ class Page(unittest.TestCase):
         self.assertIn('Mote 1 is at', self.shown('map-said'))
         self.assertEqual(self.value('run.hearers[0].length'), 0)
 
-    def shown_on_map(self, mote):
+    def shown_on_map(self, mote: int) -> Any:
         """Where a mote is seen in the window: the map's picture, as large as the page shows it."""
         self.on_map(mote)
         return self.value('''(() => {
@@ -349,7 +354,7 @@ class Page(unittest.TestCase):
             box.y + canvas.clientTop + m.maps[0].y(%d) * dots * canvas.clientHeight / canvas.height];
         })()''' % (mote, mote))
 
-    def test_the_map_is_as_large_as_it_is_shown_and_the_mouse_finds_a_mote_at_its_centre(self):
+    def test_the_map_is_as_large_as_it_is_shown_and_the_mouse_finds_a_mote_at_its_centre(self) -> None:
         self.open()
         for width in 1400, 1000:
             self.browser.size(width, 900)
@@ -364,7 +369,7 @@ class Page(unittest.TestCase):
             self.value('m.editor().replace(text, %s)' % json.dumps(NET))
             self.wait('m.studio.judged === m.studio.number && run.places[2][0] === 100')
 
-    def test_motes_are_added_and_removed(self):
+    def test_motes_are_added_and_removed(self) -> None:
         self.open()
         self.value('document.getElementById("add").click()')
         x, y = self.on_map(2)
@@ -379,7 +384,7 @@ class Page(unittest.TestCase):
         self.assertNotIn('x = 8\n', self.value('text'))
         self.assertIn('# the first', self.value('text'))
 
-    def test_a_way_shows_its_delay_and_can_lose(self):
+    def test_a_way_shows_its_delay_and_can_lose(self) -> None:
         self.open()
         (x, y), (to_x, to_y) = self.on_map(0), self.on_map(1)
         self.browser.click((x + to_x) / 2, (y + to_y) / 2)
@@ -391,7 +396,7 @@ class Page(unittest.TestCase):
         self.wait('m.studio.judged === m.studio.number')
         self.assertEqual([line for line in self.lines(1) if ' recv ' in line], ['13 recv 0 0 5'])
 
-    def test_checks_are_green_or_red_and_lead_to_the_line(self):
+    def test_checks_are_green_or_red_and_lead_to_the_line(self) -> None:
         self.open()
         self.assertEqual(self.value('document.getElementById("tab-checks").textContent'), 'Checks 3/3')
         self.type_behind('print 1;', ' print 2;')
@@ -401,7 +406,7 @@ class Page(unittest.TestCase):
         self.assertEqual(self.value('run.text(m.chosen().line)'), '0 print talker 2')
         self.assertEqual(self.value('run.moteOf(m.chosen().line)'), 0)
 
-    def test_a_change_is_made_by_a_button_and_judged_by_its_own_sentences(self):
+    def test_a_change_is_made_by_a_button_and_judged_by_its_own_sentences(self) -> None:
         self.open()
         self.assertIn('Another value', self.shown('guide'))
         self.value('document.querySelector("#guide .try button").click()')
@@ -409,13 +414,13 @@ class Page(unittest.TestCase):
         self.assertIn('print 9', self.value('text'))
         self.wait('m.differs.first')
 
-    def test_sums_are_those_of_summary(self):
+    def test_sums_are_those_of_summary(self) -> None:
         self.open()
         cells = self.value('Array.from(document.querySelectorAll("#sums table:first-child tr.net td"), '
                            'it => it.textContent)')
         self.assertEqual(cells[:5], ['net', '', '2', '2', '2'])
 
-    def test_steps_show_the_state_of_a_mote(self):
+    def test_steps_show_the_state_of_a_mote(self) -> None:
         self.open()
         self.value('document.getElementById("tab-steps").click()')
         self.value('m.find("mote 1 recv 5")')
@@ -444,7 +449,7 @@ class Page(unittest.TestCase):
         self.assertEqual(self.value('run.text(m.chosen().line)'), '23 recv 0 1 6')
         self.assertIn('Stop 1 of 1', self.shown('steps'))
 
-    def test_breakpoints_are_searches(self):
+    def test_breakpoints_are_searches(self) -> None:
         self.open()
         for words, found in [('stop where mote 3 prints', [['mote', '3', 'print']]),
                              ('a packet collides', [['collide']]),
@@ -453,7 +458,7 @@ class Page(unittest.TestCase):
                                                                         ['mote', '1', 'send', '7']])]:
             self.assertEqual(self.value('m.searchesOf(%s)' % json.dumps(words)), found, words)
 
-    def test_a_run_past_its_limit_is_stopped(self):
+    def test_a_run_past_its_limit_is_stopped(self) -> None:
         self.open(Limits(seconds=5))
         self.value('m.editor().replace("# Two", "# never_ends Two")')
         self.wait('!document.getElementById("notice").hidden')
@@ -463,7 +468,7 @@ class Page(unittest.TestCase):
         self.value('m.editor().replace("never_ends", "ends")')
         self.wait('document.getElementById("notice").hidden && !document.body.classList.contains("stale")')
 
-    def test_a_newer_text_stops_the_run_before(self):
+    def test_a_newer_text_stops_the_run_before(self) -> None:
         self.open(Limits(seconds=30))
         self.value('m.editor().replace("# Two", "# never_ends Two")')
         self.wait('document.getElementById("state").textContent === "running"')
@@ -472,7 +477,7 @@ class Page(unittest.TestCase):
         self.wait('m.studio.judged === m.studio.number && document.getElementById("state").dataset.is === "good"')
         self.assertIsNone(self.server.session.runs.running)
 
-    def test_a_lost_connection_says_so_and_comes_back(self):
+    def test_a_lost_connection_says_so_and_comes_back(self) -> None:
         self.open()
         session, port, token = self.server.session, self.server.port, self.server.token
         self.stop()
@@ -482,7 +487,7 @@ class Page(unittest.TestCase):
         self.serve(Server(session, CODEMIRROR, port, token))
         self.wait('document.getElementById("notice").hidden && Array.from(run.w).includes(7)')
 
-    def test_a_text_is_saved_into_its_file_and_not_over_another(self):
+    def test_a_text_is_saved_into_its_file_and_not_over_another(self) -> None:
         self.open()
         self.type_behind('print 1;', ' print 7;')
         self.wait('Array.from(run.w).includes(7)')
@@ -498,7 +503,7 @@ class Page(unittest.TestCase):
         self.wait('text.endsWith("# of another\\n")')
         self.assertEqual(self.file.read_text(), NET + '# of another\n')
 
-    def test_an_example_is_opened_and_saved_under_a_new_name(self):
+    def test_an_example_is_opened_and_saved_under_a_new_name(self) -> None:
         self.open()
         self.value('(() => { const box = document.getElementById("open"); box.value = "example flooding.toml"; '
                    'box.dispatchEvent(new Event("change")); })()')
@@ -512,7 +517,7 @@ class Page(unittest.TestCase):
         self.wait('m.studio.document.name === "mine.toml"')
         self.assertEqual((self.room / 'mine.toml').read_bytes(), (TOP / 'examples/flooding.toml').read_bytes())
 
-    def test_the_page_without_its_token_is_refused(self):
+    def test_the_page_without_its_token_is_refused(self) -> None:
         self.open()
         for address in ('/', '/wrong/', '/wrong/studio/page/studio.js'):
             self.visit('http://127.0.0.1:%d%s' % (self.server.port, address), 'document.body')
@@ -520,14 +525,14 @@ class Page(unittest.TestCase):
             self.assertNotIn('motesim studio', self.browser.run('document.documentElement.outerHTML'))
         self.visit(self.server.address, READY)
 
-    def test_nothing_comes_from_a_network(self):
+    def test_nothing_comes_from_a_network(self) -> None:
         self.open()
         names = self.value('performance.getEntriesByType("resource").map(it => it.name)')
         self.assertTrue(names)
         for name in names:
             self.assertTrue(name.startswith(self.server.address) or name.startswith('data:'), name)
 
-    def test_it_works_with_a_plain_text_area(self):
+    def test_it_works_with_a_plain_text_area(self) -> None:
         self.open(codemirror=None)
         self.assertIn('libjs-codemirror', self.shown('no-editor'))
         self.type_behind('print 1;', ' print 7;')
@@ -537,14 +542,14 @@ class Page(unittest.TestCase):
         self.wait('!text.includes("x = 8\\n") && m.studio.judged === m.studio.number && run.places[1][1] > 0')
         self.assertIn('# the first', self.value('text'))
 
-    def test_a_scenario_that_begins_with_a_fault_is_opened(self):
+    def test_a_scenario_that_begins_with_a_fault_is_opened(self) -> None:
         self.file.write_text(NET.replace('base = 3', 'base = 0'))
         self.open()
         self.assertIn('medium fault 2', self.shown('fault'))
         self.value('m.editor().replace("base = 0", "base = 3")')
         self.wait('m.panes.length === 1 && document.getElementById("fault").hidden')
 
-    def test_the_page_of_the_run_is_handed_out_as_one_file(self):
+    def test_the_page_of_the_run_is_handed_out_as_one_file(self) -> None:
         self.open()
         self.browser.call('Browser.setDownloadBehavior', behavior='allow', downloadPath=str(self.room))
         self.value('document.getElementById("export").click()')
@@ -556,7 +561,7 @@ class Page(unittest.TestCase):
         self.visit(page.as_uri(), 'window.motesim && motesim.ready')
         self.assertEqual(self.browser.run('motesim.panes[0].run.begins.length'), 3)
 
-    def test_it_fits_narrow_windows_and_all_has_a_name(self):
+    def test_it_fits_narrow_windows_and_all_has_a_name(self) -> None:
         self.open()
         for width in (1400, 1000, 700, 390):
             self.browser.size(width, 900)

@@ -1,4 +1,6 @@
 """The pages of tools/timeline: their data, and in a headless browser, where there is one, what they show."""
+from __future__ import annotations
+
 import base64
 import contextlib
 import io
@@ -10,6 +12,7 @@ import tempfile
 import unittest
 import zlib
 from pathlib import Path
+from typing import Any
 
 from here import TOP
 from browser import Browser
@@ -44,19 +47,19 @@ left 0
 '''
 
 
-def small_network():
+def small_network() -> Run:
     """The run of examples/small_network.toml, whose report stands in docs/use/REPORT.md."""
     text = (TOP / 'docs/use/REPORT.md').read_text().split('```\n')[1]
     return Run('small', Report.parse(text), Scenario.parse((TOP / 'examples/small_network.toml').read_bytes()))
 
 
-def case(name):
+def case(name: str) -> Run:
     nets = TOP / 'tests/cases/nets'
     return Run(name, Report.parse((nets / (name + '.expected')).read_bytes()),
         Scenario.parse((nets / (name + '.toml')).read_bytes()))
 
 
-def many(motes, sends):
+def many(motes: int, sends: int) -> str:
     """A report in which many motes, each of them alone, wake by a timer and send."""
     lines, medium = [], []
     for mote in range(motes):
@@ -69,10 +72,11 @@ def many(motes, sends):
     return '\n'.join(lines + ['medium'] + ['%d %d %d 5' % packet for packet in sorted(medium)] + ['left 0', ''])
 
 
-def columns_of(run):
+def columns_of(run: Run) -> Any:
     """The columns of a run's data, as the page reads them."""
     said, packed = data_of(run)
-    data, place, found = zlib.decompress(packed), 0, {}
+    found: dict[str, list[int]] = {}
+    data, place = zlib.decompress(packed), 0
     for name, kind, length in said['columns']:
         wide = {'u8': 1, 'u16': 2, 'u32': 4}[kind]
         found[name] = [int.from_bytes(data[place + wide * i:place + wide * (i + 1)], 'little') for i in range(length)]
@@ -81,7 +85,7 @@ def columns_of(run):
 
 
 class Data(unittest.TestCase):
-    def test_columns_have_what_the_report_says(self):
+    def test_columns_have_what_the_report_says(self) -> None:
         said, columns, rest = columns_of(small_network())
         self.assertEqual(rest, 0)
         self.assertEqual(columns['traceStart'], [0, 12, 27, 36])
@@ -92,38 +96,38 @@ class Data(unittest.TestCase):
         self.assertEqual(said['places'], [[0, 0], [5, 0], [10, 0]])
         self.assertEqual(said['losses'], [[0, 1, 2]])
 
-    def test_packets_out_of_their_numbers_are_a_fault(self):
+    def test_packets_out_of_their_numbers_are_a_fault(self) -> None:
         text = SILENT.replace('2 send 0 7', '2 send 1 7').replace('recv 0 0 7', 'recv 0 1 7').replace('2 0 0 7',
             '2 0 1 7')
         with self.assertRaises(Fault):
             data_of(Run('wrong', Report.parse(text), None))
 
-    def test_numbers_beyond_a_page_are_a_fault(self):
+    def test_numbers_beyond_a_page_are_a_fault(self) -> None:
         with self.assertRaises(Fault):
             data_of(Run('wrong', Report.parse(SILENT.replace('post 2 a', 'post 9876543210 a')), None))
 
-    def test_a_title_is_text_in_the_page(self):
+    def test_a_title_is_text_in_the_page(self) -> None:
         page = ''.join(page_of('<b> & @SCRIPT@', [Run('</script>', Report.parse(SILENT), None)]))
         self.assertIn('<h1>&lt;b&gt; &amp; @SCRIPT@</h1>', page)
         self.assertEqual(page.count('</script>'), 3)
-        self.assertEqual(json.loads(re.search('application/json">(.*)</script>', page)[1])['runs'][0]['name'],
+        self.assertEqual(json.loads(re.findall('application/json">(.*)</script>', page)[0])['runs'][0]['name'],
             '</script>')
 
-    def test_a_page_fetches_nothing(self):
+    def test_a_page_fetches_nothing(self) -> None:
         page = ''.join(page_of('a', [small_network()]))
-        packed = re.search('id="run0" type="text/plain">(.*)</script>', page)[1]
+        packed = re.findall('id="run0" type="text/plain">(.*)</script>', page)[0]
         self.assertGreater(len(zlib.decompress(base64.b64decode(packed))), 100)
         for word in ('http:', 'https:', ' src=', '@import', 'url('):
             self.assertNotIn(word, page.replace(packed, ''))
 
 
 class Command(unittest.TestCase):
-    def tool(self, room, *words, given=''):
+    def tool(self, room: str, *words: str, given: str = '') -> subprocess.CompletedProcess[str]:
         return subprocess.run([sys.executable, '-B', str(TOP / 'tools/timeline'), *words], cwd=room, input=given,
             capture_output=True,
                               text=True)
 
-    def test_the_page_stands_in_the_current_folder(self):
+    def test_the_page_stands_in_the_current_folder(self) -> None:
         with tempfile.TemporaryDirectory() as room:
             Path(room, 'a.txt').write_text(SILENT)
             done = self.tool(room, 'a.txt')
@@ -133,7 +137,7 @@ class Command(unittest.TestCase):
             self.assertEqual((done.returncode, done.stdout), (0, 'b.html\n'))
             self.assertIn('<h1>Two motes</h1>', Path(room, 'b.html').read_text())
 
-    def test_a_fault_is_one_line(self):
+    def test_a_fault_is_one_line(self) -> None:
         with tempfile.TemporaryDirectory() as room:
             for words in (['-'], ['nowhere.txt'], ['-', '--scenario', 'nowhere.toml']):
                 done = self.tool(room, *words, given='nothing')
@@ -144,9 +148,11 @@ class Command(unittest.TestCase):
 
 class Pages(unittest.TestCase):
     """What a page shows and answers, in a browser."""
+    browser: Any
+    room: Any
 
     @classmethod
-    def setUpClass(cls):
+    def setUpClass(cls) -> None:
         cls.browser, why = Browser.start()
         if cls.browser is None:
             said = 'the pages of tools/timeline are not tried: ' + why
@@ -156,12 +162,12 @@ class Pages(unittest.TestCase):
         cls.room = tempfile.TemporaryDirectory()
 
     @classmethod
-    def tearDownClass(cls):
+    def tearDownClass(cls) -> None:
         if cls.browser is not None:
             cls.browser.close()
             cls.room.cleanup()
 
-    def open(self, *runs, fragment='', **words):
+    def open(self, *runs: Any, fragment: str = '', **words: Any) -> None:
         page = Path(self.room.name, 'page.html')
         write_page(page, 'A page', runs, **words)
         self.browser.faults.clear()
@@ -169,14 +175,14 @@ class Pages(unittest.TestCase):
         self.browser.open(page, fragment)
         self.browser.settle()
 
-    def tearDown(self):
+    def tearDown(self) -> None:
         self.assertEqual(self.browser.faults, [])
 
-    def value(self, script):
+    def value(self, script: str) -> Any:
         known = 'const m = motesim, pane = m.panes[0], run = pane.run'
         return self.browser.run('(() => { %s; return %s; })()' % (known, script))
 
-    def place(self, row):
+    def place(self, row: int) -> Any:
         """Where the mark of a line of the report is in the window."""
         return self.value('''(() => {
           const {x: left, y: top} = pane.canvas.getBoundingClientRect();
@@ -186,17 +192,17 @@ class Pages(unittest.TestCase):
           }
         })()''' % row)
 
-    def shown(self):
+    def shown(self) -> Any:
         return self.value('document.getElementById("details").innerText')
 
-    def selected(self):
+    def selected(self) -> Any:
         return self.value('m.chosen() && m.chosen().line >= 0 ? run.text(m.chosen().line) : null')
 
-    def key(self, key, **words):
+    def key(self, key: str, **words: Any) -> None:
         self.value('pane.canvas.focus()')
         self.browser.key(key, **words)
 
-    def test_the_lines_of_the_report_come_back(self):
+    def test_the_lines_of_the_report_come_back(self) -> None:
         for run in [small_network(), case('ring_overflows'), case('nine_copies_collide'),
             case('runaway_beside_another')]:
             self.open(run)
@@ -218,7 +224,7 @@ class Pages(unittest.TestCase):
             })()''')
             self.assertEqual('\n'.join(rows) + '\n', run.report.text())
 
-    def test_copies_become_what_the_report_says(self):
+    def test_copies_become_what_the_report_says(self) -> None:
         words = {'received': [0, 1, 2, 8], 'full': [3], 'collided': [4], 'lost': [5], 'halted': [6], 'left': [7]}
         for run in [small_network(), case('ring_overflows'), case('nine_copies_collide'), case('copy_past_the_end')]:
             self.open(run)
@@ -227,7 +233,7 @@ class Pages(unittest.TestCase):
             for fate, outcome in zip(fates, outcomes):
                 self.assertIn(fate, words[outcome.what])
 
-    def test_wheel_keys_and_buttons_zoom_and_pan(self):
+    def test_wheel_keys_and_buttons_zoom_and_pan(self) -> None:
         self.open(small_network())
         whole = self.value('m.time.scale')
         left, top = self.value('[pane.canvas.getBoundingClientRect().x, pane.canvas.getBoundingClientRect().y]')
@@ -258,7 +264,7 @@ class Pages(unittest.TestCase):
             self.value('document.querySelector("[data-do=%s]").click()' % button)
             self.assertGreater((self.value('m.time.scale') - scale) * sign, 0)
 
-    def test_a_click_shows_a_packet_and_its_copies(self):
+    def test_a_click_shows_a_packet_and_its_copies(self) -> None:
         self.open(small_network())
         self.browser.click(*self.place(12))
         self.assertEqual(self.selected(), '8 send 2 30')
@@ -278,7 +284,7 @@ class Pages(unittest.TestCase):
         self.key('Escape', number=27)
         self.assertIsNone(self.selected())
 
-    def test_a_click_on_an_arrow_shows_its_copy(self):
+    def test_a_click_on_an_arrow_shows_its_copy(self) -> None:
         self.open(small_network())
         x, y = self.value('''(() => {
           const {x: left, y: top} = pane.canvas.getBoundingClientRect(), a = pane.arrows;
@@ -292,19 +298,19 @@ class Pages(unittest.TestCase):
         self.assertIn('Packet 1 of mote 0, value 20', self.shown())
         self.assertIn('mote 1: lost on the way', self.shown())
 
-    def test_an_event_is_followed_from_its_post(self):
+    def test_an_event_is_followed_from_its_post(self) -> None:
         self.open(Run('silent', Report.parse(SILENT), None))
         self.browser.click(*self.place(9))
         self.assertIn('Event 2 of mote 0: msg 1', self.shown())
         self.assertIn('still waiting when the run ends', self.shown())
 
-    def test_silences_are_found(self):
+    def test_silences_are_found(self) -> None:
         self.open(Run('silent', Report.parse(SILENT), None))
         self.assertEqual(self.value('Array.from(run.silent.keys()).filter(i => run.silent[i]).map(i => run.text(i))'),
             ['4 take 1 a'])
         self.assertEqual(self.value('[run.groups[0].sent, run.groups[0].quiet]'), [1, 1])
 
-    def test_a_search_finds_lines(self):
+    def test_a_search_finds_lines(self) -> None:
         self.open(small_network())
         for words, found in [('print', 2), ('print echo', 1), ('30', 7), ('mote 2', 9), ('from 2 collide', 1),
             ('timer', 6), ('lost', 1),
@@ -324,7 +330,7 @@ class Pages(unittest.TestCase):
         self.assertEqual(self.selected(), '0 send 0 10')
         self.assertIn('5 lines found', self.value('document.getElementById("matches").innerText'))
 
-    def test_a_run_is_played(self):
+    def test_a_run_is_played(self) -> None:
         self.open(small_network())
         moments = []
         for _ in range(6):
@@ -338,20 +344,20 @@ class Pages(unittest.TestCase):
         self.key(' ')
         self.browser.wait('motesim.play.now === 20 && !motesim.play.runs')
 
-    def test_two_runs_share_their_time(self):
+    def test_two_runs_share_their_time(self) -> None:
         self.open(small_network(), case('two_senders_collide'), start=10, mote=1)
         self.assertEqual(self.value('m.panes.length'), 2)
         self.assertEqual(self.value('m.panes[0].x(7) - m.panes[1].x(7)'), 0)
         self.assertEqual(self.value('m.play.now'), 10)
         self.assertEqual(self.selected(), '10 recv 0 2 30')
 
-    def test_an_address_says_what_is_shown(self):
+    def test_an_address_says_what_is_shown(self) -> None:
         self.open(small_network(), fragment='#from=4&to=12&line=22&only=timeline')
         self.assertEqual(self.selected(), '10 recv 0 2 30')
         self.assertAlmostEqual(self.value('pane.moment(pane.gutter)'), 4, places=6)
         self.assertFalse(self.value('document.querySelector("aside").offsetHeight'))
 
-    def test_a_note_leads_to_its_line(self):
+    def test_a_note_leads_to_its_line(self) -> None:
         note = Note('mote 1 sends 41', 'mote 1 has 0 such lines', (Line('nothing'), Line('19 send 1 40', 38)))
         self.open(small_network(), note=note)
         self.assertEqual(self.selected(), '19 send 1 40')
@@ -363,28 +369,28 @@ class Pages(unittest.TestCase):
         self.value('document.querySelector("#note button").click()')
         self.assertEqual(self.selected(), '19 send 1 40')
 
-    def test_a_note_without_a_line_leads_to_the_last_one_before_its_moment(self):
+    def test_a_note_without_a_line_leads_to_the_last_one_before_its_moment(self) -> None:
         self.open(small_network(), note=Note('mote 0 prints 3', 'mote 0 has 0 such lines', (), 9, 0))
         self.assertEqual(self.selected(), '8 leave sender')
         self.open(small_network(), note=Note('this fails', ''))
         self.assertIsNone(self.selected())
 
-    def test_a_line_outside_of_the_moments_is_shown(self):
+    def test_a_line_outside_of_the_moments_is_shown(self) -> None:
         self.open(small_network(), fragment='#from=0&to=5&line=38')
         self.assertEqual(self.selected(), '19 send 1 40')
         self.assertTrue(self.value('pane.x(19) > pane.gutter && pane.x(19) < pane.canvas.clientWidth'))
 
-    def test_an_address_selects_a_mote(self):
+    def test_an_address_selects_a_mote(self) -> None:
         self.open(small_network(), fragment='#mote=2')
         self.assertEqual(self.value('m.chosen().mote'), 2)
 
-    def test_the_count_of_lines_is_that_of_the_report(self):
+    def test_the_count_of_lines_is_that_of_the_report(self) -> None:
         run = small_network()
         self.open(run)
         lines = run.report.text().count('\n')
         self.assertIn('a report of %d lines' % lines, self.value('document.getElementById("about").textContent'))
 
-    def test_labels_are_apart_where_the_page_is_narrow(self):
+    def test_labels_are_apart_where_the_page_is_narrow(self) -> None:
         self.open(small_network())
         self.browser.size(500, 900)
         self.browser.settle()
@@ -397,7 +403,7 @@ class Pages(unittest.TestCase):
                     for it in ('#' + name, '[for=%s]' % name)]
             self.assertLess(abs(self.value('%s - %s' % tuple(tops))), 20)
 
-    def test_forms_are_drawn_light_dark_narrow_and_for_print(self):
+    def test_forms_are_drawn_light_dark_narrow_and_for_print(self) -> None:
         self.open(small_network())
         light = self.value('pane.canvas.toDataURL()')
         self.browser.dark(True)
@@ -413,14 +419,14 @@ class Pages(unittest.TestCase):
         self.browser.print(pdf)
         self.assertEqual(pdf.read_bytes()[:5], b'%PDF-')
 
-    def test_all_that_is_drawn_has_a_name_for_readers_of_screens(self):
+    def test_all_that_is_drawn_has_a_name_for_readers_of_screens(self) -> None:
         self.open(small_network())
         unnamed = self.value('''Array.from(document.querySelectorAll("button, input, select, canvas")).filter(it =>
           !(it.textContent.trim() && it.matches("button")) && !it.getAttribute("aria-label") &&
           !(it.labels && it.labels.length)).length''')
         self.assertEqual(unnamed, 0)
 
-    def test_the_names_beside_low_lanes_are_whole(self):
+    def test_the_names_beside_low_lanes_are_whole(self) -> None:
         """What is drawn after a name doesn't cover it, and moment 0 has its number on the axis."""
         self.open(Run('many', Report.parse(many(60, 4)), None))
         for lane in 40, 11, 7, 3:
@@ -440,7 +446,7 @@ class Pages(unittest.TestCase):
             })()''' % lane)
             self.assertEqual(told, [True, True], lane)
 
-    def test_many_lanes_are_drawn_as_colours_and_what_is_not_drawn_is_said(self):
+    def test_many_lanes_are_drawn_as_colours_and_what_is_not_drawn_is_said(self) -> None:
         self.open(Run('many', Report.parse(many(900, 40)), None))
         said = self.value('document.getElementById("drawn").textContent')
         self.assertIn('All 900 lanes, 108,900 lines of traces.', said)

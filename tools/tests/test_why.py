@@ -160,12 +160,12 @@ class Causes(unittest.TestCase):
     def test_each_kind_of_line(self) -> None:
         """Each line's cause is the line that led to the call in which it was written."""
         causes = [cause_of(source(), At(0, place)) for place in range(len(CAUSES))]
-        self.assertEqual([at.place for at in causes], CAUSES)
+        self.assertEqual([at and at.place for at in causes], CAUSES)
 
     def test_a_packet_is_caused_by_its_send(self) -> None:
         found = source()
         causes = [cause_of(found, At(1, place)) for place in range(len(CAUSES_OF_HEARER))]
-        self.assertEqual([at.place for at in causes if at.mote == 1], [it for it in CAUSES_OF_HEARER if it is not None])
+        self.assertEqual([at.place for at in causes if at and at.mote == 1], [it for it in CAUSES_OF_HEARER if it is not None])
         self.assertEqual(causes[4], At(0, 12))
 
     def test_a_chain_goes_back_to_the_start_of_a_mote(self) -> None:
@@ -270,15 +270,17 @@ class Questions(unittest.TestCase):
                                 ('exactly 1 copy arrives', At(1, 4)), ('at least 1 packet is sent', At(0, 12)),
                                 ('mote 0 finally prints c 2', At(0, 17)), ('mote 0 prints just c 7, 3, 2', At(0, 17)),
                                 ('exactly 1 mote receives 8', At(1, 4)), ('mote 0 leaves c', At(0, 11))):
-            self.assertEqual(self.about(question).where, where, question)
-            self.assertTrue(self.about(question).holds, question)
+            found = self.about(question)
+            assert isinstance(found, Asked)
+            self.assertEqual((found.where, found.holds), (where, True), question)
 
     def test_sentences_that_a_line_breaks(self) -> None:
         for question, where in (('no mote sends', At(0, 12)), ('mote 0 prints at most 2', At(0, 14)),
                                 ('no copy arrives', At(1, 4)), ('mote 0 prints just c 7, 2', At(0, 10)),
                                 ('mote 0 finally prints c 3', At(0, 17)), ('mote 1 never receives 8', At(1, 4))):
-            self.assertEqual(self.about(question).where, where, question)
-            self.assertFalse(self.about(question).holds, question)
+            found = self.about(question)
+            assert isinstance(found, Asked)
+            self.assertEqual((found.where, found.holds), (where, False), question)
 
     def test_sentences_that_want_a_line(self) -> None:
         for question in 'mote 1 prints h 9', 'mote 1 prints h 8 by 6', 'mote 0 sends twice', 'every mote sends':
@@ -396,6 +398,7 @@ class Runs(unittest.TestCase):
         """Message 1 goes from mote 0 by mote 1 to mote 6: 1 is the least sender of the two that are heard at 46."""
         found = self.run_of('flooding.toml')
         asked = Asker(found).about('mote 6 prints flood 1')
+        assert isinstance(asked, Asked)
         self.assertEqual([it.partition(' ')[0] + ' ' + it.partition(' ')[2] for it in lines_of(found, asked.where)], [
             '6: 46 print flood 1', '6: 46 take 0 flood', '6: 46 post 0 flood packet 1', '6: 46 recv 1 0 1',
             '1: 43 send 0 1', '1: 43 take 0 flood', '1: 43 post 0 flood packet 1', '1: 43 recv 0 0 1',
@@ -408,6 +411,7 @@ class Runs(unittest.TestCase):
         """Message 2 is lost from 0 to 1, and comes by way of 5 and 6; its timer was reset when the one before fired."""
         found = self.run_of('flooding.toml')
         asked = Asker(found).about('mote 1 prints flood 2')
+        assert isinstance(asked, Asked)
         hops = [it for it in chain(found, asked.where) if it.wait]
         self.assertEqual([(it.where.mote, it.at, it.waited, it.wait) for it in hops], [
             (1, 89, 3, 'medium'), (6, 86, 3, 'medium'), (5, 83, 3, 'medium'), (0, 80, 40, 'timer'),
@@ -439,6 +443,7 @@ class Runs(unittest.TestCase):
         for question, led in (('mote 6 prints flood 1', ', in line 20: `if (is(packet) && (data > newest))`'),
                               ('mote 0 sends 1', ', in line 13: `if fired(next)`')):
             asked = Asker(found).about(question)
+            assert isinstance(asked, Asked)
             self.assertTrue(chain(found, asked.where)[0].because.endswith(led), question)
 
     def near(self, name: str, question: str) -> list[str]:
@@ -467,6 +472,7 @@ class Runs(unittest.TestCase):
         """
         found = self.run_of('collection_tree.toml')
         asked = Asker(found).about('mote 0 prints reading 9')
+        assert isinstance(asked, Asked)
         hops = [it for it in chain(found, asked.where) if it.wait]
         self.assertEqual([(it.where.mote, it.at, it.waited, it.wait) for it in hops], [
             (0, 360, 4, 'medium'), (6, 356, 4, 'medium'), (3, 352, 7, 'medium'), (9, 345, 345, 'timer')])

@@ -64,6 +64,8 @@ class Notes(unittest.TestCase):
 class Pages(unittest.TestCase):
     browser: Browser
 
+    room: tempfile.TemporaryDirectory[str]
+
     @classmethod
     def setUpClass(cls) -> None:
         browser, why = Browser.start()

@@ -244,6 +244,7 @@ class Log(unittest.TestCase):
         found = log.noted()
         self.assertEqual((list(found), found['low/a'].verdict, found['low/b'].digest), (['low/a', 'low/b'], first, '2'))
         self.assertTrue(found['low/b'].verdict.why.startswith('an error xxx'))
+        self.assertEqual(log.counts(['low/a', 'low/b', 'low/c', 'low/d']), 'not noted 2, contract 1, answer 1')
 
     def test_a_digest_has_all_that_a_verdict_depends_on(self) -> None:
         below = crate_at(self.room / 'low', {'src/lib.rt': 'fn a() {}\n', 'specs/A.antt': '', 'proofs/P.antt': ''})

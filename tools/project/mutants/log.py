@@ -8,6 +8,7 @@ from __future__ import annotations
 
 import hashlib
 import time
+from collections import Counter
 from collections.abc import Iterable, Mapping
 from functools import cache
 from pathlib import Path
@@ -77,3 +78,10 @@ def note(found: Mapping[str, tuple[Verdict, str]]) -> None:
                        it.digest]) + '\n' for name, it in sorted(kept.items())]
     KEPT.parent.mkdir(exist_ok=True)
     KEPT.write_text(HEAD + ''.join(rows), 'utf-8')
+
+
+def counts(names: Iterable[str]) -> str:
+    """How many of these mutants came to what when they were last tried."""
+    kept = noted()
+    found = Counter(kept[name].verdict.kind if name in kept else 'not noted' for name in names)
+    return ', '.join('%s %d' % it for it in found.most_common())

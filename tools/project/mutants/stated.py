@@ -61,25 +61,19 @@ def blamed(said: str, holes: dict[str, str]) -> set[str]:
     return {it for it in re.findall(r'(?m)^(?:\./)?proofs/(\S+)/Proof\.antt: error', said) if it in holes}
 
 
-class Copy:
-    """A copy of a crate in a folder of its own, in which some proofs are left open."""
-
-    def __init__(self, crate: Crate, room: Path, holes: dict[str, str]):
-        self.crate, self.holes = copy.copy(crate), holes
-        self.crate.folder = str(room)
-        for part in parts():
-            if Path(crate.folder, part).is_dir():
-                shutil.copytree(Path(crate.folder, part), room / part)
-        for name, text in holes.items():
-            folder = room / 'proofs' / name
-            folder.mkdir(parents=True, exist_ok=True)
-            for it in OF_A_PROOF:
-                (folder / it).unlink(missing_ok=True)
-            (folder / 'Proof.antt').write_text(text, 'utf-8')
-
-
 @contextlib.contextmanager
 def copied(crate: Crate, holes: dict[str, str]) -> Iterator[Crate]:
     """A copy of a crate with these proofs left open."""
     with tempfile.TemporaryDirectory(prefix='mutants-') as room:
-        yield Copy(crate, Path(room), holes).crate
+        made = copy.copy(crate)
+        made.folder = room
+        for part in parts():
+            if Path(crate.folder, part).is_dir():
+                shutil.copytree(Path(crate.folder, part), Path(room, part))
+        for name, text in holes.items():
+            folder = Path(room, 'proofs', name)
+            folder.mkdir(parents=True, exist_ok=True)
+            for it in OF_A_PROOF:
+                (folder / it).unlink(missing_ok=True)
+            (folder / 'Proof.antt').write_text(text, 'utf-8')
+        yield made
