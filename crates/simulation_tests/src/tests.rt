@@ -1,9 +1,10 @@
-//! What no scenario and no command line shows: streams that fail, gates, and calls with options that the words can't
-//! ask for. Most tests write what came of some runs into a text, and compare it in a function that they share.
-//! All runs have one reader, one writer and one gate, so that what they call is compiled for these alone.
+//! Tests of things that no scenario and no command line shows: streams that fail, gates, and calls with options that
+//! the words can't ask for. Most tests write what came of some runs into a text, and compare it in a function that
+//! they share. All runs have one reader, one writer and one gate, so that what they call is compiled for these alone.
 
 mod fault_lines;
 mod input;
+mod many_lines;
 mod streams;
 mod words;
 mod workers;
@@ -47,7 +48,8 @@ const TWO_SENDERS: Told = Told {
         0 start a\n0 send 0 7\n0 leave a\nmedium\n0 0 0 5 1@2\n0 2 0 7 1@2\nleft 0\n",
 };
 
-/// A reader that gives at most `most` bytes a call, and fails after `calls` calls.
+/// A reader that returns at most `most` bytes a call. The call after `calls` calls fails, and those after it work, so
+/// a call that is tried again goes well.
 #[derive(Drop)]
 struct Source<'a> {
     rest: &'a [u8],
@@ -58,6 +60,7 @@ struct Source<'a> {
 impl Read for Source<'_> {
     fn read(&mut self, buf: &mut [u8]) -> io::Result<usize> {
         if self.calls == 0 {
+            self.calls = usize::MAX;
             return Err(io::Error::from(io::ErrorKind::Interrupted));
         }
         self.calls -= 1;
@@ -68,7 +71,8 @@ impl Read for Source<'_> {
     }
 }
 
-/// A writer of ASCII that takes at most `most` bytes a call; after `calls` calls it fails, or takes nothing.
+/// A writer of ASCII that takes at most `most` bytes a call. The call after `calls` calls fails, or takes nothing, and
+/// those after it work.
 #[derive(Drop)]
 struct Sink {
     text: String,
@@ -91,6 +95,7 @@ impl Sink {
 impl Write for Sink {
     fn write(&mut self, buf: &[u8]) -> io::Result<usize> {
         if self.calls == 0 {
+            self.calls = usize::MAX;
             return if self.fails {
                 Err(io::Error::from(io::ErrorKind::Interrupted))
             } else {
@@ -167,16 +172,16 @@ where
 #[derive(Clone, Copy)]
 struct Trial<'a> {
     told: Told<'a>,
-    /// What is read in place of the scenario.
+    /// The text that is read instead of the scenario.
     instead: Option<&'a [u8]>,
     /// The worker of each mote.
     of: &'a [u16],
     /// The worker that gets no thread.
     shut: Option<u16>,
-    /// How many bytes the reader gives a call, and after how many calls it fails.
+    /// The number of bytes that the reader returns a call, and of calls after which it fails.
     gives: usize,
     reads: usize,
-    /// How many bytes the writer takes a call, and after how many calls it fails, or takes nothing.
+    /// The number of bytes that the writer takes a call, and of calls after which it fails, or takes nothing.
     takes: usize,
     writes: usize,
     fails: bool,
@@ -202,7 +207,7 @@ const SENDING: Trial<'static> = Trial {
     ..PRINTING
 };
 
-/// How many bytes these are, or `None` if they aren't a prefix of the report.
+/// The number of these bytes, or `None` if they aren't a prefix of the report.
 fn front_of(report: &[u8], bytes: &[u8]) -> Option<usize> {
     if report.starts_with(bytes) {
         Some(bytes.len())
@@ -297,7 +302,7 @@ where
 }
 
 /// Fails unless what is wanted is written down of all these trials. The tables of trials are statics, since a function
-/// makes a constant anew where it names it.
+/// makes a constant again at each place that names it.
 fn all_tell<T>(rt: &T, table: &[Trials]) -> Result<(), Fail>
 where
     T: AllocGlobal + Files + Threads + Wait + RandomSource + Sync,

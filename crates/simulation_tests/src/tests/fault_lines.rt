@@ -1,4 +1,4 @@
-//! What the program writes and answers when a stream fails, and for the faults of a run.
+//! The output and the status of the program when a stream fails, for the faults of a run, and for help.
 
 use super::{PRINT_THEN_YIELD, Sink, Source, front_of};
 use simulation::{RunError, SimError, run_command, status_of};
@@ -41,7 +41,7 @@ struct Streams<'a> {
     fails: bool,
 }
 
-/// Writes down the status of the program, how many bytes of the report are out, and what stands on standard error.
+/// Writes down the status of the program, how many bytes of the report are out, and the text on standard error.
 fn write_command<T>(rt: &T, text: &mut String, streams: Streams) -> Result<(), AllocError>
 where
     T: AllocGlobal + Files + Threads + Wait + RandomSource + Sync,
@@ -108,4 +108,45 @@ fn faults_and_failing_streams(rt: HostRuntime) -> Result<(), Fail> {
             0 Some(89) |1 Some(0) motesim: read fault\n|1 Some(7) motesim: write fault\n\
             |1 Some(7) motesim: write fault\n|1 Some(0) |1 Some(0) motesim|",
     )
+}
+
+/// The help text, to the byte.
+const HELP: &str = "\
+    Simulates a network of Contiki motes, and writes the traces of the motes and the log of the radio medium\n\n\
+    Usage: motesim [OPTIONS] [FILE]\n\n\
+    Arguments:\n  [FILE]  The scenario; without it, standard input is read\n\n\
+    Options:\n      --workers <N>  Has 1 to 16 workers run the motes, each in a thread of its own; without it, \
+    one thread runs them all\n      --cut <CUT>    How the motes are cut among the workers: in blocks of motes that \
+    follow one another, or dealt in turn [default: block] [possible values: block, stripe]\n      --sync <SYNC>  How \
+    workers wait for one another: their threads are joined after each window, or each has one thread for the whole run \
+    and waits for marks of the others [default: joins] [possible values: joins, marks]\n  \
+    -h, --help         Print help\n";
+
+/// Writes down the status of the program with this argument, all of its output, and its line on standard error. After
+/// `writes` calls one call of the output fails.
+fn write_help<T>(rt: &T, text: &mut String, word: &str, writes: usize) -> Result<(), AllocError>
+where
+    T: AllocGlobal + Files + Threads + Wait + RandomSource + Sync,
+{
+    let mut input = Source {
+        rest: b"",
+        most: 16,
+        calls: usize::MAX,
+    };
+    let mut output = Sink::new(rt.alloc(), usize::MAX, writes, false);
+    let mut errors = Sink::new(rt.alloc(), usize::MAX, usize::MAX, true);
+    let status = run_command(rt, &["motesim", word], &mut input, &mut output, &mut errors);
+    write!(text, "{status} {}|{}|", output.text, errors.text)
+}
+
+/// Help is written in full. An output that takes nothing doesn't change the status.
+#[test]
+fn help_in_full(rt: HostRuntime) -> Result<(), Fail> {
+    let mut text = String::new(rt.alloc());
+    write_help(&rt, &mut text, "--help", usize::MAX)?;
+    write_help(&rt, &mut text, "-h", usize::MAX)?;
+    write_help(&rt, &mut text, "--help", 0)?;
+    let mut want = String::new(rt.alloc());
+    write!(want, "0 {HELP}||0 {HELP}||0 ||")?;
+    same_text(text.as_str(), want.as_str())
 }

@@ -5,7 +5,8 @@ use simulation::{InputError, read_text};
 use std::alloc::Global;
 use std::test::Fail;
 
-/// Whether these bytes are read unchanged, at most `most` at a time, from a reader that fails after `calls` calls.
+/// Tests whether these bytes are read unchanged, at most `most` at a time, from a reader that fails after `calls`
+/// calls.
 fn reads(alloc: Global, bytes: &[u8], most: usize, calls: usize) -> Result<bool, InputError> {
     let mut reader = Source {
         rest: bytes,
@@ -16,7 +17,8 @@ fn reads(alloc: Global, bytes: &[u8], most: usize, calls: usize) -> Result<bool,
     Ok(text.as_bytes() == bytes)
 }
 
-/// Whether a reader that fails after so many calls of one byte is reported, for each number of calls up to 19.
+/// Tests whether a reader whose call after so many calls of one byte fails is reported, for each number of calls up to
+/// 19. Its next call would work.
 fn tells_failures(alloc: Global) -> bool {
     for calls in 0..20usize {
         if reads(alloc, &[b' '; 20], 1, calls) != Err(InputError::Read) {
@@ -26,12 +28,13 @@ fn tells_failures(alloc: Global) -> bool {
     true
 }
 
-/// One, two and three whole chunks, and one byte to either side.
-static LENGTHS: [usize; 9] = [
-    4_095, 4_096, 4_097, 8_191, 8_192, 8_193, 12_287, 12_288, 12_289,
+/// One, two, three and 16 whole chunks, and one byte to either side; and the two greatest lengths of a text.
+static LENGTHS: [usize; 14] = [
+    4_095, 4_096, 4_097, 8_191, 8_192, 8_193, 12_287, 12_288, 12_289, 65_535, 65_536, 65_537,
+    1_048_575, 1_048_576,
 ];
 
-/// Whether the first bytes are read, as many at a time as are asked for, or fewer.
+/// Tests whether the first bytes are read, as many at a time as are asked for, or fewer.
 fn reads_chunks(alloc: Global, bytes: &[u8]) -> bool {
     for length in LENGTHS.as_slice() {
         let Some(front) = bytes.get(..*length) else {
@@ -50,7 +53,7 @@ fn reads_chunks(alloc: Global, bytes: &[u8]) -> bool {
 #[test]
 fn texts_in_pieces(rt: HostRuntime) -> Result<(), Fail> {
     let mut bytes = Vec::new(rt.alloc());
-    for _ in 0..200 {
+    for _ in 0..17_000 {
         bytes.extend_from_slice(b"0123456789ABCDEFGHIJKLMNOPQRSTUVWXYZabcdefghijklmnopqrstuvwxyz")?;
     }
     assert!(rt; tells_failures(rt.alloc()) && reads_chunks(rt.alloc(), &bytes));

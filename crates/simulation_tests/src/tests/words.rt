@@ -1,4 +1,4 @@
-//! What the words of the command line ask for.
+//! The arguments of the command line, and what they ask for.
 
 use super::{SENDING, Trial, Way, write_trial};
 use simulation::asked_by;

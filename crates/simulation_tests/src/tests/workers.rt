@@ -241,7 +241,7 @@ static TRIALS: [Trials<'static>; 21] = [
     },
 ];
 
-/// Who takes which turn, how many threads are started, and what is reported where something fails.
+/// Each turn is taken by the worker of its mote, each thread is started, and each failure is reported.
 #[test]
 fn trials_by_workers(rt: HostRuntime) -> Result<(), Fail> {
     all_tell(&rt, TRIALS.as_slice())
