@@ -52,7 +52,7 @@ class Pack(unittest.TestCase):
                 self.assertEqual((done.returncode, done.stderr), (0, ''))
             done = subprocess.run([str(top / 'run'), '--version'], capture_output=True, text=True)
             self.assertIn('motesim %s, proved with' % VERSION, done.stdout)
-            self.assertIn('`tools/summary`: Counts what a report tells', (top / 'README.md').read_text('utf-8'))
+            self.assertIn('`tools/summary`: Counts what happened in a run', (top / 'README.md').read_text('utf-8'))
             for name in pack.user_commands():
                 words = [sys.executable, str(top / 'tools' / name), '--help']
                 done = subprocess.run(words, cwd='/', capture_output=True, text=True)
