@@ -152,7 +152,7 @@ def listed(top: Path) -> str:
     """The whole list, as the page has it."""
     rests, crates = rests_of(top), crates_of(top)
     used = [crate for crate in reversed(crates) if any(crate_of(path) == crate for path in rests.files)]
-    rows = ['', 'In all %s with %s, in %s.' % (
+    rows = ['', 'The list has %s with %s, in %s.' % (
         number_of(len(rests.files), 'file'), number_of(sum(map(lines_of, rests.files)), 'line'), number_of(len(used), 'crate')),
         'All `specs/` together have %d files.' % len(list(top.glob('crates/*/specs/**/*.antt'))), '']
     for crate in used:

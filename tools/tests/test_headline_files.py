@@ -37,7 +37,7 @@ use Rattle.low.specs.declared.place.TheConstants.{MOST}
 }
 
 LIST = '''
-In all 5 files with 14 lines, in 2 crates.
+The list has 5 files with 14 lines, in 2 crates.
 All `specs/` together have 6 files.
 
 **[crates/simulation/specs](../../crates/simulation/specs)**: 3 files, 9 lines

@@ -35,17 +35,20 @@ def arguments() -> argparse.Namespace:
     words.add_argument('expectations', metavar='EXPECTATIONS', type=Path, help='a file of sentences, NAME.expect.toml')
     words.add_argument('--net', action='append', default=[], metavar='NET', type=Path,
                        help='run the programs in this net, a scenario or a plan; several may be named')
-    words.add_argument('--vary', action='append', default=[], metavar='NAME=VALUES', help='parameters of a plan')
-    words.add_argument('--program', metavar='NAME', help='the program that solutions have, if a net has several')
-    words.add_argument('--seconds', type=float, default=SECONDS, help='the limit of a run; else 20')
+    words.add_argument('--vary', action='append', default=[], metavar='NAME=VALUES',
+                       help='values of a parameter of a plan, such as seed=1..5')
+    words.add_argument('--program', metavar='NAME', help='the program that the students write, if a net has several')
+    words.add_argument('--seconds', type=float, default=SECONDS, help='the limit of a run; by default 20')
     words.add_argument('--memory', type=int, default=MEGABYTES, metavar='MEGABYTES',
-                       help='the limit of a run; else 1024')
-    words.add_argument('--report', type=int, default=16, metavar='MEGABYTES', help='how long a report may be; else 16')
-    words.add_argument('--jobs', type=int, metavar='N', help='how many run at once; else as many as processors')
+                       help='the limit of a run; by default 1024')
+    words.add_argument('--report', type=int, default=16, metavar='MEGABYTES',
+                       help='how long a report may be; by default 16')
+    words.add_argument('--jobs', type=int, metavar='N',
+                       help='how many run at once; by default as many as there are processors')
     words.add_argument('-o', dest='output', action='append', default=[], metavar='FILE', type=Path,
                        help='write the marks: NAME.csv, NAME.toml or NAME.html')
     words.add_argument('--csv', action='store_true', help='print the marks for a spreadsheet')
-    words.add_argument('--why', metavar='NAME', help='what breaks the sentences in one solution')
+    words.add_argument('--why', metavar='NAME', help='show what breaks the sentences in one solution')
     asked = words.parse_args()
     if asked.seconds <= 0 or asked.memory < 1 or asked.report < 1 or (asked.jobs or 1) < 1:
         words.error('limits and --jobs are greater than 0')

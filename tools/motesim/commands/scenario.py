@@ -1,12 +1,12 @@
-"""Writes a scenario from a plan, which has places, programs and losses by rule: tools/scenario PLAN
+"""Writes a scenario from a plan, which describes places, programs and losses by rules: tools/scenario PLAN
 
   tools/scenario net.plan.toml -o net.toml
   tools/scenario net.plan.toml --set period=20 --set seed=3 | ./run
   tools/scenario --from net.toml -o net.plan.toml            the other way: a plan, with files next to it
 
-Without -o the scenario is written to standard output. The same plan, files and parameters always make the same bytes.
-docs/use/EXPERIMENTS.md describes plans. Ends with status 0, or with 2 if the plan, or a file next to it, has an error,
-whose place is shown.
+Without -o the scenario is written to standard output. The same plan, files and parameters always produce the same
+bytes. docs/use/EXPERIMENTS.md describes plans. Ends with status 0, or with 2 if the plan, or a file next to it, has an
+error, whose place is shown.
 """
 from __future__ import annotations
 
@@ -22,7 +22,7 @@ def main() -> int:
     words.add_argument('--set', action='append', default=[], metavar='NAME=VALUE',
                        help='change the value of a parameter')
     words.add_argument('-o', dest='output', metavar='FILE',
-                       help='the scenario to write, else standard output; with --from the plan')
+                       help='the scenario to write; by default standard output; with --from, the plan')
     asked = words.parse_args()
     if (asked.plan is None) == (asked.source is None) or asked.source and asked.set:
         words.error('name a PLAN, or a scenario with --from')

@@ -3,14 +3,14 @@
   tools/shrink flooding.search/flooding_silent_0.toml "mote 6 prints flood 1"
 
 Motes, losses, processes, statements, timers and constants are removed or made smaller, one step at a time, as long as
-the expectation is still broken in the same way; each step is checked by a run. A small scenario may break the
+the expectation is still broken in the same way; each step is checked by a run. The small scenario may break the
 expectation for another reason. With --fault the expectation has to hold without the fault, and to be broken with it;
 --keep names sentences that have to hold throughout. If motes get other numbers, sentences and faults are adapted.
-Without EXPECTATION it is the first broken one of NAME.expect.toml, next to the scenario NAME.toml.
+Without EXPECTATION the tool uses the first broken sentence of NAME.expect.toml, next to the scenario NAME.toml.
 
 The result is written to NAME.small.toml, with its expectation next to it. It is one-minimal: no single further step is
-possible. docs/use/SEARCH.md shows it at work. Ends with status 0, with 2 if nothing could be made smaller, for
-instance because the scenario keeps the expectation, and with 130 after Ctrl-C, which writes what was reached.
+possible. docs/use/SEARCH.md shows it at work. Ends with status 0, with 2 if nothing could be made smaller, for instance
+because the scenario meets the expectation, and with 130 after Ctrl-C, which writes the smallest scenario so far.
 """
 from __future__ import annotations
 
@@ -26,13 +26,13 @@ def main() -> int:
     words = words_of(__doc__)
     words.add_argument('scenario', metavar='SCENARIO', help='a scenario, NAME.toml')
     words.add_argument('expectation', nargs='?', metavar='EXPECTATION', help='a sentence of tools/expect')
-    words.add_argument('-o', dest='output', metavar='FILE', help='the result; else NAME.small.toml')
+    words.add_argument('-o', dest='output', metavar='FILE', help='the result; by default NAME.small.toml')
     words.add_argument('--keep', action='append', default=[], metavar='SENTENCE',
                        help='a sentence that has to hold throughout')
     words.add_argument('--fault', action='append', default=[], metavar='FAULT',
-                       help='a fault that has to break it, such as `lose 0 1 1`; without it the expectation holds')
+                       help='a fault that has to break it, such as `lose 0 1 1`; without the fault it has to hold')
     words.add_argument('--steps', action='store_true', help='show each step')
-    words.add_argument('--seconds', type=float, default=SECONDS, metavar='N', help='the limit of a run (10)')
+    words.add_argument('--seconds', type=float, default=SECONDS, metavar='N', help='the limit of a run; by default 10')
     asked = words.parse_args()
     from motesim.search.shrink_command import status_of
     return status_of(asked)

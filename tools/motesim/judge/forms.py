@@ -40,7 +40,7 @@ MOTES = Table('MOTES', 'The sentence is about', ('%s sends', '%s send'), (
     (('some mote',), 'at least one of them'),
     (('exactly 1 mote', 'at least 5 motes', 'at most 3 motes but 0'), 'that many of them'),
     (('at least 90 % of motes', 'at most 10 % of the motes', 'exactly 50 percent of all motes but 0',
-      'at least 80 % of motes 3 to 20'), 'that part of them'),
+      'at least 80 % of motes 3 to 20'), 'that share of them'),
 ))
 DEED = Table('DEED', 'Lines of the report', ('mote 1 %s',), (
     (('prints', 'prints P', 'prints P VALUE'), '`print P V`'),
@@ -50,25 +50,26 @@ DEED = Table('DEED', 'Lines of the report', ('mote 1 %s',), (
     (('sends', 'sends VALUE'), '`send N V`'),
     (('receives', 'receives VALUE', 'receives VALUE from mote 2'), '`recv F N V`'),
     (('starts P', 'leaves P', 'halts'), '`start P`, `leave P`, `halt`'),
-    (("writes 'full echo msg'",), 'lines that continue so after the moment'),
-    (("writes 'collide' or 'lost'",), 'lines that continue in one of these ways'),
+    (("writes 'full echo msg'",), 'lines that continue with this text after the moment'),
+    (("writes 'collide' or 'lost'",), 'lines that continue with one of these texts'),
     (('never sends', 'never prints P VALUE'), 'none of these lines (after `mote`, `motes`, `every mote` and `together`)'),
 ))
 VALUE = Table('VALUE', 'Is', ('mote 1 prints p %s',), (
     (('7',), 'this number'),
     (('its number',), 'the number of the mote'),
-    (('its distance from mote 0',), 'the least number of hops, over links that don\'t lose all'),
+    (('its distance from mote 0',), 'the least number of hops, over links that don\'t lose every packet'),
     (('the set of motes that it hears', 'the set of motes that it hears but 5'),
-     'a number with the bit n for mote n; without those after `but`'),
-    (('the set of motes linked with it',), 'the same of those that hear it, too'),
-    (('a mote that it hears, one hop nearer to mote 0',), 'one of these'),
+     'a number in which bit n is set for each such mote n; without those after `but`'),
+    (('the set of motes linked with it',), 'the same, only with those that also hear it'),
+    (('a mote that it hears, one hop nearer to mote 0',), 'the number of such a mote'),
 ))
 TIMES = Table('TIMES', 'How many lines', ('mote 1 sends %s',), (
     (('at least 3 times', 'at most 3', 'exactly 3', 'more than 3', 'fewer than 3'), 'that many'),
     (('once', 'twice', 'at most once', 'at least 1 time'), '1, 2, at most 1, at least 1'),
-    (('more than 2 times as often as motes 0 to 9 together',), 'more than twice as many as those have of the same lines'),
-    (('more than 2 times as often as from 300 to 399',), 'the same, compared with its own lines of another time'),
-    (('at least 80 % as often as mote 0',), 'at least 80 % of what mote 0 has of the same lines'),
+    (('more than 2 times as often as motes 0 to 9 together',),
+     'more than twice as many as these motes have of the same lines'),
+    (('more than 2 times as often as from 300 to 399',), 'the same, compared with its own lines of another period'),
+    (('at least 80 % as often as mote 0',), 'at least 80 % of the number of the same lines of mote 0'),
     (('at least 80 % as often as mote 0 prints P', 'exactly 1 times as often as it receives'),
      'compared with other lines, of another mote or of the mote itself'),
 ))
@@ -77,18 +78,18 @@ WHEN = Table('WHEN', 'Moments', ('mote 1 sends %s',), (
     (('by 60', 'before 60'), 'up to 60, up to 59'),
     (('after 60', 'from 60 on'), 'from 61 on, from 60 on'),
     (('between 60 and 90', 'from 60 to 90'), '60 to 90, both included'),
-    (('at 40 plus 3 for each hop from mote 0',), 'for each mote its own'),
-    (('in each 120 from 0 to 1199',), '0 to 119 by themselves, 120 to 239, and so on'),
+    (('at 40 plus 3 for each hop from mote 0',), 'a moment of its own for each mote'),
+    (('in each 120 from 0 to 1199',), '0 to 119, 120 to 239, and so on, each by itself'),
 ))
 ORDER = Table('ORDER', 'Each of the lines is', ('mote 1 sends 1 %s',), (
-    (('after mote 0 sends 1', 'after mote 2'), 'after the first line of the event; `after mote 2` is after mote 2 did the '
-     'same'),
+    (('after mote 0 sends 1', 'after mote 2'), 'after the first line of the event; `after mote 2` means after mote 2 '
+     'did the same'),
     (('before mote 2 prints P', 'before printing P', 'before some mote'), 'before the first line of the event, or there is '
      'no such line'),
     (('within 10 of receiving 1', 'within 10 moments of it receives 1', 'within 1 moment of mote 2 sending 5'),
-     'at most so many moments after a line of the event'),
+     'at most that many moments after a line of the event'),
     (('within 10 of each time it receives 1', 'within 10 of every time mote 0 sends'), 'the other way around: each line of '
-     'the event is followed by one, at most so many moments later'),
+     'the event is followed by one, at most that many moments later'),
 ))
 OTHER = Table('Sentence', 'Says', ('%s',), (
     (('no copy collides', 'some copy collides at mote 3'), 'lines `collide`'),
@@ -96,13 +97,14 @@ OTHER = Table('Sentence', 'Says', ('%s',), (
     (('exactly 9 copies arrive at motes 1 to 3 by 60',), 'lines `recv`'),
     (('no copy is lost', 'exactly 1 copy is lost at mote 1'), 'copies that the medium loses, by the moment of sending'),
     (('at least 90 % of copies arrive', 'at most 5 % of the copies collide at motes 1 to 3', 'every copy arrives',
-      'each copy arrives at mote 3', 'all copies arrive'), 'that part of the copies that are due before the end'),
+      'each copy arrives at mote 3', 'all copies arrive'), 'that share of the copies that are due by the end'),
     (('exactly 1 copy is left', 'exactly 2 copies are left'), 'the last line of the report'),
     (('exactly 75 packets are sent', 'no packet is sent after 90'), 'lines of the medium'),
-    (("the medium writes '4 0 1 20 1@lost'",), 'a line of the medium that begins so'),
+    (("the medium writes '4 0 1 20 1@lost'",), 'a line of the medium that begins with this text'),
     (('the report has at most 2000 lines', 'the report has at least 1 line'), 'the length of the report'),
-    (('mote 1 can hear mote 0', 'motes 2 and 3 cannot hear mote 0'), 'the scenario: range, and no loss of all'),
-    (("the scenario is refused with 'scenario fault 2'",), 'there is no report, but this fault'),
+    (('mote 1 can hear mote 0', 'motes 2 and 3 cannot hear mote 0'),
+     'the scenario: within range, and not every packet is lost'),
+    (("the scenario is refused with 'scenario fault 2'",), 'there is no report, only this fault'),
 ))
 TABLES = (MOTES, DEED, VALUE, TIMES, WHEN, ORDER, OTHER)
 
