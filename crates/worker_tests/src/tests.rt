@@ -6,7 +6,6 @@ mod held_back;
 mod inboxes;
 mod lent_motes;
 mod many_motes;
-mod marks;
 mod nets;
 mod one_inbox;
 mod overlaps;

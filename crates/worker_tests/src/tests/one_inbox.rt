@@ -1,16 +1,14 @@
-//! One inbox: by hand in one thread, with marks and without, and filled by three threads at once.
+//! One inbox without marks, by hand in one thread.
 
-ghost use Rattle.std.specs.Prelude.{◌≡◌, true, false, [], IfOk, OnOk};
+ghost use Rattle.std.specs.Prelude.{◌≡◌, false, [], IfOk, OnOk};
 ghost use Rattle.copy_inbox.specs.Handles.{AllGathered, NoMarkLeft};
 ghost use Rattle.copy_inbox.specs.Views.{make_taker_state, make_sender_state};
 
-use copy_inbox::{Carried, Inbox, InboxError, Item, Sender, Taker};
+use copy_inbox::{Inbox, InboxError, Sender, Taker};
 use radio_packet::RadioCopy;
 use std::alloc::{AllocError, AllocGlobal, Global};
 use std::sync::Wait;
 use std::test::Fail;
-use std::thread;
-use std::thread::Threads;
 use test_helpers::same_text;
 
 /// A copy of this mote's packet with this number.
@@ -62,18 +60,6 @@ fn push<R: Wait>(
 {
     inbox
         .push_copy(rt, sender, copied)
-        .map_err(|_| InboxError::Memory)
-}
-
-/// Pushes the mark of window 0.
-fn push_mark<R: Wait>(rt: &R, inbox: &Inbox, sender: &mut Sender) -> Result<(), InboxError>
-    requires inbox { sender.old.inbox ≡ inbox.now }
-    requires marked { sender.old.state.marked ≡ true }
-    ensures { (sender.new.inbox ≡ inbox.now) × (sender.new.state.number ≡ sender.old.state.number)
-        × (sender.new.state.marked ≡ true) }
-{
-    inbox
-        .push_mark(rt, sender, 0)
         .map_err(|_| InboxError::Memory)
 }
 
@@ -153,182 +139,14 @@ fn write_later<R: Wait>(rt: &R, alloc: Global, text: &mut String) -> Result<(), 
     write_drained(rt, text, &inbox, &mut taker)
 }
 
-/// Pushes 1,000 copies of a mote.
-fn push_thousand<R: Wait>(
-    rt: &R,
-    inbox: &Inbox,
-    mut sender: Sender,
-    mote: u16,
-) -> Result<Sender, InboxError>
-    requires { sender.inbox ≡ inbox.now }
-    ensures { IfOk result (λ done. (done.inbox ≡ inbox.now) × (done.state.number ≡ sender.state.number)) }
-{
-    for number in 0..1000 {
-        push(rt, inbox, &mut sender, copy(mote, number))?;
-    }
-    Ok(sender)
-}
-
-/// Counts the copies of each of three motes, as long as they come in each mote's order.
-fn write_counts(text: &mut String, copies: &[RadioCopy]) -> Result<(), AllocError> {
-    let mut next = [0u64; 3];
-    for copied in copies {
-        let mote = usize::from(copied.sender);
-        if mote >= 3 || copied.number != next[mote] {
-            return text.push_str("otherwise|");
-        }
-        next[mote] = next[mote].wrapping_add(1);
-    }
-    write!(text, "{} {next:?}|", copies.len())
-}
-
-/// The rest once three senders were gathered that pushed 1,000 copies each.
-fn write_thousands<R: Wait>(
-    rt: &R,
-    text: &mut String,
-    inbox: Inbox,
-    mut taker: Taker,
-    first: Sender,
-    second: Sender,
-    third: Sender,
-) -> Result<(), InboxError>
-    requires taker { (taker.inbox ≡ inbox) × (taker.state ≡ make_taker_state false 3 [] []) }
-    requires first { (first.inbox ≡ inbox) × (first.state.number ≡ 0) }
-    requires second { (second.inbox ≡ inbox) × (second.state.number ≡ 1) }
-    requires third { (third.inbox ≡ inbox) × (third.state.number ≡ 2) }
-{
-    inbox.gather(rt, &mut taker, first);
-    inbox.gather(rt, &mut taker, second);
-    inbox.gather(rt, &mut taker, third);
-    write_known(text, &inbox, &taker)?;
-    let rest = inbox.close(rt, taker)?;
-    write_counts(text, &rest)?;
-    Ok(())
-}
-
-/// The three senders, after each has pushed 1,000 copies in a thread of its own.
-fn push_thousands<R: Threads + Wait + Sync>(
-    rt: &R,
-    inbox: &Inbox,
-    first: Sender,
-    second: Sender,
-    third: Sender,
-) -> Result<(Sender, Sender, Sender), InboxError>
-    requires { (first.inbox ≡ inbox.now) × (second.inbox ≡ inbox.now) × (third.inbox ≡ inbox.now) }
-    ensures first { IfOk result (λ done. (done.0.inbox ≡ inbox.now) × (done.0.state.number ≡ first.state.number)) }
-    ensures second { IfOk result (λ done. (done.1.inbox ≡ inbox.now) × (done.1.state.number ≡ second.state.number)) }
-    ensures third { IfOk result (λ done. (done.2.inbox ≡ inbox.now) × (done.2.state.number ≡ third.state.number)) }
-{
-    let (first, (second, third)) = thread::join(
-        rt,
-        || push_thousand(rt, inbox, first, 0),
-        || {
-            thread::join(
-                rt,
-                || push_thousand(rt, inbox, second, 1),
-                || push_thousand(rt, inbox, third, 2),
-            )
-        },
-    );
-    Ok((first?, second?, third?))
-}
-
-/// Three threads push 1,000 copies each; all are gathered after the joins, and the inbox is closed.
-fn write_three_threads<R: Threads + Wait + Sync>(
-    rt: &R,
-    alloc: Global,
-    text: &mut String,
-) -> Result<(), InboxError> {
-    let (inbox, mut taker, first, second) = with_two(alloc, false)?;
-    let third = inbox.sender(&mut taker)?;
-    let (first, second, third) = push_thousands(rt, &inbox, first, second, third)?;
-    write_thousands(rt, text, inbox, taker, first, second, third)
-}
-
-/// All of these.
-fn write_plain<R: Threads + Wait + Sync>(
-    rt: &R,
-    alloc: Global,
-    text: &mut String,
-) -> Result<(), InboxError> {
-    write_shared(rt, alloc, text)?;
-    write_later(rt, alloc, text)?;
-    write_three_threads(rt, alloc, text)
-}
-
-/// An inbox without marks, in one thread; and one that three threads fill.
+/// An inbox without marks, in one thread.
 #[test]
 fn inbox_in_one_thread(rt: HostRuntime) -> Result<(), Fail> {
     let mut text = String::new(rt.alloc());
-    write_plain(&rt, rt.alloc(), &mut text)?;
+    write_shared(&rt, rt.alloc(), &mut text)?;
+    write_later(&rt, rt.alloc(), &mut text)?;
     same_text(
         text.as_str(),
-        "known 1|0 7|known 1|known 1|rest|1 8|known 1|0 7|known 0|known 3000|3000 [1000, 1000, 1000]|",
-    )
-}
-
-/// Writes down an item, with its sender's number.
-fn write_item(text: &mut String, item: Option<Item>) -> Result<(), AllocError> {
-    match item {
-        None => text.push_str("none|"),
-        Some(
-            Item {
-                sender,
-                what: Carried::Packet(copied),
-            },
-        ) => write!(text, "{sender} copy {} {}|", copied.sender, copied.number),
-        Some(
-            Item {
-                sender,
-                what: Carried::Mark(window),
-            },
-        ) => write!(text, "{sender} mark {window}|"),
-    }
-}
-
-/// Takes the next item four times, before any sender is gathered, and writes it down.
-fn write_four<R: Wait>(
-    rt: &R,
-    text: &mut String,
-    inbox: &Inbox,
-    taker: &mut Taker,
-) -> Result<(), AllocError>
-    requires { taker.old.inbox ≡ inbox.now }
-    ensures { (taker.new.inbox ≡ inbox.now) × (taker.new.state.made ≡ taker.old.state.made)
-        × (taker.new.state.gathered ≡ taker.old.state.gathered) }
-{
-    for _ in 0..4u8 {
-        let item = inbox.take_next(rt, taker);
-        write_item(text, item)?;
-    }
-    Ok(())
-}
-
-/// Sender 0 pushes a copy and a mark, sender 1 a mark. All is taken; then both senders are gathered, and the inbox is
-/// closed.
-#[tactic(auto, using(copy_inbox::proofs::Counts::none_left))]
-fn write_marked<R: Wait>(rt: &R, alloc: Global, text: &mut String) -> Result<(), InboxError> {
-    let (inbox, mut taker, mut first, mut second) = with_two(alloc, true)?;
-    push(rt, &inbox, &mut first, copy(0, 7))?;
-    push_mark(rt, &inbox, &mut first)?;
-    push_mark(rt, &inbox, &mut second)?;
-    write_four(rt, text, &inbox, &mut taker)?;
-    inbox.gather(rt, &mut taker, first);
-    inbox.gather(rt, &mut taker, second);
-    write_known(text, &inbox, &taker)?;
-    if inbox.known(&taker) == 0 {
-        write_rest(rt, text, inbox, taker)?;
-    }
-    Ok(())
-}
-
-/// An inbox with marks, in one thread.
-#[test]
-fn marked_inbox(rt: HostRuntime) -> Result<(), Fail> {
-    let mut text = String::new(rt.alloc());
-    write_marked(&rt, rt.alloc(), &mut text)?;
-    same_text(
-        text.as_str(),
-        "0 copy 0 7|0 mark 0|1 mark 0|none|known 0|rest|",
+        "known 1|0 7|known 1|known 1|rest|1 8|known 1|0 7|known 0|",
     )
 }
