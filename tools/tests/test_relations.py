@@ -123,7 +123,7 @@ REFUSED = [
     ('nobody halts', 'Hint: write `no mote`.'),
     ('mote 1 always sends', 'Hint: write what must not be'),
     ('node 1 sends', 'Hint: write `mote`.'),
-    ('mote 1 should send', 'Hint: write the verb alone'),
+    ('mote 1 should send', 'Hint: write only the verb'),
     ('mote 1 sends when mote 2 prints', 'Hint: two events are put in order by'),
     ('mote 1 sends until 30', 'Hint: two events are put in order by'),
     ('mote 1 sends within 10', 'of'),

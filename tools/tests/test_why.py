@@ -293,7 +293,7 @@ class Questions(unittest.TestCase):
 
 
 class Misses(unittest.TestCase):
-    """What came near a line that isn't there."""
+    """Near misses of a line that isn't there."""
 
     def misses(self, question: str, found: Source | None = None) -> list[str]:
         asker = Asker(found or source())

@@ -52,7 +52,7 @@ class Item(NamedTuple):
 
 
 class Compared(NamedTuple):
-    """What came of a comparison: which simulator differs and how, or ''; and what the scenario reached."""
+    """The result of a comparison: which simulator differs and how, or ''; and what the scenario reached."""
     difference: str
     reached: Counter[str]
     bytes: int = 0
@@ -69,7 +69,7 @@ def first_difference(one: bytes, other: bytes) -> str:
 
 
 class Comparison:
-    """Compares the answers of motesim and of the host."""
+    """Compares the results of motesim and of the host."""
 
     def __init__(self, host: HostRuns, runner: Runner, with_workers: bool = True):
         self.host = host
@@ -225,7 +225,7 @@ def fixed_items(top: Path) -> Iterator[Item]:
 
 
 def made_items(top: Path) -> Iterator[Item]:
-    """The cases whose scenarios are made by Python, as they are long."""
+    """The cases whose scenarios are made by Python, because they are long."""
     for path in sorted((top / 'tests/cases').glob('*/*.make')):
         if path.with_suffix('.stderr').exists():
             continue

@@ -78,7 +78,7 @@ class HostRuns:
 
 
 def run_host(executable: Path) -> bytes:
-    """What the host writes."""
+    """Returns the output of the host."""
     try:
         done = subprocess.run([executable], capture_output=True, timeout=SECONDS)
     except subprocess.TimeoutExpired:

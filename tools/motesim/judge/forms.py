@@ -1,6 +1,6 @@
 """The forms of sentences, as docs/use/EXPECTATIONS.md has them in tables.
 
-Each form is an example that `motesim.judge.sentences` reads; the tests read them all, and look whether each phrase that
+Each form is an example that `motesim.judge.sentences` reads; the tests read them all, and check that each phrase that
 the reader knows is in one of them. `PYTHONPATH=tools python3 -m motesim.judge.forms` writes the tables into the page.
 """
 from __future__ import annotations

@@ -62,7 +62,7 @@ class Message:
 
 
 def read_flow(words: str) -> tuple[Mark, Mark]:
-    """Where messages begin and end: `print sink`, `recv`, or `print source -> print sink`."""
+    """The lines at which messages begin and end: `print sink`, `recv`, or `print source -> print sink`."""
     parts = words.split('->')
     marks = [FORM.fullmatch(part) for part in parts]
     if len(parts) > 2 or not all(marks):
