@@ -191,7 +191,7 @@ def main() -> int:
     words.add_argument('--strict', action='store_true', help='have gcc or clang look for warnings in the programs too')
     words.add_argument('--gate', action='store_true', help='compare all examples and cases, and %d random scenarios '
                        'whose seed is the commit' % GATE_COUNT)
-    words.add_argument('-o', dest='folder', default='.', metavar='FOLDER', help='where scenarios that differ are written')
+    words.add_argument('-o', dest='folder', default='.', metavar='FOLDER', help='the folder for scenarios that differ')
     asked = words.parse_args()
     compilers()
     runner = Runner(program=program_path(), limits=LIMITS)

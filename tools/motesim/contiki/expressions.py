@@ -35,7 +35,7 @@ class Made:
     """An expression in C: its text, how tightly it binds, its range, and its type.
 
     The type is `signed` (an int that is made only of truth values and small numbers), `short` (an int, or an unsigned
-    int where that has 16 bits: a uint16_t is among its operands), or `unsigned`.
+    int if that has 16 bits: a uint16_t is among its operands), or `unsigned`.
     """
     text: str
     level: int
@@ -144,7 +144,7 @@ def implied(expression: Expression | None) -> Known | None:
 class Expressions:
     """Writes the expressions of one block in C.
 
-    `known` is the event, as far as it is known. A simple block has its event for its whole length, and C has no `ev` there:
+    `known` is the event, if that is known. A simple block has one event for its whole length, and C no `ev` there:
     `has_event` is false. `word` is the function that returns the word of any event.
     """
 

@@ -63,7 +63,8 @@ class Names:
             self._globals[declared.name] = self._claim(declared.name, declared.name + '_semaphore')
         kinds = [(code.process, name, kind) for code in program.codes for kind, names in (
             ('variable', [it.name for it in code.variables]), ('timer', [it.name for it in code.etimers]),
-            ('timer', [it.name for it in code.ctimers]), ('thread', [it.name for it in code.threads])) for name in names]
+            ('timer', [it.name for it in code.ctimers]), ('thread', [it.name for it in code.threads]))
+                 for name in names]
         uses = Counter(name for _, name, _ in kinds)
         for process, name, kind in kinds:
             wished = [name, '%s_%s' % (name, kind)] if uses[name] == 1 else []

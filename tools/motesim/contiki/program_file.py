@@ -8,7 +8,8 @@ from motesim.contiki.differences import header
 from motesim.contiki.expressions import Expressions, Known, implied
 from motesim.contiki.layout import RULE, code_lines, comment_lines, cleaned
 from motesim.contiki.names import Names
-from motesim.contiki.tree import Block, Code, Comments, Declaration, Expression, Part, Program, Statement, statements_of
+from motesim.contiki.tree import (
+    Block, Code, Comments, Declaration, Expression, Part, Program, Statement, statements_of)
 from motesim.contiki.use import use_of
 
 WAITS = frozenset({'wait_until', 'wait_while', 'yield', 'yield_until', 'spawn', 'restart', 'acquire', 'pause', 'exit'})

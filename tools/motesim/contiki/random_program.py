@@ -27,7 +27,7 @@ NAMES = tuple('int char log done list timer_set pt ptr main word ev motesim_self
 
 
 class RandomProgram:
-    """Writes one random program. The features that occur are counted in `reached`, by the symbol and the alternative."""
+    """Writes one random program. The features that occur are counted in `reached`, by symbol and alternative."""
 
     def __init__(self, chance: random.Random, reached: Counter[str], limit: str = ''):
         self.chance = chance
@@ -225,7 +225,8 @@ class RandomProgram:
         """A loop that comes to an end, unless its block changes its variable."""
         self.reached['statement while'] += 1
         name = self.chance.choice(self.names['VARIABLE'])
-        self.statement_lines(['%s = 0;' % name, 'while (%s < %d) {' % (name, self.chance.choice([1, 2, 3, 9, 12, 40]))],
+        self.statement_lines(['%s = 0;' % name,
+                              'while (%s < %d) {' % (name, self.chance.choice([1, 2, 3, 9, 12, 40]))],
                              indent)
         self.block(indent + '  ', self.chance.randint(0, 2), depth + 1)
         self.statement_lines(['%s = (%s + 1);' % (name, name)], indent + '  ')
@@ -239,7 +240,8 @@ class RandomProgram:
         """A statement without blocks."""
         self.reached['statement %s' % kind] += 1
         if kind == 'set' and self.chance.random() < 0.8:
-            return 'set %s %d;' % (self.chance.choice(self.names['TIMER']), self.chance.choice([0, 1, 1, 2, 2, 3, 4, 7]))
+            timer = self.chance.choice(self.names['TIMER'])
+            return 'set %s %d;' % (timer, self.chance.choice([0, 1, 1, 2, 2, 3, 4, 7]))
         if kind == 'yield_until' and self.chance.random() < 0.4:
             return 'yield_until %s;' % self.test()
         return self.joined(self.expand(self.statement_form(kind).parts, 3))

@@ -1,6 +1,6 @@
 """Sentences on what a report shows, and how they are read: docs/use/EXPECTATIONS.md has their forms.
 
-`read_sentence('mote 6 prints flood 1 by 60', names)` returns the meaning of the sentence, in the classes below. A sentence
+`read_sentence('mote 6 prints flood 1 by 60', names)` returns the meaning of a sentence, in the classes below. One
 that can't be read is a `SentenceFault`, which has the place of the error and what is allowed there.
 """
 from __future__ import annotations
@@ -112,7 +112,7 @@ class Count:
     is_part: bool = False
 
     def admits(self, found: int, times: int = 1) -> bool:
-        """Returns whether a count satisfies the condition: `times` is the unit of the number, or the whole of a part."""
+        """Returns whether a count satisfies the condition: `times` is the unit of the number, or the whole."""
         return bool(COMPARES[self.compare](found * (100 if self.is_part else 1), self.number * times))
 
     @property

@@ -33,7 +33,8 @@ COUNTED = {
 
 # Of each kind its name in docs/use/NOTATION.md and its rule.
 RULES: dict[int, tuple[str, str]] = {
-    1: ('BadToken', 'A program consists of names, numbers, keywords and signs. A name begins with a letter, and has at most '
+    1: ('BadToken',
+        'A program consists of names, numbers, keywords and signs. A name begins with a letter, and has at most '
         '16 small letters, digits and `_`; a number has no unnecessary 0 in front.'),
     2: ('Unexpected', 'This can\'t follow the words before it.'),
     3: ('UnknownName', 'Nothing has this name here. A name has to be declared before it is used; variables, timers '
@@ -46,7 +47,7 @@ RULES: dict[int, tuple[str, str]] = {
     7: ('TooDeep', 'Blocks and expressions are nested at most 32 deep.'),
     8: ('TooMany', 'There is one too many of these.'),
     9: ('NoProcess', 'A program has at least one process.'),
-    10: ('BadTarget', 'This name is known, but it has another kind than is needed here; a thread never spawns itself.'),
+    10: ('BadTarget', 'This name has another kind than is needed here; a thread never spawns itself.'),
     11: ('Memory', 'Memory ran out while the program was read. The text may be in order.'),
 }
 
@@ -75,7 +76,7 @@ class Token:
 
 @dataclass
 class ProgramError(Exception):
-    """The first fault of a program text: its kind, the token that is not allowed, and the words that are allowed there."""
+    """The first fault of a program text: its kind, the token that is not allowed, and the allowed ones."""
     kind: int
     token: Token
     may: list[str] = field(default_factory=list)

@@ -254,7 +254,7 @@ def run_each(work: Callable[[Item], Result], items: Iterable[Item], *, workers: 
 def each_part(work: Callable[[Item], Result], parts: Iterable[Item], is_much: bool) -> Iterator[Result]:
     """The result of each part of a piece of work, in order; if it is much, several processes work.
 
-    The processes are copies of this one, so they share what it has in memory; with threads there can't be any. Raises a
+    The processes are copies of this one, so they share its memory; with threads there can't be any. Raises a
     `Fault` if one of them fails.
     """
     workers = min(MOST_SHARING, os.cpu_count() or 1)

@@ -1,7 +1,7 @@
 """The program that all tools run, and the place of kept programs.
 
 `program_path` returns the program that MOTESIM names; else the proved one of these sources, if it has been built; else
-one that was compiled without a proof, and then says so in a line. Programs are kept in out/programs by a digest of what
+one that was compiled without a proof, and then says so. Binaries are kept in out/programs by a digest of what
 they were made of:
 
     proved-DIGEST/motesim    built by `./prove` or `./test`; the digest is of the sources, the contracts and the proofs

@@ -2,7 +2,7 @@
 
 A program gets one process more, which waits for the moment. Of a mote that fails it then kills the others; of one
 that starts late it is the only one that starts at boot, and starts the others then. A program whose processes could
-continue after a kill, by callback timers, by what they do as they leave, or by starting one another, is stopped by work
+continue after a kill, by callback timers, by a block `onexit`, or by starting one another, is stopped by work
 without end instead of kills: the mote then halts.
 """
 from __future__ import annotations

@@ -52,7 +52,7 @@ class Asking:
         blind = 0
         for mask in self.prepared.blind.values():
             blind |= mask
-        rows += ['the process that makes a mote fail or start late breaks this by itself, so that nothing is said of '
+        rows += ['the process that makes a mote fail or start late breaks this by itself, so the search can\'t judge '
                  'it with such faults: ' + self.texts[number] for number in numbers_of(blind)]
         return rows
 
@@ -67,7 +67,7 @@ class Asking:
 
     def search(self, processes: int, kept: Kept, shown: Callable[[Search, int, bool], None] | None = None,
                asks_end: Callable[[], bool] = lambda: False, address: str | None = None) -> Search:
-        """Searches, until all is tried, a limit is reached, or the user asks for the end; by a Dask cluster if there is an
+        """Searches, until all is tried, a limit is reached, or the user ends it; by a Dask cluster if there is an
         address."""
         held = [number for number in range(len(self.texts)) if number not in self.plain.broken]
         known = Known(self.prepared.faults, mask_of(held))

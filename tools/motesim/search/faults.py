@@ -283,7 +283,7 @@ MOTES_OF = {'lose': (1, 2), 'apart': (1, 2), 'silent': (1,), 'fails': (1,), 'lat
 
 
 def change_of(faults: Sequence[FaultyPart], base: Base) -> Change:
-    """The changes that faults make together: parameters first, as the others are put into the scenario that these make."""
+    """The changes that faults make together: parameters first, since the others change their scenario."""
     change = Change()
     for fault in faults:
         if fault.kind == 'parameters':

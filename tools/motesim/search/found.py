@@ -116,7 +116,7 @@ def covered_line(name: str, tally: Tally) -> str:
     if tally.unmade:
         parts.append('{:,} NOT MADE, of which nothing is known'.format(tally.unmade))
     if tally.unjudged:
-        parts.append('{:,} NOT JUDGED by what is left to be decided'.format(tally.unjudged))
+        parts.append('{:,} NOT JUDGED by the undecided expectations'.format(tally.unjudged))
     if tally.done < tally.sets:
         parts.append('{:,} NOT TRIED'.format(tally.sets - tally.done))
     amount = 'all {:,}' if tally.is_whole else '{:,}'

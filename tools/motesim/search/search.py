@@ -21,7 +21,7 @@ LARGER = 3
 
 @dataclass
 class Bounds:
-    """The bounds of a search: sets of at most so many faults, then a sample; and no more runs or seconds than these."""
+    """The bounds of a search: sets of at most so many faults, then a sample; and limits on runs and seconds."""
     at_most: int = 1
     sample: int = 0
     seed: int = 1

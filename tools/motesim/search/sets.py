@@ -1,6 +1,6 @@
 """Sets of faults: how many there are, which are still to be tried, and the known results.
 
-Faults are meant by their numbers, and sets are tuples of these, in rising order. Which of the expectations a set breaks
+Faults have numbers, and sets are tuples of these, in rising order. Which of the expectations a set breaks
 is a number with the bit e for expectation e. A set is *minimal* for an expectation if it breaks it and no smaller set
 in it does.
 """

@@ -151,7 +151,7 @@ class Shrinking:
         return Case(step.net, known[0], left, tuple(known[1:]))
 
     def run(self) -> None:
-        """Takes steps until none is left, or the user asks for the end."""
+        """Takes steps until none is left, or the user ends it."""
         goes_on = True
         while goes_on:
             goes_on = False

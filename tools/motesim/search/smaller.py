@@ -84,11 +84,11 @@ def shown(it: Statement) -> str:
 def unfolded(it: Statement) -> Changed:
     """Replaces a statement with blocks by the statements in them."""
     if isinstance(it, If):
-        yield 'takes the block of `%s` out of it' % shown(it), it.yes
+        yield 'replaces `%s` by its block' % shown(it), it.yes
         if it.no is not None:
-            yield 'takes the block of `else` of `%s` out of it' % shown(it), it.no
+            yield 'replaces `%s` by the block of its `else`' % shown(it), it.no
     elif isinstance(it, While):
-        yield 'takes the block of `%s` out of it' % shown(it), it.block
+        yield 'replaces `%s` by its block' % shown(it), it.block
 
 
 def statements(it: Statement) -> Iterator[tuple[str, Statement]]:

@@ -83,7 +83,7 @@ def wrong_with(study: dict[str, Any], asking: Asking, processes: int) -> list[st
 
 
 def check_studies(path: Path, processes: int) -> tuple[int, int]:
-    """Checks the studies of a file, prints their results, and counts those with the expected result, and the others."""
+    """Checks the studies of a file, prints their results, and counts those that are as expected, and the others."""
     scenario, studies = studies_of(path)
     passed = failed = 0
     for study in studies:

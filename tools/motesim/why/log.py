@@ -33,7 +33,7 @@ class Filter(NamedTuple):
 class Log:
     """Lines of traces. `all` is how many lines there are without a filter, and `kinds` counts those that are left.
 
-    The columns have the moment, the line of the report, the mote, and the places at which the words after the moment begin and end.
+    The columns have the moment, the line of the report, the mote, and the bounds of the words after the moment.
     """
 
     def __init__(self, traces: Traces):

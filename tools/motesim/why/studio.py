@@ -1,4 +1,4 @@
-"""The studio's questions about a run: the reason for a line, the state of a mote, values over time, the lines of a sentence."""
+"""The studio's questions about a run: the reason for a line, a mote's state, values over time, a sentence's lines."""
 from __future__ import annotations
 
 import threading

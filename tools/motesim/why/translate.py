@@ -232,7 +232,8 @@ class _Translator:
         try:
             exec(compile('\n'.join(self.rows), 'the program of a mote', 'exec'), names)
         except (SyntaxError, RecursionError, MemoryError):
-            raise TooDeep('a program nests more than 18 loops in one another, which is too deep for a replay') from None
+            message = 'a program nests more than 18 loops in one another, which is too deep for a replay'
+            raise TooDeep(message) from None
         for name, keeper, attribute in self.functions:
             setattr(keeper, attribute, names[name])
 

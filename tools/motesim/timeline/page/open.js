@@ -25,7 +25,7 @@ function showAround(moment, mote) {
   }
 }
 
-/** Shows what the page was made for: its note, or a moment, or the whole run. */
+/** Shows the purpose of the page: its note, or a moment, or the whole run. */
 function openAt({start, mote, note}) {
   whole();
   if (note) return openAtNote(note);
@@ -53,7 +53,7 @@ function openAtNote(note) {
   }
 }
 
-/** Does what the page's address asks for after #: from, to, lane (a height), mote, line (a number), only=timeline. */
+/** Follows the page's address after #: from, to, lane (a height), mote, line (a number), only=timeline. */
 function openAsAddressed() {
   const wish = new URLSearchParams(location.hash.slice(1)), number = name => Number(wish.get(name)), pane = panes[0];
   if (wish.get('only') === 'timeline') {
