@@ -156,7 +156,7 @@ class Shrinks(unittest.TestCase):
         self.addCleanup(self.program.close)
 
     def way(self, text: str, sentence: Any) -> Any:
-        """Whether, and by how many lines shown, a scenario breaks a sentence, found out by the judge alone."""
+        """Returns whether a scenario breaks a sentence, and by how many lines, by the judge only."""
         found = answer(text.encode())
         if found.status:
             return None
