@@ -214,7 +214,7 @@ def say_not_proved() -> None:
 
 
 def program_path() -> Path:
-    """The program to run: the one that the environment variable MOTESIM names, else that of these sources."""
+    """The binary to run: the one that the environment variable MOTESIM names, or that of these sources."""
     named = os.environ.get('MOTESIM')
     if named:
         if not is_program(Path(named)):

@@ -338,7 +338,7 @@ def value_of(text: str, place: Place) -> Place:
 
 
 def _within(text: str, place: Place, name: str) -> Place:
-    """A key behind the place on its line, as in a table that is written in one line; else the place."""
+    """A key behind the place on its line, as in a table that is written in one line; otherwise the place."""
     line = text.split('\n')[place.line - 1]
     found = re.compile(r'\b%s(?=["\']?\s*=)' % re.escape(name)).search(line, place.column + place.length)
     return Place(place.line, found.start(), len(name)) if found else place

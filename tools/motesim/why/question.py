@@ -369,7 +369,7 @@ class Asker:
 
     def of_list(self, it: Does, motes: tuple[int, ...], inside: list[Found], span: Span, name: str
                 ) -> Asked | Missing:
-        """The line of a sentence with a list of values: the first that is another one, else the last.
+        """The line of a sentence with a list of values: the first that differs, or the last.
 
         The values of several motes together are in the order of the report.
         """

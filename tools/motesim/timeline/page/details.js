@@ -49,7 +49,7 @@ export function chosenInWords() {
   return {mote};
 }
 
-/** Selects the same in the run that a pane shows now; else the mote, if that run has it. */
+/** Selects the same in the run that a pane shows now; otherwise the mote, if that run has it. */
 export function chooseAgain(pane, kept) {
   const {run} = pane, {mote, at, words, sender, number, to} = kept;
   choose({});

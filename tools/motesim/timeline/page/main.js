@@ -149,7 +149,7 @@ function onWheel(pane, event) {
   redraw();
 }
 
-/** Reacts to a click: selects the nearest mark or arrow, else sets the moment. */
+/** Reacts to a click: selects the nearest mark or arrow, or sets the moment. */
 function onClick(pane, x, y) {
   if (x < pane.gutter) {
     const mote = pane.moteAt(y);

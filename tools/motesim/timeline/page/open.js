@@ -34,7 +34,7 @@ function openAt({start, mote, note}) {
   if (mote !== null) chooseAt(start, mote);
 }
 
-/** Shows a note, and its first line that the report has; else the last line of the mote before one was missing. */
+/** Shows a note, and its first line that the report has; or the last line of the mote before a missing one. */
 function openAtNote(note) {
   const box = byId('note'), [pane] = panes;
   box.hidden = false;
