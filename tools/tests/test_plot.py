@@ -57,7 +57,7 @@ class PlotTest(unittest.TestCase):
         self.assertEqual(one.stdout.split('\n')[0], 'sent against period')
 
     def test_empty_values_are_left_out(self) -> None:
-        done = self.plot('--measure', 'late', '--against', 'density')
+        done = self.plot('--measure', 'late', '--against', 'density', '--over', 'seed,period')
         self.assertIn('left out: 6 runs without a value of late\n', done.stdout)
 
     def test_quartiles(self) -> None:
@@ -80,12 +80,13 @@ class PlotTest(unittest.TestCase):
 
     def test_a_picture_in_png(self) -> None:
         interpreter_with(self, 'matplotlib')
-        for words in ('--against', 'density'), ('--against', 'period', '--log'):
+        for words in ('--against', 'density', '--where', 'period=1'), (
+                '--against', 'period', '--by', 'density', '--log'):
             done = self.plot('--measure', 'sent', *words, '-o', 'a.png')
             self.assertEqual(done.returncode, 0, done)
             self.assertEqual((self.folder / 'a.png').read_bytes()[:8], b'\x89PNG\r\n\x1a\n')
             (self.folder / 'a.png').unlink()
-        wrong = self.plot('--measure', 'sent', '--against', 'density', '--log', '-o', 'a.png')
+        wrong = self.plot('--measure', 'sent', '--against', 'density', '--by', 'period', '--log', '-o', 'a.png')
         self.assertEqual((wrong.returncode, wrong.stdout), (2, ''))
         self.assertIn('--log needs values above 0, and some of density are not', wrong.stderr)
 

@@ -270,9 +270,16 @@ class SweepTest(Bed):
             result = run_job(job._replace(work=job.work._replace(folder='/nowhere')))
         self.assertEqual((result.measures, result.fault), ({'lines': 15}, ''))
 
-    def test_a_measure_that_fails_is_a_fault(self) -> None:
-        self.sweep('--vary', 'motes=2', '--measure', 'python: mine.py:wrong')
-        self.assertEqual(self.rows()[0]['fault'], 'wrong of mine.py: line 8: ZeroDivisionError: division by zero')
+    def test_a_measure_that_fails_is_an_empty_cell_with_a_note(self) -> None:
+        words = '--vary', 'motes=2,3', '--measure', 'python: mine.py:wrong', '--measure', 'prints'
+        note = 'wrong: wrong of mine.py: line 8: ZeroDivisionError: division by zero'
+        done = self.sweep(*words)
+        self.assertEqual((done.returncode, done.stdout), (1, 'net.csv: 2 runs, 2 of them now, 0 with a fault\n2 runs '
+                                                             'lack a measure; the first: %s\n' % note), done)
+        self.assertEqual([(row['wrong'], row['prints'], row['fault'], row['note']) for row in self.rows()],
+                         [('', '2', '', note), ('', '3', '', note)])
+        self.assertIn('0 of them now', self.sweep(*words).stdout)
+        self.assertIn('2 of them now', self.sweep(*words, '--retry').stdout)
 
     def test_what_is_told_before_anything_is_run(self) -> None:
         for words, told in [
@@ -283,6 +290,8 @@ class SweepTest(Bed):
             (('--measure', 'sent', '--vary', 'speed=1'), 'has no parameter speed; it has: period, motes, name'),
             (('--measure', 'sent', '--vary', 'motes=0'), 'net.plan.toml, line 12:'),
             (('--measure', 'python: no.py:x'), 'no.py: No such file'),
+            (('--measure', 'sent of mote 4', '--vary', 'motes=2,4'), 'there is no mote 4: the largest net has the motes 0 '
+                                                                     'to 3'),
         ]:
             done = self.sweep(*words)
             self.assertEqual((done.returncode, done.stdout), (2, ''), words)
@@ -376,12 +385,17 @@ class SweepTest(Bed):
             file.close()
             self.assertEqual(read_results(self.folder / name), (['a'], [{'a': 1}]), name)
 
-    def test_a_measure_that_asks_python_to_exit_is_a_fault_of_its_run(self) -> None:
+    def test_a_measure_of_a_mote_that_some_nets_lack(self) -> None:
+        done = self.sweep('--vary', 'motes=2,4', '--measure', 'prints of mote 3')
+        self.assertEqual((done.returncode, [row['prints of mote 3'] for row in self.rows()]), (1, ['', '1']), done)
+        self.assertEqual(self.rows()[0]['note'], 'prints of mote 3: there is no mote 3')
+
+    def test_a_measure_that_asks_python_to_exit_is_a_note_of_its_run(self) -> None:
         (self.folder / 'mine.py').write_text('import sys\ndef lines(run):\n    if len(run.report.motes) == 2:\n        sys.exit(3)\n    return 1\n')
         done = self.sweep('--vary', 'motes=1..3', '--measure', 'python: mine.py:lines')
         self.assertEqual((done.returncode, done.stderr), (1, ''))
-        self.assertEqual([bool(row['fault']) for row in self.rows()], [False, True, False])
-        self.assertIn('SystemExit: 3', self.rows()[1]['fault'])
+        self.assertEqual([bool(row['note']) for row in self.rows()], [False, True, False])
+        self.assertIn('SystemExit: 3', self.rows()[1]['note'])
 
     def test_a_measure_that_catches_everything_is_ended(self) -> None:
         (self.folder / 'mine.py').write_text(

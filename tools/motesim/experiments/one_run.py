@@ -19,7 +19,7 @@ from typing import NamedTuple
 from motesim.faults import Fault
 from motesim.runner.batch import fault_of
 from motesim.runner.process import Limits, Runner
-from motesim.experiments.measures import Bench, Cell, read_measure
+from motesim.experiments.measures import Bench, Cell, name_of, read_measure
 from motesim.plan.plan import Plan
 from motesim.plan.files import Files
 from motesim.plan.tables import Value
@@ -59,12 +59,16 @@ class Job(NamedTuple):
 
 
 class Result(NamedTuple):
-    """What came of a run: the measures by name, digests of scenario and report, and a fault, or an empty text."""
+    """What came of a run: the measures by name, digests of scenario and report, and a fault, or an empty text.
+
+    note  which measures failed and why: their cells are empty, and the others are there
+    """
     place: int
     measures: dict[str, Cell]
     scenario: str
     report: str
     fault: str
+    note: str = ''
 
 
 def digest(data: bytes) -> str:
@@ -119,9 +123,31 @@ def one_line(text: str) -> str:
     return line if len(line) <= LONGEST_FAULT else line[:LONGEST_FAULT] + '..'
 
 
+def reason_of(told: BaseException) -> str:
+    """Why something failed, in one line."""
+    return one_line(str(told) if isinstance(told, Fault | TimeoutError) else fault_of(told))
+
+
+def measured(work: Work, bench: Bench, known: Scenario) -> tuple[dict[str, Cell], str]:
+    """The measures of a run, and a note on those that fail. Each has the time of a run."""
+    found: dict[str, Cell] = {}
+    notes = []
+    names, sources = names_of(known), dict(work.sources)
+    for words in work.measures:
+        name = name_of(words)
+        try:
+            with limited(work.seconds):
+                found[name] = read_measure(words, names, sources).of(bench)
+        except BaseException as told:
+            # (a measure of the user's may raise anything, and ask Python to exit)
+            found[name] = None
+            notes.append('%s: %s' % (name, reason_of(told)))
+    return found, '; '.join(notes)
+
+
 def run_job(job: Job) -> Result:
     """Runs a job. What goes wrong is in the result."""
-    scenario = report = fault = ''
+    scenario = report = fault = note = ''
     measures: dict[str, Cell] = {}
     work = job.work
     try:
@@ -129,23 +155,13 @@ def run_job(job: Job) -> Result:
             plan = Plan(work.plan, work.text, Files(Path(work.folder), dict(job.files)))
             text = plan.scenario(dict(job.given))
             scenario = digest(text.encode())
-            limits = Limits(work.seconds, report=work.most_bytes)
-            got = Runner(program_here(work), limits).answer(text.encode())
-            if got.status:
-                raise ProgramFault(got.fault.decode('utf-8', 'backslashreplace').strip() or 'status %d' % got.status)
-            report = digest(got.report)
-            known = Scenario.parse(text)
-            bench = Bench(Run(work.plan, Report.parse(got.report), known))
-            for words in work.measures:
-                measure = read_measure(words, names_of(known), dict(work.sources))
-                measures[measure.name] = measure.of(bench)
-    except Fault as told:
-        fault = one_line(str(told))
-    except TimeoutError as told:
-        fault = str(told)
-    except MemoryError:
-        fault = 'out of memory'
+        limits = Limits(work.seconds, report=work.most_bytes)
+        got = Runner(program_here(work), limits).answer(text.encode())
+        if got.status:
+            raise ProgramFault(got.fault.decode('utf-8', 'backslashreplace').strip() or 'status %d' % got.status)
+        report = digest(got.report)
+        known = Scenario.parse(text)
+        measures, note = measured(work, Bench(Run(work.plan, Report.parse(got.report), known)), known)
     except BaseException as told:
-        # (a measure of the user's may raise anything, and ask Python to exit)
-        fault = one_line(fault_of(told))
-    return Result(job.place, {} if fault else measures, scenario, report, fault)
+        fault = reason_of(told)
+    return Result(job.place, measures, scenario, report, fault, note)

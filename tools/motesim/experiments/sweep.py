@@ -69,7 +69,7 @@ class Sweeper:
             raise Fault('%s has %d rows that another plan, program or measure made. --renew runs them again, and -o '
                         'names another file' % (self.path, others))
         if retries:
-            kept = [row for row in kept if not row['fault']]
+            kept = [row for row in kept if not row['fault'] and not row['note']]
         if len(kept) < len(self.file.rows):
             self.file.replace(kept)
         self.rows = {self.key(row): row for row in kept}
@@ -95,7 +95,8 @@ class Sweeper:
     def row(self, given: Mapping[str, Value], result: Result) -> Row:
         parameters = {name: text_of_value(value) if type(value) is bool else value for name, value in given.items()}
         return {**parameters, **result.measures, **self.made, 'plan_sha256': self.plan_digest(given),
-                'scenario_sha256': result.scenario, 'report_sha256': result.report, 'fault': result.fault or None}
+                'scenario_sha256': result.scenario, 'report_sha256': result.report, 'fault': result.fault or None,
+                'note': result.note or None}
 
     def run(self, processes: int, address: str | None) -> int:
         """Runs what is missing; gives how many."""
@@ -137,7 +138,10 @@ def said(sweeper: Sweeper, ran: int) -> int:
     print('%s: %d runs, %d of them now, %d with a fault' % (sweeper.path, len(rows), ran, len(faults)))
     if faults:
         print('the first fault: %s' % faults[0]['fault'])
-    return 1 if faults else 0
+    noted = [row for row in rows if row['note']]
+    if noted:
+        print('%d runs lack a measure; the first: %s' % (len(noted), noted[0]['note']))
+    return 1 if faults or noted else 0
 
 
 def status_of(asked: argparse.Namespace) -> int:
