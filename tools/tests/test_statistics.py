@@ -65,7 +65,7 @@ class Estimates(unittest.TestCase):
                 self.assertLess(count, 117)
 
     def test_the_bootstraps_part_is_as_wide_as_students_t(self) -> None:
-        # (by hand: t for 9 degrees is 2.262, times the root of 10 / 9 is 2.384, beyond which a normal has 0.86 % a side)
+        # (by hand: t for 9 degrees is 2.262, times the root of 10 / 9 is 2.384; a normal has 0.86 % beyond that)
         self.assertAlmostEqual(estimates.part_of_draws(0.95, 10), 1 - 2 * 0.00856, delta=0.0002)
         self.assertAlmostEqual(estimates.part_of_draws(0.95, 100_000), 0.95, delta=0.0001)
 
@@ -262,7 +262,7 @@ class Command(unittest.TestCase):
             period, seed, seed, 1.0 if period < 9 else seed / 10) for period in (1, 9) for seed in (1, 2, 3)))
         rows = self.plot('--measure', 'ratio', '--against', 'period', '--show', 'mean')
         self.assertEqual(rows[2], ['1', '3', '1.000', '-', '-', 'none:', 'equal', 'runs'])
-        self.assertIn('no interval for 1 mean: all runs are equal', ' '.join(rows[-1]))
+        self.assertIn('no interval for 1 mean: equal runs', ' '.join(rows[-1]))
         rows = self.plot('--measure', 'ratio', '--against', 'period', '--where', 'seed=2', '--show', 'mean')
         self.assertEqual(rows[2][-3:], ['none:', 'one', 'run'])
 
@@ -282,8 +282,8 @@ class Command(unittest.TestCase):
     def test_a_crossing(self) -> None:
         rows = self.plot('--measure', 'ratio', '--against', 'period', '--by', 'density', '--show', 'mean',
                          '--threshold', '0.6')
-        self.assertEqual(' '.join(rows[-1]), 'density thin: the mean rises above 0.6 at period 5.97, between the points '
-                                             '4 and 8 (95 % by the bootstrap of 5 runs: 4 to 8)')
+        self.assertEqual(' '.join(rows[-1]), 'density thin: the mean rises above 0.6 at period 5.97, between the '
+                                             'points 4 and 8 (95 % by the bootstrap of 5 runs: 4 to 8)')
         rows = self.plot('--measure', 'ratio', '--against', 'period', '--by', 'density', '--threshold', '0.6', '--log')
         self.assertIn('the median rises above 0.6 at period 5.629', ' '.join(rows[-1]))
         self.plot('--measure', 'ratio', '--against', 'density', '--by', 'period', '--threshold', '0.6', status=2)
@@ -307,8 +307,8 @@ class Command(unittest.TestCase):
 
     def test_pairs_of_two_files_and_of_two_values(self) -> None:
         rows = self.plot('--measure', 'sent', '--against', 'period', '--compare', 'more.csv', '--over', 'seed,density')
-        self.assertEqual(rows[1], ['period', 'pairs', 'net', 'more', 'difference', 'low', 'high', 'interval', 'greater',
-                                   'less'])
+        self.assertEqual(rows[1], ['period', 'pairs', 'net', 'more', 'difference', 'low', 'high', 'interval',
+                                   'greater', 'less'])
         alike = ['none:', 'equal', 'runs']
         self.assertEqual(rows[2][:2] + rows[2][4:], ['1', '10', '2.000', '-', '-', *alike, '10', '0'])
         rows = self.plot('--measure', 'sent', '--against', 'period', '--pair', 'density=thin,dense')

@@ -3,8 +3,8 @@
 The curve has the middle (the mean or the median) of the runs at each value of the axis, and straight lines between
 them, as in the picture: on a logarithmic axis they are straight in the logarithm. For the interval the runs are drawn
 again with replacement (the bootstrap): each time the curve crosses somewhere else. If points have runs with the same
-seeds, the seeds are drawn, the same ones for the whole curve, since runs of one seed have much in common; otherwise the
-runs of each point are drawn by themselves.
+seeds, the seeds are drawn, the same ones for the whole curve, since runs of one seed have much in common; otherwise
+the runs of each point are drawn by themselves.
 
 Nobody has measured between two neighbouring points, so each drawn curve only shows between which points it crosses.
 The interval contains all of that gap: it reaches from the left ends of the gaps to their right ends.
@@ -63,7 +63,7 @@ def place(line: Line, threshold: float, is_rising: bool | None = None,
 
 
 def gap_of(line: Line, threshold: float, is_rising: bool) -> tuple[float, float]:
-    """The points between which a line crosses; if it doesn't, the crossing is before its first point or behind its last."""
+    """The points between which a line crosses. If it doesn't, it crosses before its first point or behind its last."""
     found = place(line, threshold, is_rising)
     if found:
         return found[2]

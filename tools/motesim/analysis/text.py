@@ -47,7 +47,8 @@ def rows_with_crossings(shown: Shown, wish: Wish) -> list[Row]:
     rows, found = rows_of(shown, wish), crossings_of(shown, wish)
     if not found:
         return rows
-    return [{**row, 'threshold': float(wish.threshold), **columns_of_crossing(found[row.get(wish.by)])} for row in rows]
+    return [{**row, 'threshold': float(wish.threshold), **columns_of_crossing(found[row.get(wish.by)])}
+            for row in rows]
 
 
 def _of_by(point: Point, wish: Wish) -> Row:
@@ -119,7 +120,7 @@ def of_intervals(estimates: Sequence[Estimate]) -> list[str]:
             min(few), LEAST_RUNS))
     alike = sum(it.method == 'alike' for it in estimates)
     if alike:
-        lines.append('no interval for %d mean%s: all runs are equal, which doesn\'t show how far others would spread' % (
+        lines.append('no interval for %d mean%s: equal runs don\'t show how far others would spread' % (
             alike, 's' if alike > 1 else ''))
     return lines
 
