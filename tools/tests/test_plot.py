@@ -133,10 +133,12 @@ sweep = { vary = { period = "1..4" }, measure = ["prints"] }
 file = "prints.svg"
 measure = "prints"
 against = "period"
+threshold = 1.5
 ''')
         done = subprocess.run([sys.executable, '-B', str(TOOLS / 'sweep'), 'a.plan.toml', '--plot'], cwd=self.folder,
                               env={**os.environ, 'MOTESIM': str(stub)}, capture_output=True, text=True)
-        told = 'a.csv: 4 runs, 4 of them now, 0 with a fault\nprints.svg\n'
+        told = ('a.csv: 4 runs, 4 of them now, 0 with a fault\nprints.svg\n'
+                'the median doesn\'t cross 1.5\n')
         self.assertEqual((done.returncode, done.stdout), (0, told), done)
         self.assertTrue((self.folder / 'prints.svg').exists())
 

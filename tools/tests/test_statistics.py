@@ -44,7 +44,8 @@ class Estimates(unittest.TestCase):
 
     def test_equal_runs_have_no_interval_that_looks_certain(self) -> None:
         for how in estimates.MEANS:
-            for kind in 'any', 'share':
+            kinds: list[estimates.Measured] = ['any', 'share']
+            for kind in kinds:
                 self.assertEqual(estimates.mean_of([1.0] * 8, 0.95, how, kind), (8, 1.0, None, None, 'alike'))
             # (10 of 10 that are 1 are a share by themselves)
             found = estimates.mean_of([1] * 10, 0.95, how, 'yes or no')
@@ -285,7 +286,7 @@ class Command(unittest.TestCase):
         self.assertEqual(' '.join(rows[-1]), 'density thin: the mean rises above 0.6 at period 5.97, between the '
                                              'points 4 and 8 (95 % by the bootstrap of 5 runs: 4 to 8)')
         rows = self.plot('--measure', 'ratio', '--against', 'period', '--by', 'density', '--threshold', '0.6', '--log')
-        self.assertIn('the median rises above 0.6 at period 5.629', ' '.join(rows[-1]))
+        self.assertIn('the median rises above 0.6 at period 5.628', ' '.join(rows[-1]))
         self.plot('--measure', 'ratio', '--against', 'density', '--by', 'period', '--threshold', '0.6', status=2)
 
     def test_a_crossing_along_a_measure_draws_both_axes(self) -> None:
@@ -375,6 +376,14 @@ class Command(unittest.TestCase):
         done = subprocess.run([interpreter, '-B', '-c', script], cwd=self.folder, capture_output=True, text=True,
                               env={**os.environ, 'PYTHONPATH': str(TOOLS)})
         self.assertEqual(done.stdout, '30 48.833333333333336 [20, 50, 90]\n', done.stderr)
+
+    def test_whole_numbers_with_gaps_stay_whole_in_a_frame(self) -> None:
+        interpreter = interpreter_with(self, 'pandas')
+        (self.folder / 'net.csv').write_text(HEAD + '1,thin,1,7,0.5,,period density seed\n1,thin,2,,,,period density seed\n')
+        script = 'from motesim.analysis import frame\nprint(*(str(it) for it in frame("net.csv").dtypes[:5]))'
+        done = subprocess.run([interpreter, '-B', '-c', script], cwd=self.folder, capture_output=True, text=True,
+                              env={**os.environ, 'PYTHONPATH': str(TOOLS)})
+        self.assertEqual(done.stdout, 'int64 object int64 Int64 float64\n', done.stderr)
 
 
 if __name__ == '__main__':

@@ -242,19 +242,37 @@ class SweepTest(Bed):
         self.assertEqual((columns[:4], rows[0]['period']), (['period', 'motes', 'name', 'end'], 1))
 
     def test_faults_are_rows(self) -> None:
-        for name, line in ('wait', '// wait'), ('long', '// long'), ('refuse', '// refuse'), ('text', 'code a'):
+        for name, line in ('burn', '// burn'), ('long', '// long'), ('refuse', '// refuse'), ('text', 'code a'):
             (self.folder / (name + '.mote')).write_text(MOTE + line + '\n')
-        done = self.sweep('--vary', 'name=a,wait,refuse,text,no', '--measure', 'prints', '--seconds', '1.5')
+        done = self.sweep('--vary', 'name=a,burn,refuse,text,no', '--measure', 'prints', '--seconds', '1.5')
         self.assertEqual(done.returncode, 1, done)
         faults = {row['name']: row['fault'] for row in self.rows()}
         self.assertEqual((faults['a'], faults['refuse']), ('', 'motesim: out of memory'))
-        self.assertRegex(faults['wait'], '^no (end|answer) in 1.5 seconds$')
+        self.assertEqual(faults['burn'], 'no answer in 1.5 seconds of processor time')
         self.assertRegex(faults['text'], '^text.mote, with its parameters, line 4: ')
         self.assertRegex(faults['no'], 'no.mote: No such file')
         self.assertEqual(self.sweep('--vary', 'name=a,refuse', '--measure', 'prints').stdout.split('\n')[0],
                          'net.csv: 2 runs, 0 of them now, 1 with a fault')
         self.assertEqual(self.sweep('--vary', 'name=a,refuse', '--measure', 'prints', '--retry').stdout.split('\n')[0],
                          'net.csv: 2 runs, 1 of them now, 1 with a fault')
+
+    def test_a_run_that_the_machine_has_no_time_for_is_run_again(self) -> None:
+        (self.folder / 'wait.mote').write_text(MOTE + '// wait\n')
+        with mock.patch.dict(os.environ, MOTESIM=str(self.stub)), mock.patch('motesim.experiments.one_run.BUSY', 0.5):
+            plan = Plan.read(self.folder / 'net.plan.toml')
+            sweeper = Sweeper(sweep_of(plan, ['name=a,wait'], ['prints'], 2), self.folder / 'net.csv')
+            self.addCleanup(sweeper.file.close)
+            fault = run_job(next(sweeper.jobs([plan.with_given({'name': 'wait'})]))).fault
+        self.assertEqual(fault, 'the machine is too busy: no answer in 1 seconds, though it used less processor time '
+                                'than it may; the same command runs it again')
+        sweeper.file.close()
+        words = '--vary', 'name=a,refuse', '--measure', 'prints', '-o', 'busy.csv'
+        (self.folder / 'refuse.mote').write_text(MOTE + '// refuse\n')
+        self.sweep(*words)
+        self.assertIn(' 0 of them now', self.sweep(*words).stdout)
+        text = (self.folder / 'busy.csv').read_text()
+        (self.folder / 'busy.csv').write_text(text.replace('motesim: out of memory', fault.replace(',', ' ')))
+        self.assertIn(' 1 of them now', self.sweep(*words).stdout)
 
     def test_a_report_without_end_is_stopped(self) -> None:
         (self.folder / 'long.mote').write_text(MOTE + '// long\n')
@@ -315,8 +333,8 @@ class SweepTest(Bed):
         self.assertIn('net.plan.toml, line 16:', self.sweep('-o', 'other.csv').stderr)
 
     def test_ctrl_c_keeps_what_is_finished(self) -> None:
-        (self.folder / 'wait.mote').write_text(MOTE + '// wait\n')
-        words = '--vary', 'name=a,wait', '--vary', 'motes=1..4', '--measure', 'prints', '--jobs', '2', '--seconds', '3'
+        (self.folder / 'burn.mote').write_text(MOTE + '// burn\n')
+        words = '--vary', 'name=a,burn', '--vary', 'motes=1..4', '--measure', 'prints', '--jobs', '2', '--seconds', '3'
         run = subprocess.Popen(self.command(*words), cwd=self.folder, env=self.here(), stdout=subprocess.PIPE,
                                stderr=subprocess.PIPE, text=True, start_new_session=True)
         end = time.monotonic() + 30
@@ -400,7 +418,7 @@ class SweepTest(Bed):
         (self.folder / 'mine.py').write_text(
             'def lines(run):\n    while len(run.report.motes) == 2:\n        try:\n            while True:\n'
             '                pass\n        except BaseException:\n            pass\n    return 1\n')
-        done = self.sweep('--vary', 'motes=1..3', '--measure', 'python: mine.py:lines', '--seconds', '4')
+        done = self.sweep('--vary', 'motes=1..3', '--measure', 'python: mine.py:lines', '--seconds', '0.5')
         self.assertEqual((done.returncode, [bool(row['fault']) for row in self.rows()]), (1, [False, True, False]), done.stderr)
         self.assertRegex(self.rows()[1]['fault'], 'no end in [0-9.]+ seconds')
 

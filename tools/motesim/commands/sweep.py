@@ -40,7 +40,7 @@ def main() -> int:
     words.add_argument('--measure', action='append', default=[], metavar='MEASURE', help='a measure of a run')
     words.add_argument('-o', dest='output', metavar='FILE', help='the results; else NAME.csv, next to NAME.plan.toml')
     words.add_argument('--jobs', type=int, default=os.cpu_count() or 1, metavar='N', help='how many runs at a time')
-    words.add_argument('--seconds', type=float, metavar='N', help='the limit of a run, else that of the plan, or 60')
+    words.add_argument('--seconds', type=float, metavar='N', help='the limit of a run in processor time, else that of the plan, or 60')
     words.add_argument('--bytes', type=int, default=MOST_BYTES, metavar='N',
                        help='how long a report may be (200,000,000)')
     words.add_argument('--dask', metavar='ADDRESS', help='give the runs to the Dask scheduler there')

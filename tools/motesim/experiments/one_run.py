@@ -18,7 +18,7 @@ from typing import NamedTuple
 
 from motesim.faults import Fault
 from motesim.runner.batch import fault_of
-from motesim.runner.process import Limits, Runner
+from motesim.runner.process import LimitMet, Limits, Runner
 from motesim.experiments.measures import Bench, Cell, name_of, read_measure
 from motesim.plan.plan import Plan
 from motesim.plan.files import Files
@@ -29,6 +29,10 @@ from motesim.scenario import Scenario
 from motesim.judge.sentences import names_of
 
 DIGITS = 16
+# The time on the clock that a run may last is this many times its processor time: rows must not depend on what else the
+# machine does. A run past it has a fault with these words, and the same sweep runs it again.
+BUSY = 10
+TOO_BUSY = 'the machine is too busy'
 LONGEST_FAULT = 400
 
 
@@ -38,6 +42,7 @@ class Work(NamedTuple):
     files     the files beside the plan, by name; what isn't there is read from the folder
     measures  their words, with the sources of users' files
     program   the program's path, and its SHA-256: another one there is a fault
+    seconds   the limit of a run, and of each measure, in processor time
     """
     plan: str
     text: str
@@ -100,21 +105,21 @@ def program_here(work: Work) -> Path:
 
 @contextmanager
 def limited(seconds: float) -> Iterator[None]:
-    """Ends what is in it by a TimeoutError after so many seconds, where this is the process's main thread."""
+    """Ends what is in it by a TimeoutError after so many seconds of processor time, in a process's main thread."""
     if threading.current_thread() is not threading.main_thread():
         yield
         return
 
     def stop(signal_number: int, frame: FrameType | None) -> None:
-        raise TimeoutError('no end in %g seconds' % seconds)
+        raise TimeoutError('no end in %g seconds of processor time' % seconds)
 
-    before = signal.signal(signal.SIGALRM, stop)
-    signal.setitimer(signal.ITIMER_REAL, seconds)
+    before = signal.signal(signal.SIGPROF, stop)
+    signal.setitimer(signal.ITIMER_PROF, seconds)
     try:
         yield
     finally:
-        signal.setitimer(signal.ITIMER_REAL, 0)
-        signal.signal(signal.SIGALRM, before)
+        signal.setitimer(signal.ITIMER_PROF, 0)
+        signal.signal(signal.SIGPROF, before)
 
 
 def one_line(text: str) -> str:
@@ -125,11 +130,14 @@ def one_line(text: str) -> str:
 
 def reason_of(told: BaseException) -> str:
     """Why something failed, in one line."""
+    if isinstance(told, LimitMet) and told.limit == 'seconds':
+        return '%s: %s, though it used less processor time than it may; the same command runs it again' % (
+            TOO_BUSY, told)
     return one_line(str(told) if isinstance(told, Fault | TimeoutError) else fault_of(told))
 
 
 def measured(work: Work, bench: Bench, known: Scenario) -> tuple[dict[str, Cell], str]:
-    """The measures of a run, and a note on those that fail. Each has the time of a run."""
+    """The measures of a run, and a note on those that fail. Each has the same limit as the run."""
     found: dict[str, Cell] = {}
     notes = []
     names, sources = names_of(known), dict(work.sources)
@@ -155,7 +163,7 @@ def run_job(job: Job) -> Result:
             plan = Plan(work.plan, work.text, Files(Path(work.folder), dict(job.files)))
             text = plan.scenario(dict(job.given))
             scenario = digest(text.encode())
-        limits = Limits(work.seconds, report=work.most_bytes)
+        limits = Limits(BUSY * work.seconds, report=work.most_bytes, processor=work.seconds)
         got = Runner(program_here(work), limits).answer(text.encode())
         if got.status:
             raise ProgramFault(got.fault.decode('utf-8', 'backslashreplace').strip() or 'status %d' % got.status)

@@ -16,13 +16,13 @@ from motesim.experiments import packages
 from motesim.experiments.results import Row, cell, read_results
 from motesim.faults import Fault
 from motesim.plan.plan import Plan
-from motesim.plan.tables import Tables, needed, optional
+from motesim.plan.tables import Tables, any_kind, needed, optional
 from motesim.summary.counts import table
 
 PLOT = {'file': needed(str), 'measure': needed(str), 'against': optional(str, ''), 'by': optional(str, ''),
         'title': optional(str, None), 'x': optional(str, ''), 'y': optional(str, ''), 'log': optional(bool, False),
         'show': optional(str, 'median'), 'interval': optional(str, 't'), 'confidence': optional(int, 95, 50, 99),
-        'threshold': optional(str, ''), 'over': optional(str, ''),
+        'threshold': any_kind('a number', False), 'over': optional(str, ''),
         'footer': optional(str, None), 'size': optional(str, '')}
 
 
@@ -44,11 +44,16 @@ def wishes_of(plan: Plan) -> list[Wish]:
             if values[key] not in known:
                 raise tables.fault(path + (key,), 'A plot has no such `%s`.' % key, ', '.join('`"%s"`' %
                                                                                               it for it in known))
+        values['threshold'] = '' if values['threshold'] is None else str(values['threshold'])
         wish = Wish(**values)
         try:
             drawing.size_of(wish.size)
         except Fault as fault:
             raise tables.fault(path + ('size',), str(fault), '`size`: a text such as `"16x10"`') from None
+        try:
+            text.threshold_of(wish)
+        except Fault as fault:
+            raise tables.fault(path + ('threshold',), str(fault), '`threshold`: a number') from None
         if not wish.against and wish.show != 'cdf':
             raise tables.fault(path, 'A plot needs the key `against`, and it is not there.', '`against`: a text',
                                False)

@@ -12,7 +12,7 @@ from typing import Any
 
 from motesim.experiments import packages
 from motesim.faults import INTERRUPTED, Fault
-from motesim.experiments.one_run import DIGITS, Job, Result, Work, program_digest
+from motesim.experiments.one_run import DIGITS, TOO_BUSY, Job, Result, Work, program_digest
 from motesim.output import beside
 from motesim.plan.plan import Plan
 from motesim.plan.tables import Value, text_of_value, value_of_text
@@ -20,7 +20,7 @@ from motesim.experiments.results import CsvFile, Row, SqliteFile, open_results, 
 from motesim.runner.run import TOP, program_path
 from motesim.experiments.asked import Sweep, columns_of, known_names, sources_of, sweep_of
 from motesim.experiments.progress import Progress
-from motesim.experiments.runs import Stopped, run_by_dask, run_here
+from motesim.experiments.runs import Stopped, longest, run_by_dask, run_here
 from motesim.runner.versions import kit_version, program_version
 
 RowKey = tuple[str, ...]
@@ -68,6 +68,8 @@ class Sweeper:
         if others and not is_renewed:
             raise Fault('%s has %d rows that another plan, program or measure made. --renew runs them again, and -o '
                         'names another file' % (self.path, others))
+        # (a run for which the machine had no time says nothing)
+        kept = [row for row in kept if not str(row['fault'] or '').startswith(TOO_BUSY)]
         if retries:
             kept = [row for row in kept if not row['fault'] and not row['note']]
         if len(kept) < len(self.file.rows):
@@ -106,7 +108,8 @@ class Sweeper:
         if address and missing:
             results = run_by_dask(jobs, len(missing), address)
         else:
-            results = run_here(jobs, min(processes, len(missing)) or 1, self.sweep.seconds)
+            most = longest(self.sweep.seconds, len(self.sweep.measures))
+            results = run_here(jobs, min(processes, len(missing)) or 1, most)
         try:
             for result in results:
                 given = missing[result.place]
