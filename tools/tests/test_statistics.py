@@ -270,7 +270,7 @@ class Command(unittest.TestCase):
     def test_treatments_are_not_mixed(self) -> None:
         self.plot('--measure', 'sent', '--against', 'period', status=2)
         self.assertEqual(self.told, (
-            'plot: each point would mix runs that differ in density (density: dense, thin): --by density separates '
+            'plot: each point would mix runs that differ in density (dense, thin): --by density separates '
             'them, --where density=dense selects some, --over seed,density mixes them\n'))
         rows = self.plot('--measure', 'sent', '--against', 'period', '--over', 'seed,density')
         self.assertEqual(rows[2][:2], ['1', '10'])
@@ -379,7 +379,8 @@ class Command(unittest.TestCase):
 
     def test_whole_numbers_with_gaps_stay_whole_in_a_frame(self) -> None:
         interpreter = interpreter_with(self, 'pandas')
-        (self.folder / 'net.csv').write_text(HEAD + '1,thin,1,7,0.5,,period density seed\n1,thin,2,,,,period density seed\n')
+        (self.folder / 'net.csv').write_text(
+            HEAD + '1,thin,1,7,0.5,,period density seed\n1,thin,2,,,,period density seed\n')
         script = 'from motesim.analysis import frame\nprint(*(str(it) for it in frame("net.csv").dtypes[:5]))'
         done = subprocess.run([interpreter, '-B', '-c', script], cwd=self.folder, capture_output=True, text=True,
                               env={**os.environ, 'PYTHONPATH': str(TOOLS)})

@@ -244,11 +244,11 @@ class SweepTest(Bed):
     def test_faults_are_rows(self) -> None:
         for name, line in ('burn', '// burn'), ('long', '// long'), ('refuse', '// refuse'), ('text', 'code a'):
             (self.folder / (name + '.mote')).write_text(MOTE + line + '\n')
-        done = self.sweep('--vary', 'name=a,burn,refuse,text,no', '--measure', 'prints', '--seconds', '1.5')
+        done = self.sweep('--vary', 'name=a,burn,refuse,text,no', '--measure', 'prints', '--seconds', '0.7')
         self.assertEqual(done.returncode, 1, done)
         faults = {row['name']: row['fault'] for row in self.rows()}
         self.assertEqual((faults['a'], faults['refuse']), ('', 'motesim: out of memory'))
-        self.assertEqual(faults['burn'], 'no answer in 1.5 seconds of processor time')
+        self.assertEqual(faults['burn'], 'no answer in 0.7 seconds of processor time')
         self.assertRegex(faults['text'], '^text.mote, with its parameters, line 4: ')
         self.assertRegex(faults['no'], 'no.mote: No such file')
         self.assertEqual(self.sweep('--vary', 'name=a,refuse', '--measure', 'prints').stdout.split('\n')[0],
@@ -418,7 +418,7 @@ class SweepTest(Bed):
         (self.folder / 'mine.py').write_text(
             'def lines(run):\n    while len(run.report.motes) == 2:\n        try:\n            while True:\n'
             '                pass\n        except BaseException:\n            pass\n    return 1\n')
-        done = self.sweep('--vary', 'motes=1..3', '--measure', 'python: mine.py:lines', '--seconds', '0.5')
+        done = self.sweep('--vary', 'motes=1..3', '--measure', 'python: mine.py:lines', '--seconds', '0.3')
         self.assertEqual((done.returncode, [bool(row['fault']) for row in self.rows()]), (1, [False, True, False]), done.stderr)
         self.assertRegex(self.rows()[1]['fault'], 'no end in [0-9.]+ seconds')
 

@@ -119,9 +119,9 @@ def between(found: list[float], confidence: float) -> tuple[float, float]:
 def part_of_draws(confidence: float, runs: int) -> float:
     """Which middle part of the draws of the bootstrap is an interval of this confidence.
 
-    The variance of draws from n runs is too small by a factor of (n - 1) / n, and is treated as known. Hesterberg ("What
-    Teachers Should Know About the Bootstrap", The American Statistician 69, 2015) takes so much more at both ends that
-    the interval of something normal is as wide as Student's t.
+    The variance of draws from n runs is too small by a factor of (n - 1) / n, and is treated as known. Hesterberg
+    ("What Teachers Should Know About the Bootstrap", The American Statistician 69, 2015) takes so much more at both
+    ends that the interval of something normal is as wide as Student's t.
     """
     if runs < 2:
         return confidence

@@ -130,8 +130,8 @@ def check_mixture(rows: Sequence[Row], mixed: Sequence[str], repeats: Sequence[s
     ways = [] if by else ['--by %s separates them' % first]
     ways += ['--where %s=%s selects some' % (first, text_of(values[0])),
              '--over %s mixes them' % ','.join(dict.fromkeys([*repeats, *mixed]))]
-    raise Fault('%s would mix runs that differ in %s (%s: %s): %s' % (
-        what, ' and '.join(mixed), first, shown, ', '.join(ways)))
+    names = ' and '.join(['%s (%s)' % (first, shown), *mixed[1:]])
+    raise Fault('%s would mix runs that differ in %s: %s' % (what, names, ', '.join(ways)))
 
 
 def check_pairs(rows: Sequence[Row], wish: Wish, kept: Sequence[str]) -> None:

@@ -29,9 +29,9 @@ from motesim.scenario import Scenario
 from motesim.judge.sentences import names_of
 
 DIGITS = 16
-# The time on the clock that a run may last is this many times its processor time: rows must not depend on what else the
-# machine does. A run past it has a fault with these words, and the same sweep runs it again.
-BUSY = 10
+# The time on the clock that a run may last is this many times its processor time: rows must not depend on what else
+# the machine does. A run past it has a fault with these words, and the same sweep runs it again.
+BUSY = 30
 TOO_BUSY = 'the machine is too busy'
 LONGEST_FAULT = 400
 

@@ -22,8 +22,8 @@ DASK_SECONDS = 10
 DASK_TICK, TASKS_AHEAD = 1, 4
 # The most runs of a task of Dask.
 MOST_IN_TASK = 50
-# A job has a limit for the scenario, for the run and for each measure. If it lasts so much longer that none of these can
-# have ended it, its process is ended.
+# A job has a limit for the scenario, for the run and for each measure. If it lasts so much longer that none of these
+# can have ended it, its process is ended.
 SECONDS_MORE = 5
 
 
