@@ -283,16 +283,18 @@ class Command(unittest.TestCase):
     def test_a_crossing(self) -> None:
         rows = self.plot('--measure', 'ratio', '--against', 'period', '--by', 'density', '--show', 'mean',
                          '--threshold', '0.6')
-        self.assertEqual(' '.join(rows[-1]), 'density thin: the mean rises above 0.6 at period 5.97, between the '
-                                             'points 4 and 8 (95 % by the bootstrap of 5 runs: 4 to 8)')
+        self.assertEqual(' '.join(rows[-2]), 'density thin: the mean rises above 0.6 at period 5.97, between the '
+                                             'points 4 and 8')
+        self.assertEqual(' '.join(rows[-1]), 'with 95 %, by the bootstrap of 5 runs: 4 to 8')
         rows = self.plot('--measure', 'ratio', '--against', 'period', '--by', 'density', '--threshold', '0.6', '--log')
-        self.assertIn('the median rises above 0.6 at period 5.628', ' '.join(rows[-1]))
+        self.assertIn('the median rises above 0.6 at period 5.628', ' '.join(rows[-2]))
         self.plot('--measure', 'ratio', '--against', 'density', '--by', 'period', '--threshold', '0.6', status=2)
 
     def test_a_crossing_along_a_measure_draws_both_axes(self) -> None:
         rows = self.plot('--measure', 'ratio', '--against', 'sent', '--by', 'density', '--show', 'mean', '--threshold',
                          '0.6')
-        self.assertRegex(' '.join(rows[-1]), r'density thin: the mean rises above 0.6 at sent .* bootstrap of 5 runs')
+        self.assertRegex(' '.join(rows[-2]), r'density thin: the mean rises above 0.6 at sent [0-9.]+, between')
+        self.assertIn('by the bootstrap of 5 runs', ' '.join(rows[-1]))
 
     def test_a_crossing_is_in_the_table_behind_a_picture_and_the_method_below_it(self) -> None:
         interpreter_with(self, 'matplotlib')

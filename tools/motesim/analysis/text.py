@@ -171,11 +171,11 @@ def of_crossing(found: Crossing | None, wish: Wish) -> str:
     at = 'the %s %s %g at %s %.4g, between the points %.4g and %.4g' % (
         middle, 'rises above' if found.is_rising else 'falls below', threshold, wish.against, found.at, *found.gap)
     if found.low is None or found.high is None:
-        return at + ' (no interval: one run for each point)'
+        return at + '; one run for each point shows no interval'
     ends = 'before the first point' if math.isinf(found.low) else '%.4g' % found.low, (
         'behind the last point' if math.isinf(found.high) else '%.4g' % found.high)
     share = '' if found.share > 0.995 else '; %d %% of the drawn curves cross' % round(100 * found.share)
-    return '%s (%d %% by the bootstrap of %d runs: %s to %s%s)' % (at, wish.confidence, found.draws, *ends, share)
+    return '%s\n  with %d %%, by the bootstrap of %d runs: %s to %s%s' % (at, wish.confidence, found.draws, *ends, share)
 
 
 def columns_of_crossing(found: Crossing | None) -> Row:
