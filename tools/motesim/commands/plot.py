@@ -11,9 +11,10 @@
 RESULTS is what tools/sweep wrote. Each point represents the runs that differ only in the seed, or in what --over
 names; runs that differ in more aren't mixed. --show selects what is shown of them: median (with quartiles), mean (with
 an interval by --interval t or bootstrap), points (all runs), cdf (which part of the runs has at most so much) or heat
-(a map of --against and --by). --where seed=3 selects some of the runs. A picture is SVG, PDF or PNG, by its name, and the table behind it is written
-next to it, as NAME.table.csv. Pictures need matplotlib (on Debian: apt-get install python3-matplotlib); without it
-there is a table, and a line that says so. docs/use/EXPERIMENTS.md shows all of it at work.
+(a map of --against and --by). --where seed=3 selects some of the runs. A picture is SVG, PDF or PNG, by its name, and
+the table behind it is written next to it, as NAME.table.csv. Pictures need matplotlib (on Debian: apt-get install
+python3-matplotlib); without it there is a table, and a line that says so. docs/use/EXPERIMENTS.md shows all of it at
+work.
 
 Ends with status 0, with 1 if there is a table instead of a picture, or with 2 if there is nothing to show.
 """
