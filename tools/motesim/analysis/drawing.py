@@ -1,6 +1,7 @@
 """Pictures of points, by matplotlib: SVG, PDF or PNG. The same points have the same bytes."""
 from __future__ import annotations
 
+import math
 import re
 import textwrap
 from collections.abc import Callable, Sequence
@@ -219,8 +220,10 @@ def _draw_threshold(axes: Any, shown: Shown, wish: Wish) -> None:
     first, last = min(it.x for it in shown.points), max(it.x for it in shown.points)
     for number, found in enumerate(crossings_of(shown, wish).values()):
         if found and found.low is not None and found.high is not None:
-            axes.plot([max(found.low, first), min(found.high, last)], [threshold, threshold], linewidth=5, alpha=0.4,
-                      color=_look(number)['color'], solid_capstyle='butt')
+            # (an end that is beyond the axis is drawn up to its first or last point)
+            ends = [end if math.isfinite(end) else min(max(end, first), last) for end in (found.low, found.high)]
+            axes.plot(ends, [threshold, threshold], linewidth=5, alpha=0.4, color=_look(number)['color'],
+                      solid_capstyle='butt')
             axes.plot([found.at], [threshold], color=_look(number)['color'], marker='|', markersize=12, linestyle='')
 
 
