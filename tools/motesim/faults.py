@@ -71,7 +71,7 @@ def status_of(tool: str, work: Callable[[], int]) -> int:
     except Exception as fault:
         if os.environ.get(SHOW):
             raise
-        message = 'an error in the tool itself: %s: %s (%s=1 shows where)' % (type(fault).__name__, fault, SHOW)
+        message = 'an error in the tool itself: %s: %s (%s=1 shows its place)' % (type(fault).__name__, fault, SHOW)
     print('%s: %s' % (tool, message), file=sys.stderr)
     return FAILED
 

@@ -8,7 +8,7 @@ SHIPPED = [TOP / name for name in ('bench', 'crates', 'docs', 'examples', 'tests
 
 
 def _is_shipped(path: Path) -> bool:
-    """Whether a file would be among the files of the repository."""
+    """Returns whether a file would be among the files of the repository."""
     return any(folder in path.parents for folder in SHIPPED)
 
 

@@ -34,7 +34,8 @@ class BrowserFault(Exception):
 
 
 # What ends a talk with the browser.
-FAULTS: tuple[type[Exception], ...] = (OSError, BrowserFault, ValueError, *([websocket.WebSocketException] if websocket else []))
+FAULTS: tuple[type[Exception], ...] = (OSError, BrowserFault, ValueError,
+                                       *([websocket.WebSocketException] if websocket else []))
 
 
 class Browser:
@@ -42,7 +43,8 @@ class Browser:
 
     def __init__(self, program: str):
         self.room = tempfile.mkdtemp(prefix='motesim-browser-')
-        words = [program, '--headless=new', '--no-sandbox', '--disable-gpu', '--disable-dev-shm-usage', '--no-first-run',
+        words = [program, '--headless=new', '--no-sandbox', '--disable-gpu', '--disable-dev-shm-usage',
+                 '--no-first-run',
                  '--disable-extensions', '--disable-background-networking', '--remote-debugging-port=0',
                  '--remote-allow-origins=*', '--window-size=1280,800', '--user-data-dir=' + self.room, 'about:blank']
         self.process = subprocess.Popen(words, stdin=subprocess.DEVNULL, stdout=subprocess.DEVNULL,
@@ -115,7 +117,8 @@ class Browser:
         return done['result'].get('value')
 
     def size(self, width: int, height: int, dots: float = 1) -> None:
-        self.call('Emulation.setDeviceMetricsOverride', width=width, height=height, deviceScaleFactor=dots, mobile=False)
+        self.call('Emulation.setDeviceMetricsOverride', width=width, height=height, deviceScaleFactor=dots,
+                  mobile=False)
 
     def dark(self, is_dark: bool) -> None:
         scheme = {'name': 'prefers-color-scheme', 'value': 'dark' if is_dark else 'light'}
@@ -134,7 +137,7 @@ class Browser:
         self.wait(ready)
 
     def type(self, text: str) -> None:
-        """Puts text where the caret is, as a keyboard does."""
+        """Types text at the caret, as a keyboard does."""
         self.call('Input.insertText', text=text)
 
     def wait(self, script: str) -> None:
@@ -166,7 +169,8 @@ class Browser:
 
     def key(self, key: str, code: str = '', number: int = 0, text: str | None = None) -> None:
         text = key if text is None and len(key) == 1 else text or ''
-        self.call('Input.dispatchKeyEvent', type='keyDown', key=key, code=code, windowsVirtualKeyCode=number, text=text)
+        self.call('Input.dispatchKeyEvent', type='keyDown', key=key, code=code, windowsVirtualKeyCode=number,
+                  text=text)
         self.call('Input.dispatchKeyEvent', type='keyUp', key=key, code=code, windowsVirtualKeyCode=number)
         self.settle()
 
@@ -175,7 +179,7 @@ class Browser:
         Path(path).write_bytes(base64.b64decode(shot['data']))
 
     def print(self, path: Path) -> None:
-        """The page as it is printed, as PDF."""
+        """The printed page, as PDF."""
         done = self.call('Page.printToPDF', preferCSSPageSize=True, printBackground=True)
         Path(path).write_bytes(base64.b64decode(done['data']))
 

@@ -1,4 +1,4 @@
-"""What pytest does for the tests of the tools: tools/dev/test_tools calls it.
+"""The set-up of pytest for the tests of the tools: tools/dev/test_tools calls it.
 
 A test that lacks a program or a package is skipped, and the line says which. One that lacks the browser fails, unless
 `--may-skip browser` allows that. A file without tests fails. The last line is `N passed, M failed, K skipped`.
@@ -28,7 +28,7 @@ def pytest_configure(config: pytest.Config) -> None:
 
 
 def reason_of(report: pytest.TestReport) -> str:
-    """Why a test is skipped."""
+    """The reason why a test is skipped."""
     told = report.longrepr
     return str(told[2] if isinstance(told, tuple) else told).removeprefix('Skipped: ')
 

@@ -1,4 +1,4 @@
-"""Where the tests stand: the tools that they test are found from here."""
+"""The place of the tests: the tools that they test are found from here."""
 import os
 import sys
 from pathlib import Path

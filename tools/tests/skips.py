@@ -1,4 +1,4 @@
-"""What a test needs beyond Python: where it isn't there, the test is skipped, and tools/dev/test_tools says why."""
+"""The needs of tests beyond Python: if one is missing, the test is skipped, and tools/dev/test_tools says why."""
 from __future__ import annotations
 
 import shutil

@@ -40,7 +40,7 @@ def program() -> Iterator[Path]:
 
 
 class Text:
-    """What a program's text seems to do."""
+    """A guess of a program's actions from its text."""
 
     def __init__(self, source: str) -> None:
         source = re.sub('//.*', '', source)

@@ -1,4 +1,4 @@
-"""A program in the place of motesim, for tests of tools that run it: its reports are short and known beforehand.
+"""A program instead of motesim, for tests of tools that run it: its reports are short and known beforehand.
 
 Mote n prints P at moment P * (n + 1), where P is what the first `print` of its program has. A comment `// wait`,
 `// burn`, `// long` or `// refuse` in the program makes it answer nothing for a minute, use a minute of processor

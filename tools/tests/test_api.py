@@ -50,7 +50,8 @@ class Calls(unittest.TestCase):
 
     def test_a_text_is_run(self) -> None:
         run = motesim.run(SCENARIO.encode())
-        self.assertEqual([str(mote.lines[-1]) for mote in run.report.motes], ['7 print a 7', '14 print a 7', '21 print a 7'])
+        self.assertEqual([str(mote.lines[-1]) for mote in run.report.motes], ['7 print a 7', '14 print a 7',
+                                                                              '21 print a 7'])
         self.assertEqual(run.scenario and run.scenario.motes, 3)
 
     def test_a_file_is_run(self) -> None:
@@ -95,7 +96,8 @@ class Calls(unittest.TestCase):
 
     def test_nothing_is_imported_before_it_is_asked_for(self) -> None:
         source = 'import sys; sys.path.insert(0, %r); import motesim; print(len(sys.modules)); motesim.run' % str(TOOLS)
-        done = subprocess.run([sys.executable, '-B', '-S', '-c', source + '; print("motesim.judge.judge" in sys.modules)'],
+        done = subprocess.run([sys.executable, '-B', '-S', '-c',
+                               source + '; print("motesim.judge.judge" in sys.modules)'],
                               capture_output=True, text=True, check=True)
         self.assertEqual(done.stdout.splitlines()[1], 'True')
         self.assertLess(int(done.stdout.splitlines()[0]), 80)
@@ -117,11 +119,13 @@ class Installed(unittest.TestCase):
             for name in 'motesim', 'pyproject.toml':
                 (room / name).rename(source / name)
             done = subprocess.run([python, '-m', 'pip', 'install', '--quiet', '--no-build-isolation', '--no-index',
-                                   '--no-deps', '--target', str(room / 'there'), str(source)], capture_output=True, text=True)
+                                   '--no-deps', '--target', str(room / 'there'), str(source)], capture_output=True,
+                                  text=True)
             self.assertEqual(done.returncode, 0, done.stderr)
             use = 'import motesim, motesim.timeline.html as html; print(motesim.__file__); html.page_of; ' \
                   'print(len((html.PAGE / "page.html").read_text()) > 99)'
-            done = subprocess.run([sys.executable, '-B', '-c', use], cwd=room, env={**os.environ, 'PYTHONPATH': str(room / 'there')},
+            done = subprocess.run([sys.executable, '-B', '-c', use], cwd=room,
+                                  env={**os.environ, 'PYTHONPATH': str(room / 'there')},
                                   capture_output=True, text=True)
             self.assertEqual(done.stdout.splitlines(), [str(room / 'there/motesim/__init__.py'), 'True'], done.stderr)
             shipped = {it.relative_to(room / 'there') for it in (room / 'there/motesim').rglob('*') if it.is_file()}

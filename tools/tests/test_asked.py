@@ -1,4 +1,4 @@
-"""What the words of ./run ask for."""
+"""The request of ./run's arguments."""
 import unittest
 
 import here
@@ -9,7 +9,8 @@ class Words(unittest.TestCase):
     def test_they_are_the_programs_but_for_unproved(self) -> None:
         asked = asked_by(['--unproved', 'a.toml', '--cut', 'stripe', '--sync=marks', '--workers', '+016'])
         self.assertEqual(asked.words, ['a.toml', '--cut', 'stripe', '--sync=marks', '--workers', '+016'])
-        self.assertEqual((asked.file, asked.is_unproved, asked.wants_help, asked.refusal), ('a.toml', True, False, None))
+        self.assertEqual((asked.file, asked.is_unproved, asked.wants_help, asked.refusal), ('a.toml', True, False,
+                                                                                            None))
         self.assertEqual(asked_by([]), ([], None, False, False, None))
 
     def test_a_word_that_stands_for_another_is_no_option(self) -> None:

@@ -16,7 +16,8 @@ from motesim.notation.faults import find_fault
 from motesim.scenario import Scenario
 from project import bench
 
-PROGRAM = '#!/bin/sh\necho "mote 0 p"\n[ "$1" = --workers ] && [ "$4" = ODD ] && echo "0 halt"\necho medium\necho "left 0"\n'
+PROGRAM = ('#!/bin/sh\necho "mote 0 p"\n[ "$1" = --workers ] && [ "$4" = ODD ] && echo "0 halt"\n'
+           'echo medium\necho "left 0"\n')
 
 
 class Scenarios(unittest.TestCase):
@@ -42,7 +43,8 @@ class Ratios(unittest.TestCase):
     def test_a_cell_has_both_and_their_ratio(self) -> None:
         self.assertEqual(bench.cell('user', [0.5], [], bench.seconds), 'user 0.500 s')
         self.assertEqual(bench.cell('user', [0.5], [1], bench.seconds), 'user 0.500 s, 1.000 s: 0.50')
-        self.assertEqual(bench.cell('user', [1, 2, 1], [1, 1, 1], bench.seconds), 'user 1.000 s, 1.000 s: 1.00 (1.00 to 2.00)')
+        self.assertEqual(bench.cell('user', [1, 2, 1], [1, 1, 1], bench.seconds),
+                         'user 1.000 s, 1.000 s: 1.00 (1.00 to 2.00)')
 
 
 class Command(unittest.TestCase):
@@ -53,7 +55,8 @@ class Command(unittest.TestCase):
             program.write_text(PROGRAM.replace('ODD', odd))
             program.chmod(0o755)
             words = ['bench', '--program', str(program), '--rounds', '1', '--no-instructions', '--small', *asked]
-            with mock.patch.object(sys, 'argv', words), contextlib.redirect_stdout(said), contextlib.redirect_stderr(said):
+            with mock.patch.object(sys, 'argv',
+                                   words), contextlib.redirect_stdout(said), contextlib.redirect_stderr(said):
                 with self.assertRaises(SystemExit) as end:
                     bench.main()
         return said.getvalue(), end.exception.code
@@ -62,7 +65,8 @@ class Command(unittest.TestCase):
         said, code = self.said('none', 'timers')
         self.assertEqual(code, 0)
         self.assertEqual([line.split('user')[0].strip() for line in said.splitlines()], [
-            'timers 64 20000', 'one thread', '--workers 2 --sync joins', '--workers 4 --sync joins', '--workers 2 --sync marks',
+            'timers 64 20000', 'one thread', '--workers 2 --sync joins', '--workers 4 --sync joins',
+            '--workers 2 --sync marks',
             '--workers 4 --sync marks'])
 
     def test_a_report_that_differs_is_told(self) -> None:

@@ -1,4 +1,4 @@
-"""What the pages quote of an example, and what is checked beside the sentences."""
+"""The pages' quotes of an example, and the checks besides the sentences."""
 from __future__ import annotations
 
 import tempfile
@@ -31,7 +31,7 @@ end = 5
 ```
 """
 
-# Mote 1 stands between mote 0, the root, and mote 2.
+# Mote 1 is between mote 0, the root, and mote 2.
 SCENARIO = """
 version = 1
 end = 400

@@ -1,4 +1,4 @@
-"""How check_tutorial reads a page, runs its commands, and writes what they print."""
+"""The steps of check_tutorial: it reads a page, runs its commands, and writes their output."""
 from __future__ import annotations
 
 import subprocess

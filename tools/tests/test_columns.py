@@ -38,12 +38,14 @@ medium
 9 0 1 3 1@12
 left 1
 '''
-WORDS = ['', ' ', '\n', '-', '0', '00', '1', '65535', '65536', '4611686018427387904', '1000001', 'take', 'halt', 'lost', 'a', 'A',
-         'send', 'all', 'true', 'null', '1@6', '@', '1@lost', 'medium', 'left 0', 'mote 3 x', 'mote 1 hearer', '\t', '\r', 'é']
+WORDS = ['', ' ', '\n', '-', '0', '00', '1', '65535', '65536', '4611686018427387904', '1000001', 'take', 'halt',
+         'lost', 'a', 'A',
+         'send', 'all', 'true', 'null', '1@6', '@', '1@lost', 'medium', 'left 0', 'mote 3 x', 'mote 1 hearer', '\t',
+         '\r', 'é']
 
 
 def read_strictly(data: bytes) -> strict.Read | None:
-    """What the reader line by line finds, or None."""
+    """The result of the reader line by line, or None."""
     try:
         return strict.read(strict.text_of(data))
     except ReportFault:
@@ -67,11 +69,12 @@ class Reading(unittest.TestCase):
         self.assertTrue(self.check(SMALL.encode()))
 
     def test_texts_that_are_changed_at_random(self) -> None:
-        """What one reader refuses the other refuses, and what both read is the same; in pieces of any size."""
+        """Both readers refuse the same texts, and read the same from others, in pieces of any size."""
         chance = random.Random(5)
         kept = 0
         for turn in range(4000):
-            text = chance.choice([SMALL, SMALL.replace('talk', 't4lk').replace(' busy\n', ' b1\n').replace('msg', 'm5g')])
+            text = chance.choice([SMALL,
+                                  SMALL.replace('talk', 't4lk').replace(' busy\n', ' b1\n').replace('msg', 'm5g')])
             for _ in range(chance.choice([1, 1, 2])):
                 rows = text.split('\n')
                 one, other = chance.randrange(len(rows)), chance.randrange(len(rows))

@@ -16,7 +16,8 @@ from motesim.studio import runs
 
 COMMANDS = sorted(path.stem for path in (TOOLS / 'motesim/commands').glob('[a-z]*.py'))
 # What only the work needs: reports, the judge, processes, numbers.
-HEAVY = 'motesim.report', 'motesim.judge', 'motesim.runner', 'motesim.scenario', 'subprocess', 'multiprocessing', 'tomllib'
+HEAVY = ('motesim.report', 'motesim.judge', 'motesim.runner', 'motesim.scenario',
+         'subprocess', 'multiprocessing', 'tomllib')
 
 
 class Commands(unittest.TestCase):

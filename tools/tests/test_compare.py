@@ -1,4 +1,4 @@
-"""How compare finds where two reports part. The reports are worked out by hand."""
+"""The place at which two reports diverge, by compare. The reports are worked out by hand."""
 from __future__ import annotations
 
 import random
@@ -74,7 +74,7 @@ def compared(a: str, b: str) -> tuple[str, compare.Difference | None, bool]:
 
 
 def counted_naively(a: Report, b: Report) -> tuple[list[tuple[int, int]], compare.Counts]:
-    """Where the lists of two reports part, and how many lines only one of them has, line by line."""
+    """The place at which the lists of two reports diverge, and the number of lines that only one has, line by line."""
     places: list[tuple[int, int]] = []
     counts: compare.Counts = Counter(), Counter()
     lists = [{it.number: list(map(str, it.lines)) for it in report.motes} | {MEDIUM: list(map(str, report.medium))}
@@ -83,7 +83,8 @@ def counted_naively(a: Report, b: Report) -> tuple[list[tuple[int, int]], compar
         one, other = (its.get(mote, []) for its in lists)
         if one == other:
             continue
-        places.append((mote, next((at for at, (x, y) in enumerate(zip(one, other)) if x != y), min(len(one), len(other)))))
+        places.append((mote,
+                       next((at for at, (x, y) in enumerate(zip(one, other)) if x != y), min(len(one), len(other)))))
         kinds = [Counter(('medium' if mote == MEDIUM else it.split(' ')[1], it) for it in its) for its in (one, other)]
         for side in 0, 1:
             for (kind, _), count in (kinds[side] - kinds[1 - side]).items():
@@ -250,17 +251,22 @@ every = 2
         self.assertEqual(self.told(('end = 20', 'end = 30'), ('collide = true', 'collide = false')), [
             'end is 20 in A and 30 in B', 'collide of medium is true in A and false in B'])
         self.assertEqual(self.told(('x = 3', 'x = 4')), ['the place of mote 1 is (3, 4) in A and (4, 4) in B'])
-        self.assertEqual(self.told(('every = 2', 'every = 3')), ['the loss from 0 to 1 is every 2 in A and every 3 in B'])
+        self.assertEqual(self.told(('every = 2', 'every = 3')),
+                         ['the loss from 0 to 1 is every 2 in A and every 3 in B'])
         self.assertEqual(self.told(('from = 0\nto = 1', 'from = 1\nto = 0')), [
-            'the loss from 0 to 1 is every 2 in A and none in B', 'the loss from 1 to 0 is none in A and every 2 in B'])
+            'the loss from 0 to 1 is every 2 in A and none in B',
+            'the loss from 1 to 0 is none in A and every 2 in B'])
         self.assertEqual(self.told(('print 1;', 'print 2;')), [
-            'program p differs in its line 2', '  A: code a { body { print 1; } }', '  B: code a { body { print 2; } }'])
-        self.assertEqual(self.told(('[[loss]]', '[queue]\np = 3\n[[loss]]')), ['queue of program p is none in A and 3 in B'])
+            'program p differs in its line 2', '  A: code a { body { print 1; } }',
+            '  B: code a { body { print 2; } }'])
+        self.assertEqual(self.told(('[[loss]]', '[queue]\np = 3\n[[loss]]')),
+                         ['queue of program p is none in A and 3 in B'])
         self.assertEqual(self.told(('[[loss]]', '[[mote]]\nx = 1\ny = 1\nprogram = "p"\n[[loss]]')), [
             'there are 2 motes in A and 3 in B'])
 
     def test_only_so_many_are_shown(self) -> None:
-        a, b = Scenario.parse(self.A), Scenario.parse(self.A.replace('end = 20', 'end = 21').replace('per = 100', 'per = 9'))
+        a, b = Scenario.parse(self.A), Scenario.parse(self.A.replace('end = 20', 'end = 21').replace('per = 100',
+                                                                                                     'per = 9'))
         self.assertEqual(scenario_differences.in_words(a, a, 5), ['The scenarios are the same.'])
         self.assertEqual(scenario_differences.in_words(a, b, 1), [
             'The scenarios differ:', '  end is 20 in A and 21 in B',

@@ -1,4 +1,4 @@
-"""Which runs of a scenario are compared, and that one that differs is told."""
+"""Which runs of a scenario are compared, and that one that differs is reported."""
 from __future__ import annotations
 
 import contextlib
@@ -12,7 +12,7 @@ from unittest import mock
 import here  # (it puts tools/ on the path)
 from project import workers as compare
 
-# A program that writes its words beside it, and the scenario, or something else where one of its words is ODD.
+# A program that writes its arguments next to it, and the scenario, or something else if an argument is ODD.
 PROGRAM = """#!/bin/sh
 echo "$*" >>"$0.words"
 case " $* " in *" ODD "*) echo another ;; *) cat ;; esac
@@ -29,7 +29,8 @@ class Runs(unittest.TestCase):
             for name, text in files:
                 (Path(room) / name).write_text(text)
             words = ['compare_workers', '--program', str(program), room]
-            with mock.patch.object(sys, 'argv', words), contextlib.redirect_stdout(said), self.assertRaises(SystemExit) as end:
+            with mock.patch.object(sys, 'argv',
+                                   words), contextlib.redirect_stdout(said), self.assertRaises(SystemExit) as end:
                 compare.main()
             return Path(str(program) + '.words').read_text().splitlines(), said.getvalue(), end.exception.code
 

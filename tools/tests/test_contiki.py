@@ -421,13 +421,15 @@ class FolderTest(unittest.TestCase):
             example = TOP / 'examples' / (name + '.toml')
             done = self.export(str(example), '--form', 'contiki', '--host', '-o', name)
             self.assertEqual((done.returncode, done.stderr), (0, ''))
-            subprocess.run(['make', '-s', 'host', 'HOSTCC=' + self.compilers()[-1]], cwd=self.folder / name, check=True)
+            subprocess.run(['make', '-s', 'host', 'HOSTCC=' + self.compilers()[-1]], cwd=self.folder / name,
+                           check=True)
             report = subprocess.run(['./host'], cwd=self.folder / name, capture_output=True, check=True).stdout
             wanted = subprocess.run([program_path(), str(example)], capture_output=True, check=True).stdout
             self.assertEqual(report, wanted, name)
 
     def test_files_of_a_folder(self) -> None:
-        (self.folder / 's.toml').write_bytes(scenario_of('process a; code a { body { } }').replace(b"'p'", b"'process'")
+        (self.folder / 's.toml').write_bytes(scenario_of('process a; code a { body { } }').replace(b"'p'",
+                                                                                                   b"'process'")
                                              .replace(b'\np =', b'\nprocess ='))
         done = self.export('s.toml', '--form', 'contiki', '-o', 'out')
         self.assertEqual(done.stdout.split(), ['out/process_program.c', 'out/motesim_radio.h', 'out/motesim_radio.c',

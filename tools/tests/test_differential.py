@@ -28,7 +28,7 @@ from skips import need_program
 
 HOST = TOOLS / 'contiki_host'
 MUTANTS = Path(__file__).resolve().parent / 'contiki_host/mutants.toml'
-# How many random scenarios are tried on a mutant, and how many mutants these have to notice. The gate tries 300 others;
+# How many random scenarios are tried on a mutant, and how many mutants these have to notice. The gate tries 300;
 # more of them notice more.
 MOST_SCENARIOS = 80
 LEAST_NOTICED = 12
@@ -83,7 +83,8 @@ class Generator(unittest.TestCase):
                 if reached['limit %s' % limit] and limit not in found:
                     text = next(iter(Scenario.parse(scenario).programs.values()))
                     found[limit] = {'events': text.count('event '), 'semaphores': text.count('semaphore '),
-                                    'processes': text.count('code '), 'timers': text.count('  etimer ') + text.count('  ctimer '),
+                                    'processes': text.count('code '),
+                                    'timers': text.count('  etimer ') + text.count('  ctimer '),
                                     'variables': max(it.count('  var ') for it in text.split('code ')),
                                     'threads': max(it.count('  thread ') for it in text.split('code '))}.get(limit, 0)
             if len(found) == len(LIMITS):
@@ -137,7 +138,8 @@ class Command(unittest.TestCase):
         self.addCleanup(shutil.rmtree, self.folder)
 
     def run_tool(self, *arguments: str, **environment: str) -> subprocess.CompletedProcess[str]:
-        return subprocess.run([sys.executable, str(TOOLS / 'differential'), *arguments], capture_output=True, text=True,
+        return subprocess.run([sys.executable, str(TOOLS / 'differential'), *arguments], capture_output=True,
+                              text=True,
                               env={**os.environ, **environment}, cwd=self.folder)
 
     def test_all_agree(self) -> None:
@@ -153,7 +155,8 @@ class Command(unittest.TestCase):
     def test_without_a_compiler(self) -> None:
         folder = self.folder / 'bin'
         folder.mkdir()
-        done = subprocess.run([sys.executable, str(TOOLS / 'differential'), '--count', '1'], capture_output=True, text=True,
+        done = subprocess.run([sys.executable, str(TOOLS / 'differential'), '--count', '1'], capture_output=True,
+                              text=True,
                               env={**os.environ, 'PATH': str(folder)}, cwd=self.folder)
         self.assertEqual((done.returncode, done.stderr),
                          (2, 'differential: there is no C compiler: on Debian `apt-get install tcc` installs one\n'))

@@ -35,7 +35,8 @@ def grammar(name: str) -> dict[str, Any]:
 class Grammars(unittest.TestCase):
     def test_each_that_is_named_is_there_and_can_be_read(self) -> None:
         named = json.loads((FOLDER / 'package.json').read_text('utf-8'))['contributes']['grammars']
-        self.assertEqual(sorted(it['path'] for it in named), sorted('./syntaxes/' + it.name for it in FOLDER.glob('syntaxes/*')))
+        self.assertEqual(sorted(it['path'] for it in named),
+                         sorted('./syntaxes/' + it.name for it in FOLDER.glob('syntaxes/*')))
         for it in named:
             found = grammar(it['path'].rpartition('/')[2])
             self.assertEqual(found['scopeName'], it['scopeName'])
@@ -43,7 +44,8 @@ class Grammars(unittest.TestCase):
                 re.compile(pattern)
 
     def rules(self) -> list[tuple[str, re.Pattern[str]]]:
-        return [(rule['name'], re.compile(rule['match'])) for rule in grammar('mote.tmLanguage.json')['repository']['all']['patterns']
+        return [(rule['name'], re.compile(rule['match']))
+                for rule in grammar('mote.tmLanguage.json')['repository']['all']['patterns']
                 if 'name' in rule]
 
     def first(self, text: str) -> str:

@@ -1,4 +1,4 @@
-"""Which sentences are read, what holds of a report, and what is told of a file of expectations."""
+"""The sentences that can be read, the judgement of a report, and the messages for a file of expectations."""
 from __future__ import annotations
 
 import contextlib
@@ -23,7 +23,7 @@ from motesim.judge.sentences import (
     Copies, Count, Does, Names, Refused, Sentence, SentenceFault, names_of, read_sentence,
 )
 
-# Four motes in a row, each in range of those beside it; mote 2 loses all that mote 3 sends.
+# Four motes in a row, each in range of its neighbours; mote 2 loses all that mote 3 sends.
 SCENARIO = """
 version = 2
 end = 100
@@ -142,7 +142,7 @@ BROKEN = [
     ("the scenario is refused with 'scenario fault 1'", None),
 ]
 
-# Each with the word that can't stand, and something that may stand there.
+# Each with the word that isn't allowed, and something that is allowed there.
 FAULTS = [
     ('', '', 'every mote'), ('mote 4 halts', '4', 'a mote, 0 to 3'), ('mote 1 prins flood', 'prins', 'prints'),
     ('mote 1 prints flod', 'flod', 'a process (etimer, ctimer, radio, flood, hears)'),
@@ -205,12 +205,14 @@ class Sentences(unittest.TestCase):
         by_lines = ByLines(self.judge.report, self.judge.scenario)
         deeds = ['mote 1 %s', 'every mote %s', 'motes 1 to 3 together %s', 'some mote %s', 'at least 2 motes %s']
         verbs = ['print', 'print flood', 'print flood 2', 'print flood its number', 'send', 'send 1', 'receive 1',
-                 'receive 2 from mote 1', "write 'post 0 flood'", "write 'lost' or 'recv'", "write 'recv 1 0 01'", 'start flood']
+                 'receive 2 from mote 1', "write 'post 0 flood'", "write 'lost' or 'recv'", "write 'recv 1 0 01'",
+                 'start flood']
         times = ['at least %d times', 'at most %d', 'exactly %d', 'at least %d times from 41 to 46',
                  'at most %d by 43', 'at least %d times in each 10 from 30 to 59', 'exactly %d after 46']
         found = [deed % '%s %s' % (verb, time % count) for deed in deeds for verb in verbs for time in times
                  for count in (0, 1, 2)]
-        found += ['%s copies %s%s' % (count, how, at) for count in ('at least 1', 'at most 2', 'exactly 3', 'at least 50 % of', 'exactly 0 % of')
+        found += ['%s copies %s%s' % (count, how, at)
+                  for count in ('at least 1', 'at most 2', 'exactly 3', 'at least 50 % of', 'exactly 0 % of')
                   for how in ('arrive', 'collide', 'overflow', 'are lost') for at in ('', ' at motes 1 to 2')]
         holds = 0
         for sentence in found:
@@ -254,7 +256,7 @@ class Files(unittest.TestCase):
         self.addCleanup(patch.stop)
 
     def said(self, text: str, *words: str) -> tuple[str, str, object]:
-        """What the command prints on both streams, and its status."""
+        """The output of the command on both streams, and its status."""
         self.expected.write_text(text)
         out, err = io.StringIO(), io.StringIO()
         with mock.patch.object(sys, 'argv', ['expect', str(self.scenario), *words]):
@@ -278,7 +280,8 @@ class Files(unittest.TestCase):
         with mock.patch.object(expectations, 'answer', side_effect=LimitMet('report', Limits())):
             out, err, code = self.said('expect = ["no mote halts"]')
         self.assertEqual((out, code), ('', 2))
-        self.assertEqual(err, 'expect: %s: the run was ended: the report is longer than 1,073,741,824 bytes\n' % self.scenario)
+        self.assertEqual(err, 'expect: %s: the run was ended: the report is longer than 1,073,741,824 bytes\n' %
+                         self.scenario)
 
     def test_a_change_is_refused_as_expected(self) -> None:
         text = """expect = ["mote 0 sends"]
@@ -291,14 +294,14 @@ class Files(unittest.TestCase):
         self.assertIn("holds   the scenario is refused with 'scenario fault 5'", out)
         self.assertIn('broken  no mote halts\n          the scenario is refused: motesim: scenario fault 5', out)
         self.assertEqual(code, 1)
-        # (what tools/explain would say is of the scenario as it is)
+        # (tools/explain would run the unchanged scenario)
         self.assertNotIn('explain', out)
 
     def test_where_the_scenario_is_refused_tools_explain_is_named(self) -> None:
         self.scenario.write_text(self.scenario.read_text().replace('end = 100', 'end = 2000000'))
         out, _, code = self.said('expect = ["some mote halts", "no mote halts"]')
         self.assertEqual(out.splitlines()[-2:], [
-            'tools/explain %s shows where the error is, and what is allowed there' % self.scenario,
+            'tools/explain %s shows where the error is, and what you may write there' % self.scenario,
             '0 passed, 2 failed'])
         self.assertEqual(code, 1)
         out, _, code = self.said('expect = ["the scenario is refused with \'scenario fault 5\'"]')
@@ -358,7 +361,7 @@ class Page(unittest.TestCase):
         self.page = (TOOLS.parent / 'docs/use/EXPECTATIONS.md').read_text('utf-8')
 
     def forms(self, title: str) -> list[str]:
-        """What stands as code in the first column of a table, by a part of its page and the title of that column."""
+        """The code in the first column of a table, by a part of its page and the title of that column."""
         table = self.page.split('| %s |' % title)[1].split('\n\n')[0]
         rows = re.findall(r'^\| (`.*?`) \|', table, re.M)
         return [form for row in rows for form in re.findall(r'`([^`]+)`', row)]

@@ -1,4 +1,4 @@
-"""Where faults are found, and that each kind of fault of the pages has its words."""
+"""The places of faults, and a test that each kind of fault of the pages has its words."""
 from __future__ import annotations
 
 import contextlib
@@ -48,7 +48,7 @@ to = 1
 every = 2
 """
 
-# Texts of programs, each with its kind, its line and column, its word, and something that may stand there.
+# Texts of programs, each with its kind, its line and column, its word, and something that is allowed there.
 PROGRAMS = [
     ('', 9, 1, 0, '', '`process`'),
     ('process A;', 1, 1, 8, 'A', 'a new name'),
@@ -95,7 +95,7 @@ LACKS = [
     ({'[medium]': '[medum]'}, '.., line 3:', '[medum]', 'Hint: It has `medum`: did you mean `medium`?'),
 ]
 
-# Changes to the scenario, each with what is told, and the line and the text that are marked.
+# Changes to the scenario, each with the message, and the line and the text that are marked.
 SCENARIOS = [
     ({'end = 5': 'end ='}, 'scenario fault 1', 2, ''),
     ({'end = 5': 'end = 9223372036854775808'}, 'scenario fault 1', 2, '9223372036854775808'),
@@ -264,8 +264,10 @@ class Pages(unittest.TestCase):
 class Deep(unittest.TestCase):
     def test_texts_that_are_nested_deeply_are_explained_within_seconds(self) -> None:
         for count in (100, 500, 20_000):
-            for body in ('n = %s1%s;' % ('(' * count, ' + 1)' * count), 'n = %sn + 1;' % ('!' * count), 'while 1 {' * count,
-                         'if (n == 1) ' * count + 'n++;', '{' * count, 'n = f(' * count, 'n = n ? 1 : ' * count + '0;'):
+            for body in ('n = %s1%s;' % ('(' * count, ' + 1)' * count), 'n = %sn + 1;' % ('!' * count),
+                         'while 1 {' * count,
+                         'if (n == 1) ' * count + 'n++;', '{' * count, 'n = f(' * count,
+                         'n = n ? 1 : ' * count + '0;'):
                 text = SCENARIO.replace('{ body { print 1; } }', '{ var n = 0; body { ' + body)
                 assert text != SCENARIO
                 fault = scenario_faults.find_fault(text.encode())

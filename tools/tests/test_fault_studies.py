@@ -1,4 +1,4 @@
-"""The fault studies of the examples come out as they say; and what is told of one that doesn't, or can't be read."""
+"""The fault studies of the examples come out as they say; and the messages for one that doesn't, or can't be read."""
 from __future__ import annotations
 
 import contextlib
@@ -62,7 +62,8 @@ class Studies(unittest.TestCase):
 
     def test_what_cannot_be_read(self) -> None:
         for text, wanted in (('a = [', 'is no TOML'), ('scenario = "x"', r'no tables \[\[study\]\]'),
-                             (STUDY.replace('faults = "links"', 'faults = 5', 1), 'study 1 of .* `faults` is not allowed there'),
+                             (STUDY.replace('faults = "links"', 'faults = 5', 1),
+                              'study 1 of .* `faults` is not allowed there'),
                              (STUDY.replace('breaks = []', '', 1), 'study 1 of .* lacks')):
             with tempfile.TemporaryDirectory() as folder, self.assertRaisesRegex(Fault, wanted):
                 path = Path(folder, 'study.toml')

@@ -1,4 +1,4 @@
-"""How a command ends: one line and status 2, whatever goes wrong; 130 after Ctrl-C."""
+"""The end of a command: one line and status 2, whatever goes wrong; 130 after Ctrl-C."""
 from __future__ import annotations
 
 import os
@@ -36,7 +36,8 @@ class Ends(unittest.TestCase):
         return done
 
     def test_what_goes_wrong_is_one_line(self) -> None:
-        for work, told in [("raise Fault('no such thing')", 'thing: no such thing\n'), ('raise MemoryError', 'thing: out of memory\n'),
+        for work, told in [("raise Fault('no such thing')", 'thing: no such thing\n'), ('raise MemoryError',
+                                                                                        'thing: out of memory\n'),
                            ("open('/nowhere/a')", 'thing: /nowhere/a: No such file or directory\n')]:
             done = self.ended(work)
             self.assertEqual((done.returncode, done.stdout, done.stderr), (2, '', told))
@@ -56,7 +57,8 @@ class Ends(unittest.TestCase):
         os.close(ours)
         done = self.ended("print('x' * 100000)", capture_output=False, stdout=its, stderr=subprocess.PIPE)
         os.close(its)
-        self.assertEqual((done.returncode, done.stderr), (2, 'thing: standard output was closed before all of it was written\n'))
+        self.assertEqual((done.returncode, done.stderr),
+                         (2, 'thing: standard output was closed before all of it was written\n'))
 
     def test_a_stream_that_is_closed_from_the_start_is_told(self) -> None:
         report = TOP / 'tests/cases/nets/two_senders.expected'
@@ -81,7 +83,8 @@ class Tools(unittest.TestCase):
     def test_the_version_is_told(self) -> None:
         told = 'motesim %s, proved with %s\n' % (VERSION, KIT)
         for command in TOOLS / 'compare', TOOLS / 'dev/check_format', TOP / 'run':
-            done = subprocess.run([str(command), '--version'], stdin=subprocess.DEVNULL, capture_output=True, text=True)
+            done = subprocess.run([str(command), '--version'], stdin=subprocess.DEVNULL, capture_output=True,
+                                  text=True)
             self.assertEqual((done.returncode, done.stdout, done.stderr), (0, told, ''))
         changes = (TOP / 'CHANGES.md').read_text('utf-8')
         self.assertEqual(re.findall(r'^## (\S+),', changes, re.M)[0], VERSION)
@@ -90,7 +93,8 @@ class Tools(unittest.TestCase):
     def test_a_tool_on_a_full_disk(self) -> None:
         report = TOP / 'tests/cases/nets/two_senders.expected'
         with open('/dev/full', 'w') as full:
-            done = subprocess.run([str(TOOLS / 'summary'), str(report)], stdout=full, stderr=subprocess.PIPE, text=True)
+            done = subprocess.run([str(TOOLS / 'summary'), str(report)], stdout=full, stderr=subprocess.PIPE,
+                                  text=True)
         self.assertEqual((done.returncode, done.stderr), (2, 'summary: standard output: No space left on device\n'))
 
     def test_each_command_has_no_more_than_its_lines(self) -> None:

@@ -58,7 +58,8 @@ class Whole(Room):
         (self.room / 'a').chmod(0o640)
         (self.room / 'link').symlink_to('a')
         write_whole(self.room / 'link', [b'new'])
-        self.assertEqual(((self.room / 'a').read_bytes(), stat.S_IMODE((self.room / 'a').stat().st_mode)), (b'new', 0o640))
+        self.assertEqual(((self.room / 'a').read_bytes(), stat.S_IMODE((self.room / 'a').stat().st_mode)), (b'new',
+                                                                                                            0o640))
         self.assertTrue((self.room / 'link').is_symlink())
 
     def test_what_fails_half_way_leaves_the_file_and_nothing_else(self) -> None:
@@ -144,13 +145,14 @@ class OwnErrors(unittest.TestCase):
         done = subprocess.run([sys.executable, '-B', '-c', self.SOURCE], env=here, capture_output=True, text=True)
         said = "tool: an error in the tool itself: KeyError: 'key' (MOTESIM_TRACEBACK=1 shows where)\n"
         self.assertEqual((done.returncode, done.stdout, done.stderr), (2, '', said))
-        done = subprocess.run([sys.executable, '-B', '-c', self.SOURCE], env={**here, SHOW: '1'}, capture_output=True, text=True)
+        done = subprocess.run([sys.executable, '-B', '-c', self.SOURCE], env={**here, SHOW: '1'}, capture_output=True,
+                              text=True)
         self.assertIn('Traceback', done.stderr)
 
 
 class Pages(unittest.TestCase):
     def test_what_a_browser_opens_is_where_it_can_read(self) -> None:
-        """Browsers that are installed as snaps read no folder for scratch files, and none whose name begins with a dot."""
+        """Browsers that are installed as snaps read no folder for scratch files, and none with a name like `.x`."""
         from motesim.studio.command import room
         with tempfile.TemporaryDirectory() as home, mock.patch.dict(os.environ, HOME=home):
             with room() as folder:

@@ -1,4 +1,4 @@
-"""What people write who come from C and Contiki: each mistake gets a message from which the line is put right."""
+"""Lines that authors write who know C and Contiki: each mistake gets a message with the corrected line."""
 import unittest
 
 import c_mistakes
@@ -96,7 +96,7 @@ def words(text: str) -> list[str]:
 
 
 def repaired(text: str) -> str | None:
-    """The text as the message has it: its line put in the place of those that it is about."""
+    """The text as the message has it: its line instead of those that it is about."""
     fault = find_fault(text)
     found = correction(text, fault) if fault else None
     if not found or found.line is None:

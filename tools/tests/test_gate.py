@@ -1,4 +1,4 @@
-"""How ./test counts: steps that pass, fail, can't be run, and those that may be skipped. The steps are stand-ins."""
+"""The counts of ./test: steps that pass, fail, can't run, and those that may be skipped. The steps are stand-ins."""
 from __future__ import annotations
 
 import os
@@ -14,7 +14,8 @@ from here import TOP
 from motesim.faults import Fault
 from project import unit_tests
 
-TOOLS = ['run_cases', 'check_examples', 'check_tutorial', 'spoil_bytes', 'compare_workers', 'refuse_memory', 'headline_files',
+TOOLS = ['run_cases', 'check_examples', 'check_tutorial', 'spoil_bytes', 'compare_workers', 'refuse_memory',
+         'headline_files',
          'test_tools', 'gate_times', 'wrong_bodies', 'check_format']
 
 
@@ -49,7 +50,8 @@ class Gate(unittest.TestCase):
         self.assertEqual((lines[-1], status), ('12 passed, 0 failed, 0 skipped', 0))
 
     def test_what_fails_and_what_is_skipped_counts(self) -> None:
-        self.put('tools/dev/test_tools', 'echo "skipped: test_a.B.c: no browser"; echo "5 passed, 1 failed, 3 skipped"; exit 1')
+        self.put('tools/dev/test_tools',
+                 'echo "skipped: test_a.B.c: no browser"; echo "5 passed, 1 failed, 3 skipped"; exit 1')
         self.put('tools/dev/headline_files', 'exit 1')
         self.put('tools/dev/spoil_bytes', 'echo "2 passed, 0 failed"; exit 3')
         lines, status = self.run_it()
@@ -73,7 +75,8 @@ class Gate(unittest.TestCase):
         self.assertTrue(lines[-1].startswith('0 passed, '))
         self.assertIn('== tools/dev/run_cases was not run, and counts as failed: it needs Python 3.11', lines)
         lines, _ = self.run_it(path=str(bare))
-        self.assertIn('== rt_ci was not run, and counts as failed: the command rt of the Rattle kit is not here', lines)
+        self.assertIn('== rt_ci was not run, and counts as failed: the command rt of the Rattle kit is not here',
+                      lines)
         self.assertRegex(lines[-1], r'^\d+ passed, \d+ failed, \d+ skipped$')
 
 
@@ -92,7 +95,7 @@ class Other(unittest.TestCase):
 
 
 class UnitTests(unittest.TestCase):
-    """How the tests of the tools are counted."""
+    """The counts of the tests of the tools."""
 
     def run_file(self, text: str, *may_skip: str) -> tuple[list[str], int]:
         with tempfile.TemporaryDirectory() as room:

@@ -1,4 +1,4 @@
-"""What gate_times notes of processes and of a run."""
+"""The figures that gate_times notes of processes and of a run."""
 from __future__ import annotations
 
 import contextlib
@@ -29,7 +29,8 @@ class Tasks(unittest.TestCase):
         self.assertEqual(gate_times.task_of(words, '/tmp/rt-edit-x1'), ('low', 'mutants'))
 
     def test_other_processes_are_none(self) -> None:
-        others: list[list[str]] = [['/kit/bin/rattle', 'fmt', '--check'], ['rt', 'check', '--crate-name', 'low'], ['rattle'], []]
+        others: list[list[str]] = [['/kit/bin/rattle', 'fmt', '--check'], ['rt', 'check', '--crate-name', 'low'],
+                                   ['rattle'], []]
         for words in others:
             self.assertIsNone(gate_times.task_of(words, '/tree'))
 
@@ -54,10 +55,12 @@ class Tables(unittest.TestCase):
 
     def test_a_line_for_the_landing(self) -> None:
         self.assertEqual(gate_times.landing(RUN), '| 2026-01-02 | 2 | 1,000, 20, 3 | 10 | 4 | 30 | ? | ? |')
-        self.assertEqual(gate_times.landing(self.WITH_UNIT), '| 2026-01-02 | 3 | 1,000, 20, 3 | 10 | 4 | 30 | 18.0 | 100 |')
+        self.assertEqual(gate_times.landing(self.WITH_UNIT),
+                         '| 2026-01-02 | 3 | 1,000, 20, 3 | 10 | 4 | 30 | 18.0 | 100 |')
 
     def test_the_unit_is_that_of_the_run_itself(self) -> None:
-        self.assertEqual(gate_times.summary(self.WITH_UNIT), '10 minutes on 4 cores, 30 processor minutes: 100 units of '
+        self.assertEqual(gate_times.summary(self.WITH_UNIT),
+                         '10 minutes on 4 cores, 30 processor minutes: 100 units of '
                          '18.0 s, the proof of delivery_laws')
 
     def test_the_table_stands_between_its_marks(self) -> None:
@@ -65,11 +68,14 @@ class Tables(unittest.TestCase):
             page, kept = Path(room, 'GATE.md'), Path(room, 'kept.json')
             page.write_text('before\n%s\nold\n%s\nafter\n' % (gate_times.BEGIN, gate_times.END))
             kept.write_text(json.dumps(self.WITH_UNIT))
-            with mock.patch.multiple(gate_times, PAGE=page, KEPT=kept), mock.patch.object(pace, 'KEPT', Path(room, 'p.json')), \
-                    mock.patch.object(sys, 'argv', ['gate_times', '--write']), contextlib.redirect_stdout(io.StringIO()):
+            with mock.patch.multiple(gate_times, PAGE=page, KEPT=kept), mock.patch.object(pace, 'KEPT',
+                                                                                          Path(room, 'p.json')), \
+                    mock.patch.object(sys,
+                                      'argv', ['gate_times', '--write']), contextlib.redirect_stdout(io.StringIO()):
                 with self.assertRaises(SystemExit) as end:
                     gate_times.main()
-                self.assertEqual((end.exception.code, pace.kept()['proof']), (0, {'low': 10, 'high': 20, 'delivery_laws': 18}))
+                self.assertEqual((end.exception.code, pace.kept()['proof']),
+                                 (0, {'low': 10, 'high': 20, 'delivery_laws': 18}))
             self.assertEqual(page.read_text(), 'before\n%s\n%s%s\nafter\n' % (
                 gate_times.BEGIN, gate_times.table(self.WITH_UNIT), gate_times.END))
 

@@ -30,7 +30,7 @@ OTHERS = {
     'c-var-in-body', 'c-print-string', 'contiki-pollhandler', 'contiki-ctimer-without-block', 'contiki-send-to',
     'contiki-leds-toggle', 'contiki-random-rand', 'toml-end-seconds-float', 'toml-end-with-unit',
 }
-# Whose line is right, and whose scenario lacks another line too: what is typed is in the place of a declaration.
+# Whose line is right, and whose scenario lacks another line too: the typed text is at the place of a declaration.
 LACKING = {'c-define'}
 
 

@@ -75,7 +75,7 @@ class Lists(unittest.TestCase):
         path.write_text(text, 'utf-8')
 
     def run_with(self, *words: str) -> tuple[str, str]:
-        """What the command prints, and its messages if it fails, else an empty text."""
+        """The output of the command, and its messages if it fails, otherwise an empty text."""
         said, told = io.StringIO(), io.StringIO()
         with mock.patch.object(headline, 'TOP', self.top), mock.patch.object(sys, 'argv', ['headline_files', *words]):
             with contextlib.redirect_stdout(said), contextlib.redirect_stderr(told):

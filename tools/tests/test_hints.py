@@ -22,7 +22,7 @@ from motesim.scenario import Scenario
 
 CODE = 'process a; autostart a; code a { var seq = 0; var seen = 0; etimer t; body { %s } }'
 
-# What is written in the body, and what stands in the hint.
+# The text in the body, and the text of the hint.
 BODIES = [
     ('seq = seq + 1;', '(seq + 1)'), ('seq++;', 'no `++`'), ('seq += 1;', 'no `+=`'),
     ('if seq == 1 { }', '(seq == 1)'), ('if (self == 0 && now > 3) { }', '`((self == 0) && (now > 3))`'),
@@ -186,7 +186,8 @@ class Warnings(unittest.TestCase):
 
     def test_losses_of_motes_that_nobody_hears_have_no_warning_of_their_own(self) -> None:
         text = scenario(program=CODE % 'send 1;', x=50) + '[[loss]]\nfrom = 0\nto = 1\nevery = 2\n'
-        self.assertEqual([it.text for it in warnings(Scenario.parse(text)) if 'mote 0' in it.text or 'loss' in it.text], [
+        self.assertEqual([it.text for it in warnings(Scenario.parse(text)) if 'mote 0' in it.text
+                          or 'loss' in it.text], [
             'mote 0 sends, and nobody hears it: no mote is within `range`; the same goes for 1 more mote: 1'])
 
     def test_explain_shows_them(self) -> None:

@@ -1,4 +1,4 @@
-"""Where tools write if no `-o` says so, and what they say once a day."""
+"""The files that tools write without `-o`, and the message that they print once a day."""
 import contextlib
 import os
 import tempfile

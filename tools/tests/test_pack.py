@@ -70,7 +70,8 @@ class Pack(unittest.TestCase):
             for words in [str(top / 'run')], [sys.executable, str(top / 'tools/summary'), str(Path(room) / 's.toml')]:
                 done = subprocess.run(words, input=SCENARIO, cwd=room, capture_output=True, text=True,
                                       env={'PATH': '/usr/bin:/bin', 'MOTESIM_SEEN': str(Path(room) / str(len(words)))})
-                self.assertEqual((done.returncode, done.stderr), (0, 'motesim: this program is compiled, not proved\n'))
+                self.assertEqual((done.returncode, done.stderr), (0,
+                                                                  'motesim: this program is compiled, not proved\n'))
             done = subprocess.run([str(top / 'run'), '--version'], capture_output=True, text=True)
             self.assertEqual((done.stdout, done.stderr), ('motesim %s, compiled without a proof\n' % VERSION, ''))
 

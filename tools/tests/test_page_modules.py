@@ -31,7 +31,7 @@ CHAINS = [(0, 12), (0, 9), (0, 17), (0, 15), (1, 7), (1, 4)]
 
 
 def node(test: unittest.TestCase, *words: str, **variables: str) -> str:
-    """What node prints."""
+    """The output of node."""
     skips.need_command(test, 'node', 'nodejs')
     done = subprocess.run(['node', *words], capture_output=True, text=True, env={'PATH': '/usr/bin:/bin', **variables})
     test.assertEqual(done.returncode, 0, done.stdout + done.stderr)
@@ -51,7 +51,7 @@ class Bundles(unittest.TestCase):
         return self.room / 'main.js'
 
     def printed(self, **modules: str) -> str:
-        """What the joined modules print."""
+        """The output of the joined modules."""
         script = self.room / 'bundle.cjs'
         script.write_text(bundle(self.write(**modules)))
         return node(self, str(script))
@@ -107,7 +107,7 @@ class Bundles(unittest.TestCase):
 
 
 def given() -> dict[str, Any]:
-    """What the tests in node compare with."""
+    """The wanted results for the tests in node."""
     small = Run('small', Report.parse(test_why.REPORT), Scenario.parse(test_why.SCENARIO))
     many = Run('many', Report.parse(test_timeline.many(60, 20)), None)
     silent = Run('silent', Report.parse(test_timeline.SILENT), None)

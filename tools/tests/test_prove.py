@@ -1,4 +1,4 @@
-"""What ./prove estimates, and what it reads of a check."""
+"""The estimates of ./prove, and its reading of a check's lines."""
 from __future__ import annotations
 
 import contextlib
@@ -97,7 +97,8 @@ class Jobs(unittest.TestCase):
 
     def test_a_crate_that_is_nearly_proved_holds_up_no_longer_than_that(self) -> None:
         it = estimate(4)
-        with unittest.mock.patch.object(it, 'left_of', lambda it: {'low': 0, 'side': 60}.get(it.name, SECONDS[it.name])):
+        with unittest.mock.patch.object(it, 'left_of',
+                                        lambda it: {'low': 0, 'side': 60}.get(it.name, SECONDS[it.name])):
             self.assertEqual(prove.jobs_of(SIDE, [SIDE], [LOW], it), (4, False))
 
 
@@ -127,7 +128,8 @@ class Logs(unittest.TestCase):
             shares: dict[str, float] = {}
             low: Any = types.SimpleNamespace(name='low', folder=room)
             log = prove.Log(low, shares)
-            for line, share in [('anything', 0), ('so far: 1 of 4 functions checked\n', 0.225), ('checked low::f, 2 of 4\n', 0.45),
+            for line, share in [('anything', 0), ('so far: 1 of 4 functions checked\n', 0.225),
+                                ('checked low::f, 2 of 4\n', 0.45),
                                 ('axioms (2 of the 22 declared)\n', 0.45)]:
                 log.write(line)
                 self.assertEqual(shares, {'low': share})
@@ -160,8 +162,10 @@ class Proof(Tree):
             running.send_signal(number)
             self.assertEqual(running.wait(10), 128 + number)
             self.assertIn('./prove continues', running.stdout.read())
-            self.assertTrue(until(lambda: not self.provers()), [Path("/proc", it, "cmdline").read_bytes()[:300] for it in self.provers()])
-        done = subprocess.run([self.top / 'prove'], cwd=self.room, stdin=subprocess.DEVNULL, capture_output=True, text=True)
+            self.assertTrue(until(lambda: not self.provers()),
+                            [Path("/proc", it, "cmdline").read_bytes()[:300] for it in self.provers()])
+        done = subprocess.run([self.top / 'prove'], cwd=self.room, stdin=subprocess.DEVNULL, capture_output=True,
+                              text=True)
         self.assertEqual(done.returncode, 0, done.stderr)
         self.assertIn('everything is proved', done.stderr)
         self.assertEqual(self.kept(), ['proved', 'proved-motesim'])
@@ -170,7 +174,8 @@ class Proof(Tree):
 
     def test_what_is_not_proved_is_shown(self) -> None:
         self.source.write_text('fn main() {\n    let a: [u8; 1] = [0];\n    let i = 3;\n    let b = a[i];\n}\n')
-        done = subprocess.run([self.top / 'prove'], cwd=self.room, stdin=subprocess.DEVNULL, capture_output=True, text=True)
+        done = subprocess.run([self.top / 'prove'], cwd=self.room, stdin=subprocess.DEVNULL, capture_output=True,
+                              text=True)
         self.assertEqual(done.returncode, 2)
         self.assertIn('motesim is not proved', done.stderr)
         self.assertEqual(self.kept(), [])
@@ -184,7 +189,8 @@ class Lines(unittest.TestCase):
             self.assertLessEqual(len(line), width)
             for name in names:
                 self.assertTrue(name in line or name[:4] not in line or '%s,' % name in line, line)
-        self.assertEqual(progress.fitted('3 of 33 proved', names, 44), '3 of 33 proved (now process_kernel and 2 more)'[:44]
+        self.assertEqual(progress.fitted('3 of 33 proved', names, 44),
+                         '3 of 33 proved (now process_kernel and 2 more)'[:44]
                          if len('3 of 33 proved (now process_kernel and 2 more)') <= 44 else '3 of 33 proved')
         self.assertIn('process_kernel, program_reader, radio_medium)', progress.fitted('3 of 33 proved', names, 90))
 

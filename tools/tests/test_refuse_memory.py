@@ -38,7 +38,7 @@ int main(void) {
 """
 
 
-# A program that starts two threads, the second one after the first has ended where it is told so.
+# A program that starts two threads, the second one after the first has ended if an argument says so.
 STARTS = r"""
 #include <pthread.h>
 #include <stdlib.h>
@@ -124,7 +124,7 @@ class Runs(unittest.TestCase):
 
     @unittest.skipUnless(shutil.which('cc'), 'there is no C compiler cc here')
     def test_a_start_is_refused(self) -> None:
-        # (a start asks for a stack, and for memory of the thread's own; the second one takes those of a thread that has
+        # (a start asks for a stack, and for memory of the thread's own; the second one uses those of a thread that has
         # ended)
         for joins, shown in (0, '4 times no thread'), (1, '2 times no thread, 1 times the same answer'):
             with self.subTest(joins=joins), tempfile.TemporaryDirectory() as room:

@@ -55,10 +55,13 @@ left 1
 SENTENCES: list[tuple[str, str | None, int | None]] = [
     ('mote 1 prints a 1 after mote 0 sends', None, None),
     ('mote 1 prints a 1 after mote 0 sends 1', None, None),
-    ('mote 2 prints a 1 after mote 0 sends', 'this line of mote 2 is not after the first `mote 0 sends`, at 10 (line 3)', 14),
+    ('mote 2 prints a 1 after mote 0 sends',
+     'this line of mote 2 is not after the first `mote 0 sends`, at 10 (line 3)', 14),
     ('mote 2 prints a 1 once after mote 0 sends', None, None),
-    ('mote 2 prints a 1 twice after mote 0 sends', 'mote 2 has 1 such lines after `mote 0 sends`; wanted: exactly 2', None),
-    ('mote 2 never prints a 1 before mote 0 sends', 'mote 2 has 1 such lines before `mote 0 sends`; wanted: at most 0', 14),
+    ('mote 2 prints a 1 twice after mote 0 sends', 'mote 2 has 1 such lines after `mote 0 sends`; wanted: exactly 2',
+     None),
+    ('mote 2 never prints a 1 before mote 0 sends',
+     'mote 2 has 1 such lines before `mote 0 sends`; wanted: at most 0', 14),
     ('mote 1 never prints a 1 before mote 0 sends', None, None),
     ('mote 1 prints a 1 after mote 2', None, None),
     ('mote 2 prints a 1 after mote 1', 'this line of mote 2 is not after the first `mote 1`, at 13 (line 9)', 14),
@@ -104,9 +107,10 @@ SENTENCES: list[tuple[str, str | None, int | None]] = [
     ('at most 33 % of copies are lost', '2 of 6 copies that were due do (33.3 %); wanted: at most 33 %', None),
     ('every copy arrives', '4 of 6 copies that were due do (66.7 %); wanted: at least 100 %', None),
     ('all copies arrive at motes 1 to 2', None, None),
-    # Counts beside others: mote 1 sends 2, mote 0 sends 3, mote 1 receives 2.
+    # Counts compared with others: mote 1 sends 2, mote 0 sends 3, mote 1 receives 2.
     ('mote 1 sends at least 66 % as often as mote 0', None, None),
-    ('mote 1 sends at least 67 % as often as mote 0', 'mote 1: 2 lines, compared with 3; wanted: at least 67 % as many', 12),
+    ('mote 1 sends at least 67 % as often as mote 0',
+     'mote 1: 2 lines, compared with 3; wanted: at least 67 % as many', 12),
     ('mote 1 sends exactly 100 % as often as it receives', None, None),
     ('mote 1 sends exactly 100 % as often as receiving', None, None),
     ('mote 2 receives at least 2 times as often as mote 1 prints a', None, None),
@@ -123,7 +127,7 @@ REFUSED = [
     ('nobody halts', 'Hint: write `no mote`.'),
     ('mote 1 always sends', 'Hint: write what must not be'),
     ('node 1 sends', 'Hint: write `mote`.'),
-    ('mote 1 should send', 'Hint: write the verb alone'),
+    ('mote 1 should send', 'Hint: write only the verb'),
     ('mote 1 sends when mote 2 prints', 'Hint: two events are put in order by'),
     ('mote 1 sends until 30', 'Hint: two events are put in order by'),
     ('mote 1 sends within 10', 'of'),
@@ -177,7 +181,8 @@ class Forms(unittest.TestCase):
         phrases = {it.value for call in calls for it in call.args if isinstance(it, ast.Constant)}
         self.assertGreater(len(phrases), 60)
         missing = {phrase for phrase in phrases if not set(re.findall(r'\w+|%', phrase)) <= known}
-        self.assertEqual(missing, {'per cent', 'print', 'receive', 'send', 'leave', 'write', 'halt', 'start'} & missing)
+        self.assertEqual(missing, {'per cent', 'print', 'receive', 'send', 'leave', 'write', 'halt',
+                                   'start'} & missing)
 
     def test_the_page_has_the_tables(self) -> None:
         page = forms.PAGE.read_text('utf-8')

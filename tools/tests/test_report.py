@@ -1,4 +1,4 @@
-"""What the reader makes of reports and scenarios, and what it says of texts that are none."""
+"""The reader's results for reports and scenarios, and its errors for texts that are none."""
 from __future__ import annotations
 
 import os
@@ -125,7 +125,8 @@ class Reports(unittest.TestCase):
                 rows.append('%d %d %d 5 %s' % (number, sender, number, ' '.join(copies)))
             for place, (_, number, to) in enumerate(sorted(silent)):
                 wanted[number, to] = 'halted' if place < len(silent) - left else 'left'
-            text = ''.join('mote %d p\n%s' % (mote, ''.join(it + '\n' for it in its)) for mote, its in enumerate(lines))
+            text = ''.join('mote %d p\n%s' % (mote, ''.join(it + '\n' for it in its)) for mote,
+                           its in enumerate(lines))
             text += 'medium\n%s\nleft %d\n' % ('\n'.join(rows), left)
             with mock.patch.object(report_module, 'MANY', chance.choice([0, 1 << 30])), \
                     mock.patch.object(report_module, 'MOTES_AT_ONCE', chance.choice([1, 3, 100])):
@@ -249,7 +250,8 @@ class Scenarios(unittest.TestCase):
     def test_a_report_of_another_medium_has_a_fault(self) -> None:
         for change, said in [(('range = 5', 'range = 10'), 'in the scenario mote 2 hears mote 0'),
                              (('range = 5', 'range = 4'), 'in the scenario mote 1 does not hear mote 0'),
-                             (('base = 2', 'base = 3'), 'the scenario has 1@'), (('every = 2', 'every = 1'), 'has 1@lost instead of'),
+                             (('base = 2', 'base = 3'), 'the scenario has 1@'), (('every = 2', 'every = 1'),
+                                                                                 'has 1@lost instead of'),
                              (('end = 20', 'end = 10'), 'the scenario ends at 10'),
                              (('program = "listener"', 'program = "sender"'), 'mote 1 runs sender in the scenario')]:
             with self.assertRaisesRegex(ScenarioFault, said):

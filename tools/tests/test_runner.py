@@ -21,7 +21,7 @@ from motesim.runner.batch import each_part
 
 
 def is_alive(number: int) -> bool:
-    """Whether a process is there, and has not ended."""
+    """Returns whether a process exists, and has not ended."""
     try:
         return Path('/proc/%d/stat' % number).read_text().rsplit(')', 1)[1].split()[0] not in 'ZX'
     except OSError:
@@ -29,7 +29,7 @@ def is_alive(number: int) -> bool:
 
 
 def within(seconds: float, holds: Callable[[], bool]) -> bool:
-    """Whether something holds within so many seconds."""
+    """Returns whether something holds within so many seconds."""
     end = time.monotonic() + seconds
     while time.monotonic() < end:
         if holds():
@@ -88,7 +88,8 @@ class Runs(Room):
         with self.assertRaisesRegex(LimitMet, '^the report is longer than 100,000 bytes$') as met:
             Runner(self.program('yes'), Limits(report=100_000)).answer(b'')
         self.assertEqual(met.exception.limit, 'report')
-        self.assertEqual(len(Runner(self.program('head -c 100000 /dev/zero'), Limits(report=100_000)).report(b'')), 100_000)
+        self.assertEqual(len(Runner(self.program('head -c 100000 /dev/zero'), Limits(report=100_000)).report(b'')),
+                         100_000)
 
     def test_a_fault_without_an_end_is_cut(self) -> None:
         with self.assertRaises(LimitMet):
@@ -168,7 +169,8 @@ class Batches(Room):
     def test_each_item_has_its_result(self) -> None:
         for workers in 0, 1, 3:
             found = list(run_each(squared, range(200), workers=workers))
-            self.assertEqual(sorted((it.item, it.result, it.fault) for it in found), [(n, n * n, '') for n in range(200)])
+            self.assertEqual(sorted((it.item, it.result, it.fault) for it in found),
+                             [(n, n * n, '') for n in range(200)])
 
     def test_in_order_where_that_is_asked(self) -> None:
         def work(item: int) -> int:
@@ -196,7 +198,8 @@ class Batches(Room):
             return item
         found = {it.item: it.fault for it in run_each(work, range(9), workers=2)}
         self.assertEqual([found[it] for it in (0, 1, 2, 3, 4, 6, 7, 8)],
-                         ['', 'in a line', 'ValueError: of two lines', 'SystemExit: 4', 'out of memory', 'out of memory', '', ''])
+                         ['', 'in a line', 'ValueError: of two lines', 'SystemExit: 4', 'out of memory',
+                          'out of memory', '', ''])
         self.assertIn('pickle', found[5])
 
     def test_what_catches_everything_is_ended_at_its_time_and_the_others_go_on(self) -> None:
@@ -308,7 +311,8 @@ class Parts(unittest.TestCase):
         for is_much in False, True:
             found = list(each_part(lambda it: (it, os.getpid()), range(40), is_much))
             self.assertEqual([it for it, _ in found], list(range(40)))
-            self.assertEqual(os.getpid() in {process for _, process in found}, not is_much or (os.cpu_count() or 1) < 2)
+            self.assertEqual(os.getpid() in {process for _, process in found},
+                             not is_much or (os.cpu_count() or 1) < 2)
 
     def test_with_threads_this_process_works(self) -> None:
         end = threading.Event()

@@ -1,5 +1,5 @@
-"""Searches for faults: what each kind changes in the text, which sets are minimal, what is said to be covered, and what
-becomes of interrupted searches, hostile programs and texts that can't be changed."""
+"""Searches for faults: the changes of each kind in the text, which sets are minimal, the reported coverage, and the fate
+of interrupted searches, hostile programs and texts that can't be changed."""
 from __future__ import annotations
 
 import contextlib
@@ -463,7 +463,8 @@ program = "flood.mote"
             folder = Path(room)
             (folder / 'net.plan.toml').write_text(plan)
             (folder / 'flood.mote').write_text(PROGRAM.replace('send 7', 'send ${value}'))
-            words = ['--expect', 'some mote prints flood 7', '--expect', 'exactly 4 packets are sent', '--json', 'f.json',
+            words = ['--expect', 'some mote prints flood 7', '--expect', 'exactly 4 packets are sent', '--json',
+                     'f.json',
                      '--faults', 'parameters,motes', '--set', 'motes=2,4', '--set', 'value=7,8', '--at-most', '2']
             status, said, told = search(folder, *words, scenario='net.plan.toml')
             self.assertEqual(status, 1, told)
@@ -533,7 +534,8 @@ code flood {
         words = ['--faults', 'links,motes,every', '--at-most', '3']
         with folder_with() as folder:
             whole = minimal_sets(folder, *words, '-o', 'whole')[0]
-            begun = subprocess.Popen([sys.executable, '-B', str(TOOLS / 'search'), 'diamond.toml', *words, '-o', 'part',
+            begun = subprocess.Popen([sys.executable, '-B', str(TOOLS / 'search'), 'diamond.toml', *words, '-o',
+                                      'part',
                                       '--jobs', '1'], cwd=folder, stdout=subprocess.PIPE, stderr=subprocess.PIPE,
                                      text=True)
             tried = folder / 'part/tried.txt'

@@ -1,4 +1,4 @@
-"""What summary --by shows. The rows of small reports are worked out by hand; sums have to be those of the summary."""
+"""The output of summary --by. The rows of small reports are worked out by hand; sums have to equal the summary."""
 import csv
 import io
 import subprocess
@@ -39,7 +39,7 @@ left 0
 
 class Intervals(unittest.TestCase):
     def test_copies(self) -> None:
-        """The report of test_summary: the copies of mote 0's six packets, and one of mote 2, by what became of them."""
+        """The report of test_summary: the copies of mote 0's six packets, and one of mote 2, by their fates."""
         self.assertEqual(rows(test_summary.REPORT, 5, 10), [
             # (moments 0 to 4) four packets of mote 0, one of mote 2; one is received at 3, one lost; one post waits 0
             {'sent': 5, 'received': 1, 'lost': 1, 'ratio': 0.5, 'delay': 3.0, 'posted': 2, 'refused': 1, 'queue': 1,
@@ -76,15 +76,18 @@ class Runs(unittest.TestCase):
             scenario = Scenario.parse(data)
             net = summary(Run('', Report.parse(got.report), scenario))[1]
             found = list(Series(Traces(got.report), 7, scenario.end).rows())
-            for name in 'sent', 'received', 'lost', 'ring', 'collided', 'halted', 'late', 'posted', 'refused', 'prints':
+            for name in ('sent', 'received', 'lost', 'ring', 'collided', 'halted', 'late',
+                         'posted', 'refused', 'prints'):
                 self.assertEqual(sum(row[name] or 0 for row in found), net[name], (path.name, name))
 
     def test_flows_by_interval(self) -> None:
-        """Messages of flooding begin at 40, 80 and 120. The nearest of 24 motes are 3 moments away, and the farthest 24."""
-        shown = subprocess.run([sys.executable, str(TOOLS / 'summary'), 'examples/flooding.toml', '--by', '60', '--flow',
+        """Messages of flooding begin at 40, 80 and 120. The nearest of 24 motes are 3 moments away, the farthest 24."""
+        shown = subprocess.run([sys.executable, str(TOOLS / 'summary'), 'examples/flooding.toml', '--by', '60',
+                                '--flow',
                                 'print flood', '--csv'], capture_output=True, text=True, cwd=TOP, check=True).stdout
         found = list(csv.DictReader(io.StringIO(shown)))
-        self.assertEqual([(it['from'], it['to'], it['sent'], it['delivered'], it['least'], it['most']) for it in found],
+        self.assertEqual([(it['from'], it['to'], it['sent'], it['delivered'], it['least'], it['most'])
+                          for it in found],
                          [('0', '59', '1', '1', '3', '24'), ('60', '119', '1', '1', '3', '24'),
                           ('120', '179', '1', '1', '3', '24')])
 

@@ -156,7 +156,7 @@ class Shrinks(unittest.TestCase):
         self.addCleanup(self.program.close)
 
     def way(self, text: str, sentence: Any) -> Any:
-        """Whether, and by how many lines shown, a scenario breaks a sentence, found out by the judge alone."""
+        """Returns whether a scenario breaks a sentence, and by how many lines, by the judge only."""
         found = answer(text.encode())
         if found.status:
             return None
@@ -233,7 +233,7 @@ class Shrinks(unittest.TestCase):
             self.assertIn('now:    2 motes, 1 loss, 1 program', done.stdout)
             for fault, wanted in (('silent 9', 'is no MOTE'), ('lynx 0', 'there is no fault `lynx 0`'),
                                   ('lose 0 1', 'is to be lose SENDER RECEIVER EVERY'),
-                                  ('lose 0 1 1', 'by these faults alone')):
+                                  ('lose 0 1 1', 'only by these faults')):
                 done = subprocess.run([*words, fault], cwd=folder, capture_output=True, text=True)
                 self.assertEqual((done.returncode, done.stdout), (2, ''))
                 self.assertIn(wanted, done.stderr)

@@ -132,7 +132,7 @@ class Page(unittest.TestCase):
                           'text = m.editor().text; return %s; })()' % script)
 
     def type_behind(self, mark: str, typed: str) -> None:
-        """Puts the caret behind a piece of the text, and types."""
+        """Moves the caret to the end of a piece of the text, and types."""
         self.value('''(() => {
           const before = text.slice(0, text.indexOf(%s) + %d).split("\\n");
           m.editor().goTo(before.length - 1, before[before.length - 1].length);
@@ -147,14 +147,14 @@ class Page(unittest.TestCase):
         return self.value('document.getElementById(%s).innerText' % json.dumps(name))
 
     def on_map(self, mote: int) -> Any:
-        """Where a mote is in the window, once all of its run is shown."""
+        """The place of a mote in the window, once all of its run is shown."""
         self.wait('m.studio.judged === m.studio.number')
         self.browser.settle()
         return self.value('(() => { const map = m.maps[0], at = map.canvas.getBoundingClientRect(); '
                           'return [at.x + map.x(%d), at.y + map.y(%d)]; })()' % (mote, mote))
 
     def is_drawn(self, line: str) -> Any:
-        """Whether a line of the report has a mark on the lanes."""
+        """Returns whether a line of the report has a mark on the lanes."""
         return self.value('(() => { for (let i = 2; i < pane.hits.length; i += 3) '
                           'if (run.text(pane.hits[i]) === %s) return true; return false; })()' % json.dumps(line))
 
@@ -346,7 +346,7 @@ class Page(unittest.TestCase):
         self.assertEqual(self.value('run.hearers[0].length'), 0)
 
     def shown_on_map(self, mote: int) -> Any:
-        """Where a mote is seen in the window: the map's picture, as large as the page shows it."""
+        """The visible place of a mote in the window: the map's picture, as large as the page shows it."""
         self.on_map(mote)
         return self.value('''(() => {
           const {canvas} = m.maps[0], box = canvas.getBoundingClientRect(), dots = window.devicePixelRatio;
@@ -431,7 +431,7 @@ class Page(unittest.TestCase):
         self.value(buttons['The next line'])
         self.browser.settle()
         self.assertIn('13 post 0 talker packet 5', self.shown('step-at'))
-        # (the program that stands in isn't a kernel: the replay finds that out, and says so)
+        # (the stand-in program isn't a kernel: the replay notices that, and says so)
         self.wait('document.getElementById("state-cards").innerText.includes("the trace of mote 1")')
         self.value(buttons['The next line'])
         self.browser.settle()

@@ -1,4 +1,4 @@
-"""What summary counts. The values are worked out by hand from the reports."""
+"""The counts of summary. The values are worked out by hand from the reports."""
 from __future__ import annotations
 
 import csv
@@ -178,7 +178,7 @@ from to copies received lost ring collided halted late ratio delay
         self.say('--flow', 'recv')
 
     def test_the_net_is_searched_once_for_each_origin(self) -> None:
-        """Mote 0 sends thirty messages, all heard by mote 1: one origin, and so one search for its row and one for the net."""
+        """Mote 0 sends thirty messages, all heard by mote 1: one origin, so one search for its row and one for the net."""
         sends = ''.join('%d send %d %d\n' % (at, at, at) for at in range(30))
         prints = ''.join('%d print hearer %d\n' % (at + 3, at) for at in range(30))
         medium = ''.join('%d 0 %d %d 1@%d\n' % (at, at, at, at + 3) for at in range(30))
@@ -206,7 +206,8 @@ from to copies received lost ring collided halted late ratio delay
         self.path.write_text(REPORT[:-2], encoding='ascii')
         done = self.run_it()
         self.assertEqual((done.returncode, done.stdout), (2, ''))
-        self.assertRegex(done.stderr, '^summary: .*report: the report is cut off at line %d: expected a number' % REPORT.count('\n'))
+        self.assertRegex(done.stderr, '^summary: .*report: the report is cut off at line %d: expected a number' %
+                         REPORT.count('\n'))
 
 
 if __name__ == '__main__':

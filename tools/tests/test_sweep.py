@@ -363,7 +363,8 @@ class SweepTest(Bed):
         self.assertTrue(gc.isenabled())
 
     def test_two_sweeps_do_not_write_one_file(self) -> None:
-        kinds: list[tuple[type[CsvFile] | type[SqliteFile], str]] = [(CsvFile, 'both.csv'), (SqliteFile, 'both.sqlite')]
+        kinds: list[tuple[type[CsvFile] | type[SqliteFile], str]] = [(CsvFile, 'both.csv'), (SqliteFile,
+                                                                                             'both.sqlite')]
         for kind, name in kinds:
             file = kind(self.folder / name, ['a'])
             with self.assertRaisesRegex(Fault, 'another sweep'):
@@ -408,7 +409,8 @@ class SweepTest(Bed):
         self.assertEqual(self.rows()[0]['note'], 'prints of mote 3: there is no mote 3')
 
     def test_a_measure_that_asks_python_to_exit_is_a_note_of_its_run(self) -> None:
-        (self.folder / 'mine.py').write_text('import sys\ndef lines(run):\n    if len(run.report.motes) == 2:\n        sys.exit(3)\n    return 1\n')
+        (self.folder / 'mine.py').write_text('import sys\ndef lines(run):\n    if len(run.report.motes) == 2:\n'
+                                             '        sys.exit(3)\n    return 1\n')
         done = self.sweep('--vary', 'motes=1..3', '--measure', 'python: mine.py:lines')
         self.assertEqual((done.returncode, done.stderr), (1, ''))
         self.assertEqual([bool(row['note']) for row in self.rows()], [False, True, False])
@@ -419,7 +421,8 @@ class SweepTest(Bed):
             'def lines(run):\n    while len(run.report.motes) == 2:\n        try:\n            while True:\n'
             '                pass\n        except BaseException:\n            pass\n    return 1\n')
         done = self.sweep('--vary', 'motes=1..3', '--measure', 'python: mine.py:lines', '--seconds', '0.3')
-        self.assertEqual((done.returncode, [bool(row['fault']) for row in self.rows()]), (1, [False, True, False]), done.stderr)
+        self.assertEqual((done.returncode, [bool(row['fault']) for row in self.rows()]), (1, [False, True, False]),
+                         done.stderr)
         self.assertRegex(self.rows()[1]['fault'], 'no end in [0-9.]+ seconds')
 
     def test_progress_is_on_standard_error(self) -> None:
@@ -520,7 +523,7 @@ class Cluster:
 
 
 class JobsAhead(unittest.TestCase):
-    """How many jobs a sweep makes before they are run."""
+    """The number of jobs that a sweep makes before they run."""
 
     def jobs(self, count: int) -> Iterator[Job]:
         for place in range(count):

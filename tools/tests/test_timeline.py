@@ -147,7 +147,7 @@ class Command(unittest.TestCase):
 
 
 class Pages(unittest.TestCase):
-    """What a page shows and answers, in a browser."""
+    """A page in a browser."""
     browser: Any
     room: Any
 
@@ -183,7 +183,7 @@ class Pages(unittest.TestCase):
         return self.browser.run('(() => { %s; return %s; })()' % (known, script))
 
     def place(self, row: int) -> Any:
-        """Where the mark of a line of the report is in the window."""
+        """The place in the window of the mark of a line of the report."""
         return self.value('''(() => {
           const {x: left, y: top} = pane.canvas.getBoundingClientRect();
           for (let i = 0; i < pane.hits.length; i += 3) {
@@ -427,7 +427,7 @@ class Pages(unittest.TestCase):
         self.assertEqual(unnamed, 0)
 
     def test_the_names_beside_low_lanes_are_whole(self) -> None:
-        """What is drawn after a name doesn't cover it, and moment 0 has its number on the axis."""
+        """Later drawings don't cover a name, and moment 0 has its number on the axis."""
         self.open(Run('many', Report.parse(many(60, 4)), None))
         for lane in 40, 11, 7, 3:
             told = self.value('''(() => {

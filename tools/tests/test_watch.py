@@ -76,7 +76,8 @@ class States(unittest.TestCase):
         """At 4 c has set its timer, and has left; the timer runs on, and its callback will come at 6."""
         self.assertEqual(rows(as_json(after_moment(self.source, 0, 4), 4), 'after 4'), [
             'after 4', '  process a waits at line 14: `yield`', '  process b waits at line 23: `yield_until is(msg)`',
-            '  process c is not started', '  timer late of c is due at 6, in 2 moments; set at 4 in line 36: `set late 2`',
+            '  process c is not started',
+            '  timer late of c is due at 6, in 2 moments; set at 4 in line 36: `set late 2`',
             '  the event queue is empty'])
 
     def test_after_a_line(self) -> None:
@@ -140,7 +141,8 @@ class Runs(unittest.TestCase):
         self.assertEqual([it.value for it in replayed(source, motes, watched)], list(range(3001)))
 
     def why(self, *arguments: str) -> subprocess.CompletedProcess[str]:
-        return subprocess.run([sys.executable, str(TOOLS / 'why'), *arguments], capture_output=True, text=True, cwd=TOP)
+        return subprocess.run([sys.executable, str(TOOLS / 'why'), *arguments], capture_output=True, text=True,
+                              cwd=TOP)
 
     def test_the_command(self) -> None:
         got = self.why('examples/flooding.toml', '--json', '--watch', 'mote', '3', 'newest')

@@ -165,7 +165,8 @@ class Causes(unittest.TestCase):
     def test_a_packet_is_caused_by_its_send(self) -> None:
         found = source()
         causes = [cause_of(found, At(1, place)) for place in range(len(CAUSES_OF_HEARER))]
-        self.assertEqual([at.place for at in causes if at and at.mote == 1], [it for it in CAUSES_OF_HEARER if it is not None])
+        self.assertEqual([at.place for at in causes if at and at.mote == 1],
+                         [it for it in CAUSES_OF_HEARER if it is not None])
         self.assertEqual(causes[4], At(0, 12))
 
     def test_a_chain_goes_back_to_the_start_of_a_mote(self) -> None:
@@ -213,7 +214,7 @@ class Causes(unittest.TestCase):
 
 
 class LinesOfTheFile(unittest.TestCase):
-    """Beside the line of a program is the line of the scenario's file."""
+    """Next to the line of a program is the line of the scenario's file."""
 
     def place(self, rows: str, program: str) -> int | None:
         found = ScenarioFile('a.toml', '[programs]\n' + rows).place('p', program)
@@ -255,7 +256,8 @@ class Questions(unittest.TestCase):
     def test_a_line_of_the_medium(self) -> None:
         """Line 31 is the packet's; line 14 sent it."""
         self.assertEqual(self.where('31'), At(0, 12))
-        self.assertEqual(self.about('31').remark, 'this line sent the packet of `4 0 0 8 1@7`, in the log of the medium')
+        self.assertEqual(self.about('31').remark,
+                         'this line sent the packet of `4 0 0 8 1@7`, in the log of the medium')
 
     def test_lines_that_are_not_there(self) -> None:
         for question, said in (('0:28', 'line 28 is in the trace of mote 1, and not of mote 0'),
@@ -293,7 +295,7 @@ class Questions(unittest.TestCase):
 
 
 class Misses(unittest.TestCase):
-    """What came near a line that isn't there."""
+    """Near misses of a line that isn't there."""
 
     def misses(self, question: str, found: Source | None = None) -> list[str]:
         asker = Asker(found or source())
@@ -408,7 +410,7 @@ class Runs(unittest.TestCase):
                          '46 moments: 40 waiting for 1 timer, 6 on the way, over 2 hops')
 
     def test_flooding_around_a_loss(self) -> None:
-        """Message 2 is lost from 0 to 1, and comes by way of 5 and 6; its timer was reset when the one before fired."""
+        """Message 2 is lost from 0 to 1, and comes through 5 and 6; its timer was reset when the one before fired."""
         found = self.run_of('flooding.toml')
         asked = Asker(found).about('mote 1 prints flood 2')
         assert isinstance(asked, Asked)
@@ -422,10 +424,12 @@ class Runs(unittest.TestCase):
         asker = Asker(found)
         for question, line, holds, remark in (
                 ('mote 3 sends after mote 0 sends', '3: 49 send 0 1', True, ''),
-                ('every mote but 0 prints flood within 0 of receiving', '24: 64 print flood 1', True, 'mote 24 is the last'),
+                ('every mote but 0 prints flood within 0 of receiving', '24: 64 print flood 1', True,
+                 'mote 24 is the last'),
                 ('mote 0 sends after mote 3 sends', '0: 40 send 0 1', False, 'is not after the first `mote 3 sends`'),
                 ('mote 3 sends at least 80 % as often as mote 2', '3: 49 send 0 1', True, ''),
-                ('mote 3 sends more than 2 times as often as mote 2', '3: 129 send 2 3', False, '3 lines, compared with 3')):
+                ('mote 3 sends more than 2 times as often as mote 2', '3: 129 send 2 3', False,
+                 '3 lines, compared with 3')):
             with self.subTest(question):
                 asked = asker.about(question)
                 assert isinstance(asked, Asked)

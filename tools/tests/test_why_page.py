@@ -39,7 +39,7 @@ class Data(unittest.TestCase):
 
 
 class Notes(unittest.TestCase):
-    """What a page shows of sentences that don't hold."""
+    """A page with sentences that don't hold."""
 
     def note(self, sentence: str) -> Note:
         run = small_run()

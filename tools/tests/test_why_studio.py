@@ -23,7 +23,7 @@ READY = 'window.motesim && motesim.ready && motesim.studio.judged'
 
 
 class Answers(unittest.TestCase):
-    """What the server answers on the report of test_why."""
+    """The server's answers on the report of test_why."""
 
     def ask(self, what: str, **asked: object) -> dict[str, Any]:
         run = Run('small', Report.parse(test_why.REPORT), Scenario.parse(test_why.SCENARIO))

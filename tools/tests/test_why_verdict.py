@@ -26,7 +26,8 @@ per = 1000
 p = 'process a, b;'
 ''' % END + ''.join('[[mote]]\nx = %d\ny = 0\nprogram = "p"\n' % x for x in (0, 10, 20, 30, 900))
 SUBJECTS = ('mote 0', 'mote 4', 'every mote', 'every mote but 0', 'every mote but 0 to 4', 'motes 1 to 3',
-            'motes 0 and 4', 'no mote', 'no mote but 0', 'no mote but 0 to 4', 'some mote', 'some mote but 1', 'some mote but 0 to 4',
+            'motes 0 and 4', 'no mote', 'no mote but 0', 'no mote but 0 to 4', 'some mote', 'some mote but 1',
+            'some mote but 0 to 4',
             'all motes together', 'motes 1 to 3 together', 'at least 2 motes', 'at most 1 mote', 'exactly 2 motes',
             'exactly 0 motes', 'at most 0 motes', 'fewer than 2 motes', 'fewer than 0 motes', 'fewer than 1 mote',
             'more than 3 motes', 'at least 0 motes', 'at least 60 % of the motes', 'at most 40 % of the motes',
@@ -97,7 +98,8 @@ def report_of(chance: random.Random) -> str:
             medium.append((at, mote, number, '%d %d %d %d%s' % (at, mote, number, value, copies)))
     lines = []
     for mote, trace in enumerate(traces):
-        lines += ['mote %d p' % mote, *('%d %s' % (at, words) for at, _, words in sorted(trace, key=lambda it: it[:2]))]
+        lines += ['mote %d p' % mote,
+                  *('%d %s' % (at, words) for at, _, words in sorted(trace, key=lambda it: it[:2]))]
         if chance.random() < 0.3:
             lines.append('%d halt' % END)
     return '\n'.join([*lines, 'medium', *(it[3] for it in sorted(medium)), 'left 0', ''])

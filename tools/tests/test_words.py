@@ -1,6 +1,6 @@
 """The words of pages, messages and comments, as docs/dev/STYLE.md asks for: counts that may only go down.
 
-words.tsv has the most that each count may be. `python3 tools/tests/test_words.py` prints what is counted with its places
+words.tsv has the most that each count may be. `python3 tools/tests/test_words.py` prints the counts with their places
 (`test_words.py ROW` of one row), and with --lower it writes the counts of now that are lower into the table.
 """
 from __future__ import annotations
@@ -24,9 +24,12 @@ PAGES = ('*.md', 'docs/**/*.md', 'bench/*.md', 'examples/**/*.md', 'tests/**/*.m
 # (the pages of style quote what is not to be written)
 NO_PROSE = ('docs/dev/STYLE.md', 'tools/tests/test_words.py')
 UNWANTED = {
-    'stand': r'\b(stands?|stood|standing)\b(?!-)', 'where': r'\bwhere\b', 'takes': r'\btakes?\b', 'what': r'\bwhat (is|are|comes|came)\b',
-    'gives, answers': r'\b(gives|answers)\b', 'goes on': r'\b(goes|going|go|went) on\b', 'alone': r'\balone\b', 'puts': r'\bputs\b',
-    'anew': r'\banew\b', 'in place of': r'\bin (the )?place of\b', 'as it is': r'\bas (it is|they are)\b', 'whoever': r'\bwhoever\b',
+    'stand': r'\b(stands?|stood|standing)\b(?!-)', 'where': r'\bwhere\b', 'takes': r'\btakes?\b',
+    'what': r'\bwhat (is|are|comes|came)\b',
+    'gives, answers': r'\b(gives|answers)\b', 'goes on': r'\b(goes|going|go|went) on\b', 'alone': r'\balone\b',
+    'puts': r'\bputs\b',
+    'anew': r'\banew\b', 'in place of': r'\bin (the )?place of\b', 'as it is': r'\bas (it is|they are)\b',
+    'whoever': r'\bwhoever\b',
     'is told': r'\b(is|are|be) (said|told|asked)\b', 'beside': r'\bbeside\b',
 }
 QUESTION = re.compile(r'(What|How|Whether|Why)\b')
@@ -39,7 +42,8 @@ Place = tuple[str, str]
 @functools.cache
 def files(*patterns: str) -> list[Path]:
     found = {path for pattern in patterns for path in here.TOP.glob(pattern) if path.is_file()}
-    return sorted(it for it in found if not {'out', '__pycache__', 'node_modules'} & set(it.relative_to(here.TOP).parts))
+    return sorted(it for it in found
+                  if not {'out', '__pycache__', 'node_modules'} & set(it.relative_to(here.TOP).parts))
 
 
 @functools.cache
@@ -78,7 +82,8 @@ def comments_of(mark: str) -> Callable[[Path], Iterator[Place]]:
 AREAS: dict[str, list[tuple[tuple[str, ...], Callable[[Path], Iterator[Place]]]]] = {
     'pages': [(PAGES, prose_of_page)],
     'tools': [(('tools/motesim/**/*.py', 'tools/project/**/*.py'), prose_of_python)],
-    'crates': [(('crates/*/src/**/*.rt',), comments_of('//')), (('crates/*/specs/**/*.antt', 'crates/*/proofs/**/*.antt'), comments_of('--'))],
+    'crates': [(('crates/*/src/**/*.rt',), comments_of('//')),
+               (('crates/*/specs/**/*.antt', 'crates/*/proofs/**/*.antt'), comments_of('--'))],
     'examples': [(('examples/**/*.toml',), comments_of('#'))],
 }
 
@@ -105,10 +110,12 @@ def docs_of_rattle(path: Path) -> Iterator[tuple[int, list[str], str]]:
 def questions() -> Iterator[str]:
     """Doc comments that open with a question."""
     for path in files('crates/*/src/**/*.rt'):
-        yield from ('%s:%d' % (name_of(path), at) for at, doc, _ in docs_of_rattle(path) if doc and QUESTION.match(doc[0]))
+        yield from ('%s:%d' % (name_of(path), at) for at, doc,
+                    _ in docs_of_rattle(path) if doc and QUESTION.match(doc[0]))
     for path in files('tools/motesim/**/*.py', 'tools/project/**/*.py'):
         for node in ast.walk(ast.parse(text_of(path))):
-            if isinstance(node, (ast.Module, ast.ClassDef, ast.FunctionDef)) and QUESTION.match(ast.get_docstring(node) or ''):
+            if isinstance(node, (ast.Module, ast.ClassDef,
+                                 ast.FunctionDef)) and QUESTION.match(ast.get_docstring(node) or ''):
                 yield '%s:%d' % (name_of(path), getattr(node, 'lineno', 1))
 
 
@@ -138,7 +145,7 @@ def without_names() -> list[str]:
 
 
 def is_unbreakable(line: str) -> bool:
-    """Whether a line can't be broken: a row of a table, a picture, an attribute, a text, an address."""
+    """Returns whether a line can't be broken: a row of a table, a picture, an attribute, a text, an address."""
     return line.lstrip().startswith(('|', '![', '#[', '"', "'")) or 'http' in line
 
 
@@ -156,7 +163,8 @@ def long_lines(*patterns: str) -> Iterator[str]:
 def anchors(path: Path) -> set[str]:
     """The anchors of a page's headings."""
     heads = re.findall(r'(?m)^#+ (.*)$', text_of(path))
-    return {re.sub(r'[^\w\- ]', '', re.sub(r'\[([^]]*)\]\([^)]*\)', r'\1', it).lower()).strip().replace(' ', '-') for it in heads}
+    return {re.sub(r'[^\w\- ]', '', re.sub(r'\[([^]]*)\]\([^)]*\)', r'\1', it).lower()).strip().replace(' ', '-')
+            for it in heads}
 
 
 def broken_links() -> Iterator[str]:
@@ -181,7 +189,8 @@ COUNTS: dict[str, Callable[[], object]] = {
     'doc comments that open with a question': questions, 'public items without docs': without_docs,
     'results without a section on errors': without_errors, 'clauses without a name': without_names,
     'long lines of crates': lambda: long_lines('crates/*/src/**/*.rt', 'crates/*/specs/**/*.antt'),
-    'long lines of pages': lambda: long_lines(*PAGES), 'long lines of tools': lambda: long_lines('tools/**/*.py', 'tools/**/*.js'),
+    'long lines of pages': lambda: long_lines(*PAGES),
+    'long lines of tools': lambda: long_lines('tools/**/*.py', 'tools/**/*.js'),
     'broken links': broken_links, 'open mutants': open_mutants,
 }
 
@@ -212,7 +221,8 @@ class Words(unittest.TestCase):
         self.assertEqual(told, [])
 
     def test_what_is_counted(self) -> None:
-        for word, line in [('stand', 'it stands below'), ('where', 'Where it is'), ('goes on', 'it goes on'), ('beside', 'beside it')]:
+        for word, line in [('stand', 'it stands below'), ('where', 'Where it is'), ('goes on', 'it goes on'),
+                           ('beside', 'beside it')]:
             self.assertTrue(re.search(UNWANTED[word], line, re.I))
         for word, line in [('stand', 'a stand-in'), ('stand', 'understands'), ('beside', 'besides')]:
             self.assertFalse(re.search(UNWANTED[word], line, re.I))

@@ -1,4 +1,4 @@
-"""How tools/dev/wrong_bodies reads sources and edits, what it makes of a check's lines, and what it tries again."""
+"""The parts of tools/dev/wrong_bodies: sources and edits, the lines of a check, and the choice of mutants."""
 from __future__ import annotations
 
 import tempfile
@@ -23,13 +23,15 @@ def functions(text: str, path: str = 'src/queue.rt') -> list[Function]:
 
 class FunctionsOfAFile(unittest.TestCase):
     def test_function_of_a_module(self) -> None:
-        self.assertEqual(functions('fn post(n: u8)\n    requires { n < 3 }\n{\n    n\n}'), [Function(3, 3, 'queue::post')])
+        self.assertEqual(functions('fn post(n: u8)\n    requires { n < 3 }\n{\n    n\n}'),
+                         [Function(3, 3, 'queue::post')])
 
     def test_root_has_no_module(self) -> None:
         self.assertEqual(functions('fn main() {\n    1\n}', 'src/main.rt'), [Function(1, 1, 'main')])
 
     def test_signature_of_several_lines(self) -> None:
-        text = 'pub(crate) fn one<T>(\n    n: u8,\n) -> u8\nwhere\n    T: Copy,\n    ensures { result = n }\n{\n    n\n}\nfn two() {\n    2\n}'
+        text = ('pub(crate) fn one<T>(\n    n: u8,\n) -> u8\nwhere\n    T: Copy,\n    ensures { result = n }\n'
+                '{\n    n\n}\nfn two() {\n    2\n}')
         self.assertEqual(functions(text), [Function(7, 7, 'queue::one'), Function(10, 10, 'queue::two')])
 
     def test_body_in_one_line(self) -> None:
@@ -45,15 +47,18 @@ class FunctionsOfAFile(unittest.TestCase):
 
     def test_methods_of_a_trait_have_both_names(self) -> None:
         for head, owner in [
-            ('<T> From<io::Error> for Fault<T>', 'FaultFromError'), ("<'a, W: Work<Vec<u8>> + Drop> Future for Window<'_, W>",
+            ('<T> From<io::Error> for Fault<T>', 'FaultFromError'),
+            ("<'a, W: Work<Vec<u8>> + Drop> Future for Window<'_, W>",
                                                                      'WindowFuture'),
-            ('<F: Fn(u8) -> u8, const N: usize> Read for Ring<F, N>', 'RingRead'), (' Work<u64> for AddTen', 'AddTenWorkU64'),
+            ('<F: Fn(u8) -> u8, const N: usize> Read for Ring<F, N>', 'RingRead'), (' Work<u64> for AddTen',
+                                                                                    'AddTenWorkU64'),
             ("<R, G: Gate> Drop for Runner<'_, R, G>", 'Runner'), (' Queue<T>', 'Queue'),
         ]:
             self.assertEqual(owner_of(head), owner)
 
     def test_function_in_a_function_is_no_other(self) -> None:
-        self.assertEqual(functions('fn outer() {\n    fn inner() {\n        1\n    }\n}'), [Function(1, 3, 'queue::outer')])
+        self.assertEqual(functions('fn outer() {\n    fn inner() {\n        1\n    }\n}'),
+                         [Function(1, 3, 'queue::outer')])
 
     def test_cycle(self) -> None:
         self.assertEqual(functions('#[cycle(turns)]\nfn one() {\n    1\n}\nfn two() {\n    2\n}'),
@@ -115,7 +120,8 @@ class Edits(unittest.TestCase):
         self.addCleanup(room.cleanup)
         self.room = Path(room.name)
         source = 'struct S {\n    a: u8,\n}\nfn one() {\n    1\n}\nfn two() {\n    2\n}\n'
-        self.crate = crate_at(self.room, {'src/lib.rt': source, 'proofs/x': '', 'm/a.edit': 'file: src/lib.rt\nold: 1\nnew: 5\n'})
+        self.crate = crate_at(self.room, {'src/lib.rt': source, 'proofs/x': '',
+                                          'm/a.edit': 'file: src/lib.rt\nold: 1\nnew: 5\n'})
         patch = mock.patch('project.mutants.edits.read_edit', self.read_edit)
         patch.start()
         self.addCleanup(patch.stop)
@@ -134,7 +140,8 @@ class Edits(unittest.TestCase):
 
     def test_an_edit_belongs_to_the_functions_whose_bodies_it_changes(self) -> None:
         edit = self.edit('old:     1', 'new:     5', 'old:     2', 'new:     6')
-        self.assertEqual((edit.name, [it.path for it in edit.functions], edit.is_inside), ('low/a', ['one', 'two'], True))
+        self.assertEqual((edit.name, [it.path for it in edit.functions], edit.is_inside), ('low/a', ['one', 'two'],
+                                                                                           True))
         self.assertIn('    5\n', texts_with([edit], self.room)['src/lib.rt'])
 
     def test_one_that_changes_more_may_name_its_function(self) -> None:
@@ -190,19 +197,21 @@ class WhatACheckSays(unittest.TestCase):
 
     def test_refused_for_what_it_calls(self) -> None:
         self.assertIsNone(self.verdict('fn c::q::post: not proved: it calls c::q::take, which is not proved'))
-        self.assertIsNone(self.verdict('proofs/q/take/Answers.antt:4:2: error: x', 'fn c::q::post: not proved: it calls c::q::take'))
+        self.assertIsNone(self.verdict('proofs/q/take/Answers.antt:4:2: error: x',
+                                       'fn c::q::post: not proved: it calls c::q::take'))
         self.assertIsNone(self.verdict('fn c::q::post: proved'))
 
 
 class Trials(unittest.TestCase):
     def trial(self, said: dict[str, str], *edits: Edit) -> tuple[str, dict[str, Verdict]]:
-        """What the control lacks and the verdicts, given what checks say: `control`, and by the text that they check."""
+        """The missing parts of the control and the verdicts, from the lines of checks by their checked texts."""
         def checked(crate: Any, texts: dict[str, str], flags: list[str]) -> Any:
             lines = said[texts.get('a', 'control') if '--allow-holes' in flags else 'alone']
             return SimpleNamespace(stdout=lines, returncode=0 if 'no proof' not in lines else 1)
         with tempfile.TemporaryDirectory() as room, mock.patch.object(checks, 'checked', checked), \
                 mock.patch.object(checks, 'says_nothing', lambda said, texts: False), \
-                mock.patch.object(checks, 'texts_with', lambda group, folder: {'a': ' '.join(it.name for it in group)}), \
+                mock.patch.object(checks, 'texts_with', lambda group,
+                                  folder: {'a': ' '.join(it.name for it in group)}), \
                 mock.patch('project.mutants.stated.parts', lambda: ('src', 'proofs')):
             trial = checks.Trial(crate_at(Path(room), {'src/a.rt': '', 'proofs/A.antt': ''}), edits)
             return trial.control(), trial.verdicts(edits)
@@ -213,17 +222,21 @@ class Trials(unittest.TestCase):
 
     def test_a_check_judges_many(self) -> None:
         lacking, found = self.trial({'control': self.GOOD % 'one' + self.GOOD % 'two' + 'only=2',
-                                     'low/a low/b': self.BAD % 'one' + self.BAD % 'two' + 'only=2'}, self.ONE, self.TWO)
-        self.assertEqual((lacking, {name: it.kind for name, it in found.items()}), ('', {'low/a': CONTRACT, 'low/b': CONTRACT}))
+                                     'low/a low/b': self.BAD % 'one' + self.BAD % 'two' + 'only=2'}, self.ONE,
+                                    self.TWO)
+        self.assertEqual((lacking, {name: it.kind for name, it in found.items()}),
+                         ('', {'low/a': CONTRACT, 'low/b': CONTRACT}))
 
     def test_what_it_leaves_undecided_is_tried_alone(self) -> None:
-        said = {'control': self.GOOD % 'one' + 'only=1', 'low/a': self.GOOD % 'one' + 'only=1', 'alone': self.BAD % 'one' + 'only=1'}
+        said = {'control': self.GOOD % 'one' + 'only=1', 'low/a': self.GOOD % 'one' + 'only=1',
+                'alone': self.BAD % 'one' + 'only=1'}
         self.assertEqual(self.trial(said, self.ONE)[1]['low/a'].kind, CONTRACT)
         said['alone'] = 'fn c::a::one: proved\nonly=1'
         self.assertEqual(self.trial(said, self.ONE)[1]['low/a'].kind, checks.NOT_REFUSED)
 
     def test_a_control_that_is_not_proved_counts_against_no_mutant(self) -> None:
-        lacking, found = self.trial({'control': self.BAD % 'one' + 'only=1', 'alone': 'fn c::a::one: proved\nonly=1'}, self.ONE)
+        lacking, found = self.trial({'control': self.BAD % 'one' + 'only=1', 'alone': 'fn c::a::one: proved\nonly=1'},
+                                    self.ONE)
         self.assertEqual((lacking, found['low/a'].kind), ('a::one', checks.NOT_REFUSED))
 
 
@@ -232,7 +245,8 @@ class Log(unittest.TestCase):
         room = tempfile.TemporaryDirectory()
         self.addCleanup(room.cleanup)
         self.room, self.kit = Path(room.name), 'one'
-        for name, value in ('KEPT', self.room / 'log/kept.tsv'), ('version', lambda: self.kit), ('is_there', lambda it: 'gone' not in it):
+        for name, value in (('KEPT', self.room / 'log/kept.tsv'), ('version', lambda: self.kit),
+                            ('is_there', lambda it: 'gone' not in it)):
             patch = mock.patch.object(log, name, value)
             patch.start()
             self.addCleanup(patch.stop)
@@ -242,13 +256,15 @@ class Log(unittest.TestCase):
         log.note({'low/a': (first, '1'), 'low/b': (first, '1'), 'gone/c': (first, '1')})
         log.note({'low/b': (last, '2')})
         found = log.noted()
-        self.assertEqual((list(found), found['low/a'].verdict, found['low/b'].digest), (['low/a', 'low/b'], first, '2'))
+        self.assertEqual((list(found), found['low/a'].verdict, found['low/b'].digest), (['low/a', 'low/b'], first,
+                                                                                        '2'))
         self.assertTrue(found['low/b'].verdict.why.startswith('an error xxx'))
         self.assertEqual(log.counts(['low/a', 'low/b', 'low/c', 'low/d']), 'not noted 2, contract 1, answer 1')
 
     def test_a_digest_has_all_that_a_verdict_depends_on(self) -> None:
         below = crate_at(self.room / 'low', {'src/lib.rt': 'fn a() {}\n', 'specs/A.antt': '', 'proofs/P.antt': ''})
-        high = crate_at(self.room / 'high', {'src/lib.rt': '/// Says more.\nfn b() {}\n', 'a.edit': 'file: src/lib.rt\n'})
+        high = crate_at(self.room / 'high', {'src/lib.rt': '/// Says more.\nfn b() {}\n',
+                                             'a.edit': 'file: src/lib.rt\n'})
         high.below, changed = (lambda: [below]), []
         (self.room / 'crates.txt').write_text('low:\n')
         (self.room / 'tools/project/mutants').mkdir(parents=True)
@@ -258,7 +274,8 @@ class Log(unittest.TestCase):
             (self.room / path).write_text(text)
             if self.digest(high) != before:
                 changed.append(path)
-        files = ['high/a.edit', 'high/src/lib.rt', 'low/src/lib.rt', 'low/specs/A.antt', 'low/proofs/P.antt', 'crates.txt',
+        files = ['high/a.edit', 'high/src/lib.rt', 'low/src/lib.rt', 'low/specs/A.antt', 'low/proofs/P.antt',
+                 'crates.txt',
                  'tools/project/mutants/x.py']
         same('high/src/lib.rt', '    // A comment only.\nfn b() {}\n')
         self.assertEqual(changed, [])
@@ -291,7 +308,8 @@ class Tenth(unittest.TestCase):
         self.assertNotEqual(found, wrong_bodies.tenth(self.CHOSEN, 'two'))
 
     def test_each_is_tried_in_the_end(self) -> None:
-        self.assertEqual(len({name for seed in range(200) for name in wrong_bodies.tenth(self.CHOSEN, str(seed))}), 120)
+        self.assertEqual(len({name for seed in range(200) for name in wrong_bodies.tenth(self.CHOSEN, str(seed))}),
+                         120)
 
 
 if __name__ == '__main__':

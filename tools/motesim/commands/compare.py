@@ -1,4 +1,4 @@
-"""Compares two reports, and shows where they diverge first: tools/compare A B [--rows N] [--html FILE]
+"""Compares two reports, and shows the first difference: tools/compare A B [--rows N] [--html FILE]
 
 A and B are reports, or scenarios, which are run. The first difference is the one at the earliest moment, not the one
 on the first line. It is shown with the mote, the moment, the line of each side, and the last packets and events of

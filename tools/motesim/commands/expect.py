@@ -8,7 +8,7 @@ sentences:
 The scenario is run. Each sentence gets a line that says whether it holds, and, if it doesn't, the first line of the
 report that breaks it. docs/use/EXPECTATIONS.md has all forms of sentences. The last line is `N passed, M failed`. Ends
 with status 0 if all sentences hold, 1 if one is broken, and 2 if there is no result: a sentence or a file can't be
-read, or the program isn't built (the environment variable MOTESIM names another one).
+read, or `motesim` isn't built (the environment variable MOTESIM names another binary).
 """
 from __future__ import annotations
 
@@ -22,7 +22,8 @@ from motesim.words import words_of
 def main() -> int:
     words = words_of(__doc__)
     words.add_argument('scenario', metavar='SCENARIO', help='a scenario, NAME.toml')
-    words.add_argument('expectations', nargs='?', metavar='EXPECTATIONS', help='else NAME.expect.toml next to it')
+    words.add_argument('expectations', nargs='?', metavar='EXPECTATIONS',
+                       help='the sentences (NAME.expect.toml next to it)')
     asked = words.parse_args()
     from motesim.judge.expectations import beside, expect
     scenario = Path(asked.scenario)

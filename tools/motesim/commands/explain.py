@@ -1,10 +1,10 @@
 """Explains why a scenario has no report: tools/explain FILE
 
 Runs the scenario. If `motesim` reports an error, this shows its line, then the line of the scenario or of the program
-with a mark under the word, the rule in plain words, what is allowed there, and, if it is known, a hint on what was
-meant, with the line as it should be. If the scenario has a report, it warns of what is legal and hardly meant. Ends
-with status 0 if the scenario has a report, 1 if an error is explained, and 2 if the file can't be read or the program
-isn't built (the environment variable MOTESIM names another one).
+with a mark under the word, the rule in plain words, the allowed words, and, if it can be guessed, your most likely
+intention, with the corrected line. If the scenario has a report, it warns of things that are legal and hardly meant.
+Ends with status 0 if the scenario has a report, 1 if an error is explained, and 2 if the file can't be read or
+`motesim` isn't built (the environment variable MOTESIM names another binary).
 """
 from __future__ import annotations
 

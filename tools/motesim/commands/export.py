@@ -25,11 +25,11 @@ def main() -> int:
     words = words_of(__doc__)
     words.add_argument('report', metavar='REPORT', help='a report, or a scenario; - is standard input')
     forms = words.add_mutually_exclusive_group(required=True)
-    forms.add_argument('--to', choices=FORMS, help='the form of a run')
-    forms.add_argument('--form', choices=['contiki'], help='the form of a scenario: C files for Contiki 2.x')
+    forms.add_argument('--to', choices=FORMS, help='the format of a run')
+    forms.add_argument('--form', choices=['contiki'], help='the format of a scenario: C files for Contiki 2.x')
     words.add_argument('-o', dest='output', metavar='FILE',
-                       help='the file to write: for CSV the beginning of the names, for C the folder; else named '
-                       'after REPORT')
+                       help='the file to write: for CSV the beginning of the names, for C the folder (named '
+                       'after REPORT)')
     words.add_argument('--host', action='store_true',
                        help='with --form contiki: add a simulator in C that runs the files')
     asked = words.parse_args()

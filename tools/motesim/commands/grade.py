@@ -38,13 +38,13 @@ def arguments() -> argparse.Namespace:
     words.add_argument('--vary', action='append', default=[], metavar='NAME=VALUES',
                        help='values of a parameter of a plan, such as seed=1..5')
     words.add_argument('--program', metavar='NAME', help='the program that the students write, if a net has several')
-    words.add_argument('--seconds', type=float, default=SECONDS, help='the limit of a run; by default 20')
+    words.add_argument('--seconds', type=float, default=SECONDS, help='the limit of a run, in seconds (20)')
     words.add_argument('--memory', type=int, default=MEGABYTES, metavar='MEGABYTES',
-                       help='the limit of a run; by default 1024')
+                       help='the limit of the memory of a run (1024)')
     words.add_argument('--report', type=int, default=16, metavar='MEGABYTES',
-                       help='how long a report may be; by default 16')
+                       help='the limit of a report (16)')
     words.add_argument('--jobs', type=int, metavar='N',
-                       help='how many run at once; by default as many as there are processors')
+                       help='how many runs at a time (one for each processor)')
     words.add_argument('-o', dest='output', action='append', default=[], metavar='FILE', type=Path,
                        help='write the marks: NAME.csv, NAME.toml or NAME.html')
     words.add_argument('--csv', action='store_true', help='print the marks for a spreadsheet')

@@ -8,11 +8,11 @@
   tools/plot a.csv --compare b.csv --measure ratio --against period          run by run, both with the same parameters
   tools/plot net.csv --plan net.plan.toml                                    what the plan's `plot` describes
 
-RESULTS is what tools/sweep wrote. Each point represents the runs that differ only in the seed, or in what --over
-names; runs that differ in more aren't mixed. --show selects what is shown of them: median (with quartiles), mean (with
-an interval by --interval t or bootstrap), points (all runs), cdf (which part of the runs has at most so much) or heat
-(a map of --against and --by). --where seed=3 selects some of the runs. A picture is SVG, PDF or PNG, by its name, and
-the table behind it is written next to it, as NAME.table.csv. Pictures need matplotlib (on Debian: apt-get install
+RESULTS is a file that tools/sweep wrote. Each point represents the runs that differ only in the seed, or in what
+--over names; runs that differ in more aren't mixed. --show selects the statistic: median (with quartiles), mean (with
+an interval by --interval t or bootstrap), points (all runs), cdf (the share of the runs with at most this value) or
+heat (a map of --against and --by). --where seed=3 selects some of the runs. A picture is SVG, PDF or PNG, by its name,
+and the table behind it is written next to it, as NAME.table.csv. Pictures need matplotlib (on Debian: apt-get install
 python3-matplotlib); without it there is a table, and a line that says so. docs/use/EXPERIMENTS.md shows all of it at
 work.
 
@@ -35,9 +35,11 @@ def arguments() -> argparse.Namespace:
     words.add_argument('--measure', metavar='NAME', help='the measure')
     words.add_argument('--against', metavar='NAME', help='the parameter, or the measure, from left to right')
     words.add_argument('--by', metavar='NAME', help='a parameter with a line for each value')
-    words.add_argument('--show', choices=SHOWS, default='median', help='what is shown of the runs (median)')
+    words.add_argument('--show', choices=SHOWS, default='median',
+                       help='the statistic of the runs at each point (median)')
     words.add_argument('--interval', choices=MEANS, default='t', help='how intervals of means are found (t)')
-    words.add_argument('--confidence', type=int, default=95, metavar='PERCENT', help='of the intervals (95)')
+    words.add_argument('--confidence', type=int, default=95, metavar='PERCENT',
+                       help='the confidence of the intervals (95)')
     words.add_argument('--threshold', metavar='VALUE', help='report where each curve crosses this value')
     words.add_argument('--over', metavar='NAMES',
                        help='the parameters in which runs of a point may differ (those with `seed` in their names)')

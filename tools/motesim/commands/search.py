@@ -1,4 +1,4 @@
-"""Finds faults that break what is expected of a scenario: tools/search SCENARIO [EXPECTATIONS]
+"""Finds faults that break the expectations of a scenario: tools/search SCENARIO [EXPECTATIONS]
 
   tools/search examples/flooding.toml --faults links,motes --at-most 2
 
@@ -38,41 +38,43 @@ SECONDS, BYTES = 10.0, 16_000_000
 def arguments() -> argparse.ArgumentParser:
     words = words_of(__doc__)
     words.add_argument('scenario', nargs='?', metavar='SCENARIO', help='a scenario, NAME.toml, or a plan')
-    words.add_argument('expectations', nargs='?', metavar='EXPECTATIONS', help='else NAME.expect.toml next to it')
+    words.add_argument('expectations', nargs='?', metavar='EXPECTATIONS',
+                       help='the sentences (NAME.expect.toml next to it)')
     words.add_argument('--expect', action='append', default=[], metavar='SENTENCE',
                        help='an expectation, instead of those of a file')
     words.add_argument('--faults', default='', metavar='KINDS',
                        help='which faults (links,motes; with --set, only those values)')
     words.add_argument('--at-most', type=int, default=1, metavar='K', help='how many faults at once (1)')
-    words.add_argument('--every', default='2', metavar='NUMBERS', help='for `every`: which packets are lost')
-    words.add_argument('--moments', metavar='NUMBERS', help='for `deaths` and `late`: when')
+    words.add_argument('--every', default='2', metavar='NUMBERS', help='for `every`: which packets are lost (2)')
+    words.add_argument('--moments', metavar='NUMBERS', help='for `deaths` and `late`: the moments')
     words.add_argument('--queues', default='8,4,2,1', metavar='NUMBERS', help='for `queues`: the lengths')
     words.add_argument('--set', action='append', default=[], metavar='NAME=VALUES',
                        help='for `values` and `parameters`')
     words.add_argument('--step', type=int, default=0, metavar='N',
-                       help='for `places`: how far, else a quarter of the range')
+                       help='for `places`: how far (a quarter of the range)')
     words.add_argument('--random', type=int, default=0, metavar='N',
                        help='afterwards try N larger sets, drawn at random')
-    words.add_argument('--seed', type=int, default=1, metavar='S', help='the seed with which they are drawn (1)')
-    words.add_argument('--most-runs', type=int, metavar='N', help='end after so many runs')
-    words.add_argument('--most-seconds', type=float, metavar='N', help='end after so many seconds')
+    words.add_argument('--seed', type=int, default=1, metavar='S', help='the seed of --random (1)')
+    words.add_argument('--most-runs', type=int, metavar='N', help='end after N runs')
+    words.add_argument('--most-seconds', type=float, metavar='N', help='end after N seconds')
     words.add_argument('--seconds', type=float, default=SECONDS, metavar='N',
-                       help='the limit of a run (10)')
+                       help='the limit of a run, in seconds (10)')
     words.add_argument('--bytes', type=int, default=BYTES, metavar='N',
-                       help='how long a report may be (16,000,000)')
-    words.add_argument('--jobs', type=int, default=os.cpu_count() or 1, metavar='N', help='how many runs at a time')
+                       help='the limit of a report, in bytes (16,000,000)')
+    words.add_argument('--jobs', type=int, default=os.cpu_count() or 1, metavar='N',
+                       help='how many runs at a time (one for each processor)')
     words.add_argument('--dask', metavar='ADDRESS', help='give the runs to the Dask scheduler there')
-    words.add_argument('-o', dest='output', metavar='FOLDER', help='where files are written, else NAME.search')
-    words.add_argument('--csv', metavar='FILE', help='write a table of what was found')
+    words.add_argument('-o', dest='output', metavar='FOLDER', help='the folder of the written files (NAME.search)')
+    words.add_argument('--csv', metavar='FILE', help='write a table of the sets that were found')
     words.add_argument('--json', metavar='FILE',
-                       help='write all that was found, for another program; - is standard output')
-    words.add_argument('--all', action='store_true', help='show all that was found, not only ten for each expectation')
+                       help='write all results, for another program; - is standard output')
+    words.add_argument('--all', action='store_true', help='show all sets, not only ten for each expectation')
     words.add_argument('--shrink', action='store_true',
                        help='make the first counter-example of each broken expectation as small as possible')
     words.add_argument('--progress', action='store_true', help='report progress in lines of JSON, on standard error')
     words.add_argument('--studies', nargs='+', metavar='FILE',
                        help='check that the searches of these files have the results that they state')
-    words.add_argument('--resume', action='store_true', help='continue where the same search was stopped')
+    words.add_argument('--resume', action='store_true', help='continue the same search after it was stopped')
     return words
 
 

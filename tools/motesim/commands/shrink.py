@@ -9,7 +9,7 @@ expectation for another reason. With --fault the expectation has to hold without
 Without EXPECTATION the tool uses the first broken sentence of NAME.expect.toml, next to the scenario NAME.toml.
 
 The result is written to NAME.small.toml, with its expectation next to it. It is one-minimal: no single further step is
-possible. docs/use/SEARCH.md shows it at work. Ends with status 0, with 2 if nothing could be made smaller, for instance
+possible. docs/use/SEARCH.md has an example. Ends with status 0, with 2 if nothing could be made smaller, for instance
 because the scenario meets the expectation, and with 130 after Ctrl-C, which writes the smallest scenario so far.
 """
 from __future__ import annotations
@@ -32,7 +32,8 @@ def main() -> int:
     words.add_argument('--fault', action='append', default=[], metavar='FAULT',
                        help='a fault that has to break it, such as `lose 0 1 1`; without the fault it has to hold')
     words.add_argument('--steps', action='store_true', help='show each step')
-    words.add_argument('--seconds', type=float, default=SECONDS, metavar='N', help='the limit of a run; by default 10')
+    words.add_argument('--seconds', type=float, default=SECONDS, metavar='N',
+                       help='the limit of a run, in seconds (10)')
     asked = words.parse_args()
     from motesim.search.shrink_command import status_of
     return status_of(asked)

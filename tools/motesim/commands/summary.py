@@ -6,13 +6,13 @@ report: then links that carried nothing are shown too.
 For a mote and for the net
   sent      packets that it sent
   copies    copies of packets that were on their way to it, of which
-  received    it received so many
-  lost        the medium lost so many
-  ring        so many found eight packets waiting
-  collided    so many arrived together with others
-  halted      so many arrived after it had halted
-  late        so many would have arrived after the end
-  ratio     received copies, of all that were not late
+  received    copies that it received
+  lost        copies that the medium lost
+  ring        copies that found eight packets waiting
+  collided    copies that arrived together with others
+  halted      copies that arrived after it had halted
+  late        copies that would have arrived after the end
+  ratio     the share of received copies in all that were not late
   posted    events that its queue accepted
   taken     events that reached a process; one for all processes counts once for each
   dropped   events whose process wasn't running

@@ -1,4 +1,4 @@
-"""Explains why a line of a report is there: the chain of its causes, back to the start of a mote.
+"""Explains the cause of a line of a report: the chain of causes, back to the start of a mote.
 
 QUESTION is a sentence, such as "mote 24 prints flood 2", or a line of the report: its number, such as 24:977 or 977,
 or its mote and text, such as "24:64 print flood 1"."""
@@ -23,7 +23,7 @@ def main() -> int:
     words.add_argument('--state', metavar='WORD', nargs='+',
                        help='shows the state of a mote: --state mote 3 at 46, or after a line: --state 3:114')
     words.add_argument('--json', action='store_true', help='for programs')
-    words.add_argument('--short', action='store_true', help='only the hops that took time')
+    words.add_argument('--short', action='store_true', help='only the hops with a delay')
     asked = words.parse_args()
     from motesim.why.command import status_of
     return status_of(asked)

@@ -9,7 +9,7 @@ from itertools import compress
 
 from motesim.report import KINDS, MASKS, Report
 
-# The log of the medium, in the place of a mote's number.
+# The log of the medium, as the number of a mote.
 MEDIUM = -1
 # As many numbers are compared at once.
 CHUNK = 1 << 12

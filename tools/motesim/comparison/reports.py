@@ -1,4 +1,4 @@
-"""Where two reports diverge first, and how many of their lines differ. tools/compare is the command."""
+"""The place at which two reports diverge first, and how many of their lines differ. tools/compare is the command."""
 from __future__ import annotations
 
 import argparse

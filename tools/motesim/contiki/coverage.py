@@ -1,4 +1,4 @@
-"""What random scenarios reached: statements, expressions, limits, and the forms of the report's lines."""
+"""The coverage of random scenarios: statements, expressions, limits, and the forms of the report's lines."""
 from __future__ import annotations
 
 import re
@@ -27,7 +27,7 @@ EXPRESSIONS = {name: re.compile(form.encode(), re.M) for name, form in
 
 
 class Coverage:
-    """What was reached, and how often."""
+    """The features that were reached, and how often."""
 
     def __init__(self) -> None:
         self.reached: Counter[str] = Counter()
@@ -51,7 +51,7 @@ class Coverage:
                 'parts of scenarios': list(OF_SCENARIO), 'forms of lines': ['line %s' % it for it in FORMS]}
 
     def lines(self) -> Iterator[str]:
-        """What was reached of each sort, and what wasn't."""
+        """Lists for each sort of feature those that were reached, and those that weren't."""
         for sort, names in self.wanted().items():
             missing = [it.split(' ', 1)[-1] if sort != 'parts of programs' else it for it in names
                        if not self.reached[it]]

@@ -18,7 +18,7 @@ DIFFERENCES: tuple[tuple[frozenset[str], str], ...] = (
     (frozenset({'data', 'fired'}),
      'The data of PROCESS_EVENT_TIMER and PROCESS_EVENT_EXITED are pointers in Contiki, numbers in the notation: '
      'compare them with the timer or process, as here.'),
-    (frozenset({'/', '%'}), 'A division by 0 gives 0 here, by motesim_divide and motesim_modulo.'),
+    (frozenset({'/', '%'}), 'A division by 0 yields 0 here, by motesim_divide and motesim_modulo.'),
     (frozenset({'count', 'signal', 'acquire'}),
      'The count of a semaphore has 16 bits in motesim, those of an unsigned int in Contiki.'),
     (frozenset({'now'}), 'A moment is a tick of clock_time(), of which a second has CLOCK_SECOND.'),
@@ -34,7 +34,8 @@ DIFFERENCES: tuple[tuple[frozenset[str], str], ...] = (
 def header(name: str, program: Program, used: Use) -> list[str]:
     """The comment at the beginning of a program's file."""
     lines = ['The mote program %s, written by tools/export for Contiki 2.x. Compiling it against a real Contiki tree '
-             'has not been tested.' % name, '', 'Where motesim (docs/use/KERNEL.md) and Contiki differ for this program:']
+             'has not been tested.' % name, '',
+             'Differences between motesim (docs/use/KERNEL.md) and Contiki for this program:']
     words = set(used.words)
     said = [text for where, text in DIFFERENCES if where & words]
     lines += ['- ' + it for it in said] or ['- nothing is known to differ.']

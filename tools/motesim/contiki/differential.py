@@ -5,12 +5,12 @@ Each scenario is run by motesim on one thread and by workers of both kinds, and 
 gets, and written to a file.
 
   tools/differential --count 1000              the scenarios of seeds from 0
-  tools/differential --seed 7000 --count 50000 those from another seed on
+  tools/differential --seed 7000 --count 50000 the scenarios of seeds from 7000
   tools/differential net.toml ..               scenarios of your own
   tools/differential --gate                    all examples and cases, and 300 scenarios whose seed is the commit
 
-Says in the end what the scenarios reached. Ends with status 0 if all agree, 1 if some differ, and 2 if there is no
-program or no C compiler.
+The last lines list the features that the scenarios reached. Ends with status 0 if all agree, 1 if some differ, and 2
+if there is no `motesim` or no C compiler.
 """
 from __future__ import annotations
 
@@ -52,7 +52,7 @@ class Item(NamedTuple):
 
 
 class Compared(NamedTuple):
-    """What came of a comparison: which simulator differs and how, or ''; and what the scenario reached."""
+    """The result of a comparison: which simulator differs and how, or ''; and what the scenario reached."""
     difference: str
     reached: Counter[str]
     bytes: int = 0
@@ -69,7 +69,7 @@ def first_difference(one: bytes, other: bytes) -> str:
 
 
 class Comparison:
-    """Compares the answers of motesim and of the host."""
+    """Compares the results of motesim and of the host."""
 
     def __init__(self, host: HostRuns, runner: Runner, with_workers: bool = True):
         self.host = host
@@ -184,14 +184,14 @@ def compare_all(items: Iterable[Item], work: Comparison, folder: Path, jobs: int
 def main() -> int:
     words = words_of(__doc__)
     words.add_argument('scenario', nargs='*', metavar='SCENARIO', help='scenarios to compare instead of random ones')
-    words.add_argument('--seed', default='0', help='the first seed: a number, or a word, whose scenarios are counted')
+    words.add_argument('--seed', default='0', help='the first seed: a number, or a word, to which -0, -1, .. are added')
     words.add_argument('--count', type=int, default=100, metavar='N', help='how many random scenarios (100)')
     words.add_argument('--jobs', type=int, metavar='N', help='how many processes (as many as there are processors)')
     words.add_argument('--one-thread', action='store_true', help='leave out the runs by workers')
     words.add_argument('--strict', action='store_true', help='have gcc or clang look for warnings in the programs too')
     words.add_argument('--gate', action='store_true', help='compare all examples and cases, and %d random scenarios '
                        'whose seed is the commit' % GATE_COUNT)
-    words.add_argument('-o', dest='folder', default='.', metavar='FOLDER', help='where scenarios that differ are written')
+    words.add_argument('-o', dest='folder', default='.', metavar='FOLDER', help='the folder for scenarios that differ')
     asked = words.parse_args()
     compilers()
     runner = Runner(program=program_path(), limits=LIMITS)
@@ -225,7 +225,7 @@ def fixed_items(top: Path) -> Iterator[Item]:
 
 
 def made_items(top: Path) -> Iterator[Item]:
-    """The cases whose scenarios are made by Python, as they are long."""
+    """The cases whose scenarios are made by Python, because they are long."""
     for path in sorted((top / 'tests/cases').glob('*/*.make')):
         if path.with_suffix('.stderr').exists():
             continue

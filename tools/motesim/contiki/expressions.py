@@ -1,7 +1,7 @@
 """Expressions of the notation in C, exact at 16 bits wherever `int` has 16 or 32.
 
 An expression in C is `Made` with the least and the greatest value that it can have before it is cut to 16 bits. It is
-cut, by a cast to uint16_t, only where what stands around it would see the difference: a sum that is assigned to a
+cut, by a cast to uint16_t, only if the expression around it would see the difference: a sum that is assigned to a
 uint16_t needs no cast, one that is compared does.
 """
 from __future__ import annotations
@@ -34,8 +34,8 @@ class Known(NamedTuple):
 class Made:
     """An expression in C: its text, how tightly it binds, its range, and its type.
 
-    The type is `signed` (an int that is made of truth values and small numbers alone), `short` (an int, or an unsigned
-    int where that has 16 bits: a uint16_t is among its operands), or `unsigned`.
+    The type is `signed` (an int that is made only of truth values and small numbers), `short` (an int, or an unsigned
+    int if that has 16 bits: a uint16_t is among its operands), or `unsigned`.
     """
     text: str
     level: int
@@ -74,7 +74,7 @@ def is_constant(made: Made) -> bool:
 def condition(made: Made) -> Made:
     """An expression that is 0 exactly if its value of 16 bits is 0."""
     if made.level in (PRODUCT, SUM) and not is_constant(made):
-        # (compilers warn of a product as a condition, and take some sums for one)
+        # (compilers warn of a product as a condition, and mistake some sums for one)
         is_exact = made.type != 'unsigned' and max(-made.low, made.high) <= MOST
         return truth('%s != 0' % (made if is_exact else cut(made)).inside(ORDER), EQUAL)
     return cut(made)
@@ -144,8 +144,8 @@ def implied(expression: Expression | None) -> Known | None:
 class Expressions:
     """Writes the expressions of one block in C.
 
-    `known` is the event, as far as it is known. A simple block has its event for its whole length, and C has no `ev` there:
-    `has_event` is false. `word` is the function that gives the word of any event.
+    `known` is the event, if that is known. A simple block has one event for its whole length, and C no `ev` there:
+    `has_event` is false. `word` is the function that returns the word of any event.
     """
 
     def __init__(self, names: Names, process: str, timers: dict[tuple[str, str], int], ctimers: set[str],
@@ -172,7 +172,7 @@ class Expressions:
         constant = self.constant(expression)
         if isinstance(expression, Operation):
             made = self.operation(expression)
-            # (a constant is calculated here if C would take another value on its way, or warn)
+            # (a constant is calculated here if C would get another value on its way, or warn)
             if constant is None:
                 return number(made.low & MOST) if is_constant(made) else made
             is_plain = made.type == 'signed' and made.low == made.high == constant
@@ -337,7 +337,7 @@ class Expressions:
         answer = decided(operator, left, right)
         if answer is not None:
             return number(int(answer))
-        # (compilers warn where they take an operand of an unsigned comparison for a negative one)
+        # (compilers warn if they believe that an operand of an unsigned comparison is negative)
         if 'unsigned' in (left.type, right.type):
             left, right = (it if it.type == 'unsigned' or it.type == 'short' and it.level >= UNARY else
                            Made('(uint16_t)%s' % it.inside(UNARY), UNARY, it.low, it.high) for it in (left, right))

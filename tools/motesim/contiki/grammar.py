@@ -43,7 +43,7 @@ TOKEN = re.compile(r'"[^"]+"|\w+|[={}\[\]|]')
 
 @dataclass(frozen=True)
 class Text:
-    """A token as it is written."""
+    """A token in its written form."""
     text: str
 
 

@@ -34,7 +34,8 @@ def called(arguments: list[str], folder: Path) -> None:
     done = subprocess.run(arguments, cwd=folder, capture_output=True, text=True, errors='replace')
     if done.returncode or done.stderr:
         said = (done.stderr or done.stdout or 'it ended with status %d' % done.returncode).strip().splitlines()
-        raise HostFault('%s: %s' % (arguments[0], next((it for it in said if 'error' in it or 'warning' in it), said[0])))
+        first = next((it for it in said if 'error' in it or 'warning' in it), said[0])
+        raise HostFault('%s: %s' % (arguments[0], first))
 
 
 class HostRuns:
@@ -46,7 +47,8 @@ class HostRuns:
         own, self.compiler = compilers()
         folder.mkdir(parents=True, exist_ok=True)
         for path in sorted(source.glob('*.c')):
-            called([own if is_optimised else self.compiler, *STANDARD, '-O2', '-I%s' % source, '-c', str(path)], folder)
+            compiler = own if is_optimised else self.compiler
+            called([compiler, *STANDARD, '-O2', '-I%s' % source, '-c', str(path)], folder)
         self.objects = [str(it) for it in sorted(folder.glob('*.o'))]
         self.strict = next((it for it in ('gcc', 'clang') if shutil.which(it)), '')
         self.number = itertools.count()
@@ -78,11 +80,12 @@ class HostRuns:
 
 
 def run_host(executable: Path) -> bytes:
-    """What the host writes."""
+    """Returns the output of the host."""
     try:
         done = subprocess.run([executable], capture_output=True, timeout=SECONDS)
     except subprocess.TimeoutExpired:
         raise HostFault('the host ran for more than %d s' % SECONDS) from None
     if done.returncode or done.stderr:
-        raise HostFault('the host ended with status %d: %s' % (done.returncode, done.stderr.decode(errors='replace').strip()))
+        message = done.stderr.decode(errors='replace').strip()
+        raise HostFault('the host ended with status %d: %s' % (done.returncode, message))
     return done.stdout

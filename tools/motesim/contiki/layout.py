@@ -1,4 +1,4 @@
-"""Lines of C in Contiki's code style: two blanks for each level, at most 80 columns where a line can be broken."""
+"""Lines of C in Contiki's code style: two blanks for each level, at most 80 columns if a line can be broken."""
 from __future__ import annotations
 
 import re
@@ -11,7 +11,7 @@ OPERATORS = frozenset('+ - * / % == != < <= > >= && || = ? :'.split())
 
 
 def cleaned(comment: str) -> str:
-    """A comment's text that may stand between /* and */."""
+    """A comment's text that is allowed between /* and */."""
     plain = comment if comment.isprintable() else ''.join(it if it.isprintable() else ' ' for it in comment)
     return re.sub(r'\?\?', '? ?', plain.replace('*/', '* /').replace('/*', '/ *')).strip()
 
@@ -60,7 +60,7 @@ def code_lines(code: str, indent: str) -> list[str]:
 
 
 def _further(lines: list[str], indent: str) -> str:
-    """How far the next line of a broken one is indented: to behind the innermost open parenthesis."""
+    """The indentation of the line that continues a broken one: to behind the innermost open parenthesis."""
     open_at: list[int] = []
     for line in lines:
         for place, sign in enumerate(line):

@@ -12,7 +12,7 @@ PREFIXES = ('autostart_', 'broadcast_', 'clock_', 'ctimer_', 'energest_', 'etime
             'list_', 'memb_', 'motesim_', 'packetbuf_', 'process_', 'pt_', 'rime_', 'rimeaddr_', 'rtimer_', 'serial_',
             'stimer_', 'timer_', 'watchdog_')
 # Files that a Contiki tree or the host has, whose names a program's file can't have: make finds sources by their names
-# alone, and a compiler finds them in the folder of the file that includes them.
+# only, and a compiler finds them in the folder of the file that includes them.
 FILES = frozenset('''aes all announcement arg assert autostart broadcast chameleon clean clock compower contiki
 contiki-main contiki_host crc16 ctimer distclean energest etimer help host list login lpm main me medium memb mmem mote
 motesim motesim_radio mt multihop net netflood netstack node-id nullmac nullrdc packetbuf packetqueue procinit process
@@ -32,7 +32,7 @@ def is_reserved(name: str) -> bool:
 
 
 def file_names(programs: Iterable[str]) -> dict[str, str]:
-    """The names of the programs' files, without their ends: all different, also where capitals don't count."""
+    """The names of the programs' files, without their ends: all different, even if capitals don't count."""
     names = sorted(programs)
     taken = FILES | {it.lower() for it in names}
     found: dict[str, str] = {}
@@ -63,7 +63,8 @@ class Names:
             self._globals[declared.name] = self._claim(declared.name, declared.name + '_semaphore')
         kinds = [(code.process, name, kind) for code in program.codes for kind, names in (
             ('variable', [it.name for it in code.variables]), ('timer', [it.name for it in code.etimers]),
-            ('timer', [it.name for it in code.ctimers]), ('thread', [it.name for it in code.threads])) for name in names]
+            ('timer', [it.name for it in code.ctimers]), ('thread', [it.name for it in code.threads]))
+                 for name in names]
         uses = Counter(name for _, name, _ in kinds)
         for process, name, kind in kinds:
             wished = [name, '%s_%s' % (name, kind)] if uses[name] == 1 else []

@@ -8,7 +8,8 @@ from motesim.contiki.differences import header
 from motesim.contiki.expressions import Expressions, Known, implied
 from motesim.contiki.layout import RULE, code_lines, comment_lines, cleaned
 from motesim.contiki.names import Names
-from motesim.contiki.tree import Block, Code, Comments, Declaration, Expression, Part, Program, Statement, statements_of
+from motesim.contiki.tree import (
+    Block, Code, Comments, Declaration, Expression, Part, Program, Statement, statements_of)
 from motesim.contiki.use import use_of
 
 WAITS = frozenset({'wait_until', 'wait_while', 'yield', 'yield_until', 'spawn', 'restart', 'acquire', 'pause', 'exit'})
@@ -27,7 +28,7 @@ WORK = 'WORK();'
 
 @dataclass
 class Image:
-    """What the file has, as the host needs it: everything that changes, and the tables of the notation's names."""
+    """The parts of the file that the host needs: everything that changes, and the tables of the notation's names."""
     memory: list[str] = field(default_factory=list)
     processes: list[str] = field(default_factory=list)
     # (of each declared event its name and the C name, or '')
@@ -104,7 +105,7 @@ class ProgramFile:
         return bool(self.program.autostart and self._init_lines())
 
     def _init_lines(self) -> list[str]:
-        """What has to be done once, before all else."""
+        """The lines that must run once, before all others."""
         lines = ['%s = process_alloc_event();' % name for _, name in self.image.events if name]
         lines += ['PT_SEM_INIT(&%s, %d);' % (self.names.of(it.name), it.value) for it in self.program.semaphores
                   if it.name in self.use.names]
@@ -154,14 +155,14 @@ class ProgramFile:
         return [*lines, *code_lines('AUTOSTART_PROCESSES(%s);' % started, '')]
 
     def _declared(self, comments: Comments, code: str, name: str, cname: str, indent: str = '') -> list[str]:
-        """A declaration with its comments; another name is said."""
+        """A declaration with its comments, and the name in the notation if that was changed."""
         beside = list(comments.beside)
         if cname != name:
             beside.insert(0, '"%s" in the notation' % name)
         return self._with_comments(Comments(comments.above, beside), code_lines(code, indent), indent)
 
     def _with_comments(self, comments: Comments, lines: list[str], indent: str) -> list[str]:
-        """Lines with the comments above them, and those beside them if there is room."""
+        """Lines with the comments above them, and those to their right if there is room."""
         beside = ' '.join(cleaned(it) for it in comments.beside).strip()
         if beside and len(lines) == 1 and len(lines[0]) + len(beside) + 9 <= 80:
             place = max(len(lines[0]) + 2, 36)
@@ -211,7 +212,7 @@ class ProgramFile:
         return ['', *('static void %s(void *ptr);' % self._callback(it) for it in names)] if names else []
 
     def _word_function(self) -> list[str]:
-        """The function that gives the word of any event."""
+        """The function that returns the word of any event."""
         lines = [RULE, '/* The word of an event; that of a timer or of an exited process is its number. */',
                  'static uint16_t', '%s(process_event_t ev, process_data_t data)' % self.word, '{']
         timers = [(name, number) for number, (prefix, name) in enumerate(self.image.timers)

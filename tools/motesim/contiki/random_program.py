@@ -1,4 +1,4 @@
-"""Random programs, by the grammar as data: every statement and every expression can come, in every place that takes it.
+"""Random programs, by the grammar as data: each statement and expression can occur, in each place that allows it.
 
 The weights make programs that do something: most wait in a loop, set their timers to near moments, and post to one
 another. All else is chance.
@@ -27,7 +27,7 @@ NAMES = tuple('int char log done list timer_set pt ptr main word ev motesim_self
 
 
 class RandomProgram:
-    """Writes one random program. What came is counted in `reached`, by the symbol and the alternative."""
+    """Writes one random program. The features that occur are counted in `reached`, by symbol and alternative."""
 
     def __init__(self, chance: random.Random, reached: Counter[str], limit: str = ''):
         self.chance = chance
@@ -62,7 +62,7 @@ class RandomProgram:
         return name
 
     def few(self, most: int, what: str, limit: int) -> int:
-        """How many of something there are: few, or as many as there may be."""
+        """Draws a number of items: few, or as many as are allowed."""
         if self.limit == what:
             self.reached['limit %s' % what] += 1
             return limit
@@ -181,7 +181,7 @@ class RandomProgram:
                 self.random_statement(indent, depth)
 
     def revival(self, indent: str) -> None:
-        """A process that is killed and started again at once, in the midst of what goes on."""
+        """A process that is killed and started again at once, while everything else continues."""
         name = self.chance.choice(self.names['PROCESS'])
         lines = ['kill %s;' % name, 'start %s;' % name, 'poll %s;' % name, 'post %s msg 1;' % name]
         kept = [it for it in lines if self.chance.random() < 0.75]
@@ -195,7 +195,7 @@ class RandomProgram:
         return next(it for it in forms('statement') if it.name == name)
 
     def can_come(self, form: Form) -> bool:
-        """Whether all names that an alternative needs are there."""
+        """Returns whether all names that an alternative needs exist."""
         for symbol in form.needs:
             if symbol in self.names and not self.names[symbol]:
                 return False
@@ -225,7 +225,8 @@ class RandomProgram:
         """A loop that comes to an end, unless its block changes its variable."""
         self.reached['statement while'] += 1
         name = self.chance.choice(self.names['VARIABLE'])
-        self.statement_lines(['%s = 0;' % name, 'while (%s < %d) {' % (name, self.chance.choice([1, 2, 3, 9, 12, 40]))],
+        self.statement_lines(['%s = 0;' % name,
+                              'while (%s < %d) {' % (name, self.chance.choice([1, 2, 3, 9, 12, 40]))],
                              indent)
         self.block(indent + '  ', self.chance.randint(0, 2), depth + 1)
         self.statement_lines(['%s = (%s + 1);' % (name, name)], indent + '  ')
@@ -239,7 +240,8 @@ class RandomProgram:
         """A statement without blocks."""
         self.reached['statement %s' % kind] += 1
         if kind == 'set' and self.chance.random() < 0.8:
-            return 'set %s %d;' % (self.chance.choice(self.names['TIMER']), self.chance.choice([0, 1, 1, 2, 2, 3, 4, 7]))
+            timer = self.chance.choice(self.names['TIMER'])
+            return 'set %s %d;' % (timer, self.chance.choice([0, 1, 1, 2, 2, 3, 4, 7]))
         if kind == 'yield_until' and self.chance.random() < 0.4:
             return 'yield_until %s;' % self.test()
         return self.joined(self.expand(self.statement_form(kind).parts, 3))

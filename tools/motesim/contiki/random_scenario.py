@@ -22,7 +22,8 @@ def random_scenario(seed: int | str, reached: Counter[str] | None = None) -> byt
     programs = {name: RandomProgram(chance, reached, limit if name == names[0] else '').text() for name in names}
     version = chance.choice([1, 2, 2])
     reached['version %d' % version] += 1
-    lines = ['version = %d' % version, 'end = %d' % _end(chance, limit), '[medium]', *_medium(chance, version, reached),
+    lines = ['version = %d' % version, 'end = %d' % _end(chance, limit), '[medium]',
+             *_medium(chance, version, reached),
              '[programs]']
     for name, text in programs.items():
         lines += ["%s = '''" % name, text.rstrip('\n'), "'''"]

@@ -40,7 +40,7 @@ class Tokens:
                 self.beside[-1].append(found['comment'].strip())
 
     def sees(self, *tokens: str) -> bool:
-        """Whether the next token is one of these."""
+        """Returns whether the next token is one of these."""
         return self.next < len(self.tokens) and self.tokens[self.next] in tokens
 
     def take(self) -> str:
@@ -48,14 +48,14 @@ class Tokens:
         return self.tokens[self.next - 1]
 
     def takes(self, token: str) -> bool:
-        """Whether the next token is this one, which is then taken."""
+        """Consumes the next token if it is this one; returns whether it was."""
         if not self.sees(token):
             return False
         self.next += 1
         return True
 
     def comments_from(self, first: int) -> Comments:
-        """The comments of what stands from the token `first` to the last one that was taken.
+        """The comments from the token `first` to the last one that was consumed.
 
         Those in the midst of it are above it too.
         """

@@ -1,4 +1,4 @@
-"""What a program uses of what it declares: C compilers warn of all else, so it is left out of the file."""
+"""The declarations that a program uses: C compilers warn of all others, so the file leaves them out."""
 from __future__ import annotations
 
 from dataclasses import dataclass, field
@@ -11,7 +11,7 @@ SETS = frozenset({'set', 'reset', 'restart_timer'})
 
 @dataclass
 class Use:
-    """What is used: names of the program, and pairs of a process and a name of its code."""
+    """The names in use: names of the program, and pairs of a process and a name of its code."""
     names: set[str] = field(default_factory=set)
     inside: set[tuple[str, str]] = field(default_factory=set)
     # (the callback timers that are set, and those that are reset or restarted)
@@ -22,7 +22,7 @@ class Use:
 
 
 def use_of(program: Program) -> Use:
-    """What the program uses."""
+    """Returns the names that the program uses."""
     use = Use()
     for code in program.codes:
         _CodeUse(code, use).find()

@@ -10,7 +10,7 @@ local kinds = {
 }
 
 local version = ProtoField.uint8("motesim.version", "Version of the header")
-local kind = ProtoField.uint8("motesim.kind", "What", base.DEC, kinds)
+local kind = ProtoField.uint8("motesim.kind", "Kind", base.DEC, kinds)
 local sender = ProtoField.uint16("motesim.sender", "Sender")
 local receiver = ProtoField.uint16("motesim.receiver", "Receiver")
 local number = ProtoField.uint64("motesim.number", "Number")

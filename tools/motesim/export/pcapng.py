@@ -11,9 +11,9 @@ nothing else; numbers are in network order:
     bytes 6-13  the packet's number at its sender
     bytes 14-15 its value
     bytes 16-19 the moment of sending
-    bytes 20-27 the moment of arrival; all bits set where there is none
+    bytes 20-27 the moment of arrival; all bits set if there is none
 
-`motesim.lua` beside this file reads it.
+`motesim.lua` next to this file reads it.
 """
 from __future__ import annotations
 
@@ -68,7 +68,7 @@ def record(mote: int, time: int, direction: int, data: bytes) -> bytes:
 
 
 def pcapng(report: Report) -> Iterator[bytes]:
-    """The file, block by block; records stand in the order of their times."""
+    """The file, block by block; records are in the order of their times."""
     try:
         yield from blocks(report)
     except struct.error:

@@ -1,7 +1,7 @@
 """A trace for Perfetto (ui.perfetto.dev), in the trace event format in JSON.
 
 A mote is a process there and each of its processes a thread, whose slices are its runs. Packets are slices of a thread
-of their own, with arrows from where they are sent to where they come. Times are in microseconds, a moment being 1,000.
+of their own, with arrows from their senders to their receivers. Times are in microseconds, a moment being 1,000.
 """
 from __future__ import annotations
 

@@ -1,8 +1,8 @@
 """Times for what happens within a moment.
 
 In a report all lines of a turn have the same moment. Programs that show a time axis would put them onto one point. So
-a moment counts as a millisecond here, and the lines of a turn stand a microsecond apart, in their order; or closer,
-where a turn has so many lines that they would reach the next moment. Times are in nanoseconds.
+a moment counts as a millisecond here, and the lines of a turn are a microsecond apart, in their order; or closer,
+if a turn has so many lines that they would reach the next moment. Times are in nanoseconds.
 """
 from __future__ import annotations
 
@@ -16,7 +16,7 @@ MOMENT, STEP = 1_000_000, 1_000
 
 
 class Turn(NamedTuple):
-    """What a mote writes at a moment: when it begins, how far its lines are apart, and its lines."""
+    """The lines that a mote writes at a moment: when it begins, how far its lines are apart, and its lines."""
     begin: int
     step: int
     lines: list[Line]

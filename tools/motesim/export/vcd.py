@@ -103,7 +103,7 @@ class Dump:
             self.changes.append((turn.time(len(turn.lines)), current.runs, 0))
 
     def add_copies(self, report: Report) -> None:
-        """How many copies are on their way to each mote."""
+        """Adds the number of copies that are on their way to each mote."""
         steps = [(time, it.to, change) for it in copies(report) if it.arrival is not None and it.what != 'left'
                  for time, change in ((it.sent, 1), (it.ended, -1))]
         count = dict.fromkeys(self.on_the_way, 0)
@@ -113,7 +113,7 @@ class Dump:
 
     def lines(self) -> Iterator[str]:
         yield '$version motesim tools/export $end'
-        yield '$comment A moment is 1 ms. The lines of a turn stand %d ns apart, or less. $end' % STEP
+        yield '$comment A moment is 1 ms. The lines of a turn are %d ns apart, or less. $end' % STEP
         yield '$timescale 1 ns $end'
         yield from self.declarations()
         yield '$enddefinitions $end'

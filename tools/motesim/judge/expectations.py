@@ -56,7 +56,7 @@ class Part:
 
 
 class Verdict(NamedTuple):
-    """A sentence, whether it holds, and what is shown if it doesn't; and whether the scenario has no report."""
+    """A sentence, whether it holds, and the lines to show if it doesn't; and whether the scenario has no report."""
     sentence: str
     holds: bool
     more: list[str]
@@ -208,5 +208,5 @@ def expect(scenario: Path, expectations: Path, is_quiet: bool = False) -> tuple[
                 print('\n          '.join(['broken  %s' % it.sentence, *it.more]))
         has_fault |= not part.replace and any(it.is_refused and not it.holds for it in verdicts)
     if has_fault:
-        print('tools/explain %s shows where the error is, and what is allowed there' % scenario)
+        print('tools/explain %s shows where the error is, and what you may write there' % scenario)
     return passed, failed

@@ -1,6 +1,6 @@
 """The forms of sentences, as docs/use/EXPECTATIONS.md has them in tables.
 
-Each form is an example that `motesim.judge.sentences` reads; the tests read them all, and look whether each phrase that
+Each form is an example that `motesim.judge.sentences` reads; the tests read them all, and check that each phrase that
 the reader knows is in one of them. `PYTHONPATH=tools python3 -m motesim.judge.forms` writes the tables into the page.
 """
 from __future__ import annotations
@@ -52,7 +52,7 @@ DEED = Table('DEED', 'Lines of the report', ('mote 1 %s',), (
     (('starts P', 'leaves P', 'halts'), '`start P`, `leave P`, `halt`'),
     (("writes 'full echo msg'",), 'lines that continue with this text after the moment'),
     (("writes 'collide' or 'lost'",), 'lines that continue with one of these texts'),
-    (('never sends', 'never prints P VALUE'), 'none of these lines (after `mote`, `motes`, `every mote` and `together`)'),
+    (('never sends', 'never prints P VALUE'), 'none of these lines (after `mote`, `motes`, `every mote`, `together`)'),
 ))
 VALUE = Table('VALUE', 'Is', ('mote 1 prints p %s',), (
     (('7',), 'this number'),
@@ -84,18 +84,21 @@ WHEN = Table('WHEN', 'Moments', ('mote 1 sends %s',), (
 ORDER = Table('ORDER', 'Each of the lines is', ('mote 1 sends 1 %s',), (
     (('after mote 0 sends 1', 'after mote 2'), 'after the first line of the event; `after mote 2` means after mote 2 '
      'did the same'),
-    (('before mote 2 prints P', 'before printing P', 'before some mote'), 'before the first line of the event, or there is '
+    (('before mote 2 prints P', 'before printing P', 'before some mote'),
+     'before the first line of the event, or there is '
      'no such line'),
     (('within 10 of receiving 1', 'within 10 moments of it receives 1', 'within 1 moment of mote 2 sending 5'),
      'at most that many moments after a line of the event'),
-    (('within 10 of each time it receives 1', 'within 10 of every time mote 0 sends'), 'the other way around: each line of '
+    (('within 10 of each time it receives 1', 'within 10 of every time mote 0 sends'),
+     'the other way around: each line of '
      'the event is followed by one, at most that many moments later'),
 ))
 OTHER = Table('Sentence', 'Says', ('%s',), (
     (('no copy collides', 'some copy collides at mote 3'), 'lines `collide`'),
     (('at most 2 copies overflow',), 'lines `lost`: eight packets were waiting'),
     (('exactly 9 copies arrive at motes 1 to 3 by 60',), 'lines `recv`'),
-    (('no copy is lost', 'exactly 1 copy is lost at mote 1'), 'copies that the medium loses, by the moment of sending'),
+    (('no copy is lost', 'exactly 1 copy is lost at mote 1'),
+     'copies that the medium loses, by the moment of sending'),
     (('at least 90 % of copies arrive', 'at most 5 % of the copies collide at motes 1 to 3', 'every copy arrives',
       'each copy arrives at mote 3', 'all copies arrive'), 'that share of the copies that are due by the end'),
     (('exactly 1 copy is left', 'exactly 2 copies are left'), 'the last line of the report'),

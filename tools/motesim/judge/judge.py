@@ -323,7 +323,8 @@ class Judge:
         """The number of copies with this outcome, at any moment."""
         motes = set(range(len(self.report.motes)) if it.motes is None else it.motes)
         if it.outcome == 'lost':
-            return sum(map(motes.__contains__, compress(self.report.log.to, map(LOST.__eq__, self.report.log.arrival))))
+            return sum(map(motes.__contains__,
+                           compress(self.report.log.to, map(LOST.__eq__, self.report.log.arrival))))
         places = (self.report.trace.place(mote, BECAME[it.outcome]) for mote in motes)
         return sum(place.stop - place.start for place in places)
 

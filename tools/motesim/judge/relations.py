@@ -123,7 +123,7 @@ def _kind_in_words(relation: Relation) -> str:
 
 
 def _answered(relation: Relation, name: str, lines: Sequence[Found], order: Order, end: int) -> Why | None:
-    """Checks that each event has a line soon after it. Events so near to the end that it may come later don't count."""
+    """Checks that each event has a line soon after it. Events so near to the end that it may be later don't count."""
     answers = Order(lines)
     for event in order.events:
         found = answers.first_from(event)

@@ -1,7 +1,7 @@
 """Sentences on what a report shows, and how they are read: docs/use/EXPECTATIONS.md has their forms.
 
-`read_sentence('mote 6 prints flood 1 by 60', names)` gives what the sentence says, in the classes below. A sentence
-that can't be read is a `SentenceFault`, which says where it goes wrong and what may stand there.
+`read_sentence('mote 6 prints flood 1 by 60', names)` returns the meaning of a sentence, in the classes below. One
+that can't be read is a `SentenceFault`, which has the place of the error and what is allowed there.
 """
 from __future__ import annotations
 
@@ -28,7 +28,7 @@ VERBS = ('print', 'send', 'receive', 'start', 'leave', 'halt', 'write')
 
 
 def meant(rest: str, wanted: list[str]) -> str | None:
-    """The word that was most likely meant by the first of these, of those that may stand there."""
+    """The word that was most likely meant by the first of these, of those that are allowed there."""
     word = re.match(r'[A-Za-z_]\w{2,}', rest)
     names = [name for it in wanted for name in re.findall(r'\w+', it.partition('(')[2] or it.split()[0])]
     return nearest(word[0], names) if word else None
@@ -53,11 +53,11 @@ REDIRECTS.update(dict.fromkeys(('first', 'then', 'until', 'while', 'when', 'when
                                'two events are put in order by `after`, `before` and `within 10 of`, as in '
                                '`mote 3 sends after mote 2`.'))
 REDIRECTS.update(dict.fromkeys(('must', 'should', 'shall', 'does', 'do', 'will', 'can', 'has', 'have'),
-                               'write the verb alone, `mote 3 prints a 1`.'))
+                               'write only the verb, `mote 3 prints a 1`.'))
 
 
 def redirected(rest: str) -> str | None:
-    """What serves in the place of the first of these words, if it is one that sentences don't have."""
+    """Advice on what to write instead of the first of these words, if sentences don't have it."""
     word = re.match(r'[A-Za-z]+', rest)
     return REDIRECTS.get(word[0].lower()) if word else None
 
@@ -68,7 +68,7 @@ def gerund(many: str) -> str:
 
 
 class SentenceFault(Fault):
-    """A sentence that can't be read: the place of the first word that can't stand, and what may."""
+    """A sentence that can't be read: the place of the first word that isn't allowed, and the allowed ones."""
 
     def __init__(self, sentence: str, place: int, wanted: list[str]):
         self.sentence, self.place, self.wanted = sentence, place, wanted
@@ -77,14 +77,14 @@ class SentenceFault(Fault):
         lines = [sentence, ' ' * place + '^', *may]
         lines += ['Did you mean: %s' % like] if like else []
         lines += ['Hint: %s' % hint for hint in [redirected(sentence[place:])] if hint]
-        # (the sentence with a mark under the word, and what is allowed there)
+        # (the sentence with a mark under the word, and the allowed words)
         self.explained = '  ' + '\n  '.join(lines)
         super().__init__('a sentence that is not known\n' + self.explained)
 
 
 @dataclass(frozen=True)
 class Names:
-    """What a sentence may name: the processes of the programs and the count of motes; None where they aren't known."""
+    """Names that a sentence may use: the processes of the programs and the count of motes; None if unknown."""
     processes: tuple[str, ...] | None = None
     motes: int | None = None
 
@@ -97,7 +97,7 @@ def processes_of(program: object) -> list[str]:
 
 
 def names_of(scenario: Scenario) -> Names:
-    """What a sentence on this scenario may name."""
+    """Returns the names that a sentence on this scenario may use."""
     found: dict[str, None] = dict.fromkeys(SYSTEM)
     for text in scenario.programs.values():
         found.update(dict.fromkeys(processes_of(text)))
@@ -106,13 +106,13 @@ def names_of(scenario: Scenario) -> Names:
 
 @dataclass(frozen=True)
 class Count:
-    """How many: a comparison and a number, or a part of all in per cent."""
+    """A condition on a count: a comparison and a number, or a part of all in per cent."""
     compare: str
     number: int
     is_part: bool = False
 
     def admits(self, found: int, times: int = 1) -> bool:
-        """Whether so many are enough and not too many: `times` is what the number counts, or the whole of a part."""
+        """Returns whether a count satisfies the condition: `times` is the unit of the number, or the whole."""
         return bool(COMPARES[self.compare](found * (100 if self.is_part else 1), self.number * times))
 
     @property
@@ -121,7 +121,7 @@ class Count:
 
     @property
     def most(self) -> int | None:
-        """The greatest number that is admitted, or None where each greater one is too."""
+        """The greatest number that is admitted, or None if each greater one is too."""
         return {'at most': self.number, 'exactly': self.number, 'fewer than': self.number - 1}.get(self.compare)
 
     def __str__(self) -> str:
@@ -143,7 +143,7 @@ class Window:
 
 @dataclass(frozen=True)
 class Value:
-    """A value: a number, or what is looked up for each mote.
+    """A value: a number, or one that is looked up for each mote.
 
     kind   number, self, distance (hops from `number`), heard (the set of the motes that it hears), linked (of those
            that hear it too), nearer (a mote that it hears, one hop nearer to `number`)
@@ -173,7 +173,7 @@ class Motes:
 
 @dataclass(frozen=True)
 class Deed:
-    """What motes do: lines of one of these patterns.
+    """An action of motes: lines of one of these patterns.
 
     way     any, finally (the last such line has `value`), just (the values of all such lines are `values`), set (in
             any order)
@@ -186,7 +186,7 @@ class Deed:
 
 @dataclass(frozen=True)
 class Than:
-    """What is counted beside the lines of a sentence: of other motes, of another deed, at another time."""
+    """The other count to which a sentence compares its own: of other motes, of another deed, at another time."""
     motes: Motes | None
     deed: Deed | None
     window: Window
@@ -194,7 +194,7 @@ class Than:
 
 @dataclass(frozen=True)
 class Relation:
-    """Where lines stand to other ones, the events.
+    """The position of lines relative to other ones, the events.
 
     kind     after or before the first event; within so many moments of one before it; each (each event is followed by
              a line within so many moments)
@@ -259,7 +259,7 @@ class Hears:
 
 @dataclass(frozen=True)
 class Refused:
-    """The program answers a fault's line in place of a report."""
+    """`motesim` writes the line of an error instead of a report."""
     fault: str
 
 
@@ -282,7 +282,7 @@ class _Reader:
         self.is_event = False
 
     def want(self, at: int, what: str) -> None:
-        """Notes what may stand at a word."""
+        """Notes what is allowed at a word."""
         if at > self.furthest:
             self.furthest, self.wanted = at, []
         if at == self.furthest and what not in self.wanted:
@@ -296,7 +296,7 @@ class _Reader:
         return self.words[self.at + ahead] if self.at + ahead < len(self.words) else ''
 
     def accept(self, *phrases: str) -> str:
-        """The first of these phrases if one stands here, and goes on behind it. An empty text where none does."""
+        """Consumes and returns the first of these phrases that is next, or an empty text if none is."""
         for phrase in phrases:
             words = phrase.split()
             same = 0
@@ -370,7 +370,7 @@ class _Reader:
         return tuple(word[1:-1].split())
 
     def count(self) -> Count | None:
-        """How many times."""
+        """Reads how many times."""
         compare = self.accept(*COMPARES)
         word = self.accept('once', 'twice')
         if word:
@@ -417,7 +417,7 @@ class _Reader:
         return Window(begin, self.moment(begin), every=every)
 
     def value(self) -> Value | None:
-        """A value, if one stands here."""
+        """A value, if one is next."""
         number = self.maybe_number('a value', MOST_WORD)
         if number is not None:
             return Value('number', number)
@@ -434,7 +434,7 @@ class _Reader:
         return None
 
     def process(self) -> str | None:
-        """A process, if one stands here."""
+        """A process, if one is next."""
         known, word = self.names.processes, self.word()
         if word in known if known is not None else re.fullmatch('[a-z][a-z0-9_]*', word):
             self.at += 1
@@ -449,7 +449,7 @@ class _Reader:
         return found
 
     def pattern(self) -> Pattern:
-        """What stands in quotes behind `writes`: the words of a line from its kind on."""
+        """The words in quotes after `writes`: those of a line from its kind on."""
         words = self.quoted()
         if words[0] not in FIELDS:
             wanted = 'words in quotes that begin with one of %s' % ', '.join(FIELDS)
@@ -457,7 +457,7 @@ class _Reader:
         return words
 
     def deed(self) -> Deed:
-        """What motes do, from the verb on."""
+        """The action of motes, from the verb on."""
         way = self.accept('finally') or 'any'
         if self.verb('prints', 'print'):
             return self.prints(way)
@@ -503,7 +503,7 @@ class _Reader:
         return Deed((pattern,))
 
     def motes(self) -> Motes | None:
-        """Of which motes the sentence speaks, where it begins with them."""
+        """The motes of the sentence, if it begins with them."""
         for kind, phrase in ('no', 'no mote'), ('some', 'some mote'), ('each', 'every mote'), ('each', 'each mote'):
             if self.accept(phrase):
                 return Motes(kind, None, self.but())
@@ -559,7 +559,7 @@ class _Reader:
         return Does(motes, deed, count, window or Window(), than, relation, is_counted)
 
     def relation(self, same: Deed) -> Relation | None:
-        """Where the lines stand to others, if that is said."""
+        """The position of the lines relative to others, if the sentence has one."""
         kind, moments = self.accept('after', 'before', 'within'), 0
         if not kind:
             return None
@@ -591,12 +591,12 @@ class _Reader:
         return motes, deed
 
     def is_verb(self) -> bool:
-        """Whether a verb is next."""
+        """Returns whether a verb is next."""
         word = self.word().lower()
         return any(word in (many, many + 's', gerund(many)) for many in VERBS)
 
     def than(self) -> Than:
-        """What is counted beside."""
+        """Reads the other count of a comparison."""
         self.is_event = True
         motes = None if self.accept('it') else self.others()
         deed = self.deed() if self.is_verb() else None
@@ -668,7 +668,7 @@ class _Reader:
 
 
 def read_sentence(sentence: str, names: Names = Names()) -> Sentence:
-    """What a sentence says."""
+    """Returns the meaning of a sentence."""
     reader = _Reader(sentence, names)
     found = reader.sentence_here()
     reader.end()
@@ -676,7 +676,7 @@ def read_sentence(sentence: str, names: Names = Names()) -> Sentence:
 
 
 class _MoteReader(_Reader):
-    """Notes where a sentence names motes by their numbers."""
+    """Notes the places at which a sentence names motes by their numbers."""
 
     def __init__(self, sentence: str, names: Names):
         super().__init__(sentence, names)
@@ -696,7 +696,7 @@ def motes_named(sentence: str, names: Names) -> list[tuple[int, int]]:
 
 
 def lacking(sentence: str, names: Names) -> str:
-    """What a sentence that can be read speaks of and a scenario with these names hasn't; nothing where it has all."""
+    """The error of a sentence that names something that the scenario doesn't have; empty if it has all."""
     try:
         read_sentence(sentence, names)
         return ''

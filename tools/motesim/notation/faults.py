@@ -1,6 +1,6 @@
-"""Faults of program texts: where the fault is, the rule in plain words, and what is allowed there.
+"""Faults of program texts: where the fault is, the rule in plain words, and the allowed words.
 
-`find_fault(text)` reads a program text by the grammar of docs/use/NOTATION.md and gives its first `ProgramError`, or
+`find_fault(text)` reads a program text by the grammar of docs/use/NOTATION.md and returns its first `ProgramError`, or
 None; motesim tells the same kind and line.
 """
 from __future__ import annotations
@@ -33,7 +33,8 @@ COUNTED = {
 
 # Of each kind its name in docs/use/NOTATION.md and its rule.
 RULES: dict[int, tuple[str, str]] = {
-    1: ('BadToken', 'A program consists of names, numbers, keywords and signs. A name begins with a letter, and has at most '
+    1: ('BadToken',
+        'A program consists of names, numbers, keywords and signs. A name begins with a letter, and has at most '
         '16 small letters, digits and `_`; a number has no unnecessary 0 in front.'),
     2: ('Unexpected', 'This can\'t follow the words before it.'),
     3: ('UnknownName', 'Nothing has this name here. A name has to be declared before it is used; variables, timers '
@@ -46,7 +47,7 @@ RULES: dict[int, tuple[str, str]] = {
     7: ('TooDeep', 'Blocks and expressions are nested at most 32 deep.'),
     8: ('TooMany', 'There is one too many of these.'),
     9: ('NoProcess', 'A program has at least one process.'),
-    10: ('BadTarget', 'This name is known, but as something else than what is needed here; a thread never spawns itself.'),
+    10: ('BadTarget', 'This name has another kind than is needed here; a thread never spawns itself.'),
     11: ('Memory', 'Memory ran out while the program was read. The text may be in order.'),
 }
 
@@ -75,7 +76,7 @@ class Token:
 
 @dataclass
 class ProgramError(Exception):
-    """The first fault of a program text: its kind, the token that is not allowed, and what is allowed there."""
+    """The first fault of a program text: its kind, the token that is not allowed, and the allowed ones."""
     kind: int
     token: Token
     may: list[str] = field(default_factory=list)
@@ -126,7 +127,7 @@ class _Reader:
         return self.fault(2, list(dict.fromkeys(self.wanted)))
 
     def step(self) -> str:
-        """Goes on behind the next token."""
+        """Consumes the next token."""
         self.at, self.wanted = self.at + 1, []
         return self.tokens[self.at - 1].text
 
@@ -173,7 +174,7 @@ class _Reader:
         return self.step()
 
     def known(self, kind: str) -> list[str]:
-        """The names of a kind, as what is allowed."""
+        """The names of a kind, as the allowed words."""
         found = [name for name, its in self.names.items() if its == kind and name != self.own_thread]
         return ['%s %s (%s)' % (ARTICLES[kind], kind, ', '.join(found) if found else 'none is declared here')]
 
@@ -193,7 +194,7 @@ class _Reader:
         return self.step()
 
     def other_words(self) -> list[str]:
-        """What else is allowed here besides a name."""
+        """The other words that are allowed here besides a name."""
         return list(dict.fromkeys(self.wanted))
 
     def program(self) -> None:
@@ -312,7 +313,7 @@ class _Reader:
             self.operands(FORMS[word].form)
 
     def operands(self, form: str) -> None:
-        """What follows the first word of a statement of this form."""
+        """Reads the operands of a statement of this form."""
         for part in form.rstrip(';').split()[1:]:
             if part == 'E':
                 self.expression()
@@ -365,7 +366,7 @@ class _Reader:
 
 
 def find_fault(text: str) -> ProgramError | None:
-    """The first fault of a program text, or None where it is a program."""
+    """The first fault of a program text, or None if it is a program."""
     try:
         _Reader(text).program()
     except ProgramError as fault:

@@ -1,7 +1,7 @@
 """An expression with all its parentheses: the notation has no order of operators, and people write as in C.
 
-`written(tokens, at)` gives the expression around a token, each operator with its two values in parentheses, by the
-order that operators have in C; or None where what stands there is no expression.
+`written(tokens, at)` returns the expression around a token, each operator with its two values in parentheses, by the
+order that operators have in C; or None if no expression is there.
 """
 from __future__ import annotations
 
@@ -12,7 +12,7 @@ from motesim.notation.faults import TESTS, Token
 # The operators, those that bind most first.
 ORDER = (('*', '/', '%'), ('+', '-'), ('<', '<=', '>', '>='), ('==', '!='), ('&&',), ('||',))
 OPERATORS = frozenset(sign for level in ORDER for sign in level)
-# Keywords that stand in an expression.
+# Keywords of expressions.
 INSIDE = frozenset(TESTS) | {'is', 'self', 'now', 'data', 'from'}
 ENDS = frozenset(';{}=,')
 MOST_TOKENS = 24
@@ -23,7 +23,7 @@ def _is_outside(token: Token) -> bool:
 
 
 def _reach(tokens: Sequence[Token], at: int, step: int, opens: str, closes: str) -> int:
-    """How far the expression around a token goes in one direction."""
+    """The end of the expression around a token, in one direction."""
     depth = 0
     while 0 <= at + step < len(tokens):
         there = tokens[at + step]

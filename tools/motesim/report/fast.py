@@ -1,6 +1,6 @@
 """Reads reports in large pieces, of a long report several at once.
 
-`read(data)` returns None for what it can't read in this way: a text that is no report. `motesim.report.strict` reads it
+`read(data)` returns None if it can't read a text in this way: one that is no report. `motesim.report.strict` reads it
 line by line, and finds its first error.
 """
 from __future__ import annotations

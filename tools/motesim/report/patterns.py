@@ -12,7 +12,8 @@ _WORD = '(?:0|[1-9][0-9]{0,4}+)'
 _NAME = '[a-z][a-z0-9_]{0,15}+'
 _OF_FIELDS = {'process': _NAME, 'event': _NAME, 'word': _WORD, 'value': _WORD, 'sender': _NUMBER, 'number': _NUMBER,
               'serial': _NUMBER}
-_LINES = '|'.join(' '.join([kind, *(_OF_FIELDS[field] for field in fields.split())]) for kind, fields in FIELDS.items())
+_LINES = '|'.join(' '.join([kind, *(_OF_FIELDS[field] for field in fields.split())]) for kind,
+                  fields in FIELDS.items())
 _PACKET = '%s %s %s %s(?: %s@(?:%s|lost))*' % (_MOMENT, _NUMBER, _NUMBER, _WORD, _NUMBER, _NUMBER)
 
 # The head of a mote: its number and its program.

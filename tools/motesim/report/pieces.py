@@ -139,7 +139,8 @@ class PieceReader:
         self.real, self.shapes = real, _Shapes(self.names, real)
         self.number: Callable[[str], int] = _Numbers().__missing__
         if size >= WORTH_A_TABLE:
-            self.number = _Numbers(zip(map(str, range(MOST_TABLED + 1)), range(MOST_TABLED + 1)), lost=LOST).__getitem__
+            tabled = range(MOST_TABLED + 1)
+            self.number = _Numbers(zip(map(str, tabled), tabled), lost=LOST).__getitem__
 
     def lines(self, data: bytes, spans: list[Span]) -> Lines:
         """Reads the lines of some spans. Raises Bad or OverflowError if they aren't lines of traces."""

@@ -1,9 +1,9 @@
-"""Runs of the program: which program, within which limits, and its answers.
+"""Runs of `motesim`: which binary, within which limits, and its results.
 
     from motesim.runner import FOREIGN, Runner, run_each
 
     Runner(limits=FOREIGN).answer(scenario)     one run, within limits of time, memory and bytes (process)
-    Runner(cache=Cache(64 << 20))               answers that are kept by program and scenario (cache)
+    Runner(cache=Cache(64 << 20))               results that are kept by binary and scenario (cache)
     run_each(work, items)                       many runs, several at once (batch)
 """
 from motesim.runner.batch import Done, run_each

@@ -108,7 +108,7 @@ class _Worker:
         self.ahead = 1
 
     def give(self, numbers: list[int], items: list[Any]) -> None:
-        """Gives a list of items to a worker that has none."""
+        """Sends a list of items to a worker that has none."""
         self.given.extend(numbers)
         self.count, self.begun = len(numbers), time.monotonic()
         self.since = self.begun
@@ -161,7 +161,7 @@ class _Batch(Generic[Item, Result]):
         return found
 
     def feed(self) -> bool:
-        """Gives items to workers that have none. Returns whether any worker has some."""
+        """Sends items to workers that have none. Returns whether any worker has some."""
         for worker in self.workers:
             if not worker.given:
                 self.give(worker)
@@ -254,7 +254,7 @@ def run_each(work: Callable[[Item], Result], items: Iterable[Item], *, workers: 
 def each_part(work: Callable[[Item], Result], parts: Iterable[Item], is_much: bool) -> Iterator[Result]:
     """The result of each part of a piece of work, in order; if it is much, several processes work.
 
-    The processes are copies of this one, so they share what it has in memory; with threads there can't be any. Raises a
+    The processes are copies of this one, so they share its memory; with threads there can't be any. Raises a
     `Fault` if one of them fails.
     """
     workers = min(MOST_SHARING, os.cpu_count() or 1)
@@ -268,6 +268,6 @@ def each_part(work: Callable[[Item], Result], parts: Iterable[Item], is_much: bo
 
 
 def _is_worker() -> bool:
-    """Whether this process is a worker itself, which may have none."""
+    """Returns whether this process is itself a worker, which may not have workers."""
     processes = sys.modules.get('multiprocessing')
     return processes is not None and bool(processes.current_process().daemon)

@@ -1,4 +1,4 @@
-"""Answers of the program that are kept in memory, by program, arguments and scenario."""
+"""Results of `motesim` that are kept in memory, by binary, arguments and scenario."""
 from __future__ import annotations
 
 import hashlib
@@ -35,7 +35,7 @@ def key_of(program: Path, arguments: tuple[str, ...], scenario: bytes) -> RunKey
 
 
 class Cache:
-    """Keeps answers up to so many bytes; then it drops those that were used longest ago."""
+    """Keeps results up to so many bytes; then it drops those that were used longest ago."""
 
     def __init__(self, most_bytes: int):
         self._most, self._bytes = most_bytes, 0

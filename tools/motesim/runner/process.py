@@ -152,7 +152,7 @@ class Running:
                 self._kill()
 
     def _kill(self) -> None:
-        """Ends the program, and what it has started. It hasn't been waited for, so that its number is still its own."""
+        """Ends the program and its children. Nobody has waited for it, so that its number is still its own."""
         with contextlib.suppress(OSError):
             (os.killpg if self._is_leader else os.kill)(self._process.pid, signal.SIGKILL)
 

@@ -1,7 +1,7 @@
 """The program that all tools run, and the place of kept programs.
 
 `program_path` returns the program that MOTESIM names; else the proved one of these sources, if it has been built; else
-one that was compiled without a proof, and then says so in a line. Programs are kept in out/programs by a digest of what
+one that was compiled without a proof, and then says so. Binaries are kept in out/programs by a digest of what
 they were made of:
 
     proved-DIGEST/motesim    built by `./prove` or `./test`; the digest is of the sources, the contracts and the proofs
@@ -81,7 +81,7 @@ def digest(top: Path = TOP, parts: Sequence[str] = CODE) -> str:
 
 
 def is_newer_than_sources(program: Path) -> bool:
-    """Whether a program is there, and no source, contract or proof has changed since it was built."""
+    """Returns whether a binary exists, and no source, contract or proof has changed since it was built."""
     if not is_program(program):
         return False
     folders = [it for part in ALL_PARTS for it in TOP.glob('crates/*/' + part)]
@@ -104,20 +104,20 @@ def keep_whole(given: Path, kept: Path) -> None:
 
 
 def _same(one: Path, other: Path) -> bool:
-    """Whether one of two programs is a copy of the other, by their sizes and times."""
+    """Returns whether one of two binaries is a copy of the other, by their sizes and times."""
     about, of_other = one.stat(), other.stat()
     return (about.st_size, about.st_mtime_ns) == (of_other.st_size, of_other.st_mtime_ns)
 
 
 @functools.cache
 def compiled_folder(top: Path = TOP) -> Path:
-    """Where programs that are compiled from these sources without a proof are kept."""
+    """The folder of the binaries that are compiled from these sources without a proof."""
     return top / 'out/programs' / ('compiled-' + digest(top))
 
 
 @functools.cache
 def proved_kept(top: Path = TOP) -> Path:
-    """Where the proved program of these sources is kept."""
+    """The place of the proved binary of these sources."""
     return top / 'out/programs' / ('proved-' + digest(top, ALL_PARTS)) / PROVED.name
 
 
@@ -157,14 +157,14 @@ def _is_kept_as(kind: str, program: Path) -> bool:
 
 
 def is_proved(program: Path) -> bool:
-    """Whether a program is one that a proof built: that of this tree, or of an archive."""
+    """Returns whether a binary was built by a proof: in this tree, or for an archive."""
     program = program.resolve()
     is_packed = program == PACKED.resolve() and PACKED_PROVED.is_file()
     return is_packed or program == PROVED.resolve() or _is_kept_as('proved-', program)
 
 
 def is_compiled(program: Path) -> bool:
-    """Whether a program is one that was compiled without a proof: here, or for an archive."""
+    """Returns whether a binary was compiled without a proof: here, or for an archive."""
     program = program.resolve()
     is_packed = program == PACKED.resolve() and not PACKED_PROVED.is_file()
     return is_packed or _is_kept_as('compiled-', program)
@@ -181,7 +181,7 @@ def hold(program: Path) -> None:
 
 @contextlib.contextmanager
 def unless_held(program: Path) -> Iterator[bool]:
-    """Whether no process holds a program; none can begin to until the block ends."""
+    """Yields whether no process holds a binary; none can take hold of it until the block ends."""
     try:
         with open(program, 'rb') as file:
             fcntl.flock(file, fcntl.LOCK_EX | fcntl.LOCK_NB)
@@ -214,7 +214,7 @@ def say_not_proved() -> None:
 
 
 def program_path() -> Path:
-    """The program to run: the one that the environment variable MOTESIM names, else that of these sources."""
+    """The binary to run: the one that the environment variable MOTESIM names, or that of these sources."""
     named = os.environ.get('MOTESIM')
     if named:
         if not is_program(Path(named)):

@@ -43,13 +43,13 @@ def command_for(file: str, found: Encoding) -> str:
 
 
 def hint(file: str, found: Encoding) -> str:
-    """How a file of another encoding is saved as UTF-8."""
+    """Advice on how to save a file of another encoding as UTF-8."""
     return 'Save it as UTF-8: an editor has that under "Save as" or "Encoding". On a command line: `%s`.' % (
         command_for(file, found))
 
 
 def hint_of_byte(data: bytes) -> str | None:
-    """What the first byte that isn't UTF-8 may be, as editors on Windows once wrote it."""
+    """The likely meaning of the first byte that isn't UTF-8, in the encoding of old editors on Windows."""
     try:
         data.decode('utf-8')
         return None

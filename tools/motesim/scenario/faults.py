@@ -1,6 +1,6 @@
-"""Faults of scenarios: where the fault is, the rule in plain words, and what is allowed there.
+"""Faults of scenarios: where the fault is, the rule in plain words, and the allowed values.
 
-`find_fault(bytes)` looks through a scenario by the rules of docs/use/SCENARIO.md, in their order, and gives the first
+`find_fault(bytes)` checks a scenario by the rules of docs/use/SCENARIO.md, in their order, and returns the first
 `ScenarioError`, or None; motesim tells the same line. `place_of(text, path)` finds a table or a key in the text.
 """
 from __future__ import annotations
@@ -43,10 +43,10 @@ RULES: dict[str, str] = {
 
 @dataclass
 class ScenarioError(Exception):
-    """The first fault of a scenario: its line as motesim tells it, where it is, and what is allowed there.
+    """The first fault of a scenario: its line in the form of motesim, its place, and what is allowed there.
 
     path  the table or the key; of a missing key its table
-    line  in its place the line and the column, where the text is no TOML or no text
+    line  instead of the path, the line and the column, if the text is no TOML or no text
     """
     told: str
     path: Path = ()
@@ -55,7 +55,7 @@ class ScenarioError(Exception):
     program: ProgramError | None = None
 
     def is_of_value(self) -> bool:
-        """Whether it is the value behind the key that can't stand, and not the key."""
+        """Returns whether the value after the key is not allowed, and not the key."""
         if not self.path or type(self.path[-1]) is int or self.path[0] == 'queue' and self.told == 'scenario fault 6':
             return False
         return self.told not in ('scenario fault 2', 'scenario fault 3')
@@ -67,7 +67,7 @@ class ScenarioError(Exception):
         return self.may.split('`')[1] if is_missing else None
 
     def place(self, text: str) -> Place:
-        """Where the fault is."""
+        """The place of the fault."""
         if self.line:
             return Place(*self.line, 1)
         place = place_of(text, self.path)
@@ -76,7 +76,7 @@ class ScenarioError(Exception):
 
 @dataclass(frozen=True)
 class Rule:
-    """What a key holds: its kind, and the least and the greatest number, or count."""
+    """The rule of a key: its kind, and the least and the greatest number, or count."""
     kind: type
     least: int = 0
     most: int = 0
@@ -94,7 +94,7 @@ MOST_PROGRAMS = 100
 
 
 def may_of(name: str, key: Rule) -> str:
-    """What is allowed at a key."""
+    """The values that a key may have."""
     if key.kind is int:
         least = 1 if name in ('base', 'per', 'every') else key.least
         return '`%s`: a whole number, %s to %s' % (name, '{:,}'.format(least), '{:,}'.format(key.most))
@@ -154,7 +154,7 @@ def _check_queue(queue: dict[str, Any]) -> None:
 
 
 def _check_names(tables: dict[str, Any]) -> None:
-    """Whether each program that is named is there."""
+    """Checks that each program that is named exists."""
     may = 'the name of a program (%s)' % (', '.join(tables['programs']) or 'there is none')
     for name in tables.get('queue', {}):
         if name not in tables['programs']:
@@ -216,7 +216,7 @@ def _read(data: bytes) -> dict[str, Any]:
 
 
 def _too_large(value: object, path: Path) -> Iterator[Path]:
-    """Where numbers stand that have more than 64 bits, which Python alone takes as TOML."""
+    """The places of numbers with more than 64 bits, which only Python accepts as TOML."""
     if type(value) is int and not -2 ** 63 <= value < 2 ** 63:
         yield path
     members = value.items() if type(value) is dict else enumerate(value) if type(value) is list else []
@@ -240,7 +240,7 @@ def _check(tables: dict[str, Any]) -> None:
 
 
 def find_fault(data: bytes) -> ScenarioError | None:
-    """The first fault of a scenario, or None where it has none."""
+    """The first fault of a scenario, or None if it has none."""
     try:
         _check(_read(data))
     except ScenarioError as fault:
@@ -259,7 +259,7 @@ OPENED = re.compile('|'.join([*LONG_QUOTES, r'"(?:[^"\\]|\\.)*"', "'[^']*'", '#'
 
 @dataclass(frozen=True)
 class Place:
-    """Where something stands in a text: the line from 1, the column from 0, and how many signs."""
+    """A place in a text: the line from 1, the column from 0, and how many signs."""
     line: int
     column: int
     length: int
@@ -289,7 +289,7 @@ def _names(dotted: str) -> tuple[str, ...]:
 
 
 def places(text: str) -> dict[Path, Place]:
-    """Where the tables and keys of a scenario stand, as far as they stand on lines of their own."""
+    """The places of the tables and keys of a scenario, as far as these are on lines of their own."""
     found: dict[Path, Place] = {}
     counts: dict[tuple[str, ...], int] = {}
     table: Path = ()
@@ -321,7 +321,7 @@ def first_table(text: str) -> int | None:
 
 
 def place_of(text: str, path: Path) -> Place:
-    """Where a table or a key stands, or else the nearest table above it; the whole text stands on its first line."""
+    """The place of a table or a key, or of the nearest table above it; the place of the text is its first line."""
     found = places(text)
     for length in range(len(path), 0, -1):
         if path[:length] in found:
@@ -331,14 +331,14 @@ def place_of(text: str, path: Path) -> Place:
 
 
 def value_of(text: str, place: Place) -> Place:
-    """The value behind a key, if it stands on the same line; else the key."""
+    """The place of the value after a key, if it is on the same line; otherwise that of the key."""
     line = text.split('\n')[place.line - 1]
     found = VALUE.match(line, place.column + place.length)
     return Place(place.line, found.start(1), len(found[1])) if found else place
 
 
 def _within(text: str, place: Place, name: str) -> Place:
-    """A key behind the place on its line, as in a table that is written in one line; else the place."""
+    """A key behind the place on its line, as in a table that is written in one line; otherwise the place."""
     line = text.split('\n')[place.line - 1]
     found = re.compile(r'\b%s(?=["\']?\s*=)' % re.escape(name)).search(line, place.column + place.length)
     return Place(place.line, found.start(), len(name)) if found else place

@@ -19,12 +19,12 @@ class MotePlace(NamedTuple):
     program: str
 
 
-# The kinds of what stands in a scenario: of `bool`, which is a whole number to Python, only itself counts.
+# The kinds of values in a scenario: Python counts a `bool` as a whole number too, which is not allowed here.
 _KINDS = {int: 'a whole number', str: 'a text', dict: 'a table', list: 'an array of tables', bool: 'true or false'}
 
 
 def _get(table: dict[str, Any], key: str, kind: type, where: str) -> Any:
-    """What a table holds under a key that it needs."""
+    """Returns the value that a table has under a key that it needs."""
     if key not in table:
         raise ScenarioFault('%s has no key %s' % (where, key))
     if type(table[key]) is not kind:
@@ -79,7 +79,7 @@ class Scenario:
 
     @property
     def motes(self) -> int:
-        """How many motes there are."""
+        """The number of motes."""
         return len(self.places)
 
     def squared(self, s: int, r: int) -> int:
@@ -88,7 +88,7 @@ class Scenario:
         return (one.x - other.x) ** 2 + (one.y - other.y) ** 2
 
     def hears(self, r: int, s: int) -> bool:
-        """Whether mote r hears mote s. Hearing is mutual."""
+        """Returns whether mote r hears mote s. Hearing is mutual."""
         return r != s and self.squared(s, r) <= self.range ** 2
 
     @cached_property
@@ -122,10 +122,10 @@ class Scenario:
 
     @cached_property
     def lookahead(self) -> int:
-        """The least delay between two motes that hear each other; `end + 1` where no two do."""
+        """The least delay between two motes that hear each other; `end + 1` if no two do."""
         return min((self.delay(s, r) for s, r in self.links()), default=self.end + 1)
 
     def loses(self, s: int, r: int, number: int) -> bool:
-        """Whether the medium loses the packet of that number on its way from s to r."""
+        """Returns whether the medium loses the packet of that number on its way from s to r."""
         every = self.losses.get((s, r), 0)
         return every > 0 and (number + 1) % every == 0

@@ -1,13 +1,13 @@
 """Searches for the faults that break a protocol, and makes scenarios small: docs/use/SEARCH.md.
 
     command.py         tools/search
-    asking.py          all that a search is asked to do, made ready
+    asking.py          the request for a search, made ready
     search.py          the search itself: what it covered, and what it found
     sets.py            sets of faults, the smaller ones first, without those that are decided already
     faults.py          the faults of each kind that a scenario can have
     change.py          what faults change of a scenario, and the scenario's text with that
     added.py           the process that makes a mote fail, or start late
-    prepare.py         what is looked at before a search
+    prepare.py         the checks before a search
     work.py            one run of a set of faults
     one_program.py     runs of the program one after the other, at little cost
     quick_judge.py     which sentences hold of a report, as motesim.judge says it, in a fraction of its time

@@ -2,8 +2,8 @@
 
 A program gets one process more, which waits for the moment. Of a mote that fails it then kills the others; of one
 that starts late it is the only one that starts at boot, and starts the others then. A program whose processes could
-go on after a kill, by callback timers, by what they do as they leave, or by starting one another, is stopped by work
-without end in place of kills: the mote then halts.
+continue after a kill, by callback timers, by a block `onexit`, or by starting one another, is stopped by work
+without end instead of kills: the mote then halts.
 """
 from __future__ import annotations
 
@@ -25,7 +25,7 @@ class NoRoom(Fault):
 
 
 def halts(program: str) -> bool:
-    """Whether a mote with this program fails by halting, since killing its processes might not silence it."""
+    """Returns whether a mote with this program fails by halting, since killing its processes might not silence it."""
     return any(token.text in GOES_ON for token in tokens_of(program))
 
 
@@ -73,7 +73,7 @@ def added_name(program: str, kind: str) -> str:
 
 
 def offsets_of(text: str) -> list[int]:
-    """Where each token of a program begins; the last one is its end."""
+    """The places at which the tokens of a program begin; the last one is its end."""
     begins = [0]
     for row in text.split('\n'):
         begins.append(begins[-1] + len(row) + 1)
@@ -97,7 +97,7 @@ def changed_program(program: str, kind: str, moment: int) -> str:
     is_halted = kind == DIES and halts(program)
     acts_on = starts if kind == LATE else processes
     code = added_code(name, kind, moment, acts_on, is_halted)
-    # (a name of its own may be one that the program gives to all its processes)
+    # (a name of its own may be one that the program shares among all its processes)
     for inner in ('wait', 'rounds'):
         while re.search(r'\b%s\b' % inner, code) and inner in _inner_names(tokens):
             code = re.sub(r'\b%s\b' % inner, inner + '_', code)
@@ -115,7 +115,7 @@ def changed_program(program: str, kind: str, moment: int) -> str:
 
 def _autostart(tokens: list[Token], offsets: list[int], end: int, name: str, kind: str
                ) -> tuple[list[str], tuple[int, int, str]]:
-    """The processes that start at boot, and the change that adds the new one, or leaves it alone."""
+    """The processes that start at boot, and the change that adds the new one, or leaves them unchanged."""
     if tokens[end + 1].text != 'autostart':
         return [], (offsets[end] + 1, offsets[end] + 1, '\nautostart %s;' % name)
     behind = next(index for index in range(end, len(tokens)) if tokens[index].text == ';' and index > end)

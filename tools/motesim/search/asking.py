@@ -1,4 +1,4 @@
-"""All that a search is asked to do, read and made ready, and how it is carried out."""
+"""The request for a search, read and made ready, and how it is carried out."""
 from __future__ import annotations
 
 import hashlib
@@ -20,7 +20,7 @@ from motesim.search.work import Work, mask_of, numbers_of
 
 
 def runner_of(work: Work, processes: int, address: str | None) -> Runner:
-    """What runs a search: processes of this machine, or a Dask cluster."""
+    """The workers of a search: processes of this machine, or a Dask cluster."""
     if address:
         return ByDask(work, address)
     return Here(work, processes)
@@ -44,7 +44,7 @@ class Asking:
 
     @property
     def notes(self) -> list[str]:
-        """What is said before anything is tried."""
+        """The lines to show before anything is tried."""
         broken = [self.texts[number] for number in self.plain.broken]
         rows = ['broken without a fault, so left out: ' + it for it in broken]
         rows += ['there is no fault of the kind %s in this scenario' % kind for kind in self.absent]
@@ -52,12 +52,12 @@ class Asking:
         blind = 0
         for mask in self.prepared.blind.values():
             blind |= mask
-        rows += ['the process that makes a mote fail or start late breaks this by itself, so that nothing is said of '
+        rows += ['the process that makes a mote fail or start late breaks this by itself, so the search can\'t judge '
                  'it with such faults: ' + self.texts[number] for number in numbers_of(blind)]
         return rows
 
     def digest(self) -> str:
-        """What tells one search from another."""
+        """The identity of a search, in which it differs from others."""
         plan = self.base.plan and (self.base.plan.text, self.base.plan.digest({}))
         parts = (self.base.source, plan, self.texts, self.prepared.faults, self.limits, program_digest(self.path))
         return hashlib.sha256(repr(parts).encode()).hexdigest()[:16]
@@ -67,7 +67,7 @@ class Asking:
 
     def search(self, processes: int, kept: Kept, shown: Callable[[Search, int, bool], None] | None = None,
                asks_end: Callable[[], bool] = lambda: False, address: str | None = None) -> Search:
-        """Searches, until all is tried, a limit is reached, or the end is asked for; by a Dask cluster if there is an
+        """Searches, until all is tried, a limit is reached, or the user ends it; by a Dask cluster if there is an
         address."""
         held = [number for number in range(len(self.texts)) if number not in self.plain.broken]
         known = Known(self.prepared.faults, mask_of(held))

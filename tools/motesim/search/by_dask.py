@@ -1,4 +1,4 @@
-"""Gives the runs of a search to a Dask cluster, in batches."""
+"""Sends the runs of a search to a Dask cluster, in batches."""
 from __future__ import annotations
 
 import itertools
@@ -24,7 +24,7 @@ _here = threading.local()
 
 
 def run_batch(number: str, work: Work, digest: str, tasks: list[Task]) -> list[Outcome]:
-    """What comes of some tasks, on a worker: its program is the one that MOTESIM names there, or that of the search."""
+    """Runs some tasks on a worker: with the binary that MOTESIM names there, or with that of the search."""
     if getattr(_here, 'number', None) != number:
         path = Path(os.environ.get('MOTESIM') or work.program)
         try:

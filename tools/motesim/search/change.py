@@ -1,6 +1,6 @@
-"""What faults change of a scenario, and the scenario's text with that.
+"""The changes that faults make to a scenario, and the scenario's text with them.
 
-`Base.read(text, name)` is a scenario that faults are put into. A `Change` says what is otherwise than there; faults add
+`Base.read(text, name)` is a scenario that faults are put into. A `Change` has the differences from it; faults add
 to it. `Base.text(change)` is the text with just that changed, its comments and its layout kept, and
 `Base.scenario(change)` is the scenario that this text holds, without reading it again.
 """
@@ -32,7 +32,7 @@ class CannotChange(Fault):
 
 @dataclass
 class Change:
-    """What is otherwise than in a scenario.
+    """The differences from a scenario.
 
     parameters  other values of a plan's parameters
     losses      the `every` of links, by sender and receiver
@@ -56,7 +56,7 @@ class Change:
 
 
 def shown(tables: Any, path: tuple[str | int, ...]) -> str:
-    """What stands at a key, as it is mostly written."""
+    """The value of a key, as authors mostly write it."""
     for name in path:
         tables = tables[name]
     return str(tables).lower() if type(tables) is bool else str(tables)
@@ -149,12 +149,12 @@ class Base:
 
     @cached_property
     def end_of_losses(self) -> Edit:
-        """Where losses are added, with what stands before them."""
+        """The place at which losses are added, with the text before them."""
         return self.lines.appended('loss', [])
 
     @cached_property
     def has_loss_array(self) -> bool:
-        """Whether losses stand as one array in a line of their own, to which no table can be added."""
+        """Returns whether the losses are one array in a line of their own, to which no table can be added."""
         return bool(self.tables.get('loss')) and ('loss', 0) not in self.lines.places or self.tables.get('loss') == []
 
     def of_losses(self, change: Change) -> list[Edit]:
@@ -174,7 +174,7 @@ class Base:
         return found
 
     def stretch(self, path: tuple[str | int, ...]) -> tuple[int, int]:
-        """Where the value of a key stands in the text, as far as one can see."""
+        """The place of a key's value in the text, as far as it can be seen."""
         if path not in self.stretches:
             value = value_of(self.source, place_of(self.source, path))
             begin = self.lines.offset(value)
@@ -182,10 +182,10 @@ class Base:
         return self.stretches[path]
 
     def value(self, path: tuple[str | int, ...], text: str) -> Edit:
-        """Puts another value in the place of a key's."""
+        """Replaces the value of a key."""
         begin, end = self.stretch(path)
         if self.source[begin:end].strip('"\'') != shown(self.tables, path):
-            raise CannotChange('%s: %s does not stand in a line of its own, so it can\'t be changed in the text'
+            raise CannotChange('%s: %s is not on a line of its own, so it can\'t be changed in the text'
                                % (self.name, '.'.join(map(str, path))))
         return Edit(begin, end, text)
 
@@ -198,7 +198,7 @@ class Base:
                  if path in self.lines.places]
         header = self.lines.places.get(('medium',))
         if len(lines) < len(NUMBERS) or header is None or header.line in lines:
-            raise CannotChange('%s: the table medium does not stand in lines of its own, so it can\'t be changed in '
+            raise CannotChange('%s: the table medium is not on lines of its own, so it can\'t be changed in '
                                'the text' % self.name)
         at = self.lines.begins[max(lines)]
         return [self.value(('version',), '2'), Edit(at, at, 'collide = %s\n' % ('true' if collides else 'false'))]
@@ -218,7 +218,7 @@ class Base:
             return [*found, Edit(at, at, '[queue]\n' + ''.join(rows))]
         header = self.lines.places.get(('queue',))
         if header is None or header.line not in self.lines.headers:
-            raise CannotChange('%s: the table queue does not stand in lines of its own' % self.name)
+            raise CannotChange('%s: the table queue is not on lines of its own' % self.name)
         at = self.lines.begins[header.line]
         return [*found, Edit(at, at, ''.join(rows))]
 
@@ -226,7 +226,7 @@ class Base:
         """The line before which a program can be added: that of the header after the table `programs`."""
         header = self.lines.places.get(('programs',))
         if header is None or self.lines.rows[header.line - 1].split('#')[0].strip() != '[programs]':
-            raise CannotChange('%s: the programs do not stand in a table [programs], so none can be added' % self.name)
+            raise CannotChange('%s: the programs are not in a table [programs], so none can be added' % self.name)
         after = next((line for line in self.lines.headers if line > header.line), None)
         if after is None:
             raise CannotChange('%s: the table [programs] is the last one; put it before the motes' % self.name)

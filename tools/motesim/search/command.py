@@ -76,7 +76,7 @@ def asked_of(words: argparse.Namespace) -> Asked:
 
 
 def sentences_of(words: argparse.Namespace, names: Names) -> tuple[list[str], list[Sentence]]:
-    """The sentences, as they stand and as they are read."""
+    """The sentences, as texts and as values."""
     scenario = Path(words.scenario)
     name, texts = 'the command line', list(words.expect)
     if not texts:
@@ -107,7 +107,7 @@ def base_of(path: Path) -> Base:
 
 
 def asking_of(words: argparse.Namespace) -> Asking:
-    """What the command line asks for."""
+    """Returns the request of the command line."""
     base = base_of(Path(words.scenario))
     texts, sentences = sentences_of(words, names_of(base.scenario_itself))
     bounds = Bounds(words.at_most, words.random, words.seed, words.most_runs, words.most_seconds)
@@ -115,7 +115,7 @@ def asking_of(words: argparse.Namespace) -> Asking:
 
 
 def show(words: argparse.Namespace, asking: Asking, search: Search, folder: Path) -> int:
-    """Writes and shows what was found; gives the status."""
+    """Writes and shows the results; returns the status."""
     found = found_by(search, asking.texts)
     write_files(found, asking.base, asking.texts, folder)
     write_whole(folder / 'found.csv', as_csv(found))
@@ -161,7 +161,7 @@ def shrink_each(asking: Asking, found: list[Found], folder: Path, is_quiet: bool
 
 
 def last_line(search: Search, found: list[Found], folder: Path, name: str) -> str:
-    """The end of what is said: how many expectations hold."""
+    """The last line: how many expectations hold."""
     wanted, holding = (bin(mask).count('1') for mask in (search.known.wanted, search.holding))
     broken = len({sentence for it in found for sentence in it.sentences})
     which = 'every run' if is_whole(search) else 'every run that was made'
@@ -177,7 +177,7 @@ def last_line(search: Search, found: list[Found], folder: Path, name: str) -> st
 
 
 def checked(files: list[str], processes: int) -> int:
-    """Checks fault studies; gives the status."""
+    """Checks fault studies; returns the status."""
     counts = [check_studies(Path(it), processes) for it in files]
     passed, failed = (sum(column) for column in zip(*counts))
     print('%d passed, %d failed' % (passed, failed))
@@ -185,7 +185,7 @@ def checked(files: list[str], processes: int) -> int:
 
 
 def status_of(words: argparse.Namespace) -> int:
-    """Does what the command line asks for; gives the status."""
+    """Carries out the command line; returns the status."""
     if words.jobs < 1 or words.at_most < 0 or words.random < 0 or words.seconds <= 0 or words.bytes < 1:
         raise Fault('--jobs, --seconds and --bytes are more than 0, and --at-most and --random 0 or more')
     if words.expectations and words.expect:

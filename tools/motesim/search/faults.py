@@ -1,6 +1,6 @@
 """The faults that a scenario can have, each a change of its text.
 
-`faults_of(base, asked)` gives those of the kinds that are asked for, in their order. Faults with the same `slot` are
+`faults_of(base, asked)` returns those of the wanted kinds, in their order. Faults with the same `slot` are
 other ways to change one thing, such as two ranges, and are never put together.
 """
 from __future__ import annotations
@@ -108,7 +108,7 @@ PARTS_OF = {'lose': 'SENDER RECEIVER EVERY', 'apart': 'MOTE MOTE', 'silent': 'MO
 
 
 def effect_of(words: str, motes: int) -> tuple[str | int, ...]:
-    """The effect that words as `lose 0 1 1` stand for."""
+    """The effect that words such as `lose 0 1 1` denote."""
     name, *rest = words.split() or ['']
     wanted = PARTS_OF.get(name)
     if wanted is None:
@@ -182,7 +182,7 @@ def _every(base: Base, asked: Asked) -> Iterator[FaultyPart]:
 
 
 def _packets(base: Base, asked: Asked) -> Iterator[FaultyPart]:
-    """Links that lose packet n: each (n + 1)th, which is that one alone if fewer than 2n + 2 are sent."""
+    """Links that lose packet n: each (n + 1)th, which is only that one if fewer than 2n + 2 are sent."""
     losses = base.scenario_itself.losses
     for sender, receiver in _directed(base):
         if (sender, receiver) in losses:
@@ -283,7 +283,7 @@ MOTES_OF = {'lose': (1, 2), 'apart': (1, 2), 'silent': (1,), 'fails': (1,), 'lat
 
 
 def change_of(faults: Sequence[FaultyPart], base: Base) -> Change:
-    """What faults change together: parameters first, as the others are put into the scenario that these make."""
+    """The changes that faults make together: parameters first, since the others change their scenario."""
     change = Change()
     for fault in faults:
         if fault.kind == 'parameters':

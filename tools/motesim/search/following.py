@@ -1,11 +1,11 @@
-"""Sentences that follow a scenario whose motes are numbered anew."""
+"""Sentences that follow a scenario whose motes get new numbers."""
 from __future__ import annotations
 
 from motesim.judge.sentences import Names, motes_named
 
 
 def follow(sentence: str, names: Names, removed: frozenset[int]) -> str | None:
-    """The sentence with the numbers that motes have once others are removed, or None where it names one of these.
+    """The sentence with the numbers that motes have once others are removed, or None if it names one of these.
 
     Of a range, as `motes 3 to 7`, its ends may be removed as long as one mote of it stays.
     """
@@ -32,5 +32,5 @@ def follow(sentence: str, names: Names, removed: frozenset[int]) -> str | None:
 
 
 def names_motes_in_quotes(sentence: str) -> bool:
-    """Whether a sentence quotes a line of the report, whose numbers of motes can't be followed."""
+    """Returns whether a sentence quotes a line of the report, whose numbers of motes can't be followed."""
     return any(mark in sentence for mark in ('\'', '`'))

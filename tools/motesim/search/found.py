@@ -1,4 +1,4 @@
-"""What a search found: the lines on it, the counter-examples as files, and tables for other programs."""
+"""The results of a search: the lines on them, the counter-examples as files, and tables for other programs."""
 from __future__ import annotations
 
 import csv
@@ -42,7 +42,7 @@ def file_name_of(name: str, faults: list[FaultyPart]) -> str:
 
 
 def found_by(search: Search, sentences: list[str]) -> list[Found]:
-    """What was found, the smaller sets first."""
+    """Returns the sets that were found, the smaller ones first."""
     minimal = sorted(search.known.minimal.items(), key=lambda item: (len(item[0]), item[0]))
     return [Found([search.known.faults[number] for number in faults], [sentences[it] for it in numbers_of(mask)])
             for faults, mask in minimal]
@@ -75,11 +75,11 @@ def write_files(found: list[Found], base: Base, sentences: list[str], folder: Pa
         head = ['# %s with a fault: %s.' % (Path(base.name).name, it.words), '# This breaks:']
         head += ['#   %s' % ' '.join(sentence.split()) for sentence in it.sentences]
         it.file = str(folder / (name + '.toml'))
-        # (a byte order mark may stand at the front alone)
+        # (a byte order mark is allowed only at the front)
         write_whole(Path(it.file), ''.join(row + '\n' for row in head) + text.removeprefix(MARK))
         rows = ''.join('  %s,\n' % toml_text(sentence) for sentence in sentences)
         write_whole(folder / (name + '.expect.toml'),
-                    '# What is expected of %s without the fault.\nexpect = [\n%s]\n' % (Path(base.name).name, rows))
+                    '# The expectations of %s without the fault.\nexpect = [\n%s]\n' % (Path(base.name).name, rows))
 
 
 def counted(number: int, one: str, many: str) -> str:
@@ -87,7 +87,7 @@ def counted(number: int, one: str, many: str) -> str:
 
 
 def covered_lines(search: Search) -> list[str]:
-    """What was covered, size after size. Nothing is claimed of what wasn't run."""
+    """The coverage, size after size. Nothing is claimed of sets that weren't run."""
     kinds = [counted(sum(fault.kind == kind for fault in search.known.faults), *words)
              for kind, words in KINDS.items() if any(fault.kind == kind for fault in search.known.faults)]
     rows = ['faults: ' + '; '.join(kinds)] if kinds else ['there is no such fault in this scenario']
@@ -105,7 +105,7 @@ def covered_lines(search: Search) -> list[str]:
 
 
 def covered_line(name: str, tally: Tally) -> str:
-    """What was covered of the sets of one size."""
+    """The coverage of the sets of one size."""
     parts = ['{:,} run'.format(tally.run)]
     if tally.decided:
         parts.append('{:,} decided by a smaller set'.format(tally.decided))
@@ -116,7 +116,7 @@ def covered_line(name: str, tally: Tally) -> str:
     if tally.unmade:
         parts.append('{:,} NOT MADE, of which nothing is known'.format(tally.unmade))
     if tally.unjudged:
-        parts.append('{:,} NOT JUDGED by what is left to be decided'.format(tally.unjudged))
+        parts.append('{:,} NOT JUDGED by the undecided expectations'.format(tally.unjudged))
     if tally.done < tally.sets:
         parts.append('{:,} NOT TRIED'.format(tally.sets - tally.done))
     amount = 'all {:,}' if tally.is_whole else '{:,}'
@@ -124,7 +124,7 @@ def covered_line(name: str, tally: Tally) -> str:
 
 
 def is_whole(search: Search) -> bool:
-    """Whether all sets up to the bound were decided."""
+    """Returns whether all sets up to the bound were decided."""
     return all(tally.is_whole for tally in search.tallies.values())
 
 

@@ -1,4 +1,4 @@
-"""What a search has tried, kept in a file, so that it can go on where it was stopped."""
+"""The sets that a search has tried, kept in a file, so that it can continue after it was stopped."""
 from __future__ import annotations
 
 from pathlib import Path
@@ -20,7 +20,7 @@ class Kept:
         self.file: IO[str] | None = None
 
     def open(self, path: Path, digest: str, is_resumed: bool) -> None:
-        """Goes on with the file, or begins a new one. What another search has left there is no help."""
+        """Continues the file, or begins a new one. A file that another search has left there is an error."""
         try:
             if is_resumed:
                 self.read(path, digest)

@@ -61,7 +61,7 @@ def net_of(scenario: Scenario) -> Net:
 
 
 def without_motes(net: Net, removed: frozenset[int]) -> Net:
-    """A net without some motes. The others are numbered anew, in the losses too."""
+    """A net without some motes. The others get new numbers, in the losses too."""
     kept = [mote for mote in range(len(net.motes)) if mote not in removed]
     new = {mote: number for number, mote in enumerate(kept)}
     losses = tuple(Loss(new[it.sender], new[it.receiver], it.every) for it in net.losses

@@ -18,14 +18,14 @@ SPAWNED = [signal.SIGPIPE, signal.SIGXFSZ]
 
 
 class Limits(NamedTuple):
-    """How much a run may take: seconds, bytes of its report, and bytes of memory."""
+    """The limits of a run: seconds, bytes of its report, and bytes of memory."""
     seconds: float = 10.0
     report: int = 16_000_000
     memory: int = 1_024_000_000
 
 
 class Answer(NamedTuple):
-    """What the program answers. Of a run that was stopped, `stopped` says by which limit."""
+    """The result of a run. If the run was stopped, `stopped` names the limit."""
     status: int
     report: bytes
     fault: str
@@ -40,7 +40,7 @@ def _ring(number: int, frame: FrameType | None) -> None:
     raise _Late
 
 
-# The shortest and the longest pause between two looks at a run, in seconds, where no alarm can be set.
+# The shortest and the longest pause between two looks at a run, in seconds, if no alarm can be set.
 PAUSE, LONGEST_PAUSE = 0.0005, 0.02
 
 
@@ -54,7 +54,7 @@ class OneProgram:
         self.actions = [(os.POSIX_SPAWN_DUP2, file, at) for at, file in enumerate(files)]
 
     def run(self, scenario: bytes) -> Answer:
-        """What the program answers to a scenario."""
+        """Runs a scenario and returns the result."""
         for file in self.given, self.report, self.fault:
             os.ftruncate(file, 0)
             os.lseek(file, 0, os.SEEK_SET)
@@ -75,7 +75,7 @@ class OneProgram:
         return self.answer(status)
 
     def wait_by_alarm(self, child: int) -> int | None:
-        """The status of a run, or None once its time is over. Alarms come to the main thread alone."""
+        """The status of a run, or None once its time is over. Only the main thread gets alarms."""
         before = signal.signal(signal.SIGALRM, _ring)
         status = None
         try:

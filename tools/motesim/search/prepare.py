@@ -1,4 +1,4 @@
-"""What is looked at before a search: the run without a fault, and motes that are to fail or to start late.
+"""The checks before a search: the run without a fault, and motes that are to fail or to start late.
 
 A mote fails, or starts late, by a process that its program gets. Whether that process itself changes anything is found
 out by a run: with a moment past the end, or for a late start with the moment 0, the report has to be the one without
@@ -72,16 +72,16 @@ def difference(base: Base, plain: Plain, program: OneProgram, mote: int, kind: s
 
 
 class Prepared(NamedTuple):
-    """The faults to search with, those that can't be made with the reasons, and what is blind.
+    """The faults to search with, those that can't be made with the reasons, and the blind ones.
 
-    blind  of each fault the expectations that the added process breaks by itself, so that nothing is said of them
+    blind  of each fault the expectations that the added process breaks by itself, so that the search can't judge them
     """
     faults: list[FaultyPart]
     left_out: list[str]
     blind: dict[int, int]
 
     def blind_of(self) -> Callable[[Set], int]:
-        """A function that says of a set of which expectations nothing is said."""
+        """A function from a set to the expectations that can't be judged with it."""
         blind = self.blind
 
         def found(faults: Set) -> int:

@@ -1,4 +1,4 @@
-"""How far a search is, on standard error."""
+"""The progress of a search, on standard error."""
 from __future__ import annotations
 
 import json
@@ -16,7 +16,7 @@ ON_TERMINAL, ELSEWHERE = 0.2, 30.0
 
 
 class Progress:
-    """The sets that are done, the rate, and how long the others of this size will take."""
+    """The sets that are done, the rate, and how long the others of this size will last."""
 
     def __init__(self, as_json: bool = False) -> None:
         self.as_json = as_json
@@ -51,7 +51,7 @@ class Progress:
         print(json.dumps(told), file=sys.stderr, flush=True)
 
     def end(self, search: Search) -> None:
-        """Takes the line away; on a terminal it says how long the search took."""
+        """Removes the line; on a terminal it then says how long the search lasted."""
         if self.is_terminal:
             print('\r\033[K%.1f seconds, %d runs per second' % (
                 search.seconds, search.runs / max(search.seconds, 0.001)), file=sys.stderr, flush=True)

@@ -1,6 +1,6 @@
-"""Says which sentences hold of a report, from the report's bytes.
+"""Finds which sentences hold of a report, from the report's bytes.
 
-`QuickJudge(sentences).broken(report, scenario, wanted)` gives the numbers of the sentences that are broken, as
+`QuickJudge(sentences).broken(report, scenario, wanted)` returns the numbers of the sentences that are broken, as
 `motesim.judge` finds them. Only the lines that the sentences speak of are read. It doesn't say why a sentence is
 broken; forms of sentences that it doesn't know are left to `motesim.judge`.
 """
@@ -19,7 +19,7 @@ from motesim.judge.sentences import (
 )
 
 OUTCOMES = {'collided': 'collide', 'received': 'recv', 'full': 'lost'}
-# A line of a trace, as it stands: its moment, and the words behind its kind.
+# A line of a trace, in its own form: its moment, and the words behind its kind.
 Row = tuple[str, str]
 # The moments of a window: the first and the last one, or None for no last one.
 Span = tuple[int, int | None]
@@ -75,7 +75,7 @@ class Hops:
         return {sum(1 << s for s in heard - value.but)}
 
     def spans(self, window: Window, mote: int) -> list[Span]:
-        """The moments that a window stands for, of a mote."""
+        """The moments of a window, for a mote."""
         begin, end, every = window.begin, window.end, window.every
         if every and end is not None:
             return [(at, min(at + every - 1, end)) for at in range(begin, end + 1, every)]
@@ -85,13 +85,13 @@ class Hops:
 
 # (for so many motes their lines are looked for mote by mote)
 FEW = 3
-# Kinds that are reserved words: they stand in no other line, and a line has more behind them.
+# Kinds that are reserved words: they are in no other line, and a line has more after them.
 COUNTED = frozenset(('send', 'print', 'start', 'post'))
 
 
 @cache
 def form_of(kind: str) -> re.Pattern[str]:
-    """What finds the lines of a kind, with their moments and further words, and the heads of motes."""
+    """The pattern that finds the lines of a kind, with their moments and further words, and the heads of motes."""
     return re.compile(r'\n(?:(\d+) %s\b ?(.*)|(mote) )' % kind)
 
 
@@ -113,7 +113,7 @@ class Seen:
         return ('\n' + self.trace).split('\nmote ')[1:]
 
     def take_all(self, kind: str) -> None:
-        """Takes the lines of a kind of all motes at once."""
+        """Reads the lines of a kind of all motes at once."""
         if kind in self.of_all:
             return
         found: list[list[Row]] = []
@@ -134,7 +134,7 @@ class Seen:
         return self.of_one[kind, mote]
 
     def count(self, mote: int, kind: str) -> int:
-        """How many lines of one of the kinds of `COUNTED` a mote has."""
+        """Counts the lines of a mote that have one of the kinds of `COUNTED`."""
         return self.sections[mote].count(' %s ' % kind)
 
     @cached_property
@@ -164,7 +164,7 @@ class _Unknown(Exception):
     """A form of sentence that is left to `motesim.judge`."""
 
 
-# Of each class of a sentence the parts that the checks here look at. Where another part says something, the sentence is
+# Of each class of a sentence the parts that the checks here look at. If another part has a value, the sentence is
 # left to `motesim.judge`.
 LOOKED_AT: dict[type, frozenset[str]] = {kind: frozenset(names.split()) for kind, names in {
     Does: 'motes deed count window is_counted', Motes: 'kind numbers but count', Deed: 'patterns way value values',
@@ -173,7 +173,7 @@ LOOKED_AT: dict[type, frozenset[str]] = {kind: frozenset(names.split()) for kind
 
 
 def _check_parts(it: object) -> None:
-    """Whether all that a sentence says is in parts that are looked at."""
+    """Checks that all of a sentence is in parts that are looked at."""
     if isinstance(it, tuple):
         for member in it:
             _check_parts(member)
@@ -191,7 +191,7 @@ LinesOf = Callable[[Seen, int], list[Row]]
 
 
 def _lines_of(pattern: Pattern) -> LinesOf:
-    """A function that gives the lines of a mote which have this pattern."""
+    """A function that returns the lines of a mote which have this pattern."""
     kind, fields = str(pattern[0]), pattern[1:]
     count = len(FIELDS[kind].split())
     if len(fields) > count:
@@ -248,7 +248,7 @@ Unit = Callable[[Seen, int], bool]
 
 
 def _is_count(it: Does) -> bool:
-    """Whether all that is asked is how many lines of a kind of `COUNTED` there are."""
+    """Returns whether a sentence needs only the number of lines of a kind of `COUNTED`."""
     return it.deed.way == 'any' and it.window == Window() and it.deed.patterns[0] in [(kind,) for kind in COUNTED]
 
 
@@ -271,14 +271,14 @@ def _unit(it: Does) -> Unit:
 
 
 def _with_hops(window: Window, root: int, lines: LinesOf, holds: Holds, seen: Seen, mote: int) -> bool:
-    """Whether the lines of a mote in a window, later for each hop from the root, are those that are wanted."""
+    """Returns whether a mote has the wanted lines in a window, which is later for each hop from the root."""
     later = window.hop * seen.links.hops(root, mote)
     end = None if window.end is None else window.end + later
     return holds(seen, _inside(lines(seen, mote), window.begin + later, end), mote)
 
 
 def _or_not_reached(unit: Unit, seen: Seen, mote: int) -> bool:
-    """What a unit says, which is false if there are no hops to its mote."""
+    """Returns the value of a unit, which is false if there are no hops to its mote."""
     try:
         return unit(seen, mote)
     except NotReached:
@@ -298,7 +298,7 @@ def _does(it: Does) -> Check:
 
 
 def _judged(motes: Motes, unit: Unit, kind: str, seen: Seen) -> bool:
-    """Whether as many motes as are meant do something, which lines of one kind show, or their mere count."""
+    """Returns whether the wanted number of motes do something, by lines of one kind, or by their mere count."""
     chosen = _chosen(motes, seen)
     if kind and len(chosen) > FEW:
         seen.take_all(kind)
@@ -313,7 +313,7 @@ def _judged(motes: Motes, unit: Unit, kind: str, seen: Seen) -> bool:
 
 
 def _counted(seen: Seen, rows: Iterable[tuple[int, int]], count: Count, window: Window) -> bool:
-    """Whether so many of the rows, each a moment and its mote, are in a window, or in each of its parts."""
+    """Returns whether so many of the rows, each a moment and its mote, are in a window, or in each of its parts."""
     try:
         counts = [0] * len(seen.links.spans(window, window.root or 0))
         for at, mote in rows:

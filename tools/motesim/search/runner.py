@@ -1,4 +1,4 @@
-"""Gives the runs of a search to processes here, in batches, and takes what comes of them."""
+"""Sends the runs of a search to processes of this machine, in batches, and collects the results."""
 from __future__ import annotations
 
 import itertools
@@ -14,7 +14,7 @@ from motesim.faults import Fault
 from motesim.search.work import Bench, Outcome, Task, Work
 
 BATCH = 16
-# After so many seconds a batch gives back what it has not begun, so that slow runs hold nothing up.
+# After so many seconds a batch returns the runs that it has not begun, so that slow runs delay nothing.
 LONGEST_BATCH = 1.0
 _bench: Bench | None = None
 
@@ -42,7 +42,7 @@ class Runner(Protocol):
     """Runs tasks, a batch at a time."""
 
     def outcomes(self, tasks: Iterator[Task], is_over: IsOver) -> Iterator[Outcome]:
-        """What comes of the tasks, as it comes; no more are begun once it is over."""
+        """Yields the results of the tasks, in the order of their arrival; no more are begun once it is over."""
 
     def close(self) -> None:
         """Ends what was begun for it."""

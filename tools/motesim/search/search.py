@@ -1,6 +1,6 @@
 """The search: all sets of faults up to a size, the smaller ones first, and then a sample of larger ones.
 
-`Search.run(...)` goes on until all is tried, or a limit or Ctrl-C ends it. What was covered is in `tallies` by size and
+`Search.run(...)` continues until all is tried, or a limit or Ctrl-C ends it. The coverage is in `tallies` by size and
 in `sample`; what was found is in `known.minimal`.
 """
 from __future__ import annotations
@@ -21,7 +21,7 @@ LARGER = 3
 
 @dataclass
 class Bounds:
-    """How far a search goes: sets of at most so many faults, then a sample; and no more runs or seconds than these."""
+    """The bounds of a search: sets of at most so many faults, then a sample; and limits on runs and seconds."""
     at_most: int = 1
     sample: int = 0
     seed: int = 1
@@ -47,7 +47,7 @@ class Search:
 
     @property
     def unjudged(self) -> int:
-        """The expectations of which nothing is said with some of the faults."""
+        """The expectations that can't be judged with some of the faults."""
         mask = 0
         for number in range(len(self.known.faults)):
             mask |= self.blind((number,))
@@ -66,7 +66,7 @@ class Search:
         return time.monotonic() - self.begin
 
     def is_over(self) -> bool:
-        """Whether a limit has come, or the user asked for the end."""
+        """Returns whether a limit is reached, or the user asked for the end."""
         if self.is_stopped or self.asks_end():
             self.is_stopped, self.ended_by = True, 'it was stopped'
         elif self.bounds.runs is not None and self.given >= self.bounds.runs:
@@ -94,7 +94,7 @@ class Search:
             self.reduce(outcome, runner)
 
     def reduce(self, outcome: Outcome, runner: Runner) -> None:
-        """Takes faults away from a set of the sample as long as it breaks the same, and notes what is left."""
+        """Removes faults from a set of the sample as long as it breaks the same, and notes the rest."""
         for number in range(outcome.broken.bit_length()):
             bit = 1 << number
             faults = outcome.faults
@@ -113,7 +113,7 @@ class Search:
     def try_sets(self, sets: Iterator[Set], tally: Tally, runner: Runner, size: int,
                  hold: Callable[[Outcome], None] | None = None) -> None:
         """Tries the sets of one size, which are decided by themselves and by smaller ones."""
-        # (what is minimal among sets of one size depends on the smaller ones alone)
+        # (which sets of one size are minimal depends only on the smaller ones)
         found: list[Outcome] = []
         for outcome in runner.outcomes(self.tasks(sets, tally, found), self.is_over):
             self.kept.add(outcome)
@@ -127,7 +127,7 @@ class Search:
                 self.known.add(outcome.faults, outcome.broken)
 
     def tasks(self, sets: Iterator[Set], tally: Tally, found: list[Outcome]) -> Iterator[Task]:
-        """The sets that are to be run. What is decided or known already is noted at once."""
+        """The sets that are to be run. Those that are decided or known already are noted at once."""
         for it in sets:
             left = self.known.left(it)
             wanted = left & ~self.blind(it)

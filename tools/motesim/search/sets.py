@@ -1,6 +1,6 @@
-"""Sets of faults: how many there are, which are still to be tried, and what is known of them.
+"""Sets of faults: how many there are, which are still to be tried, and the known results.
 
-Faults are meant by their numbers, and sets are tuples of these, in rising order. Which of the expectations a set breaks
+Faults have numbers, and sets are tuples of these, in rising order. Which of the expectations a set breaks
 is a number with the bit e for expectation e. A set is *minimal* for an expectation if it breaks it and no smaller set
 in it does.
 """
@@ -19,14 +19,14 @@ Set = tuple[int, ...]
 
 @dataclass
 class Tally:
-    """What became of the sets of one size: how many there are, and how many of them
+    """The results of the sets of one size: how many there are, and how many of them
 
     run       were run
     decided   weren't, since smaller sets in them break all that is expected
     same      weren't, since they make the same scenario as a smaller set in them
     stopped   ran into a limit, so that nothing is known of them
     unmade    can't be made in the text, or are refused by the program
-    unjudged  have a fault with which nothing is said of what is left to be decided
+    unjudged  have a fault with which the undecided expectations can't be judged
     """
     sets: int = 0
     run: int = 0
@@ -42,12 +42,12 @@ class Tally:
 
     @property
     def is_whole(self) -> bool:
-        """Whether each of the sets is decided."""
+        """Returns whether each of the sets is decided."""
         return self.done == self.sets and not (self.stopped or self.unmade or self.unjudged)
 
 
 def count_of(faults: Sequence[FaultyPart], size: int) -> int:
-    """How many sets of this size there are, of faults that change different things."""
+    """The number of sets of this size, of faults that change different things."""
     ways = [1] + [0] * size
     for alternatives in Counter(fault.slot for fault in faults).values():
         for taken in range(size, 0, -1):
@@ -63,7 +63,7 @@ class Known:
     minimal: dict[Set, int] = field(default_factory=dict)
 
     def is_possible(self, found: Set) -> bool:
-        """Whether the faults of a set change different things."""
+        """Returns whether the faults of a set change different things."""
         return len({self.faults[number].slot for number in found}) == len(found)
 
     def broken_within(self, found: Set) -> int:

@@ -1,7 +1,7 @@
 """Makes a scenario that fails an expectation as small as it gets, by delta debugging.
 
 One step after another is tried, and each is checked by a run: the expectation still has to be broken, in the same way,
-by a report that is no longer than the first one. It ends where no step is left, so the result is one-minimal.
+by a report that is no longer than the first one. It ends when no step is left, so the result is one-minimal.
 """
 from __future__ import annotations
 
@@ -38,7 +38,7 @@ class Case(NamedTuple):
 
 
 def way_of(broken: Broken) -> str:
-    """The way in which a sentence is broken: what is said of it without the numbers, but for a 0.
+    """The way in which a sentence is broken: the explanation without the numbers, except a 0.
 
     A line that is one too many, or wrong, is another way than one that isn't there.
     """
@@ -47,7 +47,7 @@ def way_of(broken: Broken) -> str:
 
 
 def moved(effect: Effect, removed: frozenset[int]) -> Effect | None:
-    """The effect of a fault once motes are removed, or None where it is on one of these."""
+    """The effect of a fault once motes are removed, or None if it is on one of these."""
     found = list(effect)
     for at in MOTES_OF.get(str(effect[0]), ()):
         mote = int(effect[at])
@@ -80,12 +80,12 @@ class Seen(NamedTuple):
             return None
 
     def is_broken(self, sentence: str) -> bool:
-        """Whether a sentence is broken, or speaks of what isn't there any more."""
+        """Returns whether a sentence is broken, or names something that the scenario no longer has."""
         read = self.read(sentence)
         return read is None or bool(QuickJudge([read]).broken(self.report, self.scenario))
 
     def broken(self, sentence: str) -> Broken | None:
-        """What breaks a sentence; nothing breaks one that speaks of what isn't there any more."""
+        """Returns the lines that break a sentence; None if it names something that the scenario no longer has."""
         read = self.read(sentence)
         if read is None or not self.is_broken(sentence):
             return None
@@ -108,12 +108,12 @@ class Shrinking:
         self.way = self.way_now(self.case)
         self.longest = self.last
         if self.way is None:
-            more = ' by these faults alone' if self.case.effects else ', or breaks a sentence of --keep' * bool(
+            more = ' only by these faults' if self.case.effects else ', or breaks a sentence of --keep' * bool(
                 self.case.keeps)
             raise Fault('the scenario does not break `%s`%s' % (self.case.sentence, more))
 
     def seen(self, text: str) -> Seen | None:
-        """The report of a text, or None where there is none that is short enough."""
+        """The report of a text, or None if there is none that is short enough."""
         self.runs += 1
         answer = self.program.run(text.encode())
         self.last = max(self.last, len(answer.report))
@@ -137,7 +137,7 @@ class Shrinking:
         return way_of(broken) if broken else None
 
     def after(self, step: NetStep) -> Case | None:
-        """The case after a step, or None where the sentence or a fault can't follow it."""
+        """The case after a step, or None if the sentence or a fault can't follow it."""
         case = self.case
         if not step.removed:
             return case._replace(net=step.net)
@@ -151,7 +151,7 @@ class Shrinking:
         return Case(step.net, known[0], left, tuple(known[1:]))
 
     def run(self) -> None:
-        """Takes steps until none is left, or the user asks for the end."""
+        """Takes steps until none is left, or the user ends it."""
         goes_on = True
         while goes_on:
             goes_on = False
@@ -162,7 +162,7 @@ class Shrinking:
                     return
 
     def take_all(self, name: str) -> bool:
-        """Takes steps of one sort, as long as there are any; says whether one was taken."""
+        """Takes steps of one sort, as long as there are any; returns whether one was taken."""
         found = False
         at = 0
         while not self.is_over():
@@ -182,7 +182,7 @@ class Shrinking:
 
     @property
     def text(self) -> str:
-        """The scenario as it is now, with its faults."""
+        """The present scenario, with its faults."""
         return with_effects(self.case.net.text, self.case.effects)
 
 

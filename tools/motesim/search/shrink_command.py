@@ -36,7 +36,7 @@ def first_broken(base: Base, path: Path, program: OneProgram) -> str:
 
 
 def sizes(text: str) -> str:
-    """How large a scenario is."""
+    """The sizes of a scenario, in words."""
     net = net_of(Scenario.parse(text))
     statements = sum(statements_in(program) for _, program in net.programs)
     parts = [(len(net.motes), 'mote', 'motes'), (len(net.losses), 'loss', 'losses'),

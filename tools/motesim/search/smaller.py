@@ -1,7 +1,7 @@
 """Smaller programs: each way to take one step from a program to a smaller one.
 
 Each step leaves fewer words, or a number for a name, or a smaller number, so that steps come to an end. Some of what
-comes out is no program, as when a variable goes that is used; whoever takes a step looks at that.
+comes out is no program, as when a variable goes that is used; callers have to check that.
 """
 from __future__ import annotations
 
@@ -82,13 +82,13 @@ def shown(it: Statement) -> str:
 
 
 def unfolded(it: Statement) -> Changed:
-    """What a statement with blocks holds, without the statement."""
+    """Replaces a statement with blocks by the statements in them."""
     if isinstance(it, If):
-        yield 'takes the block of `%s` out of it' % shown(it), it.yes
+        yield 'replaces `%s` by its block' % shown(it), it.yes
         if it.no is not None:
-            yield 'takes the block of `else` of `%s` out of it' % shown(it), it.no
+            yield 'replaces `%s` by the block of its `else`' % shown(it), it.no
     elif isinstance(it, While):
-        yield 'takes the block of `%s` out of it' % shown(it), it.block
+        yield 'replaces `%s` by its block' % shown(it), it.block
 
 
 def statements(it: Statement) -> Iterator[tuple[str, Statement]]:
@@ -208,5 +208,5 @@ def _count(block: Block) -> int:
 
 
 def statements_in(program: Program) -> int:
-    """How many statements a program has."""
+    """The number of statements of a program."""
     return sum(_count(part.block) for code in program.codes for part in code.parts)

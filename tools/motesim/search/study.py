@@ -10,8 +10,8 @@
     expect = ["every mote but 0 prints flood 1"]
     breaks = []
 
-`breaks` has all minimal sets of faults that break any of the sentences, each in the words of tools/search. Where they
-are many, `counts` has in place of them how many there are of each size.
+`breaks` has all minimal sets of faults that break any of the sentences, each in the words of tools/search. If they
+are many, `counts` has instead how many there are of each size.
 """
 from __future__ import annotations
 
@@ -66,7 +66,7 @@ def asking_of(study: dict[str, Any], scenario: Path) -> Asking:
 
 
 def wrong_with(study: dict[str, Any], asking: Asking, processes: int) -> list[str]:
-    """What is otherwise than expected, and else nothing."""
+    """The difference from the expected results, or an empty text."""
     search = asking.search(processes, Kept())
     found = found_by(search, asking.texts)
     rows = asking.notes
@@ -83,7 +83,7 @@ def wrong_with(study: dict[str, Any], asking: Asking, processes: int) -> list[st
 
 
 def check_studies(path: Path, processes: int) -> tuple[int, int]:
-    """Checks the studies of a file, says what comes of each, and counts those that came out as expected, and others."""
+    """Checks the studies of a file, prints their results, and counts those that are as expected, and the others."""
     scenario, studies = studies_of(path)
     passed = failed = 0
     for study in studies:

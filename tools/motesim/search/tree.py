@@ -1,6 +1,6 @@
 """Programs as trees that never change, so that smaller ones can be made of them.
 
-`read_program(text)` gives the tree of a text that is a program; `program_text(program)` writes it in the canonical
+`read_program(text)` returns the tree of a text that is a program; `program_text(program)` writes it in the canonical
 layout of docs/use/NOTATION.md. An expression is a word, a test as `fired(t)`, a negation or an operation.
 """
 from __future__ import annotations

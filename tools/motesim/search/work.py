@@ -22,7 +22,7 @@ class Task(NamedTuple):
 
 
 class Outcome(NamedTuple):
-    """What came of a set: how it ended (run, same, stopped or unmade), which expectations it breaks, and why it
+    """The result of a set: how it ended (run, same, stopped or unmade), which expectations it breaks, and why it
     wasn't run."""
     faults: Set
     became: str
@@ -31,7 +31,7 @@ class Outcome(NamedTuple):
 
 
 class Work(NamedTuple):
-    """What all runs of a search have in common."""
+    """The data that all runs of a search share."""
     base: Base
     faults: list[FaultyPart]
     sentences: list[Sentence]
@@ -49,7 +49,7 @@ def mask_of(numbers: list[int]) -> int:
 
 
 class Bench:
-    """What is needed for a run, kept from one run to the next."""
+    """The things that a run needs, kept from one run to the next."""
 
     def __init__(self, work: Work):
         self.base, self.faults = work.base, work.faults
@@ -60,11 +60,11 @@ class Bench:
         return change_of([self.faults[number] for number in found], self.base)
 
     def is_same(self, found: Set, change: Change) -> bool:
-        """Whether a smaller set makes the same scenario."""
+        """Returns whether a smaller set makes the same scenario."""
         return len(found) > 1 and any(self.change(found[:at] + found[at + 1:]) == change for at in range(len(found)))
 
     def text(self, found: Set) -> str:
-        """The scenario with these faults; each single one is read back, so that the text holds what is judged."""
+        """The scenario with these faults; each single one is read back, so that the text has exactly these faults."""
         change = self.change(found)
         text = self.base.text(change)
         if len(found) == 1:
@@ -92,7 +92,7 @@ class Bench:
 
 
 def check_text(text: str, change: Change, base: Base) -> None:
-    """Whether a text that was changed is read as what was meant."""
+    """Checks that a changed text means the intended scenario."""
     read, meant = Scenario.parse(text), base.scenario(change)
     same = all(getattr(read, name) == getattr(meant, name)
                for name in ('end', 'range', 'base', 'per', 'collide', 'losses'))

@@ -109,7 +109,7 @@ def prints_of_programs(scenario: Scenario) -> dict[str, dict[str, list[str]]]:
 
 
 def difference(before: Finished, after: Finished, is_pinned: bool) -> dict[str, Any]:
-    """The differences of a run from another one: the lines of tools/compare, and as data the first difference (`first`),
+    """The differences between two runs: the lines of tools/compare, and as data the first difference (`first`),
     the moment of the first one in each trace (`parts`), and the motes that run another program (`motes`)."""
     one = before.named('the pinned run' if is_pinned else 'the run before')
     lines, first, is_same = compared(one, after.named('this run'), MOST_ROWS)

@@ -1,4 +1,4 @@
-"""Answers the questions of the page.
+"""Handles the requests of the page.
 
 `Session(desk, runs).answer('run', {...})` returns an `Answered`, or raises a `Fault` whose text the page shows.
 """

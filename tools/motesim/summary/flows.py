@@ -24,7 +24,8 @@ from motesim.judge.sentences import names_of, processes_of
 Row = dict[str, Union[int, float, str, None]]
 NAMES = ['origin', 'sent', 'delivered', 'ratio', 'reached', 'copies', 'duplicates', 'hops', 'least', 'middle', 'most']
 NAMES_BY = ['from', 'to', 'sent', 'delivered', 'ratio', 'reached', 'copies', 'duplicates', 'least', 'middle', 'most']
-FORM = re.compile(r'\s*(?:(send|recv)|print\s+([A-Za-z][A-Za-z0-9_]*))(?:\s+([0-9]{1,5})(?:\s+to\s+([0-9]{1,5}))?)?\s*')
+FORM = re.compile(r'\s*(?:(send|recv)|print\s+([A-Za-z][A-Za-z0-9_]*))'
+                  r'(?:\s+([0-9]{1,5})(?:\s+to\s+([0-9]{1,5}))?)?\s*')
 
 
 class FlowFault(Fault):
@@ -62,7 +63,7 @@ class Message:
 
 
 def read_flow(words: str) -> tuple[Mark, Mark]:
-    """Where messages begin and end: `print sink`, `recv`, or `print source -> print sink`."""
+    """The lines at which messages begin and end: `print sink`, `recv`, or `print source -> print sink`."""
     parts = words.split('->')
     marks = [FORM.fullmatch(part) for part in parts]
     if len(parts) > 2 or not all(marks):

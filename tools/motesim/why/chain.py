@@ -9,7 +9,7 @@ from motesim.why.replay import SYSTEM, Frame, Link, Replay
 from motesim.why.source import At, Source
 from motesim.why.translate import Program
 
-# Where the time of a chain goes.
+# The uses of a chain's time.
 WAITS = ('timer', 'full', 'medium', 'queue')
 WIDEST = 60
 
@@ -127,7 +127,7 @@ class Explainer:
             frame = frame.made_by
 
     def of_call(self, kind: str, link: Link) -> str:
-        """Why a line is there that was written in a call."""
+        """The reason for a line that was written in a call."""
         frame = link.frame
         if kind == 'leave' and not link.row and frame:
             own = '%s %s' % (self.name(frame.process),
@@ -159,7 +159,7 @@ class Explainer:
         return int(self.replay.trace[at].rsplit(' ', 1)[1])
 
     def because(self, at: int) -> str:
-        """Why a line is there."""
+        """The reason for a line."""
         words, link = self.replay.trace[at].split(' '), self.replay.links[at]
         kind = words[1]
         if link.how == 'boot':
@@ -180,7 +180,7 @@ class Explainer:
         return self.of_call(kind, link)
 
     def of_copy(self, words: list[str]) -> str:
-        """Why a packet came, and what became of it."""
+        """The reason why a packet came, and its fate."""
         sent = self.source.traces.send_of(int(words[2]), int(words[3]))
         later = int(words[0]) - (self.source.traces.moment(sent) if sent else 0)
         told = 'packet %s of mote %s came, after %s on the way' % (words[3], words[2], count(later, 'moment'))
@@ -222,7 +222,7 @@ def chain(source: Source, where: At) -> list[Hop]:
 
 
 class Path(NamedTuple):
-    """Where the time of a chain went: moments and how often, by what was waited for."""
+    """The uses of a chain's time: moments and how often, by what was waited for."""
     moments: int
     waits: dict[str, tuple[int, int]]
 

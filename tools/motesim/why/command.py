@@ -71,7 +71,7 @@ def show_state(source: Source, asked: argparse.Namespace) -> int:
 
 
 def show_other(source: Source, asked: argparse.Namespace) -> None:
-    """Shows where a run leaves the chain of another run, in which the line is there."""
+    """Shows the point at which a run leaves the chain of another run, in which the line exists."""
     other = read_source(asked.other, asked.other_scenario)
     found = Asker(other).about(asked.question)
     print()
@@ -85,7 +85,7 @@ def show_other(source: Source, asked: argparse.Namespace) -> None:
 
 
 def show_why(source: Source, asked: argparse.Namespace) -> int:
-    """Shows a chain, or what came near."""
+    """Shows a chain, or the near misses."""
     asker = Asker(source)
     found = asker.about(asked.question)
     if not isinstance(found, Asked):

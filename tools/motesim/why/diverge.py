@@ -1,4 +1,4 @@
-"""Where the chain of a line in one run has no counterpart in another run: docs/use/WHY.md."""
+"""The point at which the chain of a line in one run has no counterpart in another run: docs/use/WHY.md."""
 from __future__ import annotations
 
 from typing import NamedTuple
@@ -36,7 +36,7 @@ def counterpart(one: Source, other: Source, where: At) -> At | None:
 
 
 def diverged(one: Source, other: Source, where: At) -> Diverged | None:
-    """Where a chain of one run leaves the other; None if the other has all of it."""
+    """The point at which a chain of one run leaves the other; None if the other has all of it."""
     hops = chain(one, where)[::-1]
     last, there = hops[0], At(hops[0].where.mote, -1)
     for common, hop in enumerate(hops):
@@ -48,7 +48,7 @@ def diverged(one: Source, other: Source, where: At) -> Diverged | None:
 
 
 def instead(one: Source, other: Source, hop: Hop, there: At) -> str:
-    """What the other run has where a hop would follow."""
+    """The lines of the other run at the point where a hop would follow."""
     words = one.traces.text(hop.where).split(' ')
     if hop.how == 'medium':
         packet = other.traces.packet(int(words[2]), int(words[3]))

@@ -1,4 +1,4 @@
-"""What became of a copy of a packet, from its send to the process that takes it: docs/use/REPORT.md."""
+"""The fate of a copy of a packet, from its send to the process that takes it: docs/use/REPORT.md."""
 from __future__ import annotations
 
 from typing import NamedTuple
@@ -9,12 +9,12 @@ from motesim.why.source import At, Source
 
 
 class Fate(NamedTuple):
-    """What became of a copy.
+    """The fate of a copy.
 
     how    taken, dropped, waiting (in the queue at the end), full, deaf, ring, collided, lost, halted, late, unheard
     words  the same in words
     at     the moment at which that was decided
-    where  the line that says so; None if none does
+    where  the line that shows it; None if none does
     row    the line of the report that says so, also of the medium; 0 if none does
     """
     how: str
@@ -29,7 +29,7 @@ class Fate(NamedTuple):
 
 
 def after_post(source: Source, post: At) -> Fate:
-    """What became of an event that was posted."""
+    """The fate of an event that was posted."""
     lines = source.traces.lines(post.mote)
     serial = lines[post.place].split(' ')[2]
     for place in range(post.place + 1, len(lines)):
@@ -49,7 +49,7 @@ def after_post(source: Source, post: At) -> Fate:
 
 
 def after_recv(source: Source, recv: At) -> Fate:
-    """What became of a packet that was received."""
+    """The fate of a packet that was received."""
     links = source.replay(recv.mote).links
     for place in range(recv.place + 1, len(links)):
         if links[place].how == 'packet' and links[place].line == recv.place:
@@ -66,7 +66,7 @@ def after_recv(source: Source, recv: At) -> Fate:
 
 
 def fate_of(source: Source, row: int, words: list[str], to: int) -> Fate:
-    """What became of a packet on its way to a mote, by its line of the medium."""
+    """The fate of a packet on its way to a mote, by its line of the medium."""
     sender, number = int(words[1]), int(words[2])
     copy = next((it.partition('@')[2] for it in words[4:] if it.partition('@')[0] == str(to)), None)
     if copy is None:
@@ -80,7 +80,7 @@ def fate_of(source: Source, row: int, words: list[str], to: int) -> Fate:
 
 
 def of_arrival(source: Source, sender: int, number: int, to: int, at: int, row: int) -> Fate:
-    """What became of a copy that the medium carried."""
+    """The fate of a copy that the medium carried."""
     if at > source.scenario.end:
         return Fate('late', 'it would arrive at %d, after the end' % at, at, None, row)
     lines = source.traces.lines(to)

@@ -33,7 +33,7 @@ class Filter(NamedTuple):
 class Log:
     """Lines of traces. `all` is how many lines there are without a filter, and `kinds` counts those that are left.
 
-    The columns have the moment, the line of the report, the mote, and where the words after the moment begin and end.
+    The columns have the moment, the line of the report, the mote, and the bounds of the words after the moment.
     """
 
     def __init__(self, traces: Traces):
@@ -65,7 +65,7 @@ class Log:
         return order
 
     def words(self, place: int) -> str:
-        """What follows the moment in a line."""
+        """The words after the moment in a line."""
         return self.text[self.begins[place]:self.ends[place]]
 
     def __len__(self) -> int:
@@ -144,7 +144,7 @@ def add_all(log: Log, mote: int, _: re.Pattern[str], span: tuple[int, int]) -> I
 
 
 def is_inside(line: Found, asker: Asker, it: Copies | Packets) -> bool:
-    """Whether a line is in the time of a sentence, which may depend on the hops of its mote."""
+    """Returns whether a line is in the time of a sentence, which may depend on the hops of its mote."""
     return any(within([line], span) for span in asker.judge.spans(it.window, (line.where.mote,)))
 
 
@@ -177,7 +177,7 @@ def of_sentence(source: Source, sentence: str, it: Filter) -> Log:
 
 
 def total_of(log: Log) -> Counter[str]:
-    """How many lines there are of each kind."""
+    """The number of lines of each kind."""
     total: Counter[str] = Counter()
     for its in log.kinds.values():
         total.update(its)

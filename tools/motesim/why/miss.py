@@ -1,6 +1,6 @@
-"""Why a line that a sentence wants isn't there: what came nearest to it.
+"""The near misses of a line that a sentence wants and that isn't there.
 
-What is reported is in the trace, in the log of the medium, or in the replay of the mote: a line that came too late or
+They are found in the trace, in the log of the medium, or in the replay of the mote: a line that came too late or
 has another value, a copy that was lost, a process that wasn't there, a condition that wasn't true, a neighbour that
 didn't send.
 """
@@ -34,7 +34,7 @@ def last_of(span: Span, source: Source) -> int:
 
 
 class _Misses:
-    """Looks at one mote for what came near."""
+    """Looks for near misses at one mote."""
 
     def __init__(self, asker: Asker, missing: Missing, mote: int):
         self.asker, self.source, self.missing, self.mote = asker, asker.source, missing, mote
@@ -222,7 +222,7 @@ class _Misses:
         return [it for it in reached if self.begin <= it.at <= self.end]
 
     def statement(self, program: Program, replay: Replay, number: int) -> Miss:
-        """How often a statement was reached; and which condition around it wasn't true."""
+        """Reports how often a statement was reached; and which condition around it wasn't true."""
         its = [it for it in replay.reached if it.statement == number and it.holds is None]
         here = self.inside(its)
         words = '%s was %s' % (in_words(program, number), self.reached(len(here)))
@@ -252,16 +252,16 @@ class _Misses:
         return shown if len(reached) <= MOST_OTHERS else '.., ' + shown
 
     def waits(self, program: Program, replay: Replay, process: int) -> Iterator[Miss]:
-        """Where a process stands at the last moment, and how often its condition was tested since."""
+        """Reports where a process waits at the last moment, and how often its condition was tested since."""
         ends = [it for it in replay.calls if it.is_end and it.frame.process == process and it.at <= self.end
                 and it.frame.how != 'callback']
-        if not ends or not ends[-1].stands or not ends[-1].stands[-1]:
+        if not ends or not ends[-1].waits or not ends[-1].waits[-1]:
             return
-        stands = ends[-1].stands[-1]
-        here = [it for it in replay.reached if it.statement == stands and it.at <= self.end]
+        waits = ends[-1].waits[-1]
+        here = [it for it in replay.reached if it.statement == waits and it.at <= self.end]
         came = max(place for place, it in enumerate(here) if it.holds is None)
         tests = len(here) - came - 1
-        words = '%s waits at %s since %d' % (program.processes[process].name, in_words(program, stands),
+        words = '%s waits at %s since %d' % (program.processes[process].name, in_words(program, waits),
                                              here[came].at)
         if tests:
             words += '; its condition was tested %s since, and was never true' % self.times(tests)
@@ -271,7 +271,7 @@ class _Misses:
 
 
 def misses(asker: Asker, missing: Missing) -> list[tuple[int, list[Miss]]]:
-    """What came near, of each mote that a sentence is about: of several together, of the first few."""
+    """Returns the near misses, of each mote that a sentence is about: of several together, of the first few."""
     return [(mote, list(_Misses(asker, missing, mote).found())) for mote in missing.motes[:MOST_OTHERS]]
 
 
@@ -289,7 +289,7 @@ def rows(missing: Missing, found: list[tuple[int, list[Miss]]]) -> list[str]:
     """The same as text."""
     lines = [missing.remark]
     for mote, its in found:
-        lines += ['', 'What came near at mote %d:' % mote]
+        lines += ['', 'Near misses at mote %d:' % mote]
         for it in its:
             lines.append('  %s%s' % (it.words, ' (line %d)' % it.row if it.row else ''))
         if not its:

@@ -12,7 +12,7 @@ from motesim.runner.run import Run
 from motesim.why.chain import Explainer, cause_of, wait_of
 from motesim.why.source import At, Source
 
-# A page with more lines than this doesn't have their causes: finding them all would take longer than the page.
+# A page with more lines than this doesn't have their causes: finding them all would last longer than making the page.
 MOST_LINES = 100_000
 MOST_REASONS = 65_535
 
@@ -25,7 +25,7 @@ def _packed(column: array[int]) -> str:
 
 
 def source_of(run: Run) -> Source:
-    """A run as what is asked about; one without a scenario has no programs."""
+    """The source for questions about a run; one without a scenario has no programs."""
     if run.scenario is None:
         raise Fault('Without its scenario, a report doesn\'t say what caused its lines.')
     return Source(run.name, run.report.text().encode('ascii'), run.scenario)
@@ -70,7 +70,7 @@ class Causes:
 
 
 def causes_of(run: Run) -> dict[str, Any]:
-    """What a page has of causes, or why it has none."""
+    """The causes for a page, or the reason why it has none."""
     lines = sum(len(mote.lines) for mote in run.report.motes)
     if lines > MOST_LINES:
         return {'none': 'A page of more than %s lines does not have their causes: tools/why finds them.' % format(

@@ -25,7 +25,7 @@ ENDLESS = 1_000_000
 
 @dataclass(frozen=True)
 class Asked:
-    """A line that is asked about, and what it is in the question: `holds` says whether the sentence holds."""
+    """The line of a question, and its role there: `holds` says whether the sentence holds."""
     where: At
     holds: bool
     remark: str = ''
@@ -68,7 +68,7 @@ NO_LINE = 'so there is no line to ask about'
 
 
 def does(answer: Answer) -> bool:
-    """Whether what is asked holds."""
+    """Returns whether the answer shows that the sentence holds."""
     return not isinstance(answer, Missing) and answer.holds
 
 
@@ -115,7 +115,7 @@ class Asker:
         return read_sentence(question, names_of(self.source.scenario))
 
     def pattern(self, pattern: Pattern, mote: int) -> bytes | None:
-        """A pattern of words as one of bytes; None where no line can have it."""
+        """A pattern of words as one of bytes; None if no line can have it."""
         fields = FIELDS[str(pattern[0])].split()
         if len(pattern) > 1 + len(fields):
             return None
@@ -200,7 +200,7 @@ class Asker:
         return sorted(found)
 
     def due(self, it: Copies) -> int:
-        """How many copies were due up to the end, at the motes of a sentence."""
+        """The number of copies that were due up to the end, at the motes of a sentence."""
         copies = [word.partition('@') for _, text in self.traces.packets() for word in text.split(' ')[4:]]
         return sum((it.motes is None or int(to) in it.motes) and (at == 'lost' or int(at) <= self.source.scenario.end)
                    for to, _, at in copies)
@@ -256,7 +256,7 @@ class Asker:
         return self.of_many(asked, it.motes.count)
 
     def of_two(self, it: Does) -> Answer:
-        """The line of a sentence that compares two counts, or puts two events in order."""
+        """The line of a sentence that compares two counts, or orders two events."""
         chosen = self.judge.chosen(it.motes)
         broken = Judge(Report.parse(self.traces.data), self.source.scenario).broken(it)
         try:
@@ -340,7 +340,7 @@ class Asker:
         except _Apart as apart:
             return Lineless(False, str(apart))
         broken = next((one for one in answers if not does(one)), None)
-        return broken or first_with_line(answers[::-1]) or Lineless(True, 'no moment is asked about')
+        return broken or first_with_line(answers[::-1]) or Lineless(True, 'the question has no moment')
 
     def of_span(self, it: Does, motes: tuple[int, ...], lines: list[Found], span: Span, name: str) -> Answer:
         inside = within(lines, span)
@@ -369,7 +369,7 @@ class Asker:
 
     def of_list(self, it: Does, motes: tuple[int, ...], inside: list[Found], span: Span, name: str
                 ) -> Asked | Missing:
-        """The line of a sentence with a list of values: the first that is another one, else the last.
+        """The line of a sentence with a list of values: the first that differs, or the last.
 
         The values of several motes together are in the order of the report.
         """

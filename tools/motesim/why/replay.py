@@ -1,7 +1,7 @@
-"""Runs the program of one mote again beside its trace, and notes what caused each line: docs/use/KERNEL.md.
+"""Runs the program of one mote again along its trace, and notes what caused each line: docs/use/KERNEL.md.
 
 What arrives at the mote is read off its trace; all else follows from its program. Each line that the replay writes has
-to be the next line of the trace, so that what it notes is about this very run. A trace that goes on otherwise is a
+to be the next line of the trace, so that what it notes is about this very run. A trace that continues differently is a
 `Parted`: then it isn't the trace of this program.
 """
 from __future__ import annotations
@@ -54,13 +54,13 @@ class Frame(NamedTuple):
 
 
 class Link(NamedTuple):
-    """Why a line is there.
+    """The cause of a line.
 
     how    boot      the mote boots
            call      its process wrote it in a call (`frame`)
            posted    the event was posted by the line `line`
            timer     a timer was due, which was set in a call (`frame`) at the moment `since`, for `interval` moments
-           packet    the radio process hands on what came with the line `line`
+           packet    the radio process passes on the packet of the line `line`
            medium    a packet came
     line   the line of this mote that is the cause, or BOOT; for `medium` BOOT, since the cause is another mote's
     """
@@ -86,14 +86,14 @@ class Change(NamedTuple):
 class Called(NamedTuple):
     """A call of a process began, or ended, after so many lines of the trace.
 
-    stands  at the end: the statements of the program at which it stands, from its body into its threads, by number;
+    waits   at the end: the statements of the program at which it waits, from its body into its threads, by number;
             none if it has ended, and of a process of the system
     """
     lines: int
     at: int
     frame: Frame
     is_end: bool
-    stands: tuple[int, ...] = ()
+    waits: tuple[int, ...] = ()
 
 
 class Reached(NamedTuple):
@@ -160,7 +160,7 @@ class Replay:
         self.is_poll_requested = False
         self.born = dict.fromkeys(self.state, 0)
         self.bodies: dict[int, Body] = {}
-        self.stands = [0] * own
+        self.waits = [0] * own
         self.spawned: list[list[tuple[str, int]]] = [[] for _ in range(own)]
         self.current = 0
         self.events: list[Event] = []
@@ -217,18 +217,18 @@ class Replay:
         raise Halted
 
     def resume(self, process: int) -> None:
-        """A protothread is called where it stands: a unit for each spawn on the way there, and one for the wait."""
+        """Continues a protothread at its wait: a unit for each spawn on the way there, and one for the wait."""
         for _ in range(len(self.spawned[process]) + 1):
             if not self.units:
                 self.halt()
             self.units -= 1
-        self.stands[process] = 0
+        self.waits[process] = 0
 
     def begin_again(self, process: int) -> None:
         """A protothread is called after `restart`: a unit for each spawn on the way there."""
         for _ in self.spawned[process]:
             self.unit()
-        self.stands[process] = 0
+        self.waits[process] = 0
 
     # Processes
 
@@ -251,7 +251,7 @@ class Replay:
 
     def call(self, process: int, event: str, word: int, sender: int, how: str, row: int, line: int | None = None
              ) -> None:
-        """Calls a process that is running; `line` is the cause where it isn't that of the call which is made here."""
+        """Calls a process that is running; `line` is the cause if it isn't that of the call which is made here."""
         if self.state[process] != 1:
             return
         before, current = self.frame, self.current
@@ -266,14 +266,14 @@ class Replay:
         else:
             self.state[process] = 1
         self.is_busy[process] = False
-        self.calls.append(Called(self.lines, self.now, frame, True, self.standing(process)))
+        self.calls.append(Called(self.lines, self.now, frame, True, self.waiting_at(process)))
         self.frame, self.current = before, current
 
-    def standing(self, process: int) -> tuple[int, ...]:
-        """Where a protothread stands."""
+    def waiting_at(self, process: int) -> tuple[int, ...]:
+        """The statements at which a protothread waits."""
         if process < 0 or not self.state[process]:
             return ()
-        return (*(statement for _, statement in self.spawned[process]), self.stands[process])
+        return (*(statement for _, statement in self.spawned[process]), self.waits[process])
 
     def walk(self) -> list[tuple[int, int]]:
         """The processes that are on the list now, each with its incarnation."""
@@ -311,7 +311,7 @@ class Replay:
             self.state[process] = 1
             if process >= 0:
                 self.spawned[process] = []
-                self.stands[process] = 0
+                self.waits[process] = 0
                 body = self.program.processes[process].body
                 assert body
                 self.bodies[process] = body(self)
@@ -340,7 +340,7 @@ class Replay:
         return self.queue(target, event, word, 0, self.of_call(row))
 
     def queue(self, target: int | None, event: str, word: int, sender: int, link: Link) -> int:
-        """Posts an event. 0 where it is accepted, else 1."""
+        """Posts an event. Returns 0 if it is accepted, otherwise 1."""
         if len(self.events) >= self.room:
             self.write('full %s %s %d' % (self.name(target), event, word), link)
             return 1
@@ -458,7 +458,7 @@ class Replay:
             self.start(process, 0)
 
     def arrivals(self) -> None:
-        """What arrives at this moment, as the trace has it."""
+        """Delivers the packets that arrive at this moment, by the trace."""
         head = '%d ' % self.now
         while self.lines < self.count and self.trace[self.lines].startswith(head):
             words = self.trace[self.lines].split(' ')

@@ -1,4 +1,4 @@
-"""What happens in each interval of a run: sends, receptions, losses by cause, queues and delays. docs/use/TOOLS.md."""
+"""Counts for each interval of a run: sends, receptions, losses by cause, queues and delays. docs/use/TOOLS.md."""
 from __future__ import annotations
 
 from collections import Counter
@@ -18,7 +18,7 @@ COUNTED = {'send': 'sent', 'recv': 'received', 'lost': 'ring', 'collide': 'colli
 
 
 class Copy(NamedTuple):
-    """A copy in the log of the medium: where it goes, and when it was sent and would arrive; 0 if it is lost."""
+    """A copy in the log of the medium: its receiver, and when it was sent and would arrive; 0 if it is lost."""
     to: int
     sender: int
     number: int

@@ -1,4 +1,4 @@
-"""A run that is asked about: the report's bytes, and the scenario. A mote's trace is taken apart when it is needed."""
+"""The source for questions about a run: the report's bytes, and the scenario. A trace is parsed when it is needed."""
 from __future__ import annotations
 
 import re
@@ -48,7 +48,7 @@ class Traces:
         self.came: dict[int, dict[tuple[int, int], int]] = {}
 
     def read_heads(self) -> None:
-        """Where each trace begins and ends. A text that is no report gets the fault of the strict reader."""
+        """The bounds of each trace. A text that is no report raises the strict reader's error."""
         data, at, row = self.data, 0, 1
         while True:
             end = data.find(b'\n', at)
@@ -126,7 +126,7 @@ class Traces:
         return self.last_line(mote).endswith(' halt')
 
     def left(self) -> int:
-        """How many copies would arrive after the end."""
+        """The number of copies that would arrive after the end."""
         return int(self.data[self.medium_end:].split(b' ')[1])
 
     def at_row(self, row: int) -> At | None:
@@ -231,7 +231,7 @@ def read_traces(path: str | Path, scenario: str | Path | None = None) -> tuple[b
     data = read_file(path)
     if is_scenario(path, data):
         if scenario is not None:
-            raise Fault('%s: it is a scenario itself, and takes no other' % path)
+            raise Fault('%s: it is itself a scenario, so no other can be given' % path)
         try:
             return run_program(data), Scenario.parse(data)
         except Fault as fault:

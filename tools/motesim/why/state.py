@@ -1,6 +1,6 @@
 """The state of a mote at a moment or after a line: docs/use/WATCH.md.
 
-A report doesn't say where a process waits, or which timers run. The replay of the mote knows both.
+A report doesn't show at which statement a process waits, or which timers run. The replay of the mote knows both.
 """
 from __future__ import annotations
 
@@ -33,7 +33,7 @@ def after_line(source: Source, where: At) -> Replay:
 
 
 def read_state(source: Source, question: str) -> tuple[Replay, int, str]:
-    """The state that is asked for, as `mote 3 at 46` or `3:114`; its moment, and a heading."""
+    """The state for a question such as `mote 3 at 46` or `3:114`; its moment, and a heading."""
     asked = ASKED.fullmatch(question)
     if asked:
         mote, at = int(asked[1]), int(asked[2])
@@ -50,13 +50,13 @@ def read_state(source: Source, question: str) -> tuple[Replay, int, str]:
 
 
 def waits(replay: Replay, process: int) -> str:
-    """Where a process stands."""
+    """The statement at which a process waits."""
     if replay.state[process] == 2:
         return 'is being called'
-    stands = replay.standing(process)
-    if not stands or not stands[-1]:
+    statements = replay.waiting_at(process)
+    if not statements or not statements[-1]:
         return 'begins at its next call'
-    return 'waits at %s' % ', in '.join(in_words(replay.program, it) for it in reversed(stands))
+    return 'waits at %s' % ', in '.join(in_words(replay.program, it) for it in reversed(statements))
 
 
 def as_json(replay: Replay, at: int) -> dict[str, Any]:
@@ -73,10 +73,10 @@ def as_json(replay: Replay, at: int) -> dict[str, Any]:
     processes = []
     for number, name in enumerate(names):
         is_there = number in replay.list
-        stands = replay.standing(number) if is_there else ()
+        statements = replay.waiting_at(number) if is_there else ()
         processes.append({
             'name': name, 'started': is_there, 'waits': waits(replay, number) if is_there else None,
-            'program_line': program.statement(stands[-1]).line if stands and stands[-1] else None,
+            'program_line': program.statement(statements[-1]).line if statements and statements[-1] else None,
             'variables': {variable: replay.variables[number][place]
                           for variable, place in program.processes[number].variables.items()},
             'polled': number in replay.needs_poll})

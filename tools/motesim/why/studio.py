@@ -1,4 +1,4 @@
-"""What the studio asks of a run: why a line is there, the state of a mote, values over time, the lines of a sentence."""
+"""The studio's questions about a run: the reason for a line, a mote's state, values over time, a sentence's lines."""
 from __future__ import annotations
 
 import threading
@@ -46,7 +46,7 @@ class Causes:
         return self.kept[number]
 
     def answer(self, what: str, number: int, run: Run, asked: Said) -> Said:
-        """What a question comes to; what can't be said has its reason in `said`."""
+        """Returns the answer to a question; if there is none, `said` has the reason."""
         does = {'why': self.why, 'state': self.state, 'values': self.values, 'lines': self.lines}
         with self.lock:
             try:
@@ -55,7 +55,7 @@ class Causes:
                 return {'said': str(fault)}
 
     def why(self, source: Source, asked: Said) -> Said:
-        """The chain of a line or of a sentence, or what came near."""
+        """The chain of a line or of a sentence, or the near misses."""
         if 'row' in asked:
             where = source.traces.at_row(_whole(asked, 'row'))
             if where is None:

@@ -1,6 +1,6 @@
 """Translates a mote's program into Python, for the replay: docs/use/NOTATION.md says what each statement does.
 
-Each body and each thread becomes a generator, which yields where its protothread waits; `onpoll`, `onexit` and the
+Each body and each thread becomes a generator, which yields when its protothread waits; `onpoll`, `onexit` and the
 blocks of callback timers become functions. In their code `k` is the replay, `e`, `d` and `f` are the event, its word
 and its sender, and `V` has the variables of the process.
 """
@@ -54,8 +54,8 @@ class Statement(NamedTuple):
     """A statement of a program.
 
     line     the line on which it begins
-    text     its text, without what is in its blocks
-    kind     its first word; `=` of one that gives a variable a value
+    text     its text, without the statements in its blocks
+    kind     its first word; `=` of one that assigns to a variable
     process  in whose code it is, by its number
     around   the statements around it, the outer ones first
     """
@@ -74,7 +74,7 @@ class Place(NamedTuple):
 
 @dataclass
 class Program:
-    """A program: what it declares, and its code; and where its text is, if that is known."""
+    """A program: its declarations and its code; and the place of its text, if that is known."""
     text: str
     processes: list[Process] = field(default_factory=list)
     timers: list[Timer] = field(default_factory=list)
@@ -232,7 +232,8 @@ class _Translator:
         try:
             exec(compile('\n'.join(self.rows), 'the program of a mote', 'exec'), names)
         except (SyntaxError, RecursionError, MemoryError):
-            raise TooDeep('a program nests more than 18 loops in one another, which is too deep for a replay') from None
+            message = 'a program nests more than 18 loops in one another, which is too deep for a replay'
+            raise TooDeep(message) from None
         for name, keeper, attribute in self.functions:
             setattr(keeper, attribute, names[name])
 
@@ -252,14 +253,14 @@ class _Translator:
         """Waits here until a condition holds; at each later call it is looked at again."""
         number = self.process.number
         self.emit('while not %s:' % self.tested(here, goes_on))
-        self.emit(' k.stands[%d] = %d' % (number, here))
+        self.emit(' k.waits[%d] = %d' % (number, here))
         self.emit(' e, d, f = yield')
         self.emit(' k.resume(%d)' % number)
 
     def yield_here(self, here: int) -> None:
         """Waits for the next call."""
         number = self.process.number
-        self.emit('k.stands[%d] = %d' % (number, here))
+        self.emit('k.waits[%d] = %d' % (number, here))
         self.emit('e, d, f = yield')
         self.emit('k.resume(%d)' % number)
 
@@ -347,7 +348,7 @@ class _Translator:
 
     def do_restart(self, here: int) -> None:
         number = self.process.number
-        self.emit('k.stands[%d] = %d' % (number, here))
+        self.emit('k.waits[%d] = %d' % (number, here))
         self.emit('e, d, f = yield')
         self.emit('k.begin_again(%d)' % number)
         self.emit('raise Restart')
@@ -432,7 +433,7 @@ class _Translator:
         return word
 
     def test(self, word: str, name: str) -> str:
-        """What stands before and between round brackets, as `fired(t)`."""
+        """The name before round brackets and the text between them, as in `fired(t)`."""
         if word == 'is':
             return '(1 if e == %r else 0)' % name
         if word == 'fired':

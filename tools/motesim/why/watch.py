@@ -1,6 +1,6 @@
 """The values of variables over time, by prints that are added to a program: docs/use/WATCH.md.
 
-After each statement that gives a watched variable a value, two prints are added: a mark, which the process never
+After each assignment to a watched variable, two prints are added: a mark, which the process never
 prints by itself, and the value. The changed scenario is run. Without the added lines its report has to be that of the
 scenario, byte for byte; then the values are those of the run.
 """
@@ -88,7 +88,7 @@ def read_watch(source: Source, text: str) -> tuple[list[int], list[Watched]]:
 
 
 def with_marks(source: Source, watched: list[Watched]) -> list[Watched]:
-    """Gives each variable a mark that its process never prints."""
+    """Selects for each variable a mark that its process never prints."""
     taken: dict[tuple[str, int], set[int]] = {}
     found = []
     for it in watched:
@@ -107,7 +107,7 @@ def with_marks(source: Source, watched: list[Watched]) -> list[Watched]:
 
 
 def assigned(tokens: list[Token], at: int) -> str:
-    """The variable to which the statement at a token gives a value, or an empty text."""
+    """The variable to which the statement at a token assigns, or an empty text."""
     if tokens[at + 1].text == '=' and tokens[at - 1].text in (';', '{', '}'):
         return tokens[at].text
     if tokens[at].text == 'into':
@@ -116,7 +116,7 @@ def assigned(tokens: list[Token], at: int) -> str:
 
 
 def with_prints(text: str, program: Program, watched: list[Watched]) -> str:
-    """A program with prints behind each statement that gives a watched variable a value."""
+    """A program with prints after each assignment to a watched variable."""
     tokens = tokens_of(text)
     wanted = {(program.processes[it.process].name, it.name): it.mark for it in watched}
     rows, process = text.split('\n'), ''
@@ -155,7 +155,7 @@ def with_programs(scenario: str, programs: dict[str, str]) -> str:
 
 
 class _Stripped:
-    """A run with added prints, beside the run without them."""
+    """A run with added prints, next to the run without them."""
 
     def __init__(self, source: Source, changed: Traces, watched: list[Watched]):
         self.source, self.changed = source, changed
@@ -223,7 +223,7 @@ def watch(source: Source, scenario: str, motes: list[int], watched: list[Watched
     found = {mote: stripped.values(mote) for mote in range(source.traces.motes)}
     stripped.check_medium()
     for mote in motes:
-        # (a trace that ends by `halt` would end so with the prints too, and what came last before it would be missing)
+        # (a trace that ends by `halt` would end so with the prints too, and its last event would be missing)
         if source.traces.halts(mote):
             raise Unwatched('mote %d uses up its work, and with added prints it would do so earlier: this run can\'t '
                             'be watched by prints' % mote)

@@ -1,4 +1,4 @@
-// What the last change did: the first difference between two runs, in words and on the lanes.
+// The effect of the last change: the first difference between two runs, in words and on the lanes.
 import {lowerBound} from '../../timeline/page/data.js';
 import {chooseLine, chooseMote} from '../../timeline/page/details.js';
 import {byId, element} from '../../timeline/page/dom.js';
@@ -43,7 +43,7 @@ export function differenceInWords({same, first, motes}, other) {
     `As many lines as in ${other}, and other copies that would arrive after the end.`;
 }
 
-/** One side of the first difference: its line, and what that is about. */
+/** One side of the first difference: its line, and the item that it is about. */
 function sideItem({row, text, why, has_mote: hasMote}, who) {
   const words = text === null ? element('span', hasMote ? 'no more lines' : 'no such mote') : element('code', text);
   const item = element('li', '', [Object.assign(element('span', who), {className: 'who'}), words]);

@@ -34,7 +34,7 @@ export class Editor {
 
   get text() { return this.mirror ? this.mirror.getValue('\n') : this.area.value; }
 
-  /** Replaces the text by another one, and forgets what could be undone. */
+  /** Replaces the text by another one, and clears the history of undo. */
   set(text) {
     this.clear();
     if (!this.mirror) {
@@ -49,7 +49,7 @@ export class Editor {
     this.isQuiet = false;
   }
 
-  /** Makes changes of the text, the last one first. What is selected and seen stays. */
+  /** Makes changes of the text, the last one first. The selection and the view stay. */
   apply(changes) {
     if (this.mirror) {
       this.mirror.operation(() => {

@@ -1,4 +1,4 @@
-// The search for faults that break expectations: it runs while the reader works, and shows what it found.
+// The search for faults that break expectations: it runs while the reader works, and shows its results.
 import {byId, element, makeButton, table} from '../../timeline/page/dom.js';
 import {count} from '../../timeline/page/words.js';
 import {goToDifference} from './difference.js';
@@ -31,7 +31,7 @@ export function beginFaults(kinds) {
   });
 }
 
-/** Shows the state of the search, and what its button does. */
+/** Shows the state of the search, and the function of its button. */
 function showSearch(isGoing, words) {
   faults.isGoing = isGoing;
   byId('faults-search').textContent = isGoing ? 'Stop' : 'Search';
@@ -89,7 +89,7 @@ function forgetFaults() {
   byId('faults-found').replaceChildren();
 }
 
-/** Shows what the search covered, and a table of what breaks and what holds. */
+/** Shows the coverage of the search, and a table of the broken and the kept expectations. */
 function showFound({covered_lines: lines, notes, holds, broken, found}) {
   const box = byId('faults-found');
   box.replaceChildren(...[...notes, ...lines].map(line => element('p', line)));

@@ -6,7 +6,7 @@ import {question, say, showState, unsay} from './notices.js';
 import {pin, runNow, unpin} from './running.js';
 import {isDirty, studio} from './state.js';
 
-/** What other modules do with a document that is opened: functions. */
+/** Functions of other modules, which are called when a document is opened. */
 export const opening = [];
 
 /** Shows a document, and, if there is a text to compare it with, the first difference between their runs. */

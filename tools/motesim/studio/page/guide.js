@@ -1,4 +1,4 @@
-// The guide of an example: what to look at, and what to try.
+// The guide of an example: things to look at, and things to try.
 import {byId, element, makeButton} from '../../timeline/page/dom.js';
 import {say} from './notices.js';
 import {studio} from './state.js';

@@ -32,7 +32,7 @@ export async function editText(edit) {
   }
 }
 
-/** Puts the motes back to the places that they have in the run. */
+/** Moves the motes back to the places that they have in the run. */
 function restoreMotes() {
   const map = maps[0];
   if (!map) return;
@@ -146,7 +146,7 @@ function drawWay(map) {
   c.restore();
 }
 
-/** Lets the map of a new run be changed, and shows what this run has of the selected link. */
+/** Makes the map of a new run editable, and shows the data of this run for the selected link. */
 function renewMotes() {
   const map = maps[0];
   map.edits = map.run.places ? groundEdits : null;

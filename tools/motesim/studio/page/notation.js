@@ -1,7 +1,7 @@
 // The colours of a scenario's text: TOML by the editor's own mode, and the notation of programs in its strings. A
 // statement has the colour of its marks on the lanes.
 
-// What the editor needs to know of a program, and of the tables around it.
+// The editor's knowledge of programs, and of the tables around them.
 const PROGRAM = {lineComment: '//', electricInput: /^\s*\}$/}, TABLES = {lineComment: '#'};
 
 /** The tokens of programs. `colours` has the words of each colour, `naming` those in front of a name.

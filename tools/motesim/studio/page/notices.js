@@ -1,4 +1,4 @@
-// What the page tells the reader: notices, the state of the run, and questions.
+// Messages to the reader: notices, the state of the run, and questions.
 import {byId, element, makeButton} from '../../timeline/page/dom.js';
 
 // (the most urgent one is shown, in a line above the page)
@@ -31,7 +31,7 @@ export function showState(is, words) {
   state.textContent = words;
 }
 
-/** Asks the reader. Returns the name of the pressed button, or '' if the dialog was closed, and what was written. */
+/** Asks the reader. Returns the name of the pressed button, or '' if the dialog was closed, and the typed text. */
 export function question(words, buttons, written) {
   const box = byId('question'), input = box.querySelector('input');
   box.querySelector('p').textContent = words;

@@ -12,7 +12,7 @@ import {Lost, Refused, ask, attempt} from './link.js';
 import {say, showState, unsay} from './notices.js';
 import {studio} from './state.js';
 
-/** What other modules do with a run that is shown, and with the results of one: functions. */
+/** Functions of other modules, which are called when a run or its results are shown. */
 export const reactions = {shown: [], judged: []};
 
 /** Runs the text, or another one, and shows the result unless a newer run was asked for meanwhile. */

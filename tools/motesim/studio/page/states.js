@@ -29,7 +29,7 @@ export async function showMoteState(pane, mote, line, key) {
   byId('state-cards').replaceChildren(...(state.said ? [card('State', [], state.said)] : stateCards(state)));
 }
 
-/** The cards of a state, with marks on what the next step changes. */
+/** The cards of a state, with marks on the parts that the next step changes. */
 function stateCards(state) {
   if (state.halted) return [card('State', [], 'the mote has halted')];
   const cards = [];

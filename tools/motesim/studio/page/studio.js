@@ -34,7 +34,7 @@ function typed() {
   nameDocument();
 }
 
-/** Shows what is newly selected by a click, unless the reader steps. */
+/** Shows a selection by a click, unless the reader steps. */
 function watchChosen() {
   let before = 0;
   for (const id of ['panes', 'maps']) {

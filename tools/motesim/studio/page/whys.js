@@ -29,7 +29,7 @@ export function askQuestion(text) {
   return answerWhy();
 }
 
-/** Answers the question with a chain, or with what came near. */
+/** Answers the question with a chain, or with the near misses. */
 async function answerWhy() {
   const pane = panes[0], question = byId('why-asked').value.trim();
   if (!pane || !question) return;

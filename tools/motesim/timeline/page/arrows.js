@@ -70,7 +70,7 @@ export function arrowNear(pane, x, y, reach) {
   return found;
 }
 
-/** Draws what is selected: a ring around its line, the arrows of its packet, bows from an event's post to its takes. */
+/** Draws the selection: a ring around its line, the arrows of its packet, bows from an event's post to its takes. */
 export function drawChosen(pane) {
   if (chosen.pane !== pane) return;
   const {run, context: c} = pane, low = pane.lane < SMALL_LANE;

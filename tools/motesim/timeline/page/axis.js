@@ -1,4 +1,4 @@
-// What surrounds the lanes of a pane: axis, grid, bands, the names of motes, and the moment that the map shows.
+// The frame of a pane's lanes: axis, grid, bands, the names of motes, and the moment that the map shows.
 import {colours, fill, path} from './forms.js';
 import {AXIS, SMALL_LANE} from './layout.js';
 import {chosen, play} from './stage.js';
@@ -32,7 +32,7 @@ export function drawAxis(pane) {
   c.fillRect(0, AXIS - 1, pane.width, 1);
 }
 
-/** The grid, and what is before and after the run. */
+/** The grid, and the areas before and after the run. */
 export function drawGrid(pane) {
   const c = pane.context, step = niceStep(76 / time.scale);
   const first = Math.max(0, Math.ceil(time.begin / step) * step), last = Math.min(time.end, pane.moment(pane.width));

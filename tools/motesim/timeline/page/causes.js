@@ -14,7 +14,7 @@ async function readCauses(run) {
   run.causeOf = Int32Array.from(back, (far, line) => far ? line - (far & 1 ? -(far >>> 1) : far >>> 1) : -1);
 }
 
-/** A hop of a chain: a line with the reason, and what it waited for since its cause. `line` is -1 at a head. */
+/** A hop of a chain: a line with the reason, and the wait since its cause. `line` is -1 at a head. */
 function hopOf(run, line) {
   const mote = run.moteOf(line), cause = run.causeOf[line], at = run.at[line], before = cause < 0 ? 0 : run.at[cause];
   const kind = run.kind[line], [text, wait] = run.why.texts[run.reasonOf[line]], hop = {line, mote, at, cause,
@@ -50,7 +50,7 @@ export async function chainOf(run, line) {
   return {hops, about: ''};
 }
 
-/** The moments of a chain by what they were spent on, in words. */
+/** The moments of a chain by their uses, in words. */
 export function pathOf(hops) {
   const sums = {timer: 0, medium: 0, queue: 0, full: 0}, times = {timer: 0, medium: 0, queue: 0, full: 0};
   for (const hop of hops) {

@@ -40,7 +40,7 @@ export class Run {
     this.restorePackets();
   }
 
-  /** Adds up what is packed as differences: moments, and serials and numbers against the expected ones. */
+  /** Adds up numbers that are packed as differences: moments, and serials and numbers against the expected ones. */
   restoreTraces() {
     const {at, x, kind, traceStart, begins} = this;
     const last = new Int32Array(KINDS.length);
@@ -89,7 +89,7 @@ export class Run {
   /** How many rows the report has: those of traces and packets, the heads of motes, `medium` and `left`. */
   get rows() { return this.count + this.begins.length + this.packets + 2; }
 
-  /** What a row of the report is: {mote, line} in a trace, with line -1 at its head, or {packet}; null for others. */
+  /** The item of a row of the report: {mote, line} in a trace, line -1 at its head, or {packet}; null for others. */
   atRow(row) {
     const packet = row - this.numberOfPacket(0);
     if (packet >= 0) return packet < this.packets ? {packet} : null;

@@ -1,4 +1,4 @@
-// What is selected: its lines of the report, and what belongs to it. Each line is a button that selects that line.
+// The selection: its lines of the report, and related ones. Each line is a button that selects that line.
 import {COLLIDE, DEAF, DROP, KINDS, LOST, POST, RECV, SEND, TAKE, lowerBound} from './data.js';
 import {byId, element, lineButton, list, makeButton, table} from './dom.js';
 import {redraw} from './draw.js';
@@ -40,7 +40,7 @@ export function chooseLine(pane, line, show) {
   tell(pane, show);
 }
 
-/** What is selected, in a form that finds it in another run; or null. */
+/** The selection, in a form that finds it in another run; or null. */
 export function chosenInWords() {
   if (!chosen.pane) return null;
   const {pane: {run}, mote, line, k, copy} = chosen;
@@ -49,7 +49,7 @@ export function chosenInWords() {
   return {mote};
 }
 
-/** Selects the same in the run that a pane shows now; else the mote, if that run has it. */
+/** Selects the same in the run that a pane shows now; otherwise the mote, if that run has it. */
 export function chooseAgain(pane, kept) {
   const {run} = pane, {mote, at, words, sender, number, to} = kept;
   choose({});
@@ -79,7 +79,7 @@ export function chooseMote(pane, mote, show) {
   tell(pane, show);
 }
 
-/** Lists what is selected, and draws it. */
+/** Lists the selection, and draws it. */
 function tell(pane, show) {
   const box = byId('details'), {run} = pane, {line, k} = chosen;
   box.replaceChildren();
@@ -99,7 +99,7 @@ function tell(pane, show) {
   redraw();
 }
 
-/** Tells readers of screens what was selected. */
+/** Announces the selection to screen readers. */
 function speak(pane) {
   const {run} = pane, {line, k, mote} = chosen, parts = [`Mote ${mote}`];
   if (line >= 0) parts.push(`moment ${run.at[line]}`, run.words(line));
@@ -193,7 +193,7 @@ function tellTurn(box, pane) {
   box.append(element('p', '', [makeButton(`All of mote ${mote}`, () => chooseMote(pane, mote, false))]));
 }
 
-/** Adds a mote: what it runs, whom it hears, and what came over each link. */
+/** Adds a mote: its program, the motes that it hears, and the packets of each link. */
 function tellMote(box, pane) {
   const {run} = pane, {mote} = chosen, sums = new Map(), kinds = new Array(KINDS.length).fill(0);
   for (let i = run.traceStart[mote]; i < run.traceStart[mote + 1]; i++) kinds[run.kind[i]]++;
@@ -222,8 +222,8 @@ function tellMote(box, pane) {
   box.append(list('ol', Array.from({length: end - first}, (_, i) => traceButton(pane, first + i, ''))));
 }
 
-/** Follows what is selected: from a send to a copy, from a copy to its event, from a post to its take, from there to
-    what was sent or posted. */
+/** Follows the selection: from a send to a copy, from a copy to its event, from a post to its take, from there to
+    the sent packets and posted events. */
 export function follow() {
   const {pane, next} = chosen;
   if (pane && next.length && next[0] >= 0) chooseLine(pane, next[0], true);

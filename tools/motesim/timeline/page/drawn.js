@@ -1,16 +1,16 @@
-// What the panes show, in words.
+// The contents of the panes, in words.
 import {byId} from './dom.js';
 import {momentsInWords} from './time.js';
 import {count} from './words.js';
 
-/** Shows in words what is in view, and which of it isn't drawn. */
+/** Shows in words which items are in view, and which of them aren't drawn. */
 export function sayDrawn(panes) {
   const parts = [momentsInWords(), ...panes.map(pane => drawnInWords(pane, panes.length > 1))];
   const box = byId('drawn');
   box.textContent = box.title = parts.join(' ');
 }
 
-/** What is in view of a pane, and which of it isn't drawn. */
+/** The items in view of a pane, and which of them aren't drawn. */
 function drawnInWords(pane, isOneOfTwo) {
   const {drawn, lanes: [from, to], run} = pane, motes = run.begins.length;
   const which = to - from >= motes ? `All ${count(motes, 'lane')}` : `${to - from} of ${count(motes, 'lane')}`;

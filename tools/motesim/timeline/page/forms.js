@@ -191,7 +191,7 @@ const LEGEND = [
   ['halt', 'the mote halted'],
   [HANDED, 'a copy that was received and handed on'],
   [MEDIUM, 'a copy lost on the way: it doesn\'t arrive'],
-  [COLLIDED, 'a copy that collided where it arrived'],
+  [COLLIDED, 'a copy that collided at its receiver'],
   [RING, 'a copy that found eight others waiting'],
   [REFUSED, 'a copy received, refused by the full event queue'],
   [UNHEARD, 'a copy received, without a receiver'],

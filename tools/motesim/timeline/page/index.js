@@ -1,4 +1,4 @@
-// What follows from a run's lines, computed once when the page opens: the fate of each copy, which lines belong
+// Facts that follow from a run's lines, computed once when the page opens: the fate of each copy, which lines belong
 // together, which motes hear each other, and an overview for zooming out.
 import {BUSY, COLLIDE, DEAF, DROP, FULL, HALT, KINDS, LOST, POST, PRINT, RECV, SEND, START, TAKE} from './data.js';
 
@@ -243,7 +243,7 @@ function makeOverview(run) {
   }
 }
 
-/** Lists what each mote printed, when each mote halted, and the links with lost or collided copies. */
+/** Lists the prints of each mote, the moment at which it halted, and the links with lost or collided copies. */
 function countByMote(run) {
   const {kind, traceStart} = run, motes = run.begins.length;
   run.prints = Array.from({length: motes}, () => []);

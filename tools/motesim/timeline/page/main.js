@@ -46,7 +46,7 @@ export function resize() {
   for (const map of maps) map.resize();
 }
 
-/** Zooms so that what is selected fills the view. */
+/** Zooms so that the selection fills the view. */
 function zoomToChosen() {
   if (chosen.line < 0 && chosen.k < 0) return;
   const {pane, k, line} = chosen, {run} = pane;
@@ -92,7 +92,7 @@ const DO = {
   back: () => step(-1),
 };
 
-/** Does what a button or a key is for. */
+/** Carries out the command of a button or a key. */
 export function act(name) {
   DO[name]();
   keepTime();
@@ -149,7 +149,7 @@ function onWheel(pane, event) {
   redraw();
 }
 
-/** Reacts to a click: selects the nearest mark or arrow, else sets the moment. */
+/** Reacts to a click: selects the nearest mark or arrow, or sets the moment. */
 function onClick(pane, x, y) {
   if (x < pane.gutter) {
     const mote = pane.moteAt(y);

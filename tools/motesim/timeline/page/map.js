@@ -14,7 +14,7 @@ export class MapView extends MapLayout {
   constructor(pane, box, several) {
     super(pane.run);
     this.pane = pane;
-    // What the studio does with the motes on the map: hold, drag, drop and click.
+    // The studio's actions with the motes on the map: hold, drag, drop and click.
     this.edits = null;
     box.innerHTML = '<h2></h2><canvas></canvas><p></p>';
     box.querySelector('h2').textContent = several ? `Map of ${pane.run.name}` : 'Map';
@@ -148,7 +148,7 @@ export class MapView extends MapLayout {
     return count(flying, 'copy');
   }
 
-  /** Draws a mote and what it does at this moment. */
+  /** Draws a mote and its action at this moment. */
   drawMote(m) {
     const {context: c, run} = this, x = this.x(m), y = this.y(m), r = this.radius;
     if (x < -20 || y < -20 || x > this.width + 20 || y > this.height + 20) return;

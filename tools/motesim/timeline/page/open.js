@@ -25,7 +25,7 @@ function showAround(moment, mote) {
   }
 }
 
-/** Shows what the page was made for: its note, or a moment, or the whole run. */
+/** Shows the purpose of the page: its note, or a moment, or the whole run. */
 function openAt({start, mote, note}) {
   whole();
   if (note) return openAtNote(note);
@@ -34,7 +34,7 @@ function openAt({start, mote, note}) {
   if (mote !== null) chooseAt(start, mote);
 }
 
-/** Shows a note, and its first line that the report has; else the last line of the mote before one was missing. */
+/** Shows a note, and its first line that the report has; or the last line of the mote before a missing one. */
 function openAtNote(note) {
   const box = byId('note'), [pane] = panes;
   box.hidden = false;
@@ -53,7 +53,7 @@ function openAtNote(note) {
   }
 }
 
-/** Does what the page's address asks for after #: from, to, lane (a height), mote, line (a number), only=timeline. */
+/** Follows the page's address after #: from, to, lane (a height), mote, line (a number), only=timeline. */
 function openAsAddressed() {
   const wish = new URLSearchParams(location.hash.slice(1)), number = name => Number(wish.get(name)), pane = panes[0];
   if (wish.get('only') === 'timeline') {

@@ -1,4 +1,4 @@
-// Where the motes of a run are on the map.
+// The places of a run's motes on the map.
 import {lowerBound} from './data.js';
 
 /** Places along one axis with wide empty stretches shortened; whether any was; and the function from shown places back

@@ -1,4 +1,4 @@
-// What happens in each interval of a run, as small plots.
+// The counts of each interval of a run, as small plots.
 import {element} from './dom.js';
 import {colours} from './forms.js';
 import {followNow, setNow} from './play.js';

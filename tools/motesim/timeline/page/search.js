@@ -1,4 +1,4 @@
-// The search: what was found, ringed on the lanes and listed as buttons.
+// The search: its results, ringed on the lanes and listed as buttons.
 import {chooseLine} from './details.js';
 import {byId, element, lineButton, list} from './dom.js';
 import {redraw} from './draw.js';

@@ -1,4 +1,4 @@
-// What happens in each interval of a run.
+// The counts of each interval of a run.
 import {DROP, POST, TAKE} from './data.js';
 import {COLLIDED, GONE, LEFT, MEDIUM, RING} from './index.js';
 

@@ -12,10 +12,10 @@ import {showTime} from './time.js';
 
 const why = {pane: null, run: null, hops: [], about: ''};
 
-/** Where chains come from: the page's own causes. The studio asks its server instead. */
+/** The source of chains: the page's own causes. The studio asks its server instead. */
 export const source = {chainOf};
 
-/** The section that shows a chain: the studio's own, or a new one below what is selected. */
+/** The section that shows a chain: the studio's own, or a new one below the selection. */
 function whyBox() {
   let box = byId('why-chain');
   if (!box) {
