@@ -120,6 +120,14 @@ class PlotTest(unittest.TestCase):
         with self.assertRaisesRegex(Fault, 'has texts'):
             shown_of(rows, Wish('said', 'a'))
 
+    def test_pictures_that_would_write_one_table_are_refused(self) -> None:
+        plot = '[[plot]]\nfile = "a.%s"\nmeasure = "sent"\nagainst = "period"\n'
+        (self.folder / 'a.plan.toml').write_text('end = 9\n' + plot % 'svg' + plot % 'png')
+        done = self.plot('--plan', 'a.plan.toml')
+        self.assertEqual(done.returncode, 2, done)
+        self.assertIn('a.plan.toml, line 7:', done.stderr)
+        self.assertIn('both would write a.table.csv', done.stderr)
+
     def test_what_a_plan_says_is_drawn(self) -> None:
         interpreter_with(self, 'matplotlib')
         stub = write_stub(self.folder)

@@ -34,12 +34,15 @@ def table_path(picture: Path) -> Path:
 def wishes_of(plan: Plan) -> list[Wish]:
     """What a plan's `plot` says."""
     tables: Tables = plan.tables
-    found = []
+    found: list[Wish] = []
     for path, given in tables.array('plot'):
         values = tables.read(given, path, PLOT, 'A plot')
         if Path(values['file']).suffix not in FORMATS:
             raise tables.fault(path + ('file',), 'A picture is SVG, PDF or PNG.',
                                'a name that ends in `.svg`, `.pdf` or `.png`')
+        if table_path(Path(values['file'])) in {table_path(Path(it.file)) for it in found}:
+            raise tables.fault(path + ('file',), 'Another picture has this name up to the ending: both would write %s.' %
+                               table_path(Path(values['file'])), 'another name')
         for key, known in ('show', SHOWS), ('interval', tuple(MEANS)):
             if values[key] not in known:
                 raise tables.fault(path + (key,), 'A plot has no such `%s`.' % key, ', '.join('`"%s"`' %
