@@ -77,7 +77,7 @@ def waited_for(ran: subprocess.Popen[str], line: Line | None, began: float) -> s
     reading.start()
     while reading.is_alive():
         if line:
-            line.renew('%s (%d s so far)' % (COMPILING, time.time() - began), [])
+            line.renew('%s (%d s so far)' % (COMPILING, time.time() - began))
         reading.join(1)
     ran.wait()
     if line:
