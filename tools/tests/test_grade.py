@@ -97,6 +97,7 @@ class Entries(Folder):
         with socket.socket(socket.AF_UNIX) as made:
             made.bind(str(self.folder / 'socket.toml'))
         self.hand_in('deep.toml', 'x = ' + '[' * 500 + ']' * 500)
+        self.hand_in('key.toml', '.'.join(['a'] * 100_000) + ' = 1')
         self.hand_in('notes.txt', 'hello')
         self.hand_in('new\nline.toml', net(PROGRAM % 3))
         (self.folder / os.fsdecode(b'raw\xff.toml')).write_text(net(PROGRAM % 3))
@@ -110,8 +111,10 @@ class Entries(Folder):
             'x.toml': '0 of 3  an empty folder', 'gone.toml': '0 of 3  a link, and not a file',
             'other.toml': '0 of 3  a link, and not a file', 'pipe.toml': '0 of 3  a pipe, and not a file',
             'socket.toml': '0 of 3  a socket, and not a file',
-            'deep.toml': '0 of 3  the file is not TOML: Arrays or tables are nested too deeply (at line 1, column '
-            '1005)',
+            'deep.toml': '0 of 3  the file is not TOML: Arrays or tables are nested too deeply: at most 80 are allowed '
+            'in each other (at line 1, column 85)',
+            'key.toml': '0 of 3  the file is not TOML: A key has more than 80 parts: write fewer dots (at line 1, '
+            'column 1)',
             'notes.txt': '0 of 3  its name ends neither in .toml nor in .mote',
             'bytes.toml': '0 of 3  the file is not UTF-8 text',
             'large.toml': '0 of 3  the file is longer than 1,048,576 bytes'})
