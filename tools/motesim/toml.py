@@ -22,7 +22,7 @@ TOO_DEEP = 'Arrays or tables are nested too deeply: at most %d are allowed in ea
 TOO_LONG = 'A number has too many digits'
 
 PART = re.compile(r'''[A-Za-z0-9_-]++|"(?:[^"\\\n]|\\.)*+"|'[^'\n]*+\'''')
-# What may have dots and brackets that are only text, and the rest: keys with all their parts, and brackets.
+# Texts and comments, in which dots and brackets mean nothing, and the rest: keys with all their parts, and brackets.
 PIECE = re.compile(r"""
     (?P<text> "{3} (?:[^"\\]|\\.|"{1,2}+(?!"))*+ (?:"{3,5}+|\Z)
             | '{3} (?:[^']|'{1,2}+(?!'))*+ (?:'{3,5}+|\Z)
@@ -93,7 +93,7 @@ def check_brackets(text: str) -> None:
 
 
 def is_deep(tables: dict[str, Any]) -> bool:
-    """Whether something is in more tables and arrays than may be in each other."""
+    """True if something is in more tables and arrays than may be in each other."""
     level: list[Any] = [tables]
     for _ in range(DEEPEST + 1):
         members = [it for one in level for it in (one.values() if isinstance(one, dict) else one)]

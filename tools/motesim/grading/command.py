@@ -40,7 +40,7 @@ def grade(entries: Sequence[Entry], task: Task, jobs: int | None = None) -> list
 
 
 def task_of(asked: argparse.Namespace, pictures: Path | None) -> Task:
-    """What is asked of all solutions. Faults of the sentences and of the nets are the teacher's."""
+    """The task of all solutions. Faults of the sentences and of the nets are the teacher's."""
     name = str(asked.expectations)
     part = parts_of(text_of(asked.expectations), name)[0]
     nets = [*nets_of(asked.net, asked.vary, asked.program),

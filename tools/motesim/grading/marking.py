@@ -26,7 +26,7 @@ from motesim.timeline.note import note_of
 # Reports longer than this have no timeline.
 MOST_SHOWN = 4_000_000
 LONGEST_WHY = 300
-# What is neither a letter nor a digit, and none of these signs, isn't part of a page's name.
+# Signs that no name of a page has: all but letters, digits and two more, and a dot in front.
 UNSAFE = re.compile(r'[^A-Za-z0-9.-]|^\.')
 LONGEST_NAME = 80
 OF_HIDDEN = 'in a hidden net'
@@ -78,7 +78,7 @@ class Marks:
 
 
 class InNet(NamedTuple):
-    """What holds of a solution in one net (its name), and where each broken sentence is broken."""
+    """The marks of a solution in one net (its name), with the place of each broken sentence."""
     marks: list[Mark]
     lacks: list[str]
     why: str
@@ -91,7 +91,7 @@ class InNet(NamedTuple):
 
 @dataclass(frozen=True)
 class Task:
-    """What all solutions have in common: the sentences, the nets (none: each has its own), and the limits."""
+    """The common part of all solutions: the sentences, the nets (none: each has its own), and the limits."""
     part: Part
     nets: tuple[Net, ...]
     limits: Limits
@@ -127,7 +127,7 @@ class Task:
         return replace(marks, picture=self.picture(number, marks, found))
 
     def in_net(self, text: str) -> InNet:
-        """What holds of a scenario."""
+        """The marks of a scenario."""
         known, names = known_of(text)
         lacks = [lacking(it, names) for it in self.part.sentences]
         part = replace(self.part, sentences=[it for it, lack in zip(self.part.sentences, lacks) if not lack])
@@ -195,7 +195,7 @@ def unmarked(name: str, why: str) -> Marks:
 
 
 def shown_of(failed: Sequence[tuple[InNet, Mark]]) -> tuple[str, ...]:
-    """What a page may show of the nets in which a sentence doesn't hold."""
+    """The net and the reason that a page may show of a sentence that doesn't hold."""
     shown = next(((its, mark) for its, mark in failed if not its.is_hidden), None)
     if shown is None:
         return (OF_HIDDEN,) if failed else ()

@@ -1,10 +1,10 @@
-"""How many solutions are marked, on standard error."""
+"""The progress of a marking, on standard error."""
 from __future__ import annotations
 
 import sys
 import time
 
-# (seconds until the first line, and between two lines where standard error is no terminal)
+# (seconds until the first line, and between two lines if standard error is no terminal)
 FIRST, SHOWN_EVERY = 1.0, 5.0
 
 

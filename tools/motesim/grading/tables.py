@@ -18,7 +18,7 @@ def sentences_of(marked: Sequence[Marks]) -> list[str]:
 
 
 def count_of(marks: Marks, count: int) -> str:
-    """How many sentences hold of a solution."""
+    """The number of sentences that hold of a solution."""
     return '- of %d' % count if marks.is_open else '%d of %d' % (marks.held, count)
 
 
@@ -42,7 +42,7 @@ def below(marked: Sequence[Marks], sentences: Sequence[str]) -> list[str]:
 
 
 def pointer(marked: Sequence[Marks]) -> list[str]:
-    """What shows the errors of refused solutions."""
+    """The line that says how to see the errors of refused solutions."""
     refused = [it.name for it in marked if any(line.startswith('Hint: ') for line in it.fix)]
     return ['', '--why %s shows where its error is, and how to put it right' % refused[0]] if refused else []
 
@@ -72,7 +72,7 @@ def quoted(text: str) -> str:
 
 
 def holds(marks: Marks, number: int) -> bool:
-    """Whether a sentence holds of a solution. Of one that has no run, none does."""
+    """True if a sentence holds of a solution. Of one that has no run, none does."""
     return len(marks.marks) >= number and marks.marks[number - 1].holds
 
 
@@ -96,7 +96,7 @@ def toml_of(marked: Sequence[Marks], sentences: Sequence[str], expectations: str
 
 
 def why(marks: Marks) -> list[str]:
-    """What breaks the sentences in one solution."""
+    """The lines on the sentences of one solution."""
     lines = [*([marks.why] if marks.why else []), *marks.fix]
     for it in marks.marks:
         lines.append(('holds   ' if it.holds else 'broken  ') + it.sentence)
