@@ -7,8 +7,8 @@ from typing import NamedTuple, NoReturn
 
 
 class Asked(NamedTuple):
-    """The program's arguments, the scenario's file and whether help is asked for; whether the program is to be the unproved
-    one; and why the program would refuse the arguments, if it would."""
+    """The program's arguments, the scenario's file and whether help is asked for; whether the program is to be the
+    unproved one; and why the program would refuse the arguments, if it would."""
     words: list[str]
     file: str | None
     wants_help: bool
@@ -35,7 +35,7 @@ class Reader(argparse.ArgumentParser):
 
 
 def asked_by(words: Sequence[str]) -> Asked:
-    """What the arguments of ./run ask for. Those after `--` are no options."""
+    """Returns the request of ./run's arguments. Those after `--` are no options."""
     end = words.index('--') if '--' in words else len(words)
     options = set(words[:end])
     kept = [*(it for it in words[:end] if it != '--unproved'), *words[end:]]

@@ -1,4 +1,4 @@
-"""A command that ends where the process that runs it is ended."""
+"""A command that ends if the process that runs it is ended."""
 from __future__ import annotations
 
 import signal
@@ -21,7 +21,7 @@ def as_another_program() -> None:
 
 
 def attend(program: Path, words: Sequence[str], stdin: int | None = None) -> int:
-    """Runs a program with these words, the first of which is its name; ends it where this process is ended, and returns
+    """Runs a program with these words, the first of which is its name; ends it if this process is ended, and returns
     its status."""
     # (a signal that comes before there is a command to end waits)
     before = signal.pthread_sigmask(signal.SIG_BLOCK, ENDING)

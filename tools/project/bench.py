@@ -5,8 +5,8 @@ program if --against names one, and prints for each way to run: the seconds of t
 round), the seconds of the clock, and the most memory; and the instructions on one thread, if valgrind or perf is
 installed. A ratio is the middle one of the rounds' own ratios of this program to the earlier one, with the quarter and
 the three quarters. Each report is compared with the first one of its scenario. --small runs scenarios of a tenth of
-the length. With --host, one thread is also compared with the C programs that tools/export makes of the scenario and the
-simulator in C that runs them (tools/contiki_host), compiled with -O2.
+the length. With --host, one thread is also compared with the C programs that tools/export makes from the scenario and
+the simulator in C that runs them (tools/contiki_host), compiled with -O2.
 
 Ends with status 0, or with 1 if a report differs.
 """
@@ -31,10 +31,12 @@ from project.tree import TOP, program_of, take_program
 
 # Each scenario with its arguments, and those of one of a tenth of the length.
 SCENARIOS: dict[str, tuple[list[int], list[int]]] = {
-    'beacons': ([31, 2000, 10], [31, 200, 10]), 'polls': ([500, 200], [500, 20]), 'broadcasts': ([8, 20000], [8, 2000]),
+    'beacons': ([31, 2000, 10], [31, 200, 10]), 'polls': ([500, 200], [500, 20]),
+    'broadcasts': ([8, 20000], [8, 2000]),
     'timers': ([64, 200000], [64, 20000]), 'steps': ([10, 1000], [10, 100]),
 }
-WAYS: list[list[str]] = [[], *(['--workers', workers, '--sync', sync] for sync in ('joins', 'marks') for workers in '24')]
+WAYS: list[list[str]] = [[],
+                         *(['--workers', workers, '--sync', sync] for sync in ('joins', 'marks') for workers in '24')]
 COUNTER = ['valgrind', '--tool=cachegrind', '--cache-sim=no', '--cachegrind-out-file=/dev/null']
 # How each measure is shown: its form, and its unit.
 SHOWN = {'user': ('%.3f s', 1), 'clock': ('%.3f s', 1), 'memory': ('%.1f MB', 1e6), 'instructions': ('%.1f M', 1e6)}
@@ -84,8 +86,8 @@ def instructions(program: str, scenario: Path) -> int:
 
 
 def cell(name: str, ours: Sequence[float], others: Sequence[float]) -> str:
-    """A measure of this program; with that of the earlier one, and the middle, the least and the greatest of the ratios of
-    runs that were made in turn."""
+    """A measure of this program; with that of the earlier one, and the middle, the least and the greatest of the
+    ratios of runs that were made in turn."""
     form, unit = SHOWN[name]
     best = ', '.join(form % (min(it) / unit) for it in (ours, others) if it)
     ratios = [one / other for one, other in zip(ours, others) if other]
@@ -95,7 +97,8 @@ def cell(name: str, ours: Sequence[float], others: Sequence[float]) -> str:
 
 def built_host(scenario: Path, folder: Path) -> str:
     """The host of a scenario: its programs in C with the simulator that runs them."""
-    for words in ([sys.executable, str(TOP / 'tools/export'), str(scenario), '--form', 'contiki', '--host', '-o', str(folder)],
+    for words in ([sys.executable, str(TOP / 'tools/export'), str(scenario), '--form', 'contiki', '--host', '-o',
+                   str(folder)],
                   ['make', '-s', '-C', str(folder), 'host', 'HOSTFLAGS=-O2']):
         done = subprocess.run(words, capture_output=True, encoding='utf-8', errors='replace')
         if done.returncode:
@@ -115,7 +118,8 @@ def measure(name: str, sizes: Sequence[int], programs: Sequence[str], rounds: in
         def show(title: str, programs: Sequence[str], way: Sequence[str]) -> None:
             turns = [[run_once(program, way, scenario, room) for program in programs] for _ in range(rounds)]
             reports.update(it.report for turn in turns for it in turn)
-            cells = [cell(part, [getattr(it[0], part) for it in turns], [getattr(it[1], part) for it in turns if len(it) > 1])
+            cells = [cell(part, [getattr(it[0], part) for it in turns],
+                          [getattr(it[1], part) for it in turns if len(it) > 1])
                      for part in ('user', 'clock', 'memory')]
             print('  %-28s %s' % (title, '; '.join(cells)), flush=True)
 
@@ -135,7 +139,8 @@ def measure(name: str, sizes: Sequence[int], programs: Sequence[str], rounds: in
 @command('bench')
 def main() -> int:
     words = words_of(__doc__)
-    words.add_argument('names', nargs='*', metavar='NAME', help='scenarios: %s; without one, all' % ', '.join(SCENARIOS))
+    words.add_argument('names', nargs='*', metavar='NAME',
+                       help='scenarios: %s; without one, all' % ', '.join(SCENARIOS))
     take_program(words)
     words.add_argument('--against', metavar='PROGRAM', help='an earlier motesim, which is run in turn with this one')
     words.add_argument('--rounds', type=int, default=5, metavar='N', help='N runs of each (5)')

@@ -5,21 +5,21 @@ NAME is a case, `nets/two_senders`, or a folder of cases, `nets`; without a name
 files with its name in tests/cases:
 
   NAME.toml      the scenario, which the program is given on standard input
-  NAME.make      in its place Python, for what would be long: scenario() gives the scenario, as str or bytes, and
-                 expected(), where it is there, what NAME.expected would hold. Or table() gives many scenarios, each as
+  NAME.make      instead of it Python, for long texts: scenario() returns the scenario, as str or bytes, and
+                 expected(), if it exists, the contents of NAME.expected. Or table() returns many scenarios, each as
                  (what it is called, scenario, status, standard output, standard error), which are all run
   NAME.args      the words of the command line, one a line; without it there are none
-  NAME.runs      in its place several command lines, one a line, with blanks between the words; an empty line has no word.
+  NAME.runs      instead of it several command lines, one a line, with blanks between the arguments; an empty line has none.
                  Each of these runs has to answer the same
-  NAME.expected  what comes on standard output; without it, nothing
-  NAME.stderr    what comes on standard error; without it, nothing
+  NAME.expected  the standard output; without it, nothing
+  NAME.stderr    the standard error; without it, nothing
   NAME.status    the exit status; without it, 0
-  NAME.stack     how many KB of stack the proved program has (ulimit -s); without it, as many as the shell gives
+  NAME.stack     how many KB of stack the proved `motesim` has (ulimit -s); without it, the shell's limit
 
-A word {} stands for the path of a file with the scenario, and standard input then holds a text that is no scenario. A
+An argument {} means the path of a file with the scenario, and standard input then has a text that is no scenario. A
 case without a scenario has an empty standard input. Shows for each case that fails the first run that does, with the
 difference line by line; a case with nothing to expect fails too, and so does a file that belongs to no case. Ends
-with a line `N passed, M failed`, and with status 1 where one failed.
+with a line `N passed, M failed`, and with status 1 if one failed.
 """
 from __future__ import annotations
 
@@ -43,7 +43,7 @@ def as_bytes(text: str | bytes) -> bytes:
 
 
 class Case:
-    """What the files of one name say."""
+    """The contents of the files of one name."""
 
     def __init__(self, path: Path, kinds: set[str]):
         self.path = path
@@ -51,7 +51,7 @@ class Case:
         self.made = self.make()
 
     def make(self) -> dict[str, Any]:
-        """What the Python of NAME.make defines."""
+        """Returns the definitions of NAME.make."""
         names: dict[str, Any] = {}
         if '.make' in self.kinds:
             source = self.path.with_suffix('.make')
@@ -78,7 +78,7 @@ class Case:
         return [self.read('.args').decode().splitlines()]
 
     def check_files(self) -> None:
-        """Whether there is something to run, and something to expect of it."""
+        """Checks that there is something to run, and something to expect of it."""
         if not {'.toml', '.make', '.args', '.runs'} & self.kinds:
             raise Wrong('there is nothing to run')
         if not {'.expected', '.stderr', '.status'} & self.kinds and not {'expected', 'table'} & self.made.keys():
@@ -102,14 +102,14 @@ def run(program: str, words: Sequence[str], scenario: bytes, stack: str) -> Answ
             file.write(scenario)
             file.flush()
             words, scenario = [file.name if word == '{}' else word for word in words], NO_SCENARIO
-        # (what is compiled without a proof has checks that need more stack)
+        # (a binary without a proof has checks that need more stack)
         if stack and not is_compiled(Path(program)):
             return answer(['sh', '-c', 'ulimit -s "$0" && exec "$@"', stack, program, *words], scenario)
         return answer(['motesim', *words], scenario, executable=program)
 
 
 def check_case(program: str, path: Path, kinds: set[str]) -> str | None:
-    """What is wrong with a case, or None."""
+    """The error of a case, or None."""
     words: list[str] = []
     name = ''
     try:
@@ -140,7 +140,7 @@ def cases_below(path: Path) -> tuple[dict[Path, set[str]], list[Path]]:
 
 
 def chosen(cases: Iterable[Path], names: Iterable[str]) -> Iterator[Path]:
-    """Those of the cases that have one of these names or stand in a folder of that name."""
+    """The cases that have one of these names or are in a folder of that name."""
     for name in names:
         found = [path for path in cases if CASES / name in [path] + list(path.parents)]
         if not found:

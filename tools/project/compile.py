@@ -20,16 +20,17 @@ from pathlib import Path
 from typing import NoReturn
 
 from motesim.faults import Fault, command
-from motesim.runner.programs import PROGRAMS, TOP, compiled_folder, is_program, proved_kept, proved_program, unless_held
+from motesim.runner.programs import (
+    PROGRAMS, TOP, compiled_folder, is_program, proved_kept, proved_program, unless_held)
 from motesim.words import words_of
 from project import kit
 from project.progress import Line
 
 NAME = 'motesim'
 FIRST, FAST = 'first', 'fast'
-# The levels of optimization. With a program that is seen as a whole, 1 takes no less time than 2.
+# The levels of optimization. With a program that is seen as a whole, 1 needs no less time than 2.
 LEVELS = {FIRST: 0, FAST: 2}
-# What the first program leaves to make the fast one from, and where it is noted that the fast one can't be made.
+# The files of the first build from which the fast one is made, and the note that the fast one can't be made.
 PARTS, FAILED = 'parts', 'fast.failed'
 # The seconds until the fast program is tried again after that.
 SECONDS_TO_RETRY = 600
@@ -46,7 +47,7 @@ class Busy(Exception):
 
 @contextlib.contextmanager
 def alone(name: str, line: Line | None) -> Iterator[None]:
-    """Keeps other processes from doing the same. Waits for one that does, and says so; without a line, raises `Busy`."""
+    """Locks the work. Waits for a process that has the lock, and says so; without a line, raises `Busy`."""
     PROGRAMS.mkdir(parents=True, exist_ok=True)
     with open(PROGRAMS / (name + '.lock'), 'w', encoding='ascii') as lock:
         try:
@@ -61,7 +62,7 @@ def alone(name: str, line: Line | None) -> Iterator[None]:
 
 @contextlib.contextmanager
 def room(name: str) -> Iterator[Path]:
-    """A folder beside the programs; one that a killed process has left is deleted."""
+    """A folder next to the binaries; one that a killed process has left is deleted."""
     for left in PROGRAMS.glob('%s-room-*' % name):
         shutil.rmtree(left, ignore_errors=True)
     with tempfile.TemporaryDirectory(prefix='%s-room-' % name, dir=PROGRAMS) as folder:
@@ -147,7 +148,7 @@ def make_first(line: Line) -> None:
 
 
 def is_wanted() -> bool:
-    """Whether a fast program would be used, and can be made now."""
+    """Returns whether a fast binary would be used, and can be made now."""
     failed = compiled_folder() / FAILED
     has_failed = failed.is_file() and time.time() - failed.stat().st_mtime < SECONDS_TO_RETRY
     return not (has_failed or is_program(compiled_folder() / FAST) or proved_program() or kit.is_proving(TOP))

@@ -1,4 +1,4 @@
-"""Checks that each example shows what is said of it: tools/dev/check_examples [--program FILE]
+"""Checks the statements on each example: tools/dev/check_examples [--program FILE]
 
 For each scenario of examples/ the sentences of NAME.expect.toml have to hold, as tools/expect tells them; what
 README.md and the pages of docs/ quote of an example must be in it or in its report. For each task of examples/lesson
@@ -39,7 +39,7 @@ def readings_of_those_below(run: Run) -> None:
         below[parents[-1]] += below[mote.number]
 
 
-# What is checked of an example beside its sentences.
+# The checks of an example besides its sentences.
 MORE: dict[str, Callable[[Run], None]] = {'collection_tree': readings_of_those_below}
 
 
@@ -59,11 +59,11 @@ def quoted(pages: list[str]) -> dict[str, list[tuple[str, str]]]:
 
 
 def check_quotes(scenario: str, report: Report, quotes: list[tuple[str, str]]) -> None:
-    """Whether each line that is quoted stands in the scenario or in its report."""
+    """Checks that each quoted line is in the scenario or in its report."""
     lines = {line.strip() for line in [*scenario.split('\n'), *report.rows()]} | {'', '..'}
     for page, line in quotes:
         if line.strip() not in lines:
-            raise Wrong('what %s quotes does not stand there: `%s`' % (page, line))
+            raise Wrong('%s quotes a line that is not there: `%s`' % (page, line))
 
 
 def check(path: Path, quotes: dict[str, list[tuple[str, str]]]) -> str:
@@ -80,7 +80,7 @@ def check(path: Path, quotes: dict[str, list[tuple[str, str]]]) -> str:
         check_quotes(path.read_text('utf-8'), run.report, lines)
         if name in MORE:
             MORE[name](run)
-    return '%d sentences hold, %d quoted lines stand there' % (passed, len(lines))
+    return '%d sentences hold, %d quoted lines are there' % (passed, len(lines))
 
 
 def check_task(task: Path) -> str:

@@ -1,6 +1,7 @@
 """Checks the format of all sources, definitions and proofs: tools/dev/check_format
 
-Prints what is formatted otherwise, and ends with status 1 where something is; `rt fmt` in a crate's folder formats it.
+Prints the files that aren't formatted, and ends with status 1 if there are any; `rt fmt` in a crate's folder formats
+its files.
 """
 from __future__ import annotations
 
@@ -15,7 +16,8 @@ from project.tree import TOP
 def main() -> int:
     words = words_of(__doc__)
     words.parse_args()
-    files = [it for crate in sorted(TOP.glob('crates/*')) for it in kit.files_of(str(crate)) if it.endswith(('.rt', '.antt'))]
+    files = [it for crate in sorted(TOP.glob('crates/*')) for it in kit.files_of(str(crate))
+             if it.endswith(('.rt', '.antt'))]
     if not files:
         raise Fault('there is no source')
     said = kit.badly_formatted(files)

@@ -1,12 +1,12 @@
-"""Prints what the functions of a crate take of its check, dearest first: tools/dev/function_times CRATE [HOW MANY]
+"""Prints the time of a crate's check by functions, the longest first: tools/dev/function_times CRATE [HOW MANY]
 
 A check writes each module that it has checked into the crate's out/incremental, and the times of these files tell how
-long each took. So the crate is checked from nothing first, with one job and nothing beside it:
+long each took. So the crate is checked from nothing first, with one job and nothing else at the same time:
 
     cd crates/CRATE && rm -rf out/incremental && rt check --jobs 1
 
 With --test the tests are checked too. Seconds are those of the clock. A function counts with its closures, its proof
-and its contract; lemmas count by their file, and what is derived by its type. A large crate is checked in batches,
+and its contract; lemmas count by their file, and derived code by its type. A large crate is checked in batches,
 and what a batch loads counts to the function that it begins with.
 """
 from __future__ import annotations
@@ -26,8 +26,8 @@ def is_function(part: str) -> bool:
 
 
 def function_of(module: str, crate: str) -> str | None:
-    """What a module of a check is about: a.b.S.f of Rattle-c-proofs.a.b.S.f.Lts; a.f of its closure's a.fn.f.map.Lts;
-    what is derived, as a.SDebug of a.SDebug.TheImpl; and None of a module that isn't the crate's."""
+    """The subject of a module of a check: a.b.S.f of Rattle-c-proofs.a.b.S.f.Lts; a.f of its closure's a.fn.f.map.Lts;
+    derived code, as a.SDebug of a.SDebug.TheImpl; and None of a module that isn't the crate's."""
     named = re.match(r'Rattle-%s[-.](?:proofs|specs)\.(?:contracts\.|declared\.)?(.+)' % re.escape(crate), module)
     if not named:
         return None

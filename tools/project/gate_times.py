@@ -1,9 +1,9 @@
 """Notes what each crate costs while a command checks the repository: tools/dev/gate_times -- rt ci
 
 Runs the command unchanged, and ends with its status: four times a second it looks at the processes below it, and notes
-the processor time of each `rattle`: of which crate, and whether it is a proof, a check of tests or of a mutant. (What a
-process used after the last look isn't seen: a few hundredths.) The figures go to out/gate_times.json, and one line of
-them to standard error.
+the processor time of each `rattle`: of which crate, and whether it is a proof, a check of tests or of a mutant. (What
+a process used after the last look isn't seen: a few hundredths.) The figures go to out/gate_times.json, and one line
+of them to standard error.
 
 tools/dev/gate_times --show    prints the last run's table by crate, and its line for the table by landing
 tools/dev/gate_times --write   writes the table by crate into docs/dev/GATE.md, and the seconds of proofs into

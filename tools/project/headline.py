@@ -39,7 +39,8 @@ class Rests:
 
 def crates_of(top: Path) -> list[str]:
     """The crates of crates.txt, the lowest first."""
-    rows = [it.partition('#')[0].partition(':')[0].split() for it in (top / 'crates.txt').read_text('utf-8').splitlines()]
+    rows = [it.partition('#')[0].partition(':')[0].split()
+            for it in (top / 'crates.txt').read_text('utf-8').splitlines()]
     return [row[0] for row in rows if row]
 
 
@@ -71,12 +72,14 @@ def imports(top: Path, path: Path, crates: list[str], rests: Rests) -> list[Path
             raise Fault('%s imports %s, which is none of specs/' % (path, name))
         elif words[1] != 'declared':
             folder, words = top / 'crates' / crate / 'specs', words[1:-1]
-            found.append(first_file([folder.joinpath(*words[:end]).with_suffix('.antt') for end in range(len(words), 0, -1)],
+            found.append(first_file([folder.joinpath(*words[:end]).with_suffix('.antt')
+                                     for end in range(len(words), 0, -1)],
                                     'no file of crates/%s/specs is %s' % (crate, '.'.join(words))))
     for crate, module, name in DECLARED.findall(text):
         if crate in crates:
             source = top.joinpath('crates', crate, 'src', *module.split('.'))
-            file = first_file([source.with_suffix('.rt'), source / 'mod.rt'], 'no source of crates/%s is %s' % (crate, module))
+            file = first_file([source.with_suffix('.rt'), source / 'mod.rt'],
+                              'no source of crates/%s is %s' % (crate, module))
             rests.types.setdefault(file, set()).add(name)
     return list(dict.fromkeys(found))
 
@@ -155,12 +158,14 @@ def listed(top: Path) -> str:
     rests, crates = rests_of(top), crates_of(top)
     used = [crate for crate in reversed(crates) if any(crate_of(path) == crate for path in rests.files)]
     rows = ['', 'The list has %s with %s, in %s.' % (
-        number_of(len(rests.files), 'file'), number_of(sum(map(lines_of, rests.files)), 'line'), number_of(len(used), 'crate')),
+        number_of(len(rests.files), 'file'), number_of(sum(map(lines_of, rests.files)), 'line'),
+        number_of(len(used), 'crate')),
         'All `specs/` together have %d files.' % len(list(top.glob('crates/*/specs/**/*.antt'))), '']
     for crate in used:
         rows += section(top, crate, rests)
     libraries = ', '.join('`%s`' % it for it in sorted(rests.libraries)) or 'none'
-    return '\n'.join([*rows, *types(top, crates, rests), '**Libraries** of the kit that these files import: %s.' % libraries, '', ''])
+    return '\n'.join([*rows, *types(top, crates, rests),
+                      '**Libraries** of the kit that these files import: %s.' % libraries, '', ''])
 
 
 @command('headline_files')

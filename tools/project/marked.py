@@ -23,7 +23,7 @@ class Marks(NamedTuple):
         return before + begin, between, end + after
 
     def write(self, page: Path, text: str) -> None:
-        """Replaces what is between the marks of a page."""
+        """Replaces the text between the marks of a page."""
         before, _, after = self.parts(page)
         page.write_text(before + text + after, 'utf-8')
 

@@ -36,7 +36,8 @@ WORKERS = [['--workers', workers, '--sync', sync] for sync in ('joins', 'marks')
 # (the last has a fault, which is found before there are workers)
 ALONE: list[str] = []
 SMALL: list[tuple[Path, list[str]]] = [
-    (TOP / file, words) for words in [ALONE, *WORKERS] for file in (FILES if words in ([], WORKERS[0]) else FILES[:-1])]
+    (TOP / file, words) for words in [ALONE, *WORKERS]
+    for file in (FILES if words in ([], WORKERS[0]) else FILES[:-1])]
 REFUSES = TOP / 'tools/project/refuses.c'
 CALLS = TOP / 'crates/part_tests'
 CALLS_TEST = 'tests::refused::once_out_of_memory'
@@ -97,7 +98,7 @@ class Refused:
 
 
 def tried(program: str, path: Path, words: Sequence[str], refuses: Path) -> bool:
-    """Whether each refusal is answered as it should be; the answers are printed."""
+    """Returns whether each refusal has the right result; the results are printed."""
     runs = Refused(program, path, words, refuses)
     wanted = runs.answer(0)
     assert wanted
@@ -118,7 +119,7 @@ def tried(program: str, path: Path, words: Sequence[str], refuses: Path) -> bool
 
 
 def calls_tried(refuses: Path) -> bool:
-    """Whether the test that calls kernels and motes is built, and each refusal is answered as it should be."""
+    """Returns whether the test that calls kernels and motes is built, and each refusal has the right result."""
     tests = CALLS / 'out' / (CALLS.name + '_tests')
     if not tests.is_file():
         print('the tests of %s are not built' % CALLS.relative_to(TOP))
@@ -162,4 +163,4 @@ def main() -> int:
         ended = [tried(program, path, words, refuses) for path, words in runs]
         if not asked.file and CALLS.is_dir():
             ended.append(calls_tried(refuses))
-    return count(len(ended), ['the lines above say what is not as it should be'] * ended.count(False))
+    return count(len(ended), ['the lines above show the wrong results'] * ended.count(False))

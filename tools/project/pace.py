@@ -60,8 +60,8 @@ def minutes_from_nothing(processors: int) -> float | None:
 
 
 def minutes_of(left: Sequence[Crate], crates: Sequence[Crate], processors: int) -> float:
-    """The minutes that a proof of the crates that are left lasts, by those of the measured proof of all crates. No proof
-    is shorter than its longest chain, or than all of its crates on all processors."""
+    """The minutes that a proof of the crates that are left lasts, by those of the measured proof of all crates. No
+    proof is shorter than its longest chain, or than all of its crates on all processors."""
     def whole(some: Sequence[Crate]) -> float:
         seconds = seconds_of(it.name for it in some)
         return max([*chains(some, seconds).values(), sum(seconds.values()) / processors])

@@ -1,14 +1,14 @@
 """Makes one archive for a classroom: tools/pack [-o FILE]
 
 The archive motesim-VERSION.tar.gz has the program, the tools and pages for users, the examples, and the terms under
-which all of it may be passed on. It runs on any Linux for x86-64, the tools with Python 3.11 or newer, from any folder:
-nothing is installed, and nothing is fetched from a network.
+which all of it may be passed on. It runs on any Linux for x86-64, the tools with Python 3.11 or newer, from any
+folder: nothing is installed, and nothing is fetched from a network.
 
     tar xzf motesim-VERSION.tar.gz && cd motesim-VERSION && ./run examples/flooding.toml
 
-The program is the proved one of these sources, if ./prove has built it, and then a page PROVED.md says what was proved
-and with which kit. Else it is one that is compiled without a proof; tools/pack and the archive's ./run say so. The
-same tree and program give the same archive, byte for byte.
+The archive has the proved `motesim` of these sources, if ./prove has built it; the page PROVED.md then describes the
+proof and the kit. Otherwise it has one that is compiled without a proof; tools/pack and the archive's ./run say so.
+The same tree and binary yield the same archive, byte for byte.
 """
 from __future__ import annotations
 
@@ -59,16 +59,16 @@ libraries of the Rattle kit, under the terms of the texts that the kit has for t
 |---|---|
 %(rows)s
 
-Of the libraries without a text, ask whoever gave you the kit. Some code of the C library and of GCC that starts a
+For the texts of the others, ask the person who gave you the kit. Some code of the C library and of GCC that starts a
 program is linked in too; the C library itself is the machine's.
 """
-PROVED_PAGE = """# What was proved of this program
+PROVED_PAGE = """# The proof of this `motesim`
 
-*Take any scenario, any number of workers from 1 to 16, of either kind, and any cut of the motes among them. If the
+*Take any scenario, any number of workers from 1 to 16, of either kind, and any partition of the motes. If the
 call `simulate` returns Ok, and the reader and the writer that it was given report their bytes faithfully, then it has
 written the report of one thread, and nothing else.* This is a clause in the contract of `simulate`, which the prover
 checks. It rests on the definitions of that contract, and on the Rattle toolchain, LLVM, the C library and the machine.
-That a run ends, that a waiting thread goes on, and how fast anything is, is not proved. The tools are Python, and
+It is not proved that a run ends, that a waiting thread continues, or how fast anything is. The tools are Python, and
 tested.
 
 | What | Which |
@@ -84,7 +84,7 @@ promised.
 
 
 def git(*words: str) -> str:
-    """What git answers here, or nothing where this is no clone."""
+    """Git's output here, or nothing if this is no clone."""
     try:
         return subprocess.run(['git', '-C', str(TOP), *words], capture_output=True, text=True, check=True).stdout
     except (OSError, subprocess.CalledProcessError):
@@ -138,7 +138,7 @@ def summary_of(name: str) -> str:
 
 
 def files(program: Path) -> dict[str, tuple[bytes, int]]:
-    """What the archive holds: of each name its bytes and its mode."""
+    """The contents of the archive: of each name its bytes and its mode."""
     tools, built = user_commands(), program.read_bytes()
     shown = '\n'.join('- `tools/%s`: %s' % (it, summary_of(it)) for it in tools)
     about = {'version': VERSION, 'commit': git('rev-parse', 'HEAD').strip() or 'not known', 'kit': kit_at_hand(),
@@ -180,7 +180,8 @@ def archive(folder: str, program: Path) -> bytes:
 @command('pack')
 def main() -> int:
     words = words_of(__doc__)
-    words.add_argument('-o', '--output', metavar='FILE', type=Path, help='else motesim-VERSION.tar.gz, in this folder')
+    words.add_argument('-o', '--output', metavar='FILE', type=Path,
+                       help='the archive (motesim-VERSION.tar.gz, in this folder)')
     asked = words.parse_args()
     folder, packed = 'motesim-%s' % VERSION, program()
     path = asked.output or Path(folder + '.tar.gz')

@@ -68,7 +68,7 @@ def shown_of(lines: list[str], blocks: list[Block], place: int) -> Block | None:
 
 
 def prepare(folder: Path) -> None:
-    """Puts into a folder what the commands need."""
+    """Writes the files that the commands need into a folder."""
     for name in 'tools', 'examples':
         (folder / name).symlink_to(TOP / name)
     run = folder / 'run'
@@ -77,7 +77,7 @@ def prepare(folder: Path) -> None:
 
 
 def printed(folder: Path, program: Path, commands: str) -> str:
-    """What commands print, on both their outputs."""
+    """The output of commands, on both streams."""
     here = {**os.environ, 'MOTESIM': str(program), 'LC_ALL': 'C.UTF-8', 'PYTHONDONTWRITEBYTECODE': '1'}
     try:
         done = subprocess.run(['bash', '-c', commands], cwd=folder, env=here, timeout=SECONDS,
@@ -130,7 +130,7 @@ def main() -> int:
     words = words_of(__doc__)
     take_program(words)
     words.add_argument('--write', action='store_true', help='put what the commands print into the pages')
-    words.add_argument('pages', nargs='*', type=Path, metavar='PAGE', help='these pages; else those of docs/use')
+    words.add_argument('pages', nargs='*', type=Path, metavar='PAGE', help='these pages (those of docs/use)')
     asked = words.parse_args()
     program, total = Path(program_of(asked.program)), 0
     faults: list[str] = []

@@ -2,9 +2,9 @@
 
 After that ./run and all tools run the proved program; until then they run the one that they have. A proof needs some
 20 to 40 minutes on four cores. It runs at a low priority, and reports its progress: on a terminal in one line that is
-renewed, else in a line for each crate, and one each minute. Interrupt it at any time: the next ./prove continues with
-the crates that are left. The prover's output about a crate is in its out/build.log, and is shown if the crate isn't
-proved. ./test is the gate, which proves everything from nothing, and tests it.
+renewed, otherwise in a line for each crate, and one each minute. Interrupt it at any time: the next ./prove continues
+with the crates that are left. The prover's output about a crate is in its out/build.log, and is shown if the crate
+isn't proved. ./test is the gate, which proves everything from nothing, and tests it.
 """
 from __future__ import annotations
 
@@ -78,7 +78,8 @@ class Running(NamedTuple):
 class Proof:
     """A proof of crates, several at once: first those for which the longest chain of others waits."""
 
-    def __init__(self, crates: Sequence[kit.Crate], proved: Iterable[str], processors: int, line: Line, about: str = ''):
+    def __init__(self, crates: Sequence[kit.Crate], proved: Iterable[str], processors: int, line: Line,
+                 about: str = ''):
         self.crates, self.processors, self.line, self.about = crates, processors, line, about
         self.proved, self.is_well, self.began = set(proved), True, time.time()
         self.running: dict[Future[bool], Running] = {}
@@ -87,15 +88,15 @@ class Proof:
         self.left = sorted(crates, key=lambda it: -after[it.name])
 
     def state(self) -> str:
-        """How many crates are proved, after which time, and which ones are being proved."""
+        """The number of proved crates, the time so far, and the crates that are being proved."""
         done, elapsed = sum(it.name in self.proved for it in self.crates), time.time() - self.began
         text = '%d of %d proved, %d:%02d%s' % (done, len(self.crates), elapsed // 60, elapsed % 60, self.about)
         names = ', '.join(it.crate.name for it in self.running.values())
         return '%s (now %s)' % (text, names) if names else text
 
     def jobs_of(self, crate: kit.Crate, ready: Sequence[kit.Crate]) -> tuple[int, bool]:
-        """How many jobs a crate is proved by, and whether it leaves the processors to others. The one that all wait for
-        has all processors, and goes first on them; each other one has a fair part of those that are idle."""
+        """The number of jobs of a crate's proof, and whether it leaves the processors to others. The one that all wait
+        for has all processors, and goes first on them; each other one has a fair part of those that are idle."""
         left = chains([it for it in self.crates if it.name not in self.proved], self.seconds)
         running = [it.crate for it in self.running.values()]
         is_longest = all(left[it.name] <= left[crate.name] for it in [*ready, *running])

@@ -1,9 +1,9 @@
 """Runs the program, and compiles it before if none is built: tools/run_program [arguments], which is ./run
 
-The proved program of these sources runs if it has been built. Else one is compiled without proving it, once, and is
-kept; a line on standard error says so. Arguments that the program doesn't know, and a file that can't be read, are
-refused before that. The environment variable MOTESIM names another program. On a terminal a line more says how to learn
-why there is no report. With --help the options of ./run come below the program's.
+The proved binary of these sources runs if it has been built. Otherwise one is compiled without proving it, once, and
+is kept; a line on standard error says so. Arguments that the program doesn't know, and a file that can't be read, are
+refused before that. The environment variable MOTESIM names another program. On a terminal a line more says how to
+learn why there is no report. With --help the options of ./run come below the program's.
 """
 from __future__ import annotations
 
@@ -72,8 +72,8 @@ def say_version(is_unproved: bool) -> NoReturn:
 
 
 def say_help_of_run() -> None:
-    """The options of ./run, beside the program's own text: where that goes to a terminal, below it, else on standard
-    error, so that standard output is the program's."""
+    """Prints the options of ./run with the program's own text: if that goes to a terminal, below it, otherwise on
+    standard error, so that standard output is the program's."""
     print(HELP_OF_RUN, file=sys.stdout if os.isatty(1) else sys.stderr)
 
 
@@ -84,7 +84,7 @@ def say_help() -> NoReturn:
 
 
 def check_words(asked: Asked) -> None:
-    """Ends where the program would refuse the words, or couldn't read the file."""
+    """Ends if `motesim` would refuse the arguments, or couldn't read the file."""
     if asked.refusal:
         sys.stderr.buffer.write(os.fsencode("error: %s\n\nFor more information, try '--help'.\n" % asked.refusal))
         sys.exit(MISUSED)
@@ -115,7 +115,7 @@ def new_program() -> Path:
 
 
 def program_for(asked: Asked) -> Path:
-    """The program that runs the arguments: one that is there answers them itself."""
+    """The binary for the arguments: one that exists handles them itself."""
     named = os.environ.get('MOTESIM')
     if named and not asked.is_unproved:
         return named_program(named)

@@ -1,4 +1,4 @@
-"""Runs of the program for the checks of the gate: its answers, how two of them differ, and the count at the end."""
+"""Runs of the program for the checks of the gate: their results, how two of them differ, and the count at the end."""
 from __future__ import annotations
 
 import argparse
@@ -51,15 +51,16 @@ def differing(what: str, got: bytes, wanted: bytes) -> list[str]:
 
 
 def difference(got: Answer, wanted: Answer) -> list[str]:
-    """The lines that say how two answers differ."""
+    """The lines that show how two results differ."""
     if got.status is None or wanted.status is None:
         return [] if got == wanted else [(got if got.status is None else wanted).errors.decode()]
-    lines = differing('standard output', got.output, wanted.output) + differing('standard error', got.errors, wanted.errors)
+    lines = differing('standard output', got.output, wanted.output) + differing('standard error', got.errors,
+                                                                                wanted.errors)
     return lines + (['the status is %d, not %d' % (got.status, wanted.status)] if got.status != wanted.status else [])
 
 
 def in_parallel(work: Callable[[One], Other], given: Iterable[One]) -> list[Other]:
-    """What `work` returns for each, on all processors."""
+    """The results of `work` for all of them, on all processors."""
     with ThreadPoolExecutor(os.cpu_count()) as pool:
         return list(pool.map(work, given))
 
@@ -74,8 +75,8 @@ def count(total: int, faults: Iterable[str]) -> int:
 
 
 def asked_for(about: str | None, *names: str, **how: str) -> tuple[argparse.Namespace, str]:
-    """The arguments of a command that tries a program, and that program. `names` are further arguments, of which there may
-    be many; `how` describes them."""
+    """The arguments of a command that tries a program, and that program. `names` are further arguments, of which there
+    may be many; `how` describes them."""
     words = words_of(about)
     take_program(words)
     for name in names:

@@ -5,7 +5,7 @@ The scenario is tests/cases/motes/print_then_yield.toml. Each of its bytes is re
 SPOILED: such a text is answered a report and status 0, or nothing, status 1 and a fault's line. How many texts are
 answered which, and how long their reports are together, was counted by another simulator of the same rules. A front
 of the scenario is no TOML (fault 1) or lacks a key (fault 2); the one that lacks only the last line feed is whole.
-Ends with a line `N passed, M failed`, and with status 1 where a check failed.
+Ends with a line `N passed, M failed`, and with status 1 if a check failed.
 """
 from __future__ import annotations
 
@@ -28,7 +28,8 @@ SPOILED: list[tuple[bytes, dict[str, int], int]] = [
     (b'\xff', {'scenario is not UTF-8': 180}, 0),
     (b'"', {'report': 4, 'scenario fault 1': 176}, 356),
     (b'0', {
-        'report': 8, 'scenario fault 1': 44, 'scenario fault 2': 57, 'scenario fault 5': 1, 'scenario fault 6': 3, 'medium fault 2': 1,
+        'report': 8, 'scenario fault 1': 44, 'scenario fault 2': 57, 'scenario fault 5': 1, 'scenario fault 6': 3,
+        'medium fault 2': 1,
         'program p fault 1 line 1': 13, 'program p fault 2 line 1': 37, 'program p fault 3 line 1': 16,
     }, 712),
     (b' ', {
@@ -41,7 +42,8 @@ SPOILED: list[tuple[bytes, dict[str, int], int]] = [
     }, 178),
     (b'a', {
         'report': 9, 'scenario fault 1': 52, 'scenario fault 2': 53, 'scenario fault 6': 3,
-        'program p fault 1 line 1': 2, 'program p fault 2 line 1': 35, 'program p fault 3 line 1': 22, 'program p fault 10 line 1': 4,
+        'program p fault 1 line 1': 2, 'program p fault 2 line 1': 35, 'program p fault 3 line 1': 22,
+        'program p fault 10 line 1': 4,
     }, 801),
 ]
 

@@ -1,4 +1,4 @@
-"""Where the parts of the repository are, and which program its checks try."""
+"""The places of the repository's parts, and the binary that its checks try."""
 from __future__ import annotations
 
 import argparse
@@ -13,8 +13,9 @@ __all__ = ['PARTS', 'PROGRAM', 'TOP', 'program_of', 'take_program']
 
 
 def take_program(words: argparse.ArgumentParser) -> None:
-    """Takes the word --program."""
-    words.add_argument('--program', metavar='FILE', help='the motesim to try; else the one that MOTESIM names, or the built one')
+    """Adds the option --program."""
+    words.add_argument('--program', metavar='FILE',
+                       help='the motesim to try (the one that MOTESIM names, or the built one)')
 
 
 def program_of(named: str | None) -> str:

@@ -1,8 +1,8 @@
 """Runs the tests of the tools with pytest: tools/dev/test_tools [NAME ..]
 
-NAME is a file of tools/tests, test_report, or a part of its name; without one all are run. Prints each test that fails,
-with its error, and each that is skipped, with the reason. The last line is `N passed, M failed, K skipped`, and the
-status 1 if one failed. With pytest-xdist as many tests run in parallel as there are processors.
+NAME is a file of tools/tests, test_report, or a part of its name; without one all are run. Prints each test that
+fails, with its error, and each that is skipped, with the reason. The last line is `N passed, M failed, K skipped`, and
+the status 1 if one failed. With pytest-xdist as many tests run in parallel as there are processors.
 """
 from __future__ import annotations
 
@@ -22,7 +22,8 @@ MINUTES = 30
 NO_PYTEST = ('the tests of the tools need pytest: on Debian `apt-get install python3-pytest python3-pytest-xdist` installs '
              'it for %s (.ci/run installs all that the tests need)' % SYSTEM)
 # No file is written into the tree; each line says which test failed, and why.
-FLAGS = ['-qq', '--no-header', '--tb=short', '-rN', '-p', 'no:cacheprovider', '-W', 'ignore::pytest.PytestUnhandledThreadExceptionWarning']
+FLAGS = ['-qq', '--no-header', '--tb=short', '-rN', '-p', 'no:cacheprovider', '-W',
+         'ignore::pytest.PytestUnhandledThreadExceptionWarning']
 
 
 def interpreter() -> str:
@@ -50,7 +51,7 @@ def words_for(python: str, may_skip: Sequence[str], files: Sequence[str]) -> lis
 def main() -> int:
     words = words_of(__doc__)
     words.add_argument('--may-skip', action='append', default=[], choices=['browser'],
-                       help='let tests be skipped that need it; else they fail without it')
+                       help='skip the tests that need it; without this option they fail')
     words.add_argument('names', nargs='*', metavar='NAME', help='a file of tools/tests, or a part of its name')
     asked = words.parse_args()
     called = words_for(interpreter(), asked.may_skip, files_of(asked.names))

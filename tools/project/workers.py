@@ -1,4 +1,4 @@
-"""Compares runs by workers with the run on one thread: tools/dev/compare_workers [--program PROGRAM] [FILE or FOLDER ..]
+"""Compares runs by workers with the run on one thread: tools/dev/compare_workers [FILE or FOLDER ..]
 
 Each scenario is run on one thread, and then by 1, 2, 3, 7 and 16 workers with both cuts, joined after each window and
 with marks; status, report and fault line have to be the same. A folder means all its files NAME.toml, also in its
@@ -79,13 +79,16 @@ def compare(program: str, paths: Sequence[Path]) -> int:
         found = list(differences(program, path))
         if found:
             differ += 1
-            print('%s: %d of its runs differ; %s: %s' % (path, len(found), found[0][0], '\n  '.join(found[0][1])), flush=True)
-    print('%d scenarios, each on one thread and in %d runs by workers: %d differ' % (len(paths), len(list(ways())), differ))
+            print('%s: %d of its runs differ; %s: %s' % (path, len(found), found[0][0], '\n  '.join(found[0][1])),
+                  flush=True)
+    print('%d scenarios, each on one thread and in %d runs by workers: %d differ' % (len(paths), len(list(ways())),
+                                                                                     differ))
     return 1 if differ else 0
 
 
 @command('compare_workers')
 def main() -> int:
-    asked, program = asked_for(__doc__, 'names', metavar='FILE or FOLDER', help='scenarios; else the examples and a long one')
+    asked, program = asked_for(__doc__, 'names', metavar='FILE or FOLDER',
+                               help='scenarios (the examples and a long one)')
     with tempfile.TemporaryDirectory() as room:
         return compare(program, list(scenarios(asked.names)) if asked.names else all_of_the_gate(Path(room)))

@@ -1,12 +1,12 @@
 """Tries mutants of the crates' functions, many in one check: the prover must refuse each for what it does.
 
 A mutant is a file NAME.edit of crates/CRATE/must-fail, gate-bodies or wrong-bodies (docs/proof/WRONG_BODIES.md). It is
-refused for its meaning if a goal of a contract fails. If only an answer by hand no longer fits, or the prover stops at a
-limit, it says little of the contract: such a mutant is reported as open, and counts as skipped, until it is written so
-that the contract decides. A control comes before each batch: the same copy without an edit has to be proved.
+refused for its meaning if a goal of a contract fails. If only an answer by hand no longer fits, or the prover stops at
+a limit, it says little of the contract: such a mutant is reported as open, and counts as skipped, until it is written
+so that the contract decides. A control comes before each batch: the same copy without an edit has to be proved.
 
-The libraries below are those in crates/*/out; what is missing or older than its sources is built first. With --built
-they are used as they are: rt ci has just built them. What is tried is noted in log/wrong_bodies.tsv, with a digest of
+The libraries below are those in crates/*/out; missing or outdated ones are built first. With --built
+they are used unchanged: rt ci has just built them. The verdicts are noted in log/wrong_bodies.tsv, with a digest of
 all that the verdict depends on. As many checks run in parallel as there are processors and memory, or as RT_JOBS says.
 The last line is `N passed, M failed, K skipped`, and the status 1 if one failed.
 """
@@ -40,12 +40,12 @@ def words() -> argparse.Namespace:
     asked = words_of(__doc__)
     asked.add_argument('--list', action='store_true', help='print the mutants, their checks and functions; try none')
     asked.add_argument('--tried', action='store_true', help='print what each came to when it was last tried; try none')
-    asked.add_argument('--folder', choices=FOLDERS, help='those of this folder; else of all three')
+    asked.add_argument('--folder', choices=FOLDERS, help='those of this folder (of all three)')
     asked.add_argument('--built', action='store_true', help='use the libraries as rt ci has left them, and build none')
     asked.add_argument('--changed', action='store_true', help='leave out what was refused over the very same texts')
     asked.add_argument('--tenth', action='store_true', help='a tenth of them, chosen by the commit')
     asked.add_argument('--gate', action='store_true', help='those of %s that have changed, and a tenth of all' % GATE)
-    asked.add_argument('names', nargs='*', metavar='CRATE or CRATE/NAME', help='crates, or mutants; else all')
+    asked.add_argument('names', nargs='*', metavar='CRATE or CRATE/NAME', help='crates, or mutants (all)')
     return asked.parse_args()
 
 
@@ -59,7 +59,8 @@ def named(crates: dict[str, kit.Crate], names: Sequence[str], folders: Sequence[
     for it in names:
         if '/' in it and it not in known:
             raise Fault('there is no mutant %s' % it)
-    return {name: [it for it in edits if not names or name in names or it.name in names] for name, edits in found.items()}
+    return {name: [it for it in edits if not names or name in names or it.name in names] for name,
+            edits in found.items()}
 
 
 def changed(chosen: Chosen, digests: dict[str, str]) -> set[str]:
@@ -87,7 +88,7 @@ def commit() -> str:
 
 
 def chosen_by(asked: argparse.Namespace, crates: dict[str, kit.Crate]) -> tuple[Chosen, dict[str, str]]:
-    """The mutants that are asked for, and their digests."""
+    """The wanted mutants, and their digests."""
     chosen = named(crates, asked.names, [asked.folder] if asked.folder else FOLDERS)
     digests = {it.name: log.digest(crates[name], it.file) for name, edits in chosen.items() for it in edits}
     names = {it.name for edits in chosen.values() for it in edits}
@@ -108,7 +109,8 @@ def print_list(chosen: Chosen) -> None:
     for name, edits in chosen.items():
         for number, group in enumerate(groups(edits), 1):
             for it in group:
-                print('%s: check %d, %s' % (it.name, number, ' '.join(f.path for f in it.functions) or 'the whole crate'))
+                print('%s: check %d, %s' % (it.name, number,
+                                            ' '.join(f.path for f in it.functions) or 'the whole crate'))
         for it in edits:
             if it.trouble:
                 print("%s: it can't be applied: %s" % (it.name, it.trouble))
@@ -123,14 +125,14 @@ def print_tried(chosen: Chosen, digests: dict[str, str]) -> None:
 
 
 def has_new_library(crate: kit.Crate) -> bool:
-    """Whether a crate's library is there, and no file of the crate or below it is newer."""
+    """Returns whether a crate's library exists, and no file of the crate or below it is newer."""
     made = Path(crate.rlib) / 'format'
     files = [it for part in [crate, *crate.below()] for it in kit.files_of(part.folder)]
     return made.is_file() and all(os.path.getmtime(it) < made.stat().st_mtime for it in files)
 
 
 def build_libraries(crates: Collection[kit.Crate], as_they_are: bool) -> None:
-    """Builds what is missing of the libraries below these crates. (rt notes what a library was built from, but not if it
+    """Builds the missing libraries below these crates. (rt notes what a library was built from, but not if it
     is the gate's own.)"""
     below = list({it.name: it for crate in crates for it in crate.below()}.values())
     if as_they_are and all((Path(it.rlib) / 'format').is_file() for it in below):
@@ -190,12 +192,14 @@ def main() -> int:
     began = time.time()
     found = judge_all(chosen, crates)
     log.note({name: (it, digests[name]) for name, it in found.items()})
-    kinds = {kind: [name for name, it in found.items() if it.kind == kind] for kind in {it.kind for it in found.values()}}
+    kinds = {kind: [name for name, it in found.items() if it.kind == kind]
+             for kind in {it.kind for it in found.values()}}
     still = [name for kind in OPEN for name in kinds.get(kind, [])]
     failed = [name for kind, names in kinds.items() if kind not in REFUSED + OPEN for name in names]
     used = resource.getrusage(resource.RUSAGE_CHILDREN)
     print('%.0f seconds, of the processors %.0f' % (time.time() - began, used.ru_utime + used.ru_stime))
-    print("refused for a goal of a contract: %d; for a loop's invariant: %d" % tuple(len(kinds.get(it, [])) for it in REFUSED))
+    print("refused for a goal of a contract: %d; for a loop's invariant: %d" %
+          tuple(len(kinds.get(it, [])) for it in REFUSED))
     if still:
         print('skipped: open, since only an answer by hand no longer fits, or at a limit: %s' % ' '.join(still))
     if failed:

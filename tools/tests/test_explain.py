@@ -232,7 +232,7 @@ class Scenarios(unittest.TestCase):
     def test_a_fault_of_which_no_place_is_known(self) -> None:
         for line in 'motesim: out of memory', 'motesim: scenario fault 4', 'motesim: anything':
             lines = explain.explanation('s', SCENARIO.encode(), line)
-            self.assertEqual(lines[-1], 'Where it is, this tool does not know.')
+            self.assertEqual(lines[-1], 'This tool does not know its place.')
 
     def test_a_long_line_is_shown_around_the_mark(self) -> None:
         text = 'process a; code a { body { %s print zz; } }' % ('yield; ' * 100)

@@ -374,7 +374,7 @@ class Forms(Folder):
         self.hand_in('ben.mote', (PROGRAM % 3).replace('print', 'prnt', 1))
         self.hand_in('cem.toml', net(PROGRAM % 3).replace('end = ', 'end: ', 1))
         words = '--net', 'task.toml'
-        self.assertIn('--why ben.mote shows where its error is', self.grade(*words))
+        self.assertIn('--why ben.mote shows the place of its error', self.grade(*words))
         self.assertIn('Did you mean `print`?', self.grade(*words, '--why', 'ben'))
         self.assertIn('Write, as line 2:\n  end = ', self.grade(*words, '--why', 'cem'))
         self.grade(*words, '-o', 'marks.html')

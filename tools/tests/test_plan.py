@@ -205,7 +205,7 @@ FAULTS = [
     ('"grid"', '"square"', 10, '"square"', '`"ring"`'),
     ('"${step}"', '"${stop}"', 13, '"${stop}"', '`${period}`, `${step}`'),
     ('"${step}"', '"${step}0"', 13, '"${step}0"', '`${step}0` is 100 here'),
-    ('"${step}"', '20_000', 9, '[places]', 'Mote 2 of this group would stand at (40000, 0)'),
+    ('"${step}"', '20_000', 9, '[places]', 'Mote 2 of this group would be at (40000, 0)'),
     ('flood.mote', 'fled.mote', 14, '"fled.mote"', 'No such file'),
     ('flood.mote', 'Bad Name.mote', 14, '"Bad Name.mote"', 'A-Z a-z 0-9'),
     ('program = "flood.mote"\n', '', 9, '[places]', 'needs the key `program`'),

@@ -1,5 +1,5 @@
-"""Searches for faults: the changes of each kind in the text, which sets are minimal, the reported coverage, and the fate
-of interrupted searches, hostile programs and texts that can't be changed."""
+"""Searches for faults: the changes of each kind in the text, which sets are minimal, the reported coverage, and the
+fate of interrupted searches, hostile programs and texts that can't be changed."""
 from __future__ import annotations
 
 import contextlib

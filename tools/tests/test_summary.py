@@ -178,7 +178,8 @@ from to copies received lost ring collided halted late ratio delay
         self.say('--flow', 'recv')
 
     def test_the_net_is_searched_once_for_each_origin(self) -> None:
-        """Mote 0 sends thirty messages, all heard by mote 1: one origin, so one search for its row and one for the net."""
+        """Mote 0 sends thirty messages, all heard by mote 1: one origin, so one search for its row and one for the
+        net."""
         sends = ''.join('%d send %d %d\n' % (at, at, at) for at in range(30))
         prints = ''.join('%d print hearer %d\n' % (at + 3, at) for at in range(30))
         medium = ''.join('%d 0 %d %d 1@%d\n' % (at, at, at, at + 3) for at in range(30))

@@ -308,7 +308,8 @@ class SweepTest(Bed):
             (('--measure', 'sent', '--vary', 'speed=1'), 'has no parameter speed; it has: period, motes, name'),
             (('--measure', 'sent', '--vary', 'motes=0'), 'net.plan.toml, line 12:'),
             (('--measure', 'python: no.py:x'), 'no.py: No such file'),
-            (('--measure', 'sent of mote 4', '--vary', 'motes=2,4'), 'no mote 4: the largest net has the motes 0 to 3'),
+            (('--measure', 'sent of mote 4', '--vary', 'motes=2,4'),
+             'no mote 4: the largest net has the motes 0 to 3'),
         ]:
             done = self.sweep(*words)
             self.assertEqual((done.returncode, done.stdout), (2, ''), words)

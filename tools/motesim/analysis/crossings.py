@@ -52,7 +52,7 @@ class Crossing(NamedTuple):
 
 def place(line: Line, threshold: float, is_rising: bool | None = None,
           is_log: bool = False) -> tuple[float, bool, tuple[float, float]] | None:
-    """Where a line first crosses a threshold, whether it rises there, and the points around it."""
+    """The place at which a line first crosses a threshold, whether it rises there, and the points around it."""
     for (x, y), (next_x, next_y) in zip(line, line[1:]):
         rises = next_y > y
         if (y < threshold) != (next_y < threshold) and is_rising in (None, rises):
@@ -100,7 +100,7 @@ def drawn_lines(curve: Sequence[Runs], middle: Middle, count: int) -> Iterator[L
 
 def crossing(curve: Sequence[Runs], threshold: float, confidence: float, middle: Middle = statistics.fmean,
              is_log: bool = False) -> Crossing | None:
-    """Where a curve crosses a threshold; None if it doesn't."""
+    """The place at which a curve crosses a threshold; None if it doesn't."""
     found = place(sorted(point(list(zip(it.xs, it.ys)), middle) for it in curve), threshold, is_log=is_log)
     if found is None:
         return None

@@ -23,7 +23,7 @@ MOST_TICKS = 12
 SIZE = 16.256, 10.668
 LEAST_SIDE, MOST_SIDE, INCH = 3, 100, 2.54
 POINTS = 72
-# Colours that are told apart by those who see fewer of them (Okabe and Ito); lines differ by their marks too.
+# Colours that readers with colour blindness can distinguish (Okabe and Ito); lines differ by their marks too.
 COLOURS = ['#0072b2', '#d55e00', '#009e73', '#cc79a7', '#e69f00', '#56b4e9', '#000000']
 MARKS = ['o', 's', '^', 'D', 'v', 'P', 'X']
 STROKES = ['-', '--', '-.', ':']
@@ -97,7 +97,7 @@ def _save(figure: Any, pyplot: Any, path: Path) -> None:
 
 
 def _errors(points: Sequence[Point], of: Callable[[Point], Any]) -> list[list[float]]:
-    """How far the intervals go to each side."""
+    """The lengths of the intervals to each side."""
     found = [of(it) for it in points]
     return [[0.0 if it.low is None else it.middle - it.low for it in found],
             [0.0 if it.high is None else it.high - it.middle for it in found]]

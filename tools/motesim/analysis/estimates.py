@@ -1,6 +1,6 @@
 """Estimates from a few runs: means with confidence intervals, medians with quartiles.
 
-An interval by Student's t takes the runs as independent draws of something near to normal. One by the bootstrap takes
+An interval by Student's t treats the runs as independent draws of something near to normal. One by the bootstrap takes
 no form for granted: the runs are drawn again with replacement, and the interval has the middle part of the means. Its
 draws come from a fixed seed, so the same runs give the same interval anywhere. The middle part is a little larger than
 the confidence (`part_of_draws`), since few runs spread less than what they are drawn from.
@@ -30,7 +30,7 @@ Measured = Literal['any', 'share', 'yes or no']
 
 
 class Estimate(NamedTuple):
-    """What runs say of a measure: how many there are, the middle, its interval if there is one, and the method."""
+    """The estimate of a measure: the number of runs, the middle, its interval if there is one, and the method."""
     runs: int
     middle: float
     low: float | None
@@ -75,7 +75,7 @@ def _beta(a: float, b: float, x: float) -> float:
 
 @lru_cache(maxsize=None)
 def student_t(confidence: float, freedom: int) -> float:
-    """How many standard errors are on each side of a mean with this confidence (0.95), by Student's t."""
+    """The number of standard errors on each side of a mean with this confidence (0.95), by Student's t."""
     low, high = 0.0, 1e6
     for _ in range(STEPS):
         middle = (low + high) / 2
@@ -108,7 +108,7 @@ def resampled(values: Sequence[Value], chance: Chance) -> list[Value]:
 
 
 def between(found: list[float], confidence: float) -> tuple[float, float]:
-    """The middle part of some numbers: what is left if the same share is cut off at each end."""
+    """The middle part of some numbers: the rest if the same share is cut off at each end."""
     found = sorted(found)
     out = (1 - confidence) / 2
     last = len(found) - 1
@@ -120,7 +120,7 @@ def part_of_draws(confidence: float, runs: int) -> float:
     """Which middle part of the draws of the bootstrap is an interval of this confidence.
 
     The variance of draws from n runs is too small by a factor of (n - 1) / n, and is treated as known. Hesterberg
-    ("What Teachers Should Know About the Bootstrap", The American Statistician 69, 2015) takes so much more at both
+    ("What Teachers Should Know About the Bootstrap", The American Statistician 69, 2015) adds so much at both
     ends that the interval of something normal is as wide as Student's t.
     """
     if runs < 2:

@@ -11,7 +11,7 @@ from motesim.experiments.results import read_results
 
 
 def frame(path: str | Path, with_faults: bool = False) -> Any:
-    """A DataFrame with a row for each run of a sweep's file; runs with a fault only if they are asked for."""
+    """A DataFrame with a row for each run of a sweep's file; runs with a fault only if the caller asks for them."""
     columns, rows = read_results(Path(path))
     pandas: Any = packages.load('pandas')
     kept = [row for row in rows if with_faults or not row.get('fault')]
@@ -20,5 +20,5 @@ def frame(path: str | Path, with_faults: bool = False) -> Any:
 
 
 def _is_of_numbers_and_gaps(values: Sequence[Cell]) -> bool:
-    """Whether a column has whole numbers, and no value in some rows. Pandas would make them real numbers."""
+    """Returns whether a column has whole numbers, and no value in some rows. Pandas would make them real numbers."""
     return {type(it) for it in values} == {int, type(None)}

@@ -16,7 +16,7 @@ MOST_VALUES = 4
 
 
 class Wish(NamedTuple):
-    """What is to be shown, and the words around it.
+    """A request for a picture or a table, and the words around it.
 
     title, footer  the words above and below a picture; None: what it shows, and of which runs; '': none
     size           the width and the height of a picture in centimetres, `16x10`, or nothing
@@ -42,7 +42,7 @@ class Wish(NamedTuple):
         return self.confidence / 100
 
     def estimate(self, values: Sequence[float], measure: Measured = 'any') -> Estimate:
-        """What the runs of a point say."""
+        """Returns the estimate of the runs of a point."""
         if self.show == 'median':
             return median_with_quartiles(values, self.part)
         return mean_of(values, self.part, self.interval, measure)
@@ -70,7 +70,7 @@ class Point(NamedTuple):
 
 
 class Shown(NamedTuple):
-    """What is shown, what its runs differ in, and how many are left out."""
+    """The shown points, the parameters in which their runs differ, and the number of omitted runs."""
     points: list[Point]
     over: list[str]
     faults: int
@@ -96,7 +96,7 @@ def order(value: Cell) -> tuple[bool, float, str]:
 
 
 def _check(rows: Sequence[Row], wish: Wish) -> None:
-    """Whether the names are there."""
+    """Checks that the names exist."""
     parameters, measures = parameters_of(rows), measures_of(rows)
     for name in [wish.by, *wish.over.split(',')]:
         if name and name not in parameters:

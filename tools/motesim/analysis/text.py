@@ -83,7 +83,7 @@ def heading(shown: Shown, wish: Wish) -> str:
 
 
 def how(shown: Shown, wish: Wish) -> str:
-    """How the intervals were found, if there are some."""
+    """The method for the intervals, if there are some."""
     found = by_methods(shown.methods())
     if wish.show != 'mean' or not found:
         return ''
@@ -97,7 +97,7 @@ def by_methods(methods: Sequence[str]) -> str:
 
 
 def left_out(shown: Shown, wish: Wish) -> list[str]:
-    """What isn't shown."""
+    """The lines about omitted runs."""
     lines = []
     if shown.faults:
         lines.append('left out: %d runs with a fault' % shown.faults)
@@ -107,7 +107,7 @@ def left_out(shown: Shown, wish: Wish) -> list[str]:
 
 
 def remarks(shown: Shown, wish: Wish) -> list[str]:
-    """What the intervals don't say."""
+    """The limits of the intervals' meaning."""
     return of_intervals([it for point in shown.points for it in point.estimates]) if wish.show == 'mean' else []
 
 
@@ -141,7 +141,7 @@ def middle_of(wish: Wish) -> tuple[str, Middle]:
 
 
 def crossings_of(shown: Shown, wish: Wish) -> dict[Cell, Crossing | None]:
-    """Where the curve of each value of `by` crosses the threshold, if it does."""
+    """The place at which the curve of each value of `by` crosses the threshold, if it does."""
     threshold = threshold_of(wish)
     if threshold is None or not wish.against:
         return {}
@@ -158,13 +158,13 @@ def crossings_of(shown: Shown, wish: Wish) -> dict[Cell, Crossing | None]:
 
 
 def crossings(shown: Shown, wish: Wish) -> list[str]:
-    """Where each curve crosses the threshold, in words."""
+    """The crossing of each curve, in words."""
     return [('%s %s: ' % (wish.by, text_of(by)) if wish.by else '') + of_crossing(found, wish)
             for by, found in crossings_of(shown, wish).items()]
 
 
 def of_crossing(found: Crossing | None, wish: Wish) -> str:
-    """Where a curve crosses, with its interval."""
+    """The crossing of a curve, with its interval."""
     middle, threshold = middle_of(wish)[0], float(wish.threshold)
     if found is None:
         return 'the %s doesn\'t cross %g' % (middle, threshold)
@@ -175,11 +175,12 @@ def of_crossing(found: Crossing | None, wish: Wish) -> str:
     ends = 'before the first point' if math.isinf(found.low) else '%.4g' % found.low, (
         'behind the last point' if math.isinf(found.high) else '%.4g' % found.high)
     share = '' if found.share > 0.995 else '; %d %% of the drawn curves cross' % round(100 * found.share)
-    return '%s\n  with %d %%, by the bootstrap of %d runs: %s to %s%s' % (at, wish.confidence, found.draws, *ends, share)
+    return '%s\n  with %d %%, by the bootstrap of %d runs: %s to %s%s' % (at, wish.confidence, found.draws, *ends,
+                                                                          share)
 
 
 def columns_of_crossing(found: Crossing | None) -> Row:
-    """Where a curve crosses, as columns: an end of the interval beyond the axis is empty."""
+    """The crossing of a curve, as columns: an end of the interval beyond the axis is empty."""
     at, low, high = (found.at, found.low, found.high) if found else (None, None, None)
     return {'crossing': at, **{'crossing ' + name: None if it is None or math.isinf(it) else it
                                for name, it in (('low', low), ('high', high))}}

@@ -19,8 +19,8 @@ Values are 10,20,40 or 1..30 or 0..100..25 (in steps of 25). Measures are
   python: measures.py:energy    a function in a file of yours, next to the plan, which has the run as argument
 and `name = MEASURE` names its column.
 
-docs/use/EXPERIMENTS.md shows a sweep from its beginning to a plot. Ends with status 0, with 1 if a row has an error or a note,
-with 2 if nothing could be done, and with 130 after Ctrl-C.
+docs/use/EXPERIMENTS.md shows a sweep from its beginning to a plot. Ends with status 0, with 1 if a row has an error or
+a note, with 2 if nothing could be done, and with 130 after Ctrl-C.
 """
 from __future__ import annotations
 

@@ -184,7 +184,8 @@ def compare_all(items: Iterable[Item], work: Comparison, folder: Path, jobs: int
 def main() -> int:
     words = words_of(__doc__)
     words.add_argument('scenario', nargs='*', metavar='SCENARIO', help='scenarios to compare instead of random ones')
-    words.add_argument('--seed', default='0', help='the first seed: a number, or a word, to which -0, -1, .. are added')
+    words.add_argument('--seed', default='0',
+                       help='the first seed: a number, or a word, to which -0, -1, .. are added')
     words.add_argument('--count', type=int, default=100, metavar='N', help='how many random scenarios (100)')
     words.add_argument('--jobs', type=int, metavar='N', help='how many processes (as many as there are processors)')
     words.add_argument('--one-thread', action='store_true', help='leave out the runs by workers')

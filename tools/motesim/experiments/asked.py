@@ -1,4 +1,4 @@
-"""What a sweep is asked to do: the values of the parameters, and the measures."""
+"""The request for a sweep: the values of the parameters, and the measures."""
 from __future__ import annotations
 
 import itertools
@@ -77,7 +77,7 @@ class Sweep:
 
 
 def sweep_of(plan: Plan, vary: Sequence[str], measures: Sequence[str], seconds: float | None) -> Sweep:
-    """What the plan's table `sweep` and the command line ask for."""
+    """Returns the request of the plan's table `sweep` and of the command line."""
     table = plan.tables.read(plan.tables.top.get('sweep', {}), ('sweep',), SWEEP, 'A sweep')
     asked: dict[str, list[Value]] = {}
     for name, values in table['vary'].items():
@@ -112,7 +112,7 @@ def _values_in_plan(plan: Plan, name: str, values: object) -> list[Value]:
 
 
 def sources_of(plan: Plan, measures: Sequence[str]) -> dict[str, str]:
-    """The users' files that the measures take, by their names."""
+    """The users' files that the measures need, by their names."""
     names = sorted({file_of(words) for words in measures} - {''})
     try:
         return {name: read_file(plan.files.folder / name).decode('utf-8') for name in names}

@@ -88,7 +88,7 @@ def _events(judge: Judge, it: Does, motes: tuple[int, ...]) -> list[Event]:
 
 
 def _moment(judge: Judge, it: Does) -> int | None:
-    """The first moment at which a sentence is fulfilled, or None where it never is."""
+    """The first moment at which a sentence is fulfilled, or None if it never is."""
     wanted, chosen = max(1, it.count.least), judge.chosen(it.motes)
     groups = [chosen] if it.motes.kind == 'together' else [(mote,) for mote in chosen]
     found = [events[wanted - 1].line.at for events in (_events(judge, it, group) for group in groups)
@@ -113,7 +113,7 @@ def _motes(judge: Judge, it: Does) -> int:
 
 
 def _count_rows(judge: Judge, it: Copies | Packets) -> int:
-    """How many copies or packets a sentence speaks of."""
+    """The number of copies or packets of a sentence."""
     if isinstance(it, Copies) and it.outcome == 'left':
         return judge.report.left
     rows = judge.of_copies(it) if isinstance(it, Copies) else judge.of_packets()
@@ -132,7 +132,7 @@ def _plain(sentence: Sentence, words: str) -> Does:
 
 
 def _guarded(work: Callable[[Judge], Cell]) -> Callable[[Bench], Cell]:
-    """Nothing, where a sentence speaks of hops to a mote that can't be reached."""
+    """Nothing, if a sentence needs the hops to a mote that can't be reached."""
     def of(bench: Bench) -> Cell:
         try:
             return work(bench.judge)
@@ -169,7 +169,7 @@ def _of_sentence(kind: str, words: str, names: Names) -> Callable[[Bench], Cell]
 
 
 def _checked(value: object, name: str) -> Cell:
-    """What a user's function gives."""
+    """Checks the result of a user's function, and returns it."""
     if value is None or type(value) in (int, float):
         return value  # type: ignore[return-value]
     if type(value) is bool:
@@ -207,7 +207,7 @@ def _of_python(file: str, function: str, sources: Mapping[str, str]) -> Callable
 
 
 def _said(fault: Exception, file: str) -> str:
-    """What went wrong in a user's file, with the line there."""
+    """The error in a user's file, with its line."""
     line, at = (fault.lineno, None) if isinstance(fault, SyntaxError) else (None, fault.__traceback__)
     while at:
         if at.tb_frame.f_code.co_filename == file:
@@ -232,7 +232,7 @@ def _parts(words: str) -> tuple[str, str]:
 
 
 def file_of(words: str) -> str:
-    """The user's file that a measure takes, or an empty text."""
+    """The user's file that a measure needs, or an empty text."""
     found = OF_PYTHON.fullmatch(_parts(words)[1])
     return found[1] if found else ''
 

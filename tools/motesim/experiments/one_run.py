@@ -37,9 +37,9 @@ LONGEST_FAULT = 400
 
 
 class Work(NamedTuple):
-    """What all runs of a sweep have in common.
+    """The data that all runs of a sweep share.
 
-    files     the files beside the plan, by name; what isn't there is read from the folder
+    files     the files next to the plan, by name; others are read from the folder
     measures  their words, with the sources of users' files
     program   the program's path, and its SHA-256: another one there is a fault
     seconds   the limit of a run, and of each measure, in processor time
@@ -64,7 +64,7 @@ class Job(NamedTuple):
 
 
 class Result(NamedTuple):
-    """What came of a run: the measures by name, digests of scenario and report, and a fault, or an empty text.
+    """The result of a run: the measures by name, digests of scenario and report, and a fault, or an empty text.
 
     note  which measures failed and why: their cells are empty, and the others are there
     """
@@ -105,7 +105,7 @@ def program_here(work: Work) -> Path:
 
 @contextmanager
 def limited(seconds: float) -> Iterator[None]:
-    """Ends what is in it by a TimeoutError after so many seconds of processor time, in a process's main thread."""
+    """Ends its block by a TimeoutError after so many seconds of processor time, in a process's main thread."""
     if threading.current_thread() is not threading.main_thread():
         yield
         return
@@ -129,7 +129,7 @@ def one_line(text: str) -> str:
 
 
 def reason_of(told: BaseException) -> str:
-    """Why something failed, in one line."""
+    """The reason of a failure, in one line."""
     if isinstance(told, LimitMet) and told.limit == 'seconds':
         return '%s: %s, though it used less processor time than it may; the same command runs it again' % (
             TOO_BUSY, told)

@@ -1,7 +1,7 @@
 """Packages beyond Python's standard library: which interpreter has one, and how it is installed.
 
 Debian's packages are for Debian's own interpreter, while `python3` on the path may be another one without them. A tool
-that needs one then goes on by the interpreter that has it, and says so in a line.
+that needs one then starts again with the interpreter that has it, and says so in a line.
 """
 from __future__ import annotations
 
@@ -23,7 +23,7 @@ DEBIAN = {'matplotlib': 'python3-matplotlib', 'distributed': 'python3-distribute
 
 
 def has(module: str, interpreter: str = SYSTEM) -> bool:
-    """Whether an interpreter, which is new enough for the tools, has a module."""
+    """Returns whether an interpreter, which is new enough for the tools, has a module."""
     asked = 'import sys, importlib.util as u; sys.exit(sys.version_info < (3, 11) or not u.find_spec(%r))' % module
     try:
         return subprocess.run([interpreter, '-c', asked], capture_output=True, timeout=60).returncode == 0
@@ -32,7 +32,7 @@ def has(module: str, interpreter: str = SYSTEM) -> bool:
 
 
 def how_to_install(module: str) -> str:
-    """What to say where no interpreter has a module."""
+    """The message for a module that no interpreter has."""
     return '%s is not installed: on Debian `apt-get install %s` installs it, for %s' % (module, DEBIAN[module], SYSTEM)
 
 
@@ -41,14 +41,14 @@ def is_here(module: str) -> bool:
 
 
 def load(module: str) -> Any:
-    """The module; where this interpreter doesn't have it, a fault."""
+    """The module. Raises a fault if this interpreter doesn't have it."""
     if not is_here(module):
         raise Fault(how_to_install(module))
     return importlib.import_module(module)
 
 
 def hand_on(tool: str, module: str, words: Sequence[str]) -> None:
-    """Goes on by Debian's interpreter if that one has the module and this one doesn't. Else it comes back."""
+    """Continues with Debian's interpreter if that one has the module and this one doesn't. Otherwise it returns."""
     if is_here(module) or os.environ.get(HANDED_ON) or not has(module):
         return
     print('%s: %s has no %s; %s has it, and continues' % (tool, sys.executable, module, SYSTEM), file=sys.stderr)

@@ -27,12 +27,12 @@ PLOT = {'file': needed(str), 'measure': needed(str), 'against': optional(str, ''
 
 
 def table_path(picture: Path) -> Path:
-    """Where the table behind a picture is put."""
+    """The file for the table behind a picture."""
     return picture.with_suffix('.table.csv')
 
 
 def wishes_of(plan: Plan) -> list[Wish]:
-    """What a plan's `plot` says."""
+    """Returns the requests of a plan's `plot`."""
     tables: Tables = plan.tables
     found: list[Wish] = []
     for path, given in tables.array('plot'):
@@ -41,7 +41,8 @@ def wishes_of(plan: Plan) -> list[Wish]:
             raise tables.fault(path + ('file',), 'A picture is SVG, PDF or PNG.',
                                'a name that ends in `.svg`, `.pdf` or `.png`')
         if table_path(Path(values['file'])) in {table_path(Path(it.file)) for it in found}:
-            raise tables.fault(path + ('file',), 'Another picture has this name up to the ending: both would write %s.' %
+            raise tables.fault(path + ('file',),
+                               'Another picture has this name up to the ending: both would write %s.' %
                                table_path(Path(values['file'])), 'another name')
         for key, known in ('show', SHOWS), ('interval', tuple(MEANS)):
             if values[key] not in known:
@@ -75,7 +76,7 @@ def write_table(path: Path, rows: Sequence[text.Row]) -> None:
 
 
 def show(rows: Sequence[Row], wish: Wish, folder: Path) -> bool:
-    """Draws a picture or prints a table; gives whether it is what was wanted."""
+    """Draws a picture or prints a table; returns whether it has the wanted form."""
     shown = shown_of(rows, wish)
     if not shown.points:
         raise Fault('there is no value of %s to show' % wish.measure)
@@ -92,7 +93,7 @@ def show(rows: Sequence[Row], wish: Wish, folder: Path) -> bool:
 
 def compare(rows: Sequence[Row], others: Sequence[Row], wish: Wish, names: tuple[str, str],
             kept: Sequence[str]) -> bool:
-    """Compares two sides run by run; gives whether there is a picture if one was wanted."""
+    """Compares two sides run by run; returns whether there is a picture if one was wanted."""
     if wish.measure not in measures_of(rows) or wish.measure not in measures_of(others):
         raise Fault('there is no measure %s on both sides; there are: %s' % (
             wish.measure, ', '.join(it for it in measures_of(rows) if it in measures_of(others))))
@@ -118,7 +119,7 @@ def wishes(asked: argparse.Namespace) -> list[Wish]:
     if asked.plan:
         return wishes_of(Plan.read(asked.plan))
     if not asked.measure or not asked.against and asked.show != 'cdf':
-        raise Fault('what is to be shown? --measure NAME --against NAME, or --plan PLAN')
+        raise Fault('no measure is named: add --measure NAME --against NAME, or --plan PLAN')
     if asked.output and Path(asked.output).suffix not in FORMATS:
         raise Fault('%s: a picture is SVG, PDF or PNG: its name ends in .svg, .pdf or .png' % asked.output)
     if asked.show == 'heat' and not asked.by:

@@ -1,15 +1,15 @@
-"""How far a sweep is."""
+"""The progress of a sweep."""
 from __future__ import annotations
 
 import sys
 import time
 
-# (seconds between two lines where standard error is no terminal)
+# (seconds between two lines if standard error is no terminal)
 SHOWN_EVERY = 30
 
 
 class Progress:
-    """How many runs are done and how long the others will take, on standard error."""
+    """Shows how many runs are done and how long the others will last, on standard error."""
 
     def __init__(self, runs: int) -> None:
         self.runs, self.done, self.faults = runs, 0, 0

@@ -1,6 +1,6 @@
 """The file of a sweep: a row for each run, in CSV or in SQLite.
 
-A row is kept as soon as it is there. Values are texts in CSV; a number is one that reads as such.
+A row is kept as soon as it exists. Values are texts in CSV; a number is one that reads as such.
 """
 from __future__ import annotations
 
@@ -77,7 +77,7 @@ class CsvFile:
         self._append(line_of(row.get(name) for name in self.columns))
 
     def replace(self, rows: Sequence[Mapping[str, Cell]]) -> None:
-        """Puts these rows in the place of all that are there."""
+        """Replaces all rows by these."""
         text = line_of(self.columns) + ''.join(line_of(row.get(name) for name in self.columns) for row in rows)
         write_whole(self.path, [text.encode()])
         old, self.file = self.file, _locked(self.path)
@@ -110,7 +110,7 @@ class SqliteFile:
         self.base.execute('insert into runs values (%s)' % marks, [row.get(name) for name in self.columns])
 
     def add(self, row: Mapping[str, Cell]) -> None:
-        """Adds a row. Rows are kept together, some times a second: to keep each would take longer than a short run."""
+        """Adds a row. Rows are kept together, some times a second: to keep each would last longer than a short run."""
         now = time.monotonic()
         try:
             if not self.base.in_transaction:
@@ -176,7 +176,7 @@ def read_csv(path: Path) -> tuple[list[str], list[Row]]:
             rows: list[Row] = []
             for values in reader:
                 if len(values) != len(columns):
-                    raise Fault('%s, line %d: %d values in the place of %d' % (
+                    raise Fault('%s, line %d: %d values instead of %d' % (
                         path, reader.line_num, len(values), len(columns)))
                 rows.append({name: cell(value) for name, value in zip(columns, values)})
             return columns, rows

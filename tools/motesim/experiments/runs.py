@@ -1,4 +1,4 @@
-"""Gives the runs of a sweep to processes here, or to a Dask cluster, and takes their results as they come."""
+"""Sends the runs of a sweep to processes of this machine or to a Dask cluster, and collects the results."""
 from __future__ import annotations
 
 import signal
@@ -32,14 +32,14 @@ class Stopped(Exception):
 
 
 class Break:
-    """Ctrl-C while runs go on: noted once, and the second time at once."""
+    """Ctrl-C during runs: the first is noted, the second ends the tool at once."""
 
     def __init__(self, stop: threading.Event | None = None) -> None:
         self.stop = stop or threading.Event()
 
     @property
     def is_asked(self) -> bool:
-        """Whether Ctrl-C was pressed."""
+        """Returns whether Ctrl-C was pressed."""
         return self.stop.is_set()
 
     def __enter__(self) -> Break:
@@ -57,7 +57,7 @@ class Break:
 
 
 def longest(seconds: float, measures: int) -> float:
-    """How many seconds on the clock a job may last with this limit of processor time."""
+    """The limit on the clock, in seconds, of a job with this limit of processor time."""
     return BUSY * seconds * (2 + measures) + SECONDS_MORE
 
 
@@ -84,7 +84,7 @@ def packed(folder: Path) -> Path:
 
 
 def run_jobs(jobs: list[Job]) -> list[Result]:
-    """Runs several jobs one after another: a task of its own for each short run would take longer than the run."""
+    """Runs several jobs one after another: a task of its own for each short run would last longer than the run."""
     return [run_job(job) for job in jobs]
 
 

@@ -44,7 +44,7 @@ class Sweeper:
         self.file: CsvFile | SqliteFile = open_results(path, self.columns)
 
     def key(self, given: Mapping[str, Any]) -> RowKey:
-        """The parameters as they stand in a row."""
+        """The parameters in the form of a row."""
         return tuple(text_of(given[name]) if type(given[name]) is not bool else text_of_value(given[name])
                      for name in self.plan.parameters)
 
@@ -52,7 +52,7 @@ class Sweeper:
         return self.plan.digest(given)[:DIGITS]
 
     def is_current(self, row: Row) -> bool:
-        """Whether a row was made by the plan, the program and the measures of now."""
+        """Returns whether a row was made by the present plan, binary and measures."""
         given = {name: value_of_text(text_of(row[name])) for name in self.plan.parameters}
         try:
             plan = self.plan_digest(given)
@@ -80,14 +80,14 @@ class Sweeper:
         return [given for given in self.sweep.given() if self.key(given) not in self.rows]
 
     def jobs(self, missing: Sequence[Mapping[str, Value]]) -> Iterator[Job]:
-        """The runs that are missing, which are made as they are begun."""
+        """The missing runs; each is made when it begins."""
         work = Work(self.plan.name, self.plan.text, str(self.plan.files.folder.resolve()), tuple(self.sweep.measures),
                     tuple(self.sources.items()), str(self.program), str(self.made['program_sha256']),
                     self.sweep.seconds, self.sweep.most_bytes)
         return (Job(place, tuple(given.items()), self.files(given), work) for place, given in enumerate(missing))
 
     def files(self, given: Mapping[str, Value]) -> tuple[tuple[str, bytes], ...]:
-        """The files that a run takes. One that can't be read is the run's fault, and is told by it."""
+        """The files that a run needs. One that can't be read is an error of the run, which reports it."""
         found = []
         for name in self.plan.used_files(given):
             with contextlib.suppress(Fault, ValueError):
@@ -101,7 +101,7 @@ class Sweeper:
                 'note': result.note or None}
 
     def run(self, processes: int, address: str | None) -> int:
-        """Runs what is missing; gives how many."""
+        """Makes the missing runs; returns how many."""
         missing = self.missing()
         jobs = self.jobs(missing)
         progress = Progress(len(missing))
@@ -135,7 +135,7 @@ def default_output(plan: str) -> Path:
 
 
 def said(sweeper: Sweeper, ran: int) -> int:
-    """Says what is in the file; gives the status."""
+    """Reports the contents of the file; returns the status."""
     rows = [sweeper.rows[key] for key in map(sweeper.key, sweeper.sweep.given()) if key in sweeper.rows]
     faults = [row for row in rows if row['fault']]
     print('%s: %d runs, %d of them now, %d with a fault' % (sweeper.path, len(rows), ran, len(faults)))

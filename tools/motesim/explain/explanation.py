@@ -1,4 +1,4 @@
-"""Explains why a scenario has no report, and warns of what is legal in one that has. tools/explain is the command."""
+"""Explains why a scenario has no report, and warns of likely mistakes. tools/explain is the command."""
 from __future__ import annotations
 
 import re
@@ -19,21 +19,21 @@ from motesim.scenario.faults import Place, ScenarioError
 from motesim.toml import NoToml, read_toml
 
 WIDTH = 112
-# (what a terminal would take for a command)
+# (characters that a terminal would mistake for a command)
 CONTROL = re.compile(r'[\x00-\x08\x0b-\x1f\x7f-\x9f]')
 OF_REPORT = 'This is a report, and no scenario: tools/summary, tools/compare and tools/timeline read it.'
 PROGRAM = re.compile(r'program (\S+) fault (\d+) line (\d+)')
 
 
 def error_line(got: Answer) -> str | None:
-    """The fault line of an answer, or None where it is a report."""
+    """The error line of a result, or None if it is a report."""
     if got.status == 0:
         return None
     return got.fault.decode('utf-8', 'backslashreplace').rstrip('\n') or 'motesim: status %d' % got.status
 
 
 def marked(line: str, column: int, length: int) -> list[str]:
-    """A line with a mark under a part of it; of a long line, what is around that part."""
+    """A line with a mark under a part of it; of a long line, only the surroundings of that part."""
     begin = max(0, column - WIDTH // 2) if len(line) > WIDTH else 0
     shown, before = CONTROL.sub('\ufffd', line[begin:begin + WIDTH]), column - begin
     blank = re.sub(r'[^\t]', ' ', shown[:before])
@@ -81,7 +81,7 @@ def offset_of(text: str, program: str) -> int | None:
 
 
 def place_of_scenario(text: str, fault: ScenarioError) -> Place | None:
-    """Where a fault of the scenario's own is; of what it lacks at its top a table that is named nearly so, or None."""
+    """The place of an error of the scenario itself; of a missing key at its top a table of similar name, or None."""
     if fault.lacks is None:
         return fault.place(text)
     like = synonyms.like_of_missing(tables_or_none(text), fault)
@@ -89,7 +89,7 @@ def place_of_scenario(text: str, fault: ScenarioError) -> Place | None:
 
 
 def place_of_fault(data: bytes, line: str) -> Place | None:
-    """Where in the scenario the fault is that the program tells by a line, or None where that isn't known."""
+    """The place in the scenario of the error that `motesim` reports by a line, or None if it isn't known."""
     fault, text = scenario_faults.find_fault(data), data.decode('utf-8', 'replace')
     if fault is None or fault.message != line.removeprefix('motesim: '):
         return None
@@ -100,7 +100,7 @@ def place_of_fault(data: bytes, line: str) -> Place | None:
 
 
 def shown_program(name: str, text: str, program: str, token: program_faults.Token) -> list[str]:
-    """The place of a fault in a program's text, with its line in the scenario where that is found."""
+    """The place of a fault in a program's text, with its line in the scenario if that is found."""
     found = place_of_token(text, program, token)
     row = 'line %d, which is ' % found.line if found else ''
     where = '%s, %sline %d of program %s:' % (name, row, token.line, program)
@@ -125,7 +125,7 @@ def of_program_file(name: str, source: str, its: program_faults.ProgramError) ->
 
 
 def rule_and_advice(source: str, its: program_faults.ProgramError, offset: int | None) -> list[str]:
-    """The rule that a program breaks, what is allowed, and what was most likely meant."""
+    """The rule that a program breaks, the allowed words, and the most likely intention."""
     title, rule = program_faults.RULES[its.kind]
     if its.token.kind == 'end' and its.kind == 2:
         rule = 'The text ends here, which can\'t follow the words before it.'
@@ -164,11 +164,11 @@ def rule_of(line: str) -> str:
 
 
 def explanation(name: str, data: bytes, line: str) -> list[str]:
-    """What is shown below a fault's line."""
+    """The lines to show below the line of an error."""
     what, fault = line.removeprefix('motesim: '), scenario_faults.find_fault(data)
     if fault is None or fault.message != what:
-        # (as of memory, and of texts that are TOML to Python alone)
-        return wrapped(rule_of(what)) + ['Where it is, this tool does not know.']
+        # (as of memory, and of texts that only Python reads as TOML)
+        return wrapped(rule_of(what)) + ['This tool does not know its place.']
     text = data.decode('utf-8', 'replace')
     if fault.program:
         return of_program(name, text, str(fault.path[1]), fault.program)
@@ -205,7 +205,7 @@ def warned(name: str, text: str, warning: Warned) -> list[str]:
 
 
 def all_warnings(name: str, data: bytes, report: bytes) -> list[str]:
-    """What is surely not meant in a scenario that has a report."""
+    """The warnings of a scenario that has a report."""
     text = data.decode('utf-8')
     lines = []
     for warning in warnings(Scenario.parse(data), Report.parse(report)):

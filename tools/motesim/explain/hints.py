@@ -1,6 +1,6 @@
 """Hints on faults: what the writer most likely meant, and how it is written here.
 
-`of_program(text, fault)` and `of_scenario(tables, fault, text)` give one sentence, or None where nothing better is
+`of_program(text, fault)` and `of_scenario(tables, fault, text)` return one sentence, or None if nothing better is
 known than the rule. They go by the word that is not allowed and the words before it. The next run shows
 whether a hint is right.
 """
@@ -16,7 +16,7 @@ from motesim.notation.faults import OPERATORS, STATEMENTS, ProgramError, Token, 
 from motesim.scenario.faults import LONG_QUOTES, LOSS, MEDIUM, MOTE, TOP, ScenarioError, last_outside
 from motesim.toml import MANY_PARTS, TOO_DEEP
 
-# What people write who know other languages, and what is written instead.
+# Forms that readers of other languages write, and the forms of the notation.
 WISHES = {
     'for': 'There is no `for`: write `i = 0; while (i < n) { .. i = (i + 1); }`.',
     'do': 'There is no `do`: a `while` tests before each turn.',
@@ -54,7 +54,7 @@ WISHES = {
     'value': 'The value of a packet or an event is `data`.',
 }
 WISHES.update({word: WISHES['random'] for word in ('rand', 'rnd')})
-# What Python says of a text that is no TOML, and what is most likely meant.
+# Python's messages on texts that are no TOML, and the most likely intentions.
 NO_TOML = {
     "']'": 'A table is named in brackets, `[medium]`; of motes and losses each is a table in two, `[[mote]]`.',
     "']]'": 'Each mote and each loss is a table of its own, named in two brackets: `[[mote]]`, `[[loss]]`.',
@@ -123,7 +123,7 @@ def _of_sign(here: Token, behind: Token) -> str | None:
     if word == '#':
         return 'A comment begins with `//`.'
     if word == '&' or word == '|':
-        return 'There are no operators on bits: `/` and `%` by powers of 2 take parts, `&&` is "and", `||` is "or".'
+        return 'There are no operators on bits: `/` and `%` by powers of 2 select parts, `&&` is "and", `||` is "or".'
     if word == '.':
         return 'Numbers are whole, 0 to 65,535; there are no fields.'
     if word in '[]':
@@ -231,7 +231,7 @@ def _of_no_toml(text: str, fault: ScenarioError, place: tuple[int, int]) -> str 
 
 
 def of_scenario(tables: dict[str, object] | None, fault: ScenarioError, text: str) -> str | None:
-    """A hint on a fault of a scenario. Its tables are None where the text is no TOML."""
+    """A hint on a fault of a scenario. Its tables are None if the text is no TOML."""
     line, name = fault.message, str(fault.path[-1]) if fault.path else ''
     if line == 'scenario fault 1' and fault.line:
         return _of_no_toml(text, fault, fault.line)
@@ -251,7 +251,7 @@ def of_scenario(tables: dict[str, object] | None, fault: ScenarioError, text: st
 
 
 def _of_missing(tables: dict[str, object], fault: ScenarioError) -> str | None:
-    """What most likely is meant by a key that is missing."""
+    """The most likely intention with a key that is missing."""
     wanted = fault.missing
     like = like_of_missing(tables, fault)
     if like:

@@ -1,6 +1,6 @@
-"""Warnings: what is legal in a scenario, and surely not meant.
+"""Warnings of things that are legal in a scenario, and surely not meant.
 
-`warnings(scenario, report)` gives them in the order of the programs and motes, each with its place: a token of a
+`warnings(scenario, report)` returns them in the order of the programs and motes, each with its place: a token of a
 program's text, or the number of a mote. A scenario with warnings is in order, and has its report.
 """
 from __future__ import annotations
@@ -36,7 +36,7 @@ class Warned(NamedTuple):
 
 
 class Program:
-    """What the tokens of a program's text say, as far as warnings need it. The text is a program."""
+    """The parts of a program that warnings need, from its tokens. The text is a program."""
 
     def __init__(self, name: str, text: str):
         self.name, self.tokens = name, tokens_of(text)[:-1]
@@ -56,7 +56,7 @@ class Program:
         return found
 
     def first(self, *words: str) -> Token | None:
-        """The first place at which these words stand one after another."""
+        """The first place at which these words follow one another."""
         for at in range(len(self.words) - len(words) + 1):
             if self.words[at:at + len(words)] == list(words):
                 return self.tokens[at]
@@ -81,7 +81,7 @@ class Program:
 
 
 def of_program(program: Program) -> Iterator[Warned]:
-    """What is surely not meant in a program."""
+    """Yields the warnings of a program."""
     name, started = program.name, {it.text for it in program.started}
     if not program.first('autostart'):
         yield Warned('no process starts at boot: an `autostart` with its names is missing', name, program.processes[0])
@@ -103,7 +103,7 @@ def of_program(program: Program) -> Iterator[Warned]:
 
 
 def of_net(scenario: Scenario, programs: dict[str, Program], report: Report | None) -> Iterator[Warned]:
-    """What is surely not meant in the net."""
+    """Yields the warnings of a net."""
     for name in scenario.programs:
         if all(place.program != name for place in scenario.places):
             yield Warned('no mote runs the program `%s`' % name, name, programs[name].tokens[0])
@@ -131,7 +131,7 @@ def of_net(scenario: Scenario, programs: dict[str, Program], report: Report | No
 
 
 def warnings(scenario: Scenario, report: Report | None = None) -> list[Warned]:
-    """What is legal in a scenario, and surely not meant; with its report, what that shows too."""
+    """Returns the warnings of a scenario; with its report, also those that it shows."""
     programs = {name: Program(name, text) for name, text in scenario.programs.items()}
     found = [it for program in programs.values() for it in of_program(program)]
     return by_cause(found + list(of_net(scenario, programs, report)))

@@ -1,4 +1,4 @@
-"""What a scenario lacks at its top: how such a key or table is written, and where."""
+"""Keys and tables that a scenario lacks at its top: their forms and places."""
 from __future__ import annotations
 
 from typing import Any
@@ -17,12 +17,12 @@ OF_PROGRAMS = 'a key for each program: its name, which has its text'
 
 
 def head_of(name: str) -> str:
-    """A key or a table as it is named in a text."""
+    """A key or a table in the words of a message."""
     return WRITTEN[name][0] if name in ('medium', 'programs', 'mote') else name
 
 
 def written(name: str, tables: dict[str, Any]) -> list[str]:
-    """How a key or a table that is lacking may be written in a scenario that has these tables."""
+    """The form of a missing key or table in a scenario that has these tables."""
     programs = tables.get('programs')
     program = next(iter(programs), 'p') if isinstance(programs, dict) else 'p'
     lines = [line % program if '%s' in line else line for line in WRITTEN[name]]
@@ -30,7 +30,7 @@ def written(name: str, tables: dict[str, Any]) -> list[str]:
 
 
 def where(name: str, first_table: int | None) -> str:
-    """Where it is added."""
+    """The place at which it is added."""
     if name == 'mote':
         return 'Each mote is one. Add at the end of the text'
     if name in ('medium', 'programs'):
@@ -39,7 +39,7 @@ def where(name: str, first_table: int | None) -> str:
 
 
 def may_stand(name: str) -> str:
-    """What is allowed, with its keys."""
+    """The allowed value, with its keys."""
     if name == 'programs':
         return 'the table `[programs]` with %s' % OF_PROGRAMS
     keys: dict[str, Rule] | None = {'medium': MEDIUM, 'mote': MOTE}.get(name)
@@ -50,7 +50,7 @@ def may_stand(name: str) -> str:
 
 
 def shown(file: str, name: str, tables: dict[str, Any], first_table: int | None) -> list[str]:
-    """That a file lacks a key or a table, where it is added, and how it is written."""
+    """A message that a file lacks a key or a table, with its place and its form."""
     kind = 'table' if name in ('medium', 'programs', 'mote') else 'key'
     head = '%s has no %s `%s`. %s:' % (file, kind, head_of(name), where(name, first_table))
     return [head, *('  ' + line for line in written(name, tables))]

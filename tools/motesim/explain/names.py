@@ -21,7 +21,7 @@ class Declared(NamedTuple):
 
 
 def declarations(tokens: list[Token]) -> list[Declared]:
-    """What a text declares, as far as it can be read."""
+    """The declarations of a text, as far as it can be read."""
     found: list[Declared] = []
     code = ''
     for at, token in enumerate(tokens[:-1]):

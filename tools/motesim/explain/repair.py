@@ -42,7 +42,7 @@ class Repair(NamedTuple):
 
 
 class Form(NamedTuple):
-    """A form of a line that is no TOML, what is written instead, and why."""
+    """A form of a line that is no TOML, its replacement, and the reason."""
     form: re.Pattern[str]
     instead: str | Callable[[re.Match[str]], str]
     hint: str
@@ -68,7 +68,8 @@ FORMS = [
     _form(r'^(\s*[A-Za-z_][\w-]*)\s+(-?[0-9]+|"[^"]*"|true|false)\s*$', r'\1 = \2',
           'A key and its value have `=` between them: `end = 5`.'),
     _form(r'(?<=[=\s])(True|TRUE|yes|on|False|FALSE|no|off)\b',
-          lambda it: 'true' if it[1][0].lower() in 'ty' or it[1] == 'on' else 'false', 'The truth values are `true` and `false`, in small letters and without quotes.'),
+          lambda it: 'true' if it[1][0].lower() in 'ty' or it[1] == 'on' else 'false',
+          'The truth values are `true` and `false`, in small letters and without quotes.'),
     _form(r'(?<![\w.])([0-9]+)(?:\.[0-9]+)?\s*(?:s|ms|us|sec|secs|seconds?|min|m|cm|km|h|ticks?|moments?)\b', r'\1',
           OF_UNIT),
     _form(r'(?<![\w.])([0-9][0-9OoIl]*|[OoIl][0-9OoIl]*[0-9])(?![\w.])', lambda it: it[0].translate(DIGITS),
@@ -142,7 +143,7 @@ def ordinal(number: int) -> str:
 
 
 def _rule(fault: ScenarioError) -> Rule | None:
-    """What the key that is at fault holds."""
+    """The rule of the key that has the error."""
     name = str(fault.path[-1]) if fault.path else ''
     tables = {'medium': MEDIUM, 'loss': LOSS, 'mote': MOTE}
     return tables.get(str(fault.path[0]), TOP).get(name) if len(fault.path) > 1 else TOP.get(name)
@@ -271,7 +272,7 @@ def _attempts(text: str, fault: ScenarioError) -> Iterator[Repair]:
 
 
 def _is_better(fault: ScenarioError, with_it: ScenarioError | None, last: int) -> bool:
-    """Whether the fault is gone, or further down."""
+    """Returns whether the fault is gone, or further down."""
     if with_it is None:
         return True
     if with_it.message == 'scenario fault 1' and with_it.line:

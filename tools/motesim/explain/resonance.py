@@ -1,7 +1,7 @@
 """Losses that hit one kind of packet: the rhythm in which a mote sends, and the period of a loss.
 
-A loss with `every = 2` loses each second packet of its sender. If the sender alternates between two kinds of packet, it
-loses all of one kind and none of the other, though the summary says 0.500. `resonances(scenario, report)` finds the
+A loss with `every = 2` loses each second packet of its sender. If the sender alternates between two kinds of packets,
+it loses all of one kind and none of the other, though the summary says 0.500. `resonances(scenario, report)` finds the
 losses of which that is so in a run: one kind of packet is lost far more often than the period says.
 
 A kind is a flow of packets, which a report doesn't name. So the packets are divided in several ways:
@@ -24,7 +24,7 @@ from motesim.scenario import Scenario
 # A value that is sent so often, or that makes up this part of the packets, is a kind of its own.
 REPEATED = 3
 FREQUENT = 1 / 8
-# A kind of fewer packets says nothing; nor does what comes about by chance once in so many runs.
+# A kind of fewer packets says nothing; nor does a loss that chance causes once in so many runs.
 LEAST_PACKETS = 5
 RARE = 1e-3
 PRIMES = (2, 3, 5, 7, 11, 13, 17, 19, 23, 29, 31, 37, 41, 43, 47)

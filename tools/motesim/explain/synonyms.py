@@ -28,7 +28,7 @@ LEFT_OUT['z'] = 'Motes are in a plane: a place has only `x` and `y`.'
 
 
 def at(tables: object, path: tuple[str | int, ...]) -> object:
-    """What a scenario holds at a path, or None."""
+    """The value of a scenario at a path, or None."""
     for name in path:
         try:
             tables = tables[name]  # type: ignore[index]

@@ -126,7 +126,7 @@ class Control(Lines):
         return text
 
     def is_empty_loop(self) -> bool:
-        """Whether a semicolon ends the loop behind its test."""
+        """Returns whether a semicolon ends the loop after its test."""
         at = depth = 0
         while self.ahead(at).kind != 'end' and (depth or self.ahead(at).text not in (';', '{')):
             depth += (self.ahead(at).text == '(') - (self.ahead(at).text == ')')
@@ -135,7 +135,7 @@ class Control(Lines):
         return is_alone and all(self.ahead(it).text not in STATEMENTS for it in range(at))
 
     def for_loop(self) -> str:
-        """A `for`, by a `while`; if its block goes on below these lines, so does the last step."""
+        """A `for`, by a `while`; if its block continues below these lines, so does the last step."""
         self.at += 2
         first = '' if self.accept(';') else self.first_of_loop()
         test = '1' if self.token.text == ';' else self.writer.text(self.expression())

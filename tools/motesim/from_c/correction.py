@@ -1,4 +1,4 @@
-"""The correction of a program's first fault: which lines are written anew, and how.
+"""The correction of a program's first fault: which lines are replaced, and how.
 
 A correction is shown only if it helps: with it the text has no fault, or its first fault is further down.
 """

@@ -173,7 +173,7 @@ class Declarations(Lines):
         return ' '.join(found)
 
     def kept(self) -> str:
-        """A declaration of the notation, as it is: up to its semicolon, or its brace."""
+        """A declaration of the notation, unchanged: up to its semicolon, or its brace."""
         words = [self.ahead(at).text for at in range(3)]
         if words[0] in ('etimer', 'event') and words[2] == ',' and self.accept(words[0]):
             self.why('Each name is declared on its own.')

@@ -52,7 +52,7 @@ NO_REALS = ('Numbers are whole, 0 to 65,535. Count in smaller units, such as ten
             'tenths of x.')
 NO_CALLS = ('There are no functions: a `thread` without waits serves as one. It is run by `spawn`, and shares the '
             'variables of its process.')
-# A generator of numbers that seem to come by chance: its variable, its step, and the number that it gives.
+# A generator of numbers that seem to come by chance: its variable, its step, and the number that it yields.
 DICE, STEP, DRAWN = 'dice', 'dice = ((dice * 25173) + 13849);', '(dice / 256)'
 NO_CHANCE = ('There is no chance in a mote: each run is the same. A generator of its own serves, as below, with a '
              'seed that '
@@ -158,14 +158,14 @@ class Expressions:
                 self.at += 1
 
     def is_cast(self) -> bool:
-        """Whether a type in parentheses is next."""
+        """Returns whether a type in parentheses is next."""
         at = 1
         while self.ahead(at).text in TYPES | QUALIFIERS | {'struct', '*'}:
             at += 1
         return at > 1 and self.token.text == '(' and self.ahead(at).text == ')'
 
     def unary(self) -> Node:
-        """A value with its signs. What is nested deeper than the notation allows isn't read."""
+        """A value with its signs. Expressions that are nested deeper than the notation allows aren't read."""
         self.depth += 1
         if self.depth > MOST_LEVELS:
             raise NoCounterpart
@@ -269,7 +269,7 @@ class Writer:
         return str(value)
 
     def of_number(self, word: str, value: int) -> str:
-        """Why a number is written in another way."""
+        """Notes the reason why a number is written in another way."""
         if word[:2].lower() in ('0x', '0b'):
             return 'Numbers are decimal: `%s` is %d.' % (word, value)
         if word.isdecimal():
@@ -410,7 +410,7 @@ class Writer:
         return self.text(node)
 
     def is_of_timer(self, left: Node, right: Node) -> bool:
-        """Whether `data == &t` is what is compared."""
+        """Returns whether `data == &t` is compared."""
         named = right.parts[0] if right.kind == 'unary' and right.text == '&' else right
         return left == Node('name', 'data') and self.scope.kinds.get(named.text) == 'timer' and named.kind == 'name'
 
@@ -430,7 +430,7 @@ class Writer:
         mask = number_of(right.text) if right.kind == 'number' else None
         if sign != '&' or mask is None or mask & (mask + 1) or not mask:
             return self.refuse(NO_BITS)
-        self.why('There are no operators on bits: `%% %d` takes the same lower bits as `& %s`.' % (mask + 1,
+        self.why('There are no operators on bits: `%% %d` has the same lower bits as `& %s`.' % (mask + 1,
                                                                                                    right.text))
         return '(%s %% %d)' % (self.text(left), mask + 1) if mask < MOST else self.text(left)
 

@@ -1,4 +1,4 @@
-"""Where in a program a line is: what may be declared there, and in which loop it is."""
+"""The place of a line in a program: the declarations that are allowed there, and the loop around it."""
 from __future__ import annotations
 
 import re
@@ -17,7 +17,7 @@ ENDS = [
 
 
 class Surroundings(NamedTuple):
-    """Where lines are.
+    """The place of lines.
 
     is_head  whether declarations of a `code` may be there
     is_top   whether those above `process` may
@@ -37,11 +37,11 @@ class Surroundings(NamedTuple):
 
 
 def place_below(above: list[str]) -> Surroundings:
-    """Where the line below these is."""
+    """The place of the line below these."""
     tokens = tokens_of('\n'.join(above))
     words = [it.text for it in tokens]
     opened: list[str] = []
-    # (where the statement begins whose block may be opened next)
+    # (the start of the statement whose block may be opened next)
     begin = 0
     for at, word in enumerate(words):
         if word == '{':

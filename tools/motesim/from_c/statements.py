@@ -76,7 +76,7 @@ class Statements(Declarations, Calls, Control):
         return text
 
     def statement(self) -> str:
-        """A statement, with a step of the generator before it if it takes a number by chance."""
+        """A statement, with a step of the generator before it if it needs a random number."""
         word, outside = self.token.text, self.writer.draws
         self.writer.draws = False
         self.nested += 1
@@ -297,7 +297,7 @@ class Statements(Declarations, Calls, Control):
         return self.end('%s = %s' % (name, self.value()))
 
     def is_of_radio(self) -> bool:
-        """Whether a `broadcast` has only a value, and no event."""
+        """Returns whether a `broadcast` has only a value, and no event."""
         at = self.token
         is_event = at.text.lower().startswith('process_event') or self.scope.kinds.get(at.text, 'event') == 'event'
         return not (is_event and at.kind == 'name') or at.text in READ_ONLY

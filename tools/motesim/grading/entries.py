@@ -1,6 +1,6 @@
 """The entries of a folder that somebody else filled.
 
-Whatever is there becomes an `Entry`: a file to grade, or the reason why it can't be. Nothing is opened but plain files,
+Everything in it becomes an `Entry`: a file to grade, or the reason why it can't be. Nothing is opened but plain files,
 and of these no more is read than a scenario may have.
 """
 from __future__ import annotations
@@ -21,20 +21,20 @@ DEEPEST = 8
 
 
 class Entry(NamedTuple):
-    """An entry: its name as it is shown, where it is, and why it can't be graded, or an empty text."""
+    """An entry: its shown name, its path, and the reason why it can't be graded, or an empty text."""
     name: str
     path: Path
     why: str = ''
 
 
 def shown(name: str) -> str:
-    """A name with nothing in it that a terminal, a table or a page could take for something else."""
+    """A name with nothing in it that a terminal, a table or a page could mistake for something else."""
     text = os.fsencode(name).decode('utf-8', 'backslashreplace')
     return ''.join(sign if sign.isprintable() else sign.encode('unicode_escape').decode('ascii') for sign in text)
 
 
 def _kind(mode: int) -> str:
-    """What an entry is that is neither a plain file nor a folder."""
+    """The kind of an entry that is neither a plain file nor a folder."""
     for test, what in ((stat.S_ISLNK, 'a link'), (stat.S_ISFIFO, 'a pipe'), (stat.S_ISSOCK, 'a socket'),
                        (stat.S_ISCHR, 'a device'), (stat.S_ISBLK, 'a device')):
         if test(mode):

@@ -68,7 +68,7 @@ class Marks:
 
     @property
     def fault(self) -> str:
-        """Why nothing can be said of it, or else what sentences name that it hasn't."""
+        """The reason why it has no marks, or the names in sentences that it doesn't have."""
         return self.why or ', '.join(dict.fromkeys(it for it in self.lacks if it))
 
     @property

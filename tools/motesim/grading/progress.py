@@ -28,6 +28,6 @@ class Progress:
               file=sys.stderr, flush=True)
 
     def end(self) -> None:
-        """Takes the line away."""
+        """Removes the line."""
         if self.is_terminal and self.is_shown:
             print('\r\033[K', end='', file=sys.stderr, flush=True)

@@ -44,7 +44,7 @@ def below(marked: Sequence[Marks], sentences: Sequence[str]) -> list[str]:
 def pointer(marked: Sequence[Marks]) -> list[str]:
     """The line that says how to see the errors of refused solutions."""
     refused = [it.name for it in marked if any(line.startswith('Hint: ') for line in it.fix)]
-    return ['', '--why %s shows where its error is, and how to put it right' % refused[0]] if refused else []
+    return ['', '--why %s shows the place of its error, and how to correct it' % refused[0]] if refused else []
 
 
 def cell(text: str) -> str:
@@ -53,7 +53,7 @@ def cell(text: str) -> str:
 
 
 def csv_of(marked: Sequence[Marks], sentences: Sequence[str]) -> str:
-    """A row for each solution, with 1 for each sentence that holds and 0 for each other; nothing if it isn't marked."""
+    """A row for each solution, with 1 for a sentence that holds and otherwise 0; nothing if it isn't marked."""
     out = io.StringIO(newline='')
     rows = csv.writer(out, lineterminator='\n')
     rows.writerow(['scenario', 'holds', 'of', 'fault', *map(cell, sentences)])

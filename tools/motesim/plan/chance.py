@@ -30,7 +30,7 @@ class Chance:
 
     def below(self, count: int) -> int:
         """One of the numbers from 0 to `count - 1`, each as likely as the others; `count` is 1 or greater."""
-        # (what is left above the last whole multiple of `count` is drawn again)
+        # (a number above the last whole multiple of `count` is drawn again)
         most = MASK + 1 - (MASK + 1) % count
         while True:
             word = self.word()

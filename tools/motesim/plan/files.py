@@ -1,4 +1,4 @@
-"""Files beside a plan: programs, and tables of places and losses."""
+"""Files next to a plan: programs, and tables of places and losses."""
 from __future__ import annotations
 
 import csv
@@ -15,7 +15,7 @@ from motesim.scenario.faults import Place
 
 
 class Files:
-    """The files beside a plan, by the names that it gives them."""
+    """The files next to a plan, by its names for them."""
 
     def __init__(self, folder: Path, known: Mapping[str, bytes] | None = None) -> None:
         self.folder = folder
@@ -27,7 +27,7 @@ class Files:
         return self.known[name]
 
     def column(self, name: str, column: str) -> set[str]:
-        """What stands in a column of a table, as far as it can be read."""
+        """The values in a column of a table, as far as it can be read."""
         try:
             text = self.read(name).decode('utf-8', 'replace').removeprefix('\ufeff')
             rows = list(csv.DictReader(io.StringIO(text, newline=''), skipinitialspace=True))

@@ -1,4 +1,4 @@
-"""A plan from a scenario: its numbers as parameters, and its programs, places and losses in files beside the plan.
+"""A plan from a scenario: its numbers as parameters, and its programs, places and losses in files next to the plan.
 
 The plan makes the same net: the same motes by their numbers, programs, losses and lengths of queues.
 """
@@ -36,7 +36,7 @@ def _stem(name: str) -> str:
 
 
 def files_of(scenario: Scenario, source: str, plan: str) -> dict[str, str]:
-    """The plan and the files beside it, by their names."""
+    """The plan and the files next to it, by their names."""
     stem = _stem(plan)
     found = {name + '.mote': _text(name, text) for name, text in scenario.programs.items()
              if any(place.program == name for place in scenario.places)}
@@ -70,7 +70,7 @@ def _plan(scenario: Scenario, source: str, stem: str) -> Iterator[str]:
 
 
 def write_plan(scenario: Scenario, source: str, plan: Path) -> list[Path]:
-    """Writes a plan and the files beside it. None that is there already, with another text, is written over."""
+    """Writes a plan and the files next to it. It overwrites no file that has another text."""
     files = files_of(scenario, source, str(plan))
     for name, text in files.items():
         path = plan.parent / name

@@ -20,7 +20,7 @@ from motesim.plan.text import Mote, Net, scenario_text
 from motesim.scenario.faults import Path, Place
 
 def files_of(tables: Tables, files: Files) -> list[str]:
-    """The names of the files that a plan is made from, as far as they can be told."""
+    """The names of the files that a plan needs, as far as they are known."""
     found: set[str] = set()
     for array, key in ('places', 'program'), ('other', 'program'), ('loss', 'file'), ('places', 'file'):
         for path, table in tables.array(array):
@@ -64,7 +64,7 @@ class Builder:
         return text
 
     def head(self) -> list[str]:
-        """What the scenario says of where it is from."""
+        """The scenario's comment on its origin."""
         given = self.tables.parameters
         parameters = ', '.join('%s = %s' % (name, text_of_value(value)) for name, value in given.items())
         files = files_of(self.tables, self.files)
@@ -74,7 +74,7 @@ class Builder:
                 'SHA-256 of the plan and these files: %s' % self.files.digest(self.tables.text, files)]
 
     def read_file(self, name: str, path: Path) -> str:
-        """The text of a file beside the plan, which is named at a key."""
+        """The text of a file next to the plan, which is named at a key."""
         try:
             return self.files.read(name).decode('utf-8')
         except UnicodeDecodeError:
@@ -82,7 +82,7 @@ class Builder:
         except (Fault, ValueError) as fault:
             # (a ValueError is of a name that none can have)
             raise self.tables.fault(path, 'The file can\'t be read: %s.' % fault,
-                                    'the name of a file, as it is found from the folder of the plan') from None
+                                    'the name of a file, relative to the folder of the plan') from None
 
     def rule(self, table: object, path: Path, rules: Mapping[str, Mapping[str, Key]], more: Mapping[str, Key],
              what: str) -> dict[str, Any]:
@@ -133,7 +133,7 @@ class Builder:
         return text
 
     def motes(self) -> list[Mote]:
-        """The motes of all groups, in the order in which these stand."""
+        """The motes of all groups, in the order of these."""
         groups = self.tables.array('places')
         motes = [mote for path, table in groups for mote in self.group(table, path)]
         if not 1 <= len(motes) <= MOST_MOTES:
@@ -163,17 +163,17 @@ class Builder:
         if not names:
             if not values['program']:
                 raise self.tables.fault(path, 'A group of places needs the key `program`.',
-                                        '`program`: a file beside the plan', False)
+                                        '`program`: a file next to the plan', False)
             names = [self.program(values['program'], path + ('program',))] * len(points)
         motes = [Mote(x + values['x'], y + values['y'], name) for (x, y), name in zip(points, names)]
         for number, mote in enumerate(motes):
             if max(abs(mote.x), abs(mote.y)) > MOST_PLACE:
-                raise self.tables.fault(path, 'Mote %d of this group would stand at (%d, %d).' % (
+                raise self.tables.fault(path, 'Mote %d of this group would be at (%d, %d).' % (
                     number, mote.x, mote.y), 'a rule whose places are from -30,000 to 30,000 in x and y', False)
         return motes
 
     def points(self, values: Mapping[str, Any], path: Path, reach: int | None, names: list[str]) -> list[Point]:
-        """The places of a group. Where they name programs themselves, these are put into `names`."""
+        """The places of a group. If they name programs themselves, these are added to `names`."""
         rule, most = values['rule'], MOST_MOTES
         count = values.get('columns', 1) * values.get('rows', 1) * values.get('count', 1) * values.get('motes', 1)
         if count > most:

@@ -11,7 +11,7 @@ from motesim.plan.chance import Chance
 
 Point = tuple[int, int]
 
-# How often a place, and a whole net, is drawn anew before the rule counts as one that can't be met.
+# How often a place, and a whole net, is drawn again before the rule counts as one that can't be met.
 TRIES_FOR_A_PLACE = 1_000
 TRIES_FOR_A_NET = 300
 
@@ -25,7 +25,7 @@ class NoPlace(Exception):
 
 
 class Crowd:
-    """Points by the squares in which they stand, to find those that are near."""
+    """Points by the squares in which they are, to find near ones."""
 
     def __init__(self, side: int) -> None:
         self.side = max(1, side)
@@ -51,7 +51,7 @@ def squared(one: Point, other: Point) -> int:
 
 
 def is_connected(points: list[Point], reach: int) -> bool:
-    """Whether each point is reached from the first, by steps that are not longer than `reach`."""
+    """Returns whether each point is reached from the first, by steps that are not longer than `reach`."""
     crowd = Crowd(reach)
     for point in points:
         crowd.add(point)
@@ -99,7 +99,7 @@ def ring(count: int, radius: int) -> list[Point]:
 
 
 def _net(draw: Callable[[int], Point], count: int, least: int) -> list[Point]:
-    """So many places as `draw` gives them by their numbers, none nearer to another than `least`."""
+    """So many places as `draw` returns for their numbers, none nearer to another than `least`."""
     crowd = Crowd(least)
     points: list[Point] = []
     for number in range(count):
@@ -121,7 +121,7 @@ def _drawn(net: Callable[[], list[Point]], reach: int | None) -> list[Point]:
         points = net()
         if reach is None or is_connected(points, reach):
             return points
-    raise NoPlace('None of %d nets that were drawn is connected, where a packet is heard up to %s away.' % (
+    raise NoPlace('None of %d nets that were drawn is connected if a packet is heard up to %s away.' % (
         TRIES_FOR_A_NET, reach))
 
 

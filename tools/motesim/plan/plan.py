@@ -3,8 +3,8 @@
     plan = Plan.read('examples/studies/trickle.plan.toml')
     text = plan.scenario({'seed': 7})       # parameters that aren't named have the plan's own values
 
-The same plan, files and parameters give the same bytes on any machine. What is wrong is a `PlanFault`, which shows the
-place in the plan or in the file beside it.
+The same plan, files and parameters yield the same bytes on any machine. An error is a `PlanFault`, which shows the
+place in the plan or in the file next to it.
 """
 from __future__ import annotations
 
@@ -20,7 +20,7 @@ from motesim.runner.run import read_file
 
 
 class Plan:
-    """A plan's text, with the files beside it. Faults name it by `shown_as`, where that is given: the path as typed."""
+    """A plan's text, with the files next to it. Faults name it by `shown_as`, if that is given: the typed path."""
 
     def __init__(self, name: str, text: str, files: Files, shown_as: str = '') -> None:
         self.name, self.text, self.files, self.shown_as = name, text, files, shown_as or name
@@ -42,7 +42,7 @@ class Plan:
             raise Fault('%s is not UTF-8' % path) from None
 
     def _parameters(self) -> dict[str, Value]:
-        """The parameters with the values that they have where nothing else is said."""
+        """The parameters with their default values."""
         table = self.tables.top.get('parameters', {})
         if type(table) is not dict:
             raise self.tables.fault(('parameters',), '`parameters` is a table.', '`[parameters]`')
@@ -68,9 +68,9 @@ class Plan:
         return Builder(self.tables.with_parameters(self.with_given(given)), self.files).scenario()
 
     def used_files(self, given: Mapping[str, Value]) -> list[str]:
-        """The names of the files that the scenario is made from, as far as they can be told."""
+        """The names of the files that the scenario needs, as far as they are known."""
         return files_of(self.tables.with_parameters(self.with_given(given)), self.files)
 
     def digest(self, given: Mapping[str, Value]) -> str:
-        """The SHA-256 of the plan and of the files that it takes."""
+        """The SHA-256 of the plan and of the files that it needs."""
         return self.files.digest(self.text, self.used_files(given))

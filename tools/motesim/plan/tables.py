@@ -1,7 +1,7 @@
 """The tables of a plan: which keys they have, and faults with their places.
 
 A value that is a text may name parameters, `"${step}"`. One that is nothing else is the parameter's value, and may so
-stand for a number or for `true` and `false`.
+mean a number or `true` and `false`.
 """
 from __future__ import annotations
 
@@ -28,11 +28,11 @@ Table = dict[str, Any]
 
 
 class PlanFault(Fault):
-    """What is wrong with a plan or with a file beside it, and where."""
+    """An error in a plan or in a file next to it, with its place."""
 
 
 class NoParameter(Exception):
-    """A text names a parameter that there isn't: its name, and where the mark begins."""
+    """A text names a parameter that doesn't exist: its name, and the column of the mark."""
 
     def __init__(self, name: str, at: int) -> None:
         super().__init__(name)
@@ -41,7 +41,7 @@ class NoParameter(Exception):
 
 @dataclass(frozen=True)
 class Key:
-    """What a key holds: its kind, the least and the greatest number or count, and what counts where it isn't there."""
+    """The rule of a key: its kind, the least and the greatest number or count, and its default value."""
     kind: type
     least: int = 0
     most: int = 0
@@ -50,7 +50,7 @@ class Key:
     words: str = ''
 
     def may(self, name: str) -> str:
-        """What is allowed at the key."""
+        """The values that the key may have."""
         if self.words:
             return '`%s`: %s' % (name, self.words)
         if self.kind is int:
@@ -72,14 +72,14 @@ def any_kind(words: str, is_needed: bool) -> Key:
 
 
 def value_of_text(text: str) -> Value:
-    """A parameter's value as it stands on a command line."""
+    """A parameter's value in the form of a command line."""
     if NUMBER.fullmatch(text):
         return int(text)
     return text == 'true' if text in ('true', 'false') else text
 
 
 def text_of_value(value: Value) -> str:
-    """A parameter's value as it stands in a text."""
+    """A parameter's value in the form of a text."""
     return str(value).lower() if type(value) is bool else str(value)
 
 
@@ -94,7 +94,7 @@ def filled(text: str, parameters: Mapping[str, Value]) -> str:
 
 
 def shown(name: str, text: str, place: Place, rule: str, may: str) -> str:
-    """A fault as it is told: the line with a mark, the rule, and what is allowed there."""
+    """The message of a fault: the line with a mark, the rule, and the allowed values."""
     rows = shown_place(name, text, place) + wrapped(rule)
     return '\n'.join(rows + (wrapped('Allowed here: %s' % may) if may else []))
 
@@ -111,7 +111,7 @@ class Tables:
             self._no_toml(fault)
 
     def with_parameters(self, parameters: Mapping[str, Value]) -> Tables:
-        """The same tables where parameters have these values."""
+        """The same tables with these values of the parameters."""
         made = copy(self)
         made.parameters = dict(parameters)
         return made
@@ -122,7 +122,7 @@ class Tables:
                               'TOML (Python says: %s)' % fault.said))
 
     def fault(self, path: Path, rule: str, may: str = '', is_value: bool = True) -> PlanFault:
-        """A fault at a key or a table; `is_value` marks what stands after the key."""
+        """A fault at a key or a table; `is_value` marks the value after the key."""
         place = place_of(self.text, path)
         if is_value and path and type(path[-1]) is str:
             place = value_of(self.text, place)

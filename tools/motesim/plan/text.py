@@ -14,7 +14,7 @@ class Mote(NamedTuple):
 
 
 class Net(NamedTuple):
-    """What a scenario of version 2 says."""
+    """The contents of a scenario of version 2."""
     end: int
     range: int
     base: int
@@ -32,7 +32,7 @@ def _escaped(text: str) -> str:
 
 
 def _program(name: str, text: str) -> str:
-    """A program: as it is between quotes, or with escapes where that can't be."""
+    """A program: unchanged between quotes, or with escapes if that is impossible."""
     is_plain = "'''" not in text and all(sign in '\n\t' or ord(sign) >= 32 and ord(sign) != 127 for sign in text)
     if is_plain and text.endswith('\n'):
         return "%s = '''\n%s'''" % (name, text)
@@ -61,7 +61,7 @@ def _lines(net: Net) -> Iterator[str]:
 
 
 def comment(line: str) -> str:
-    """A line of comment, in which only signs stand that TOML has there."""
+    """A line of comment, with only the signs that TOML allows there."""
     return '# ' + ''.join(sign if sign.isprintable() else '?' for sign in line)
 
 

@@ -29,7 +29,7 @@ def given_of(words: Sequence[str]) -> dict[str, Value]:
 
 
 def checked(text: str) -> str:
-    """The text; where motesim would refuse it, a fault."""
+    """The text. Raises a fault if `motesim` would refuse it."""
     fault = scenario_faults.find_fault(text.encode())
     if fault:
         place = fault.place(text)

@@ -16,9 +16,9 @@ from project.mutants.edits import Edit, texts_with
 from project.mutants.source import Function
 from project.mutants.stated import TRIES, blamed, copied, open_proofs
 
-# What a mutant came to. The prover refuses it for a goal of a contract; for a loop's invariant alone; only because an
-# answer by hand no longer fits, or at a limit of its own: both leave open what the contract says. Or it is proved, or
-# nothing is known.
+# The verdicts on a mutant. The prover refuses it for a goal of a contract; only for a loop's invariant; only because
+# an answer by hand no longer fits, or at a limit of its own: both leave open what the contract says. Or it is proved,
+# or nothing is known.
 CONTRACT, INVARIANT, ANSWER, LIMIT, NOT_REFUSED, UNKNOWN = (
     'contract', 'invariant', 'answer', 'limit', 'not refused', 'unknown')
 REFUSED, OPEN = (CONTRACT, INVARIANT), (ANSWER, LIMIT)
@@ -32,20 +32,20 @@ OF_NAMES = re.compile(r'has no field|is not in scope|has no `|was not admitted')
 
 
 class Verdict(NamedTuple):
-    """What a mutant came to, the function that is refused, and the goals or the error for which it is."""
+    """The verdict on a mutant, the function that is refused, and the goals or the error for which it is."""
     kind: str
     function: str = ''
     why: str = ''
 
 
 def is_of(name: str, path: str) -> bool:
-    """Whether a name that a check prints is that function's or of a closure in it, as c::m::fn::S::f::closure is of
-    S::f."""
+    """Returns whether a name that a check prints is that function's or of a closure in it, as c::m::fn::S::f::closure
+    is of S::f."""
     return '::%s::' % path in '%s::' % name.replace('::fn::', '::')
 
 
 class Said(NamedTuple):
-    """What a check says of a function: the end of its line, the notes above it, and the errors in its own proof."""
+    """A check's messages on a function: the end of its line, the notes above it, and the errors in its own proof."""
     line: str
     notes: str
     errors: list[str]
@@ -60,8 +60,8 @@ def proof_errors(lines: Sequence[str], name: str, cycle: str | None) -> list[str
 
 
 def refused_in(lines: Sequence[str], cycles: dict[str, str]) -> dict[str, Said]:
-    """What a check says of each function that it refuses for more than what the function calls. `cycles` has the cycle
-    of calls of some functions, by their paths."""
+    """A check's messages on each function that it refuses for more than what the function calls. `cycles` has the
+    cycle of calls of some functions, by their paths."""
     found: dict[str, Said] = {}
     notes: list[str] = []
     for line in lines:
@@ -94,7 +94,8 @@ def verdict_of(name: str, said: Said) -> Verdict:
         kind = INVARIANT if all('loop-' in it for it in goals) else CONTRACT
         return Verdict(kind, name, ', '.join(noted(it, said.notes) for it in goals))
     error = next((it for it in said.errors if not OF_NAMES.search(it)), next(iter(said.errors), said.line))
-    return Verdict(LIMIT if LIMITS.search(error) or said.line == COULD_NOT_TELL else ANSWER, name, error or 'not proved')
+    return Verdict(LIMIT if LIMITS.search(error) or said.line == COULD_NOT_TELL else ANSWER, name,
+                   error or 'not proved')
 
 
 def lines_of(crate: Crate, texts: dict[str, str], flags: Sequence[str]) -> list[str]:
@@ -120,8 +121,8 @@ class Trial:
         self.proved: set[str] = set()
 
     def control(self) -> str:
-        """Checks the copy without an edit, and returns which of the functions it doesn't prove. Open proofs that a check
-        can't do with go back to what they were."""
+        """Checks the copy without an edit, and returns which of the functions it doesn't prove. Open proofs that a
+        check can't do with go back to what they were."""
         for _ in range(TRIES):
             with copied(self.crate, self.holes) as stated:
                 ran = checked(stated, {}, ['--jobs', '1', '--allow-holes', *only(self.judged)])
@@ -150,7 +151,7 @@ class Trial:
         return found
 
     def best(self, edit: Edit, refused: dict[str, Said]) -> Verdict:
-        """The verdict on a mutant, by what is said of its functions, or of all if any may be refused."""
+        """The verdict on a mutant, by the messages on its functions, or of all if any may be refused."""
         paths = [it.path for it in edit.functions]
         found = [verdict_of(name, said) for name, said in refused.items()
                  if not paths or any(is_of(name, path) for path in paths)]

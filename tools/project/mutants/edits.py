@@ -17,7 +17,7 @@ MOST = 12
 
 
 class Hunk(NamedTuple):
-    """The lines of a file that an edit removes, first and end, and those that it puts there."""
+    """The lines of a file that an edit removes, first and end, and those that it adds there."""
     path: str
     first: int
     end: int
@@ -25,8 +25,8 @@ class Hunk(NamedTuple):
 
 
 class Edit(NamedTuple):
-    """A mutant: its name CRATE/NAME and its file; the functions that have to be refused, none if any may be; whether it
-    changes nothing but their bodies; and why it can't be applied."""
+    """A mutant: its name CRATE/NAME and its file; the functions that have to be refused, none if any may be; whether
+    it changes nothing but their bodies; and why it can't be applied."""
     name: str
     file: Path
     hunks: list[Hunk]
@@ -74,8 +74,8 @@ def edits_of(crate: Crate, folders: Sequence[str] = FOLDERS) -> list[Edit]:
 
 
 def groups(edits: Sequence[Edit]) -> list[list[Edit]]:
-    """Lists of mutants that one check can judge: no two change one function, or functions of one cycle of calls. A mutant
-    that changes more than bodies is alone."""
+    """Lists of mutants that one check can judge: no two change one function, or functions of one cycle of calls. A
+    mutant that changes more than bodies is in no list with others."""
     found: list[tuple[list[Edit], set[str]]] = []
     alone = [[it] for it in edits if not it.is_inside and not it.trouble]
     for edit in edits:

@@ -1,8 +1,8 @@
-"""What each mutant came to when it was last tried, and over which texts: log/wrong_bodies.tsv.
+"""The verdict on each mutant when it was last tried, and the texts: log/wrong_bodies.tsv.
 
-A line has the mutant, the day, what it came to, the function that was refused, the goals or the error for which it was,
-and a digest of all that this depends on: the mutant, its crate, the crates below with their proofs, crates.txt, the code
-that judges, and the kit. Lines that are comments only don't count.
+A line has the mutant, the day, the verdict, the function that was refused, the goals or the error for which it was,
+and a digest of all that this depends on: the mutant, its crate, the crates below with their proofs, crates.txt, the
+code that judges, and the kit. Lines that are comments only don't count.
 """
 from __future__ import annotations
 
@@ -43,7 +43,8 @@ def sum_of(folder: Path, parts: Iterable[str]) -> bytes:
     found = hashlib.sha256()
     for path in sorted(it for part in parts for it in [folder / part, *(folder / part).rglob('*')]):
         if path.is_file() and '__pycache__' not in path.parts:
-            found.update(b'%s %s\n' % (str(path.relative_to(folder)).encode(), hashlib.sha256(without_comments(path)).digest()))
+            found.update(b'%s %s\n' % (str(path.relative_to(folder)).encode(),
+                                       hashlib.sha256(without_comments(path)).digest()))
     return found.digest()
 
 
@@ -57,14 +58,14 @@ def digest(crate: Crate, edit: Path, top: Path = TOP) -> str:
 
 
 def noted() -> dict[str, Tried]:
-    """What is noted, by CRATE/NAME."""
+    """The rows of the log, by CRATE/NAME."""
     rows = KEPT.read_text('utf-8').splitlines() if KEPT.is_file() else []
     cells = [it.split('\t') for it in rows if it.count('\t') == 5 and not it.startswith('#')]
     return {name: Tried(day, Verdict(*verdict), sum_) for name, day, *verdict, sum_ in cells}
 
 
 def is_there(name: str) -> bool:
-    """Whether there is a mutant of this name."""
+    """Returns whether there is a mutant of this name."""
     crate, _, edit = name.partition('/')
     return any((TOP / 'crates' / crate).glob('*/%s.edit' % edit))
 
@@ -81,7 +82,7 @@ def note(found: Mapping[str, tuple[Verdict, str]]) -> None:
 
 
 def counts(names: Iterable[str]) -> str:
-    """How many of these mutants came to what when they were last tried."""
+    """The number of these mutants with each verdict, when they were last tried."""
     kept = noted()
     found = Counter(kept[name].verdict.kind if name in kept else 'not noted' for name in names)
     return ', '.join('%s %d' % it for it in found.most_common())

@@ -1,4 +1,4 @@
-"""The functions of a source file, read by the lines and the indentation that `rt fmt` gives each item."""
+"""The functions of a source file, read by the lines and the indentation that `rt fmt` writes for each item."""
 from __future__ import annotations
 
 import re
@@ -37,7 +37,7 @@ def names_in(words: str) -> list[str]:
 
 
 def owner_of(head: str) -> str:
-    """The name that a check gives the owner of an impl's functions: the type, or type and trait together. `drop` belongs
+    """A check's name for the owner of an impl's functions: the type, or type and trait together. `drop` belongs
     to the type itself."""
     head = head.replace('->', '').partition(' where')[0]
     while re.match(r'\s*<', head):
@@ -87,7 +87,8 @@ def _functions(lines: Sequence[str], span: range, indent: str, around: list[str]
         is_short = lines[opening].endswith('}')
         end = opening if is_short else end_of(lines, opening, indent)
         if found:
-            yield Function(*((end, end) if is_short else (opening + 1, end - 1)), '::'.join([*around, found[1]]), cycle)
+            yield Function(*((end, end) if is_short else (opening + 1, end - 1)), '::'.join([*around, found[1]]),
+                           cycle)
             cycle = None
         elif block and not is_short:
             head = ' '.join([block[2], *(it.strip() for it in lines[at:opening + 1])]).strip(' {')

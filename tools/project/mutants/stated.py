@@ -13,7 +13,7 @@ from project.kit import Crate, parts
 from project.mutants.edits import functions_of
 from project.mutants.source import Function, types_in
 
-# Proofs that are left open: the prover takes them by their statements, so callers are proved from the contracts.
+# Proofs that are left open: the prover uses only their statements, so callers are proved from the contracts.
 USE = 'use Rattle.%s.proofs.%s.Statement as the_%s\n'
 HOLE = '\npub %s_spec : {M : Type 1} → the_%s.statement M\n%s_spec = ?\n'
 OF_A_PROOF = ('Invariants.antt', 'Answers.antt', 'Proof.antt')
@@ -33,13 +33,13 @@ def folder_of(function: Function, types: dict[str, list[str]]) -> tuple[str, lis
 
 
 def is_one_of(function: Function, judged: Sequence[Function]) -> bool:
-    """Whether a function is one of these, whose paths may begin with modules that its own leaves out."""
+    """Returns whether a function is one of these, whose paths may begin with modules that its own leaves out."""
     return any(('::' + it.path).endswith('::' + function.path) for it in judged)
 
 
 def open_proofs(crate: Crate, judged: Sequence[Function]) -> dict[str, str]:
-    """By the folders of the proofs: files in which the proofs of all but these functions, and those in a cycle of calls
-    with one of them, are left open. A function whose own answers others cite keeps its proof."""
+    """By the folders of the proofs: files in which the proofs of all but these functions, and those in a cycle of
+    calls with one of them, are left open. A function whose own answers others cite keeps its proof."""
     folder = Path(crate.folder)
     sources = sorted((folder / 'src').rglob('*.rt'))
     types = {name: module for it in sources
