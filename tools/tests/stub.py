@@ -1,7 +1,8 @@
 """A program instead of motesim, for tests of tools that run it: its reports are short and known beforehand.
 
 Mote n prints P at moment P * (n + 1), where P is what the first `print` of its program has. A comment `// wait`,
-`// long` or `// refuse` in the program makes it answer nothing for a minute, a long report, or a fault.
+`// burn`, `// long` or `// refuse` in the program makes it answer nothing for a minute, use a minute of processor
+time, or answer a long report or a fault.
 """
 import sys
 from pathlib import Path
@@ -14,6 +15,8 @@ for number, mote in enumerate(scenario['mote']):
     text = scenario['programs'][mote['program']]
     if '// wait' in text:
         time.sleep(60)
+    while '// burn' in text and time.process_time() < 60:
+        pass
     if '// long' in text:
         while True:
             sys.stdout.write('x' * 1000000)

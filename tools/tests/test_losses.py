@@ -57,6 +57,25 @@ class Resonances(unittest.TestCase):
         values = [256 * (n % 3) + n // 3 for n in range(60)]
         self.assertIn('all of the 20 packets with the values 512 to 531 (1 in 3 would be 7)', self.found(values, 3)[0])
 
+    def test_a_flow_whose_packets_are_repeated_until_they_are_acknowledged(self) -> None:
+        # Each number is sent five times, between beacons with the value 200: all of its packets are lost. No number is
+        # sent often enough to be a kind of its own, and the beacons have the same upper byte.
+        values = [it for n in range(1, 9) for _ in range(5) for it in (200, n)]
+        self.assertIn('it loses all of the 40 packets with the values 1 to 8 (1 in 2 would be 20)',
+                      self.found(values, 2)[0])
+
+    def test_a_flow_that_loses_far_more_than_the_period_says(self) -> None:
+        # (the beacons of two kinds have a rhythm of 3, and the numbers, sent three times or twice, are the third)
+        values = [it for n in range(1, 13) for _ in range(3 - n % 2) for it in (201, 202, n)]
+        self.assertIn('all of the 30 packets with the values 1 to 12 (1 in 3 would be 10)', self.found(values, 3)[0])
+
+    def test_first_packets_and_repeated_packets(self) -> None:
+        # A number whose first packet is lost is sent again, which arrives: so each first packet from the second on is
+        # lost. And in the other order each repeated one is.
+        first = [it for n in range(2, 22) for it in (n, n)]
+        self.assertIn('all of the 20 repeated packets with the values 2 to 21', self.found(first, 2)[0])
+        self.assertIn('all of the 20 first packets with the values 2 to 21', self.found([900, *first], 2)[0])
+
     def test_none_where_all_kinds_lose_alike(self) -> None:
         for values, every in (list(range(60)), 2), ([7] * 60, 3), ([it for n in range(30) for it in (900, n)], 3), (
                 [it for n in range(4) for it in (900, n)], 2), ([1, 2] * 30, 1):

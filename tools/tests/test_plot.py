@@ -57,7 +57,7 @@ class PlotTest(unittest.TestCase):
         self.assertEqual(one.stdout.split('\n')[0], 'sent against period')
 
     def test_empty_values_are_left_out(self) -> None:
-        done = self.plot('--measure', 'late', '--against', 'density')
+        done = self.plot('--measure', 'late', '--against', 'density', '--over', 'seed,period')
         self.assertIn('left out: 6 runs without a value of late\n', done.stdout)
 
     def test_quartiles(self) -> None:
@@ -80,12 +80,13 @@ class PlotTest(unittest.TestCase):
 
     def test_a_picture_in_png(self) -> None:
         interpreter_with(self, 'matplotlib')
-        for words in ('--against', 'density'), ('--against', 'period', '--log'):
+        for words in ('--against', 'density', '--where', 'period=1'), (
+                '--against', 'period', '--by', 'density', '--log'):
             done = self.plot('--measure', 'sent', *words, '-o', 'a.png')
             self.assertEqual(done.returncode, 0, done)
             self.assertEqual((self.folder / 'a.png').read_bytes()[:8], b'\x89PNG\r\n\x1a\n')
             (self.folder / 'a.png').unlink()
-        wrong = self.plot('--measure', 'sent', '--against', 'density', '--log', '-o', 'a.png')
+        wrong = self.plot('--measure', 'sent', '--against', 'density', '--by', 'period', '--log', '-o', 'a.png')
         self.assertEqual((wrong.returncode, wrong.stdout), (2, ''))
         self.assertIn('--log needs values above 0, and some of density are not', wrong.stderr)
 
@@ -119,6 +120,14 @@ class PlotTest(unittest.TestCase):
         with self.assertRaisesRegex(Fault, 'has texts'):
             shown_of(rows, Wish('said', 'a'))
 
+    def test_pictures_that_would_write_one_table_are_refused(self) -> None:
+        plot = '[[plot]]\nfile = "a.%s"\nmeasure = "sent"\nagainst = "period"\n'
+        (self.folder / 'a.plan.toml').write_text('end = 9\n' + plot % 'svg' + plot % 'png')
+        done = self.plot('--plan', 'a.plan.toml')
+        self.assertEqual(done.returncode, 2, done)
+        self.assertIn('a.plan.toml, line 7:', done.stderr)
+        self.assertIn('both would write a.table.csv', done.stderr)
+
     def test_what_a_plan_says_is_drawn(self) -> None:
         interpreter_with(self, 'matplotlib')
         stub = write_stub(self.folder)
@@ -132,10 +141,12 @@ sweep = { vary = { period = "1..4" }, measure = ["prints"] }
 file = "prints.svg"
 measure = "prints"
 against = "period"
+threshold = 1.5
 ''')
         done = subprocess.run([sys.executable, '-B', str(TOOLS / 'sweep'), 'a.plan.toml', '--plot'], cwd=self.folder,
                               env={**os.environ, 'MOTESIM': str(stub)}, capture_output=True, text=True)
-        told = 'a.csv: 4 runs, 4 of them now, 0 with a fault\nprints.svg\n'
+        told = ('a.csv: 4 runs, 4 of them now, 0 with a fault\nprints.svg\n'
+                'the median doesn\'t cross 1.5\n')
         self.assertEqual((done.returncode, done.stdout), (0, told), done)
         self.assertTrue((self.folder / 'prints.svg').exists())
 

@@ -6,11 +6,12 @@ import subprocess
 import sys
 import tempfile
 import unittest
+from collections.abc import Sequence
 from pathlib import Path
 
 from here import TOOLS
 from motesim.analysis import estimates
-from motesim.analysis.crossings import crossing, place
+from motesim.analysis.crossings import Key, Runs, crossing, place
 from motesim.analysis.paired import Pair, differences, pairs_of
 from motesim.analysis.points import Wish, shown_of
 from motesim.experiments.results import Row
@@ -38,21 +39,36 @@ class Estimates(unittest.TestCase):
         self.assertAlmostEqual(3 - (found.low or 0), 2.776 * math.sqrt(2.5 / 5), delta=0.001)
 
     def test_one_run_has_no_interval(self) -> None:
-        for how in estimates.MEANS.values():
-            self.assertEqual(how([7.0], 0.95), (1, 7.0, None, None))
+        for how in estimates.MEANS:
+            self.assertEqual(estimates.mean_of([7.0], 0.95, how), (1, 7.0, None, None, 'one'))
+
+    def test_equal_runs_have_no_interval_that_looks_certain(self) -> None:
+        for how in estimates.MEANS:
+            kinds: list[estimates.Measured] = ['any', 'share']
+            for kind in kinds:
+                self.assertEqual(estimates.mean_of([1.0] * 8, 0.95, how, kind), (8, 1.0, None, None, 'alike'))
+            # (10 of 10 that are 1 are a share by themselves)
+            found = estimates.mean_of([1] * 10, 0.95, how, 'yes or no')
+            self.assertEqual((found.method, round(found.low or 0, 3)), ('wilson', 0.722))
 
     def test_intervals_hold_the_mean_as_often_as_they_say(self) -> None:
+        # (the bootstrap's share of few runs is expanded: unexpanded it holds the mean in 84 % of these)
         chance, held = Chance(5), dict.fromkeys(estimates.MEANS, 0)
         for _ in range(120):
             # (sums of twelve even draws are near to normal: mean 6, standard deviation 1)
-            values = [sum(chance.below(10_001) for _ in range(12)) / 10_000 for _ in range(15)]
-            for name, how in estimates.MEANS.items():
-                found = how(values, 0.9)
-                held[name] += (found.low or 0) <= 6 <= (found.high or 0)
+            values = [sum(chance.below(10_001) for _ in range(12)) / 10_000 for _ in range(10)]
+            for how in estimates.MEANS:
+                found = estimates.mean_of(values, 0.9, how)
+                held[how] += (found.low or 0) <= 6 <= (found.high or 0)
         for name, count in held.items():
             with self.subTest(name):
-                self.assertGreater(count, 95)
-                self.assertLess(count, 119)
+                self.assertGreater(count, 101)
+                self.assertLess(count, 117)
+
+    def test_the_bootstraps_part_is_as_wide_as_students_t(self) -> None:
+        # (by hand: t for 9 degrees is 2.262, times the root of 10 / 9 is 2.384; a normal has 0.86 % beyond that)
+        self.assertAlmostEqual(estimates.part_of_draws(0.95, 10), 1 - 2 * 0.00856, delta=0.0002)
+        self.assertAlmostEqual(estimates.part_of_draws(0.95, 100_000), 0.95, delta=0.0001)
 
     def test_wilsons_score_is_that_of_the_books(self) -> None:
         # (of 10 runs 8 and 10 are 1: 0.490 to 0.943, and 0.722 to 1; Wilson, JASA 22, 1927, by his formula)
@@ -65,7 +81,8 @@ class Estimates(unittest.TestCase):
         shares = [0.99, 1.0, 1.0, 0.9, 1.0]
         self.assertGreater(estimates.mean_by_t(shares, 0.95).high or 0, 1)
         methods: list[tuple[list[float], str]] = [
-            (shares, 'bootstrap'), ([0.5, 0.6, 0.55], 't'), ([1, 1, 1, 0], 'wilson'), ([1, 1, 3], 't')]
+            (shares * 2, 'bootstrap'), (shares, 'within'), ([0.5, 0.6, 0.55], 't'), ([1, 1, 1, 0], 'wilson'),
+            ([1, 1, 3], 't')]
         for values, method in methods:
             kind = estimates.measured(values)
             self.assertEqual(estimates.method_of(values, 0.95, 't', kind), method)
@@ -79,52 +96,92 @@ class Estimates(unittest.TestCase):
         self.assertEqual(estimates.mean_by_bootstrap(values, 0.95), estimates.mean_by_bootstrap(values, 0.95))
 
 
+def curve_of(values: Sequence[tuple[float, Sequence[float]]], keys: Sequence[Sequence[Key]] = ()) -> list[Runs]:
+    """Points by their x and the values of their runs."""
+    return [Runs([x] * len(ys), ys, its) for (x, ys), its in zip(values, keys or [()] * len(values))]
+
+
 class Crossings(unittest.TestCase):
     def test_the_place_by_hand(self) -> None:
-        self.assertEqual(place([(0, 0), (10, 5), (20, 10)], 7.5), (15, True))
-        self.assertEqual(place([(0, 1), (4, 0)], 0.25), (3, False))
+        self.assertEqual(place([(0, 0), (10, 5), (20, 10)], 7.5), (15, True, (10, 20)))
+        self.assertEqual(place([(0, 1), (4, 0)], 0.25), (3, False, (0, 4)))
         self.assertIsNone(place([(0, 1), (4, 2)], 3))
+        self.assertIsNone(place([(0, 1), (4, 0)], 0.25, is_rising=True))
 
-    def test_runs_that_agree_have_a_narrow_interval(self) -> None:
-        found = crossing([(x, [x / 10] * 5) for x in range(11)], 0.45, 0.95)
+    def test_on_a_logarithmic_axis_lines_are_straight_in_the_logarithm(self) -> None:
+        # (half way up from 10 to 40 is 20, which is where the picture with --log shows it)
+        found = place([(10, 0), (40, 1)], 0.5, is_log=True)
+        assert found
+        self.assertAlmostEqual(found[0], 20)
+        self.assertEqual(place([(10, 0), (40, 1)], 0.5), (25, True, (10, 40)))
+
+    def test_an_interval_is_never_narrower_than_the_gap_between_points(self) -> None:
+        found = crossing(curve_of([(x, [x / 10] * 5) for x in range(11)]), 0.45, 0.95)
         assert found
         self.assertAlmostEqual(found.at, 4.5)
-        self.assertAlmostEqual(found.low, 4.5)
-        self.assertAlmostEqual(found.high, 4.5)
+        self.assertEqual((found.low, found.high, found.gap), (4, 5, (4, 5)))
         self.assertEqual((found.is_rising, found.share), (True, 1.0))
 
     def test_runs_that_differ_have_a_wide_one(self) -> None:
-        curve = [(float(x), [x / 10 - 0.2, x / 10 - 0.1, x / 10, x / 10 + 0.1, x / 10 + 0.2]) for x in range(0, 11, 5)]
+        curve = curve_of([(float(x), [x / 10 + it for it in (-0.2, -0.1, 0, 0.1, 0.2)]) for x in range(11)])
         found = crossing(curve, 0.45, 0.95)
-        assert found
-        self.assertLess(found.low, 4.2)
-        self.assertGreater(found.high, 4.8)
+        assert found and found.low is not None and found.high is not None
+        self.assertLess(found.low, 4)
+        self.assertGreater(found.high, 5)
         self.assertIsNone(crossing(curve, 3, 0.95))
 
+    def test_an_interval_is_open_if_drawn_curves_cross_beyond_the_axis(self) -> None:
+        found = crossing(curve_of([(1.0, [0.9, 0.5, 0.8, 0.7]), (2.0, [0.1, 0.9, 0.2, 0.7])]), 0.5, 0.95)
+        assert found
+        self.assertEqual((found.low, found.high), (1, math.inf))
+        self.assertLess(found.share, 1)
+
+    def test_one_run_for_each_point_has_no_interval(self) -> None:
+        found = crossing(curve_of([(1.0, [0.0]), (2.0, [1.0])]), 0.5, 0.95)
+        assert found
+        self.assertEqual((found.at, found.low, found.high, found.gap), (1.5, None, None, (1, 2)))
 
     def test_runs_of_one_seed_are_drawn_together(self) -> None:
         # Each seed shifts its whole curve, so that curves of seeds drawn for each point alone would be far too sure.
         shifts = [0.0, 0.1, 0.2, 0.3, 0.4, 0.5]
-        curve = [(float(x), [x / 10 + it for it in shifts]) for x in range(0, 21)]
-        keys = [[(seed,) for seed in range(6)]] * 21
-        alone, together = crossing(curve, 1.0, 0.95), crossing(curve, 1.0, 0.95, keys)
-        assert alone and together
+        values = [(x / 2, [x / 20 + it for it in shifts]) for x in range(0, 41)]
+        keys = [[(seed,) for seed in range(6)]] * 41
+        alone, together = crossing(curve_of(values), 1.0, 0.95), crossing(curve_of(values, keys), 1.0, 0.95)
+        assert alone and together and alone.low and alone.high and together.low and together.high
         self.assertEqual(alone.at, together.at)
-        # (the mean of six shifts has the standard error 0.07, so twice 1.96 of it are 0.27, or 2.7 of x)
-        self.assertAlmostEqual(together.high - together.low, 2.7, delta=0.4)
-        self.assertLess(alone.high - alone.low, 2.2)
+        # (the mean of six shifts has the standard error 0.076, and t for 5 degrees is 2.571: 3.9 of x, and gaps)
+        self.assertAlmostEqual(together.high - together.low, 4.2, delta=0.4)
+        self.assertLess(alone.high - alone.low, 3.6)
         # (a run that one point lacks changes little)
-        partly = crossing([(0.0, curve[0][1][:-1]), *curve[1:]], 1.0, 0.95, [keys[0][:-1], *keys[1:]])
-        assert partly
-        self.assertAlmostEqual(partly.high - partly.low, 2.7, delta=0.4)
+        some = [(0.0, values[0][1][:-1]), *values[1:]]
+        partly = crossing(curve_of(some, [keys[0][:-1], *keys[1:]]), 1.0, 0.95)
+        assert partly and partly.low and partly.high
+        self.assertAlmostEqual(partly.high - partly.low, 4.2, delta=0.6)
 
     def test_the_order_of_runs_does_not_matter_and_other_runs_are_drawn_alone(self) -> None:
-        curve = [(0.0, [0.0, 0.2]), (1.0, [1.0, 1.2])]
+        values = [(0.0, [0.0, 0.2]), (1.0, [1.0, 1.2])]
         turned = [(0.0, [0.0, 0.2]), (1.0, [1.2, 1.0])]
         one, two = ([(1,), (2,)], [(1,), (2,)]), ([(1,), (2,)], [(2,), (1,)])
-        self.assertEqual(crossing(curve, 0.5, 0.95, one), crossing(turned, 0.5, 0.95, two))
+        self.assertEqual(crossing(curve_of(values, one), 0.5, 0.95), crossing(curve_of(turned, two), 0.5, 0.95))
         for keys in (), ([(1,), (2,)], [(3,), (4,)]), ([(1,), (1,)], [(1,), (1,)]):
-            self.assertEqual(crossing(curve, 0.5, 0.95, keys), crossing(curve, 0.5, 0.95))
+            self.assertEqual(crossing(curve_of(values, keys), 0.5, 0.95), crossing(curve_of(values), 0.5, 0.95))
+
+    def test_sweeps_on_different_grids_hold_the_true_place(self) -> None:
+        # A curve that bends, as of slotted ALOHA, in nets that each differ along the whole curve. It crosses 0.8 at
+        # 6.58. On the widest grid a straight line crosses it at 7.2, in each sweep.
+        true = 1 + math.log(0.8) / math.log(1 - 1 / 25.5)
+        for grid in (2, 12, 22, 32), (1, 5, 9, 13), tuple(range(4, 10)):
+            held = 0
+            for sweep in range(20):
+                chance = Chance(sweep, len(grid))
+                nets = [(chance.below(2_001) - 1_000) / 20_000 for _ in range(10)]
+                values = [(float(x), [(1 - 1 / 25.5) ** (x - 1) + net + (chance.below(2_001) - 1_000) / 50_000
+                                      for net in nets]) for x in grid]
+                found = crossing(curve_of(values, [list(range(10))] * len(grid)), 0.8, 0.95)
+                assert found and found.low is not None and found.high is not None
+                held += found.low <= true <= found.high
+            with self.subTest(grid=grid):
+                self.assertGreaterEqual(held, 18)
 
 
 def row(period: int, seed: int, sent: float | None, **more: int | str | None) -> Row:
@@ -162,6 +219,7 @@ class Shown(unittest.TestCase):
 
 
 HEAD = 'period,density,seed,sent,ratio,fault,parameters\n'
+ONE = '--where', 'density=thin'
 
 
 def results(extra: int = 0) -> str:
@@ -191,23 +249,73 @@ class Command(unittest.TestCase):
         self.assertEqual(' '.join(rows[0]), "sent against period, over seed: means with intervals of 95 % by "
                                             "Student's t")
         # (the seeds 1 to 5 around 3: 2.776 * 0.7071 = 1.963)
-        self.assertEqual(rows[2], ['1', '5', '13.000', '11.037', '14.963'])
-        rows = self.plot('--measure', 'sent', '--against', 'period', '--show', 'mean', '--interval', 'bootstrap',
-                         '--confidence', '90')
+        self.assertEqual(rows[1:3], [['period', 'runs', 'mean', 'low', 'high', 'interval'],
+                                     ['1', '5', '13.000', '11.037', '14.963', 't']])
+        rows = self.plot('--measure', 'sent', '--against', 'period', '--by', 'density', '--show', 'mean', '--interval',
+                         'bootstrap', '--confidence', '90')
         self.assertIn('90 % by the bootstrap', ' '.join(rows[0]))
+        self.assertEqual(rows[2][-1], 'bootstrap')
+        self.assertEqual(' '.join(rows[-1]), 'the bootstrap of 5 runs is too narrow: use --interval t, or 10 runs or '
+                                             'more')
+
+    def test_equal_runs_and_one_run(self) -> None:
+        (self.folder / 'net.csv').write_text(HEAD + ''.join('%d,thin,%d,%d,%s,,period density seed\n' % (
+            period, seed, seed, 1.0 if period < 9 else seed / 10) for period in (1, 9) for seed in (1, 2, 3)))
+        rows = self.plot('--measure', 'ratio', '--against', 'period', '--show', 'mean')
+        self.assertEqual(rows[2], ['1', '3', '1.000', '-', '-', 'none:', 'equal', 'runs'])
+        self.assertIn('no interval for 1 mean: equal runs', ' '.join(rows[-1]))
+        rows = self.plot('--measure', 'ratio', '--against', 'period', '--where', 'seed=2', '--show', 'mean')
+        self.assertEqual(rows[2][-3:], ['none:', 'one', 'run'])
+
+    def test_treatments_are_not_mixed(self) -> None:
+        self.plot('--measure', 'sent', '--against', 'period', status=2)
+        self.assertEqual(self.told, (
+            'plot: each point would mix runs that differ in density (dense, thin): --by density separates '
+            'them, --where density=dense selects some, --over seed,density mixes them\n'))
+        rows = self.plot('--measure', 'sent', '--against', 'period', '--over', 'seed,density')
+        self.assertEqual(rows[2][:2], ['1', '10'])
+        for words in ('--show', 'cdf', '--by', 'period'), ('--against', 'ratio', '--show', 'mean'), (
+                '--against', 'period', '--compare', 'more.csv'):
+            self.plot('--measure', 'sent', *words, status=2)
+            self.assertIn('density', self.told)
+        self.plot('--measure', 'sent', '--against', 'ratio', '--show', 'points')
 
     def test_a_crossing(self) -> None:
         rows = self.plot('--measure', 'ratio', '--against', 'period', '--by', 'density', '--show', 'mean',
                          '--threshold', '0.6')
-        self.assertIn('density thin: the mean rises above 0.6 at period 5.97', ' '.join(rows[-1]))
-        self.plot('--measure', 'ratio', '--against', 'density', '--threshold', '0.6', status=2)
+        self.assertEqual(' '.join(rows[-2]), 'density thin: the mean rises above 0.6 at period 5.97, between the '
+                                             'points 4 and 8')
+        self.assertEqual(' '.join(rows[-1]), 'with 95 %, by the bootstrap of 5 runs: 4 to 8')
+        rows = self.plot('--measure', 'ratio', '--against', 'period', '--by', 'density', '--threshold', '0.6', '--log')
+        self.assertIn('the median rises above 0.6 at period 5.628', ' '.join(rows[-2]))
+        self.plot('--measure', 'ratio', '--against', 'density', '--by', 'period', '--threshold', '0.6', status=2)
+
+    def test_a_crossing_along_a_measure_draws_both_axes(self) -> None:
+        rows = self.plot('--measure', 'ratio', '--against', 'sent', '--by', 'density', '--show', 'mean', '--threshold',
+                         '0.6')
+        self.assertRegex(' '.join(rows[-2]), r'density thin: the mean rises above 0.6 at sent [0-9.]+, between')
+        self.assertIn('by the bootstrap of 5 runs', ' '.join(rows[-1]))
+
+    def test_a_crossing_is_in_the_table_behind_a_picture_and_the_method_below_it(self) -> None:
+        interpreter_with(self, 'matplotlib')
+        self.plot('--measure', 'ratio', '--against', 'period', '--by', 'density', '--show', 'mean', '--threshold',
+                  '0.6', '-o', 'a.svg')
+        with open(self.folder / 'a.table.csv', newline='') as file:
+            row = next(csv.DictReader(file))
+        self.assertEqual((row['threshold'], row['crossing low'], row['crossing high'], row['interval']),
+                         ('0.6', '4.0', '8.0', 't'))
+        self.assertAlmostEqual(float(row['crossing']), 5.97)
+        shown = ' '.join((self.folder / 'a.svg').read_text().split())
+        self.assertIn('mean, and intervals of 95 % by Student\'s t over seed (5 runs)', shown)
 
     def test_pairs_of_two_files_and_of_two_values(self) -> None:
-        rows = self.plot('--measure', 'sent', '--against', 'period', '--compare', 'more.csv')
-        self.assertEqual(rows[1], ['period', 'pairs', 'net', 'more', 'difference', 'low', 'high', 'greater', 'less'])
-        self.assertEqual(rows[2][:2] + rows[2][4:], ['1', '10', '2.000', '2.000', '2.000', '10', '0'])
+        rows = self.plot('--measure', 'sent', '--against', 'period', '--compare', 'more.csv', '--over', 'seed,density')
+        self.assertEqual(rows[1], ['period', 'pairs', 'net', 'more', 'difference', 'low', 'high', 'interval',
+                                   'greater', 'less'])
+        alike = ['none:', 'equal', 'runs']
+        self.assertEqual(rows[2][:2] + rows[2][4:], ['1', '10', '2.000', '-', '-', *alike, '10', '0'])
         rows = self.plot('--measure', 'sent', '--against', 'period', '--pair', 'density=thin,dense')
-        self.assertEqual(rows[2][1:2] + rows[2][-5:], ['5', '5.000', '5.000', '5.000', '5', '0'])
+        self.assertEqual(rows[2][1:2] + rows[2][-8:], ['5', '5.000', '-', '-', *alike, '5', '0'])
         self.plot('--measure', 'sent', '--against', 'period', '--pair', 'density=thin', status=2)
 
     def test_points_and_parts_of_runs(self) -> None:
@@ -219,7 +327,7 @@ class Command(unittest.TestCase):
 
     def test_title_footer_axes_and_size_of_a_picture(self) -> None:
         interpreter_with(self, 'matplotlib')
-        words = '--measure', 'sent', '--against', 'period', '--show', 'mean', '-o', 'a.svg'
+        words = '--measure', 'sent', '--against', 'period', '--show', 'mean', '-o', 'a.svg', *ONE
         self.plot(*words)
         usual = (self.folder / 'a.svg').read_text()
         self.assertIn('width="460.8', usual.replace("'", '"'))
@@ -244,13 +352,13 @@ class Command(unittest.TestCase):
         interpreter_with(self, 'matplotlib')
         for name, head, words in (
                 ('a.svg', b'<?xml', ('--against', 'period', '--show', 'mean', '--threshold', '20')),
-                ('b.pdf', b'%PDF-', ('--against', 'period', '--show', 'points')), ('c.png', b'\x89PNG', ('--show',
-                                                                                                         'cdf')),
+                ('b.pdf', b'%PDF-', ('--against', 'period', '--show', 'points')), ('c.png', b'\x89PNG', (
+                    '--show', 'cdf', '--where', 'period=1')),
                 ('d.svg', b'<?xml', ('--against', 'period', '--by', 'density', '--show', 'heat')),
                 ('e.svg', b'<?xml', ('--against', 'ratio')), ('f.pdf', b'%PDF-', ('--against', 'period', '--compare',
                                                                                  'more.csv'))):
             with self.subTest(words=words, name=name):
-                self.plot('--measure', 'sent', *words, '-o', name)
+                self.plot('--measure', 'sent', *words, '-o', name, *([] if '--by' in words else ONE))
                 self.assertTrue((self.folder / name).read_bytes().startswith(head))
                 with open(self.folder / name.replace(name[1:], '.table.csv'), newline='') as file:
                     self.assertGreater(len(list(csv.DictReader(file))), 1)
@@ -259,7 +367,7 @@ class Command(unittest.TestCase):
         interpreter_with(self, 'matplotlib')
         made = []
         for name in 'a.pdf', 'b.pdf':
-            self.plot('--measure', 'sent', '--against', 'period', '--show', 'mean', '-o', name)
+            self.plot('--measure', 'sent', '--against', 'period', '--show', 'mean', '-o', name, *ONE)
             made.append((self.folder / name).read_bytes())
         self.assertEqual(made[0], made[1])
 
@@ -270,6 +378,15 @@ class Command(unittest.TestCase):
         done = subprocess.run([interpreter, '-B', '-c', script], cwd=self.folder, capture_output=True, text=True,
                               env={**os.environ, 'PYTHONPATH': str(TOOLS)})
         self.assertEqual(done.stdout, '30 48.833333333333336 [20, 50, 90]\n', done.stderr)
+
+    def test_whole_numbers_with_gaps_stay_whole_in_a_frame(self) -> None:
+        interpreter = interpreter_with(self, 'pandas')
+        (self.folder / 'net.csv').write_text(
+            HEAD + '1,thin,1,7,0.5,,period density seed\n1,thin,2,,,,period density seed\n')
+        script = 'from motesim.analysis import frame\nprint(*(str(it) for it in frame("net.csv").dtypes[:5]))'
+        done = subprocess.run([interpreter, '-B', '-c', script], cwd=self.folder, capture_output=True, text=True,
+                              env={**os.environ, 'PYTHONPATH': str(TOOLS)})
+        self.assertEqual(done.stdout, 'int64 object int64 Int64 float64\n', done.stderr)
 
 
 if __name__ == '__main__':

@@ -242,19 +242,37 @@ class SweepTest(Bed):
         self.assertEqual((columns[:4], rows[0]['period']), (['period', 'motes', 'name', 'end'], 1))
 
     def test_faults_are_rows(self) -> None:
-        for name, line in ('wait', '// wait'), ('long', '// long'), ('refuse', '// refuse'), ('text', 'code a'):
+        for name, line in ('burn', '// burn'), ('long', '// long'), ('refuse', '// refuse'), ('text', 'code a'):
             (self.folder / (name + '.mote')).write_text(MOTE + line + '\n')
-        done = self.sweep('--vary', 'name=a,wait,refuse,text,no', '--measure', 'prints', '--seconds', '1.5')
+        done = self.sweep('--vary', 'name=a,burn,refuse,text,no', '--measure', 'prints', '--seconds', '0.7')
         self.assertEqual(done.returncode, 1, done)
         faults = {row['name']: row['fault'] for row in self.rows()}
         self.assertEqual((faults['a'], faults['refuse']), ('', 'motesim: out of memory'))
-        self.assertRegex(faults['wait'], '^no (end|answer) in 1.5 seconds$')
+        self.assertEqual(faults['burn'], 'no answer in 0.7 seconds of processor time')
         self.assertRegex(faults['text'], '^text.mote, with its parameters, line 4: ')
         self.assertRegex(faults['no'], 'no.mote: No such file')
         self.assertEqual(self.sweep('--vary', 'name=a,refuse', '--measure', 'prints').stdout.split('\n')[0],
                          'net.csv: 2 runs, 0 of them now, 1 with a fault')
         self.assertEqual(self.sweep('--vary', 'name=a,refuse', '--measure', 'prints', '--retry').stdout.split('\n')[0],
                          'net.csv: 2 runs, 1 of them now, 1 with a fault')
+
+    def test_a_run_that_the_machine_has_no_time_for_is_run_again(self) -> None:
+        (self.folder / 'wait.mote').write_text(MOTE + '// wait\n')
+        with mock.patch.dict(os.environ, MOTESIM=str(self.stub)), mock.patch('motesim.experiments.one_run.BUSY', 0.5):
+            plan = Plan.read(self.folder / 'net.plan.toml')
+            sweeper = Sweeper(sweep_of(plan, ['name=a,wait'], ['prints'], 2), self.folder / 'net.csv')
+            self.addCleanup(sweeper.file.close)
+            fault = run_job(next(sweeper.jobs([plan.with_given({'name': 'wait'})]))).fault
+        self.assertEqual(fault, 'the machine is too busy: no answer in 1 seconds, though it used less processor time '
+                                'than it may; the same command runs it again')
+        sweeper.file.close()
+        words = '--vary', 'name=a,refuse', '--measure', 'prints', '-o', 'busy.csv'
+        (self.folder / 'refuse.mote').write_text(MOTE + '// refuse\n')
+        self.sweep(*words)
+        self.assertIn(' 0 of them now', self.sweep(*words).stdout)
+        text = (self.folder / 'busy.csv').read_text()
+        (self.folder / 'busy.csv').write_text(text.replace('motesim: out of memory', fault.replace(',', ' ')))
+        self.assertIn(' 1 of them now', self.sweep(*words).stdout)
 
     def test_a_report_without_end_is_stopped(self) -> None:
         (self.folder / 'long.mote').write_text(MOTE + '// long\n')
@@ -270,9 +288,16 @@ class SweepTest(Bed):
             result = run_job(job._replace(work=job.work._replace(folder='/nowhere')))
         self.assertEqual((result.measures, result.fault), ({'lines': 15}, ''))
 
-    def test_a_measure_that_fails_is_a_fault(self) -> None:
-        self.sweep('--vary', 'motes=2', '--measure', 'python: mine.py:wrong')
-        self.assertEqual(self.rows()[0]['fault'], 'wrong of mine.py: line 8: ZeroDivisionError: division by zero')
+    def test_a_measure_that_fails_is_an_empty_cell_with_a_note(self) -> None:
+        words = '--vary', 'motes=2,3', '--measure', 'python: mine.py:wrong', '--measure', 'prints'
+        note = 'wrong: wrong of mine.py: line 8: ZeroDivisionError: division by zero'
+        done = self.sweep(*words)
+        self.assertEqual((done.returncode, done.stdout), (1, 'net.csv: 2 runs, 2 of them now, 0 with a fault\n2 runs '
+                                                             'lack a measure; the first: %s\n' % note), done)
+        self.assertEqual([(row['wrong'], row['prints'], row['fault'], row['note']) for row in self.rows()],
+                         [('', '2', '', note), ('', '3', '', note)])
+        self.assertIn('0 of them now', self.sweep(*words).stdout)
+        self.assertIn('2 of them now', self.sweep(*words, '--retry').stdout)
 
     def test_what_is_told_before_anything_is_run(self) -> None:
         for words, told in [
@@ -283,6 +308,7 @@ class SweepTest(Bed):
             (('--measure', 'sent', '--vary', 'speed=1'), 'has no parameter speed; it has: period, motes, name'),
             (('--measure', 'sent', '--vary', 'motes=0'), 'net.plan.toml, line 12:'),
             (('--measure', 'python: no.py:x'), 'no.py: No such file'),
+            (('--measure', 'sent of mote 4', '--vary', 'motes=2,4'), 'no mote 4: the largest net has the motes 0 to 3'),
         ]:
             done = self.sweep(*words)
             self.assertEqual((done.returncode, done.stdout), (2, ''), words)
@@ -307,8 +333,8 @@ class SweepTest(Bed):
         self.assertIn('net.plan.toml, line 16:', self.sweep('-o', 'other.csv').stderr)
 
     def test_ctrl_c_keeps_what_is_finished(self) -> None:
-        (self.folder / 'wait.mote').write_text(MOTE + '// wait\n')
-        words = '--vary', 'name=a,wait', '--vary', 'motes=1..4', '--measure', 'prints', '--jobs', '2', '--seconds', '3'
+        (self.folder / 'burn.mote').write_text(MOTE + '// burn\n')
+        words = '--vary', 'name=a,burn', '--vary', 'motes=1..4', '--measure', 'prints', '--jobs', '2', '--seconds', '3'
         run = subprocess.Popen(self.command(*words), cwd=self.folder, env=self.here(), stdout=subprocess.PIPE,
                                stderr=subprocess.PIPE, text=True, start_new_session=True)
         end = time.monotonic() + 30
@@ -377,19 +403,24 @@ class SweepTest(Bed):
             file.close()
             self.assertEqual(read_results(self.folder / name), (['a'], [{'a': 1}]), name)
 
-    def test_a_measure_that_asks_python_to_exit_is_a_fault_of_its_run(self) -> None:
+    def test_a_measure_of_a_mote_that_some_nets_lack(self) -> None:
+        done = self.sweep('--vary', 'motes=2,4', '--measure', 'prints of mote 3')
+        self.assertEqual((done.returncode, [row['prints of mote 3'] for row in self.rows()]), (1, ['', '1']), done)
+        self.assertEqual(self.rows()[0]['note'], 'prints of mote 3: there is no mote 3')
+
+    def test_a_measure_that_asks_python_to_exit_is_a_note_of_its_run(self) -> None:
         (self.folder / 'mine.py').write_text('import sys\ndef lines(run):\n    if len(run.report.motes) == 2:\n'
-                                            '        sys.exit(3)\n    return 1\n')
+                                             '        sys.exit(3)\n    return 1\n')
         done = self.sweep('--vary', 'motes=1..3', '--measure', 'python: mine.py:lines')
         self.assertEqual((done.returncode, done.stderr), (1, ''))
-        self.assertEqual([bool(row['fault']) for row in self.rows()], [False, True, False])
-        self.assertIn('SystemExit: 3', self.rows()[1]['fault'])
+        self.assertEqual([bool(row['note']) for row in self.rows()], [False, True, False])
+        self.assertIn('SystemExit: 3', self.rows()[1]['note'])
 
     def test_a_measure_that_catches_everything_is_ended(self) -> None:
         (self.folder / 'mine.py').write_text(
             'def lines(run):\n    while len(run.report.motes) == 2:\n        try:\n            while True:\n'
             '                pass\n        except BaseException:\n            pass\n    return 1\n')
-        done = self.sweep('--vary', 'motes=1..3', '--measure', 'python: mine.py:lines', '--seconds', '4')
+        done = self.sweep('--vary', 'motes=1..3', '--measure', 'python: mine.py:lines', '--seconds', '0.3')
         self.assertEqual((done.returncode, [bool(row['fault']) for row in self.rows()]), (1, [False, True, False]),
                          done.stderr)
         self.assertRegex(self.rows()[1]['fault'], 'no end in [0-9.]+ seconds')

@@ -1,68 +1,116 @@
-"""Where a curve crosses a threshold, with the interval of that place.
+"""The place at which a curve crosses a threshold, with the interval of that place.
 
-The curve has the mean of the runs at each value of the parameter, and straight lines between. For the interval the runs
-are drawn again with replacement (the bootstrap): each time the curve crosses somewhere else, or not. If values have
-runs with the same seeds, it is the seeds that are drawn, the same for the whole curve, since runs of one seed have
-much in common; otherwise the runs of each value are drawn by themselves.
+The curve has the middle (the mean or the median) of the runs at each value of the axis, and straight lines between
+them, as in the picture: on a logarithmic axis they are straight in the logarithm. For the interval the runs are drawn
+again with replacement (the bootstrap): each time the curve crosses somewhere else. If points have runs with the same
+seeds, the seeds are drawn, the same ones for the whole curve, since runs of one seed have much in common; otherwise
+the runs of each point are drawn by themselves.
+
+Nobody has measured between two neighbouring points, so each drawn curve only shows between which points it crosses.
+The interval contains all of that gap: it reaches from the left ends of the gaps to their right ends.
 """
 from __future__ import annotations
 
+import math
 import statistics
-from collections.abc import Hashable, Iterator, Sequence
+from collections.abc import Callable, Hashable, Iterator, Sequence
 from typing import NamedTuple
 
-from motesim.analysis.estimates import DRAWS, SEED, between, resampled
+from motesim.analysis.estimates import DRAWS, SEED, between, part_of_draws, resampled
 from motesim.plan.chance import Chance
 
-Curve = Sequence[tuple[float, Sequence[float]]]
 Key = Hashable
+Line = list[tuple[float, float]]
+Middle = Callable[[Sequence[float]], float]
+BEFORE, BEHIND = -math.inf, math.inf
+
+
+class Runs(NamedTuple):
+    """The runs of one point of a curve: the place of each on the axis, its value and, optionally, its key."""
+    xs: Sequence[float]
+    ys: Sequence[float]
+    keys: Sequence[Key] = ()
 
 
 class Crossing(NamedTuple):
-    """The first place at which a curve crosses: whether it rises, its interval, and how often drawn curves cross."""
+    """The first place at which a curve crosses.
+
+    gap        the neighbouring points between which it crosses
+    low, high  the interval, which is infinite on a side if too many drawn curves cross beyond that end of the axis;
+               None if each point has one run
+    share      the part of the drawn curves that cross
+    draws      how many independent draws the bootstrap has: the seeds, or the runs of a point
+    """
     at: float
     is_rising: bool
-    low: float
-    high: float
+    gap: tuple[float, float]
+    low: float | None
+    high: float | None
     share: float
+    draws: int
 
 
-def place(points: Sequence[tuple[float, float]], threshold: float) -> tuple[float, bool] | None:
-    """Where a line through points first crosses a threshold, and whether it rises there."""
-    for (x, y), (next_x, next_y) in zip(points, points[1:]):
-        if (y < threshold) != (next_y < threshold):
-            return x + (next_x - x) * (threshold - y) / (next_y - y), next_y > y
+def place(line: Line, threshold: float, is_rising: bool | None = None,
+          is_log: bool = False) -> tuple[float, bool, tuple[float, float]] | None:
+    """Where a line first crosses a threshold, whether it rises there, and the points around it."""
+    for (x, y), (next_x, next_y) in zip(line, line[1:]):
+        rises = next_y > y
+        if (y < threshold) != (next_y < threshold) and is_rising in (None, rises):
+            part = (threshold - y) / (next_y - y)
+            at = x * (next_x / x) ** part if is_log else x + (next_x - x) * part
+            return at, rises, (x, next_x)
     return None
 
 
-def by_run(curve: Curve, keys: Sequence[Sequence[Key]]) -> list[dict[Key, float]] | None:
-    """The values of each point by their runs, if the points have runs in common; else None."""
-    if len(keys) != len(curve) or any(len(set(its)) != len(values) for its, (_, values) in zip(keys, curve)):
+def gap_of(line: Line, threshold: float, is_rising: bool) -> tuple[float, float]:
+    """The points between which a line crosses. If it doesn't, it crosses before its first point or behind its last."""
+    found = place(line, threshold, is_rising)
+    if found:
+        return found[2]
+    is_above = line[-1][1] >= threshold
+    return (BEFORE, BEFORE) if is_above == is_rising else (BEHIND, BEHIND)
+
+
+def by_key(curve: Sequence[Runs]) -> list[dict[Key, tuple[float, float]]] | None:
+    """The runs of each point by their keys, if points have keys in common; else None."""
+    if any(len(set(it.keys)) != len(it.ys) for it in curve):
         return None
-    points = [dict(zip(its, values)) for its, (_, values) in zip(keys, curve)]
+    points = [dict(zip(it.keys, zip(it.xs, it.ys))) for it in curve]
     return points if sum(map(len, points)) > len(set().union(*points)) else None
 
 
-def drawn_curves(curve: Curve, keys: Sequence[Sequence[Key]], count: int) -> Iterator[list[tuple[float, float]]]:
-    """Curves of runs that are drawn again."""
-    chance, points = Chance(SEED), by_run(curve, keys)
-    names = list(dict.fromkeys(key for its in keys for key in its))
+def point(runs: Sequence[tuple[float, float]], middle: Middle) -> tuple[float, float]:
+    """The place of some runs: on the axis, and upwards."""
+    xs = [x for x, _ in runs]
+    return xs[0] if xs.count(xs[0]) == len(xs) else middle(xs), middle([y for _, y in runs])
+
+
+def drawn_lines(curve: Sequence[Runs], middle: Middle, count: int) -> Iterator[Line]:
+    """Lines through the points of runs that are drawn again."""
+    chance, points = Chance(SEED), by_key(curve)
+    names = list(dict.fromkeys(key for it in curve for key in it.keys))
+    alone = [list(zip(it.xs, it.ys)) for it in curve]
     for _ in range(count):
         drawn = resampled(names, chance) if points else []
-        found = []
-        for place, (x, values) in enumerate(curve):
-            own = [points[place][key] for key in drawn if key in points[place]] if points else []
-            # (a point that has none of the drawn runs is drawn by itself)
-            found.append((x, statistics.fmean(own or resampled(values, chance))))
-        yield found
+        # (a point that has none of the drawn runs is drawn by itself)
+        runs = [[points[number][key] for key in drawn if key in points[number]] if points else []
+                for number in range(len(curve))]
+        yield sorted(point(own or resampled(alone[number], chance), middle) for number, own in enumerate(runs))
 
 
-def crossing(curve: Curve, threshold: float, confidence: float, keys: Sequence[Sequence[Key]] = ()) -> Crossing | None:
-    """Where the means of a curve cross a threshold; None if they don't. `keys` names the runs of each point."""
-    found = place([(x, statistics.fmean(values)) for x, values in curve], threshold)
+def crossing(curve: Sequence[Runs], threshold: float, confidence: float, middle: Middle = statistics.fmean,
+             is_log: bool = False) -> Crossing | None:
+    """Where a curve crosses a threshold; None if it doesn't."""
+    found = place(sorted(point(list(zip(it.xs, it.ys)), middle) for it in curve), threshold, is_log=is_log)
     if found is None:
         return None
-    drawn = [place(it, threshold) for it in drawn_curves(curve, keys, DRAWS // 2)]
-    places = [it[0] for it in drawn if it and it[1] == found[1]]
-    low, high = between(places, confidence) if places else (found[0], found[0])
-    return Crossing(found[0], found[1], low, high, len(places) / len(drawn))
+    at, is_rising, gap = found
+    draws = len({key for it in curve for key in it.keys}) if by_key(curve) else min(len(it.ys) for it in curve)
+    if draws < 2:
+        return Crossing(at, is_rising, gap, None, None, 1.0, draws)
+    gaps = [gap_of(it, threshold, is_rising) for it in drawn_lines(curve, middle, DRAWS)]
+    part = part_of_draws(confidence, draws)
+    low, high = between([left for left, _ in gaps], part)[0], between([right for _, right in gaps], part)[1]
+    share = sum(math.isfinite(left) for left, _ in gaps) / len(gaps)
+    # (the gap of the curve itself is always within)
+    return Crossing(at, is_rising, gap, min(low, gap[0]), max(high, gap[1]), share, draws)

@@ -1,6 +1,7 @@
 """Pictures of points, by matplotlib: SVG, PDF or PNG. The same points have the same bytes."""
 from __future__ import annotations
 
+import math
 import re
 import textwrap
 from collections.abc import Callable, Sequence
@@ -9,7 +10,8 @@ from typing import Any
 
 from motesim.analysis.paired import Difference
 from motesim.analysis.points import Point, Shown, Wish, order
-from motesim.analysis.text import crossings, heading, left_out, threshold_of
+from motesim.analysis.text import (by_methods, crossings, crossings_of, heading, left_out, of_intervals, remarks,
+                                   threshold_of)
 from motesim.experiments import packages
 from motesim.experiments.measures import Cell
 from motesim.experiments.results import text_of
@@ -162,10 +164,11 @@ def _scale(axes: Any, places: list[Cell], wish: Wish, is_scale: bool) -> None:
 def _note(shown: Shown, wish: Wish) -> str:
     """The words below a picture."""
     runs = max(point.estimate.runs for point in shown.points)
+    of_mean = 'mean, and intervals of %d %% %s' % (wish.confidence, by_methods(shown.methods()))
     what = {'median': 'median, and quartiles', 'points': 'all runs', 'cdf': 'part of the runs', 'heat': 'mean'}.get(
-        wish.show, 'mean, and intervals of %d %%' % wish.confidence)
+        wish.show, of_mean if shown.methods() else 'mean')
     note = '%s over %s (%d runs)' % (what, ', '.join(shown.over), runs) if shown.over else ''
-    first = '; '.join(it for it in [note, *left_out(shown, wish)] if it)
+    first = '; '.join(it for it in [note, *left_out(shown, wish), *remarks(shown, wish)] if it)
     return '\n'.join(it for it in [first, *crossings(shown, wish)] if it)
 
 
@@ -191,9 +194,7 @@ def _draw_curves(axes: Any, shown: Shown, wish: Wish) -> None:
         else:
             xs = [it.x if is_scale else float(places.index(it.against)) for it in points]
             _draw_points(axes, points, xs, wish, _look(number), label)
-    threshold = threshold_of(wish)
-    if threshold is not None:
-        axes.axhline(threshold, color='#555555', linewidth=0.8, linestyle=(0, (6, 3)))
+    _draw_threshold(axes, shown, wish)
     if wish.show != 'cdf':
         is_measure = shown.points[0].across is not None
         _scale(axes, [] if is_measure else places, wish, is_scale) if not is_measure or wish.log else None
@@ -208,6 +209,22 @@ def _draw_curves(axes: Any, shown: Shown, wish: Wish) -> None:
     axes.spines[['top', 'right']].set_visible(False)
     if wish.by:
         axes.legend(frameon=False)
+
+
+def _draw_threshold(axes: Any, shown: Shown, wish: Wish) -> None:
+    """A line at the threshold, and on it for each curve a bar from one end to the other of its crossing's interval."""
+    threshold = threshold_of(wish)
+    if threshold is None or wish.show == 'cdf':
+        return
+    axes.axhline(threshold, color='#555555', linewidth=0.8, linestyle=(0, (6, 3)))
+    first, last = min(it.x for it in shown.points), max(it.x for it in shown.points)
+    for number, found in enumerate(crossings_of(shown, wish).values()):
+        if found and found.low is not None and found.high is not None:
+            # (an end that is beyond the axis is drawn up to its first or last point)
+            ends = [end if math.isfinite(end) else min(max(end, first), last) for end in (found.low, found.high)]
+            axes.plot(ends, [threshold, threshold], linewidth=5, alpha=0.4, color=_look(number)['color'],
+                      solid_capstyle='butt')
+            axes.plot([found.at], [threshold], color=_look(number)['color'], marker='|', markersize=12, linestyle='')
 
 
 def draw_differences(found: Sequence[Difference], wish: Wish, words: str, path: Path) -> None:
@@ -225,7 +242,7 @@ def draw_differences(found: Sequence[Difference], wish: Wish, words: str, path: 
     _scale(axes, places, wish, is_scale)
     axes.set_xlabel(wish.x or wish.against)
     axes.set_ylabel(wish.y or 'difference of %s' % wish.measure)
-    _words_around(figure, axes, wish, words, '')
+    _words_around(figure, axes, wish, words, '; '.join(of_intervals(gaps)))
     axes.grid(True, color='#dddddd', linewidth=0.6)
     axes.spines[['top', 'right']].set_visible(False)
     _save(figure, pyplot, path)

@@ -2,10 +2,12 @@
 
 An interval by Student's t takes the runs as independent draws of something near to normal. One by the bootstrap takes
 no form for granted: the runs are drawn again with replacement, and the interval has the middle part of the means. Its
-draws come from a fixed seed, so the same runs give the same interval anywhere.
+draws come from a fixed seed, so the same runs give the same interval anywhere. The middle part is a little larger than
+the confidence (`part_of_draws`), since few runs spread less than what they are drawn from.
 
-The interval of a share stays between 0 and 1: by Wilson's score if the runs are 0 or 1 each, else by the bootstrap if
-Student's t would pass 0 or 1.
+The interval of a share stays between 0 and 1: by Wilson's score if the runs are 0 or 1 each. Otherwise, if Student's t
+would pass 0 or 1, it is cut there, or comes from the bootstrap if there are enough runs. Runs that are all the same
+have no interval: they don't show how far others would spread.
 """
 from __future__ import annotations
 
@@ -21,16 +23,19 @@ DRAWS = 2_000
 SEED = 1
 STEPS = 200
 TINY = 1e-300
+# With fewer runs the bootstrap's intervals are too narrow.
+LEAST_RUNS = 10
 Value = TypeVar('Value')
 Measured = Literal['any', 'share', 'yes or no']
 
 
 class Estimate(NamedTuple):
-    """What runs say of a measure: how many there are, the middle, and its interval, which one run doesn't have."""
+    """What runs say of a measure: how many there are, the middle, its interval if there is one, and the method."""
     runs: int
     middle: float
     low: float | None
     high: float | None
+    method: str = ''
 
 
 def quartiles(values: Sequence[float]) -> tuple[float, float, float]:
@@ -82,10 +87,19 @@ def student_t(confidence: float, freedom: int) -> float:
 def mean_by_t(values: Sequence[float], confidence: float) -> Estimate:
     """The mean with its interval by Student's t."""
     mean, runs = statistics.fmean(values), len(values)
-    if runs < 2:
-        return Estimate(runs, mean, None, None)
     room = student_t(confidence, runs - 1) * statistics.stdev(values) / math.sqrt(runs)
-    return Estimate(runs, mean, mean - room, mean + room)
+    return Estimate(runs, mean, mean - room, mean + room, 't')
+
+
+def mean_by_t_within(values: Sequence[float], confidence: float) -> Estimate:
+    """The mean of shares with its interval by Student's t, which ends at 0 and 1."""
+    runs, mean, low, high, _ = mean_by_t(values, confidence)
+    return Estimate(runs, mean, max(0.0, low or 0.0), min(1.0, 1.0 if high is None else high), 'within')
+
+
+def mean_without_interval(values: Sequence[float], confidence: float) -> Estimate:
+    """The mean of one run, or of runs that are all the same."""
+    return Estimate(len(values), statistics.fmean(values), None, None, 'one' if len(values) == 1 else 'alike')
 
 
 def resampled(values: Sequence[Value], chance: Chance) -> list[Value]:
@@ -101,41 +115,59 @@ def between(found: list[float], confidence: float) -> tuple[float, float]:
     return found[round(out * last)], found[round((1 - out) * last)]
 
 
-def mean_by_bootstrap(values: Sequence[float], confidence: float) -> Estimate:
-    """The mean with its interval by the bootstrap (percentiles)."""
-    mean, runs = statistics.fmean(values), len(values)
+@lru_cache(maxsize=None)
+def part_of_draws(confidence: float, runs: int) -> float:
+    """Which middle part of the draws of the bootstrap is an interval of this confidence.
+
+    The variance of draws from n runs is too small by a factor of (n - 1) / n, and is treated as known. Hesterberg
+    ("What Teachers Should Know About the Bootstrap", The American Statistician 69, 2015) takes so much more at both
+    ends that the interval of something normal is as wide as Student's t.
+    """
     if runs < 2:
-        return Estimate(runs, mean, None, None)
-    chance = Chance(SEED)
-    low, high = between([statistics.fmean(resampled(values, chance)) for _ in range(DRAWS)], confidence)
-    return Estimate(runs, mean, low, high)
+        return confidence
+    reach = student_t(confidence, runs - 1) * math.sqrt(runs / (runs - 1))
+    return 1 - 2 * statistics.NormalDist().cdf(-reach)
+
+
+def mean_by_bootstrap(values: Sequence[float], confidence: float) -> Estimate:
+    """The mean with its interval by the bootstrap (expanded percentiles)."""
+    mean, runs, chance = statistics.fmean(values), len(values), Chance(SEED)
+    drawn = [statistics.fmean(resampled(values, chance)) for _ in range(DRAWS)]
+    return Estimate(runs, mean, *between(drawn, part_of_draws(confidence, runs)), 'bootstrap')
 
 
 def median_with_quartiles(values: Sequence[float], confidence: float) -> Estimate:
     """The median between the quartiles, whatever the confidence."""
     first, median, third = quartiles(values)
-    return Estimate(len(values), median, first, third)
+    return Estimate(len(values), median, first, third, 'quartiles')
 
 
 def mean_by_wilson(values: Sequence[float], confidence: float) -> Estimate:
     """The share of runs that are 1, among runs that are 0 or 1, with Wilson's score interval."""
     share, runs = statistics.fmean(values), len(values)
-    if runs < 2:
-        return Estimate(runs, share, None, None)
     z = statistics.NormalDist().inv_cdf((1 + confidence) / 2)
     middle = (share + z * z / (2 * runs)) / (1 + z * z / runs)
     room = z / (1 + z * z / runs) * math.sqrt(share * (1 - share) / runs + z * z / (4 * runs * runs))
-    return Estimate(runs, share, max(0.0, middle - room), min(1.0, middle + room))
+    return Estimate(runs, share, max(0.0, middle - room), min(1.0, middle + room), 'wilson')
 
 
 def method_of(values: Sequence[float], confidence: float, interval: str, measure: Measured) -> str:
-    """How the interval of a mean is found: as wished, unless it is a share that the wish does not fit."""
-    if interval != 't' or measure == 'any':
-        return interval
-    if measure == 'yes or no':
+    """The method for the interval of a mean: the wish, unless it doesn't fit these runs."""
+    if measure == 'yes or no' and len(values) > 1 and (interval == 't' or len(set(values)) == 1):
         return 'wilson'
-    low, high = mean_by_t(values, confidence)[2:]
-    return 't' if low is None or high is None or 0 <= low and high <= 1 else 'bootstrap'
+    if len(set(values)) == 1:
+        return 'alike'
+    if interval != 't' or measure != 'share':
+        return interval
+    low, high = mean_by_t(values, confidence)[2:4]
+    if low is None or high is None or 0 <= low and high <= 1:
+        return 't'
+    return 'bootstrap' if len(values) >= LEAST_RUNS else 'within'
+
+
+def mean_of(values: Sequence[float], confidence: float, interval: str = 't', measure: Measured = 'any') -> Estimate:
+    """The mean of runs, with an interval by a method that fits them."""
+    return METHODS[method_of(values, confidence, interval, measure)](values, confidence)
 
 
 def measured(values: Sequence[float]) -> Measured:
@@ -145,6 +177,13 @@ def measured(values: Sequence[float]) -> Measured:
     return 'yes or no' if set(values) <= {0, 1} else 'share'
 
 
-MEANS: dict[str, Callable[[Sequence[float], float], Estimate]] = {'t': mean_by_t, 'bootstrap': mean_by_bootstrap}
-METHODS = {**MEANS, 'wilson': mean_by_wilson}
-NAMES = {'t': 'Student\'s t', 'bootstrap': 'the bootstrap', 'wilson': 'Wilson\'s score'}
+METHODS: dict[str, Callable[[Sequence[float], float], Estimate]] = {
+    't': mean_by_t, 'bootstrap': mean_by_bootstrap, 'within': mean_by_t_within, 'wilson': mean_by_wilson,
+    'alike': mean_without_interval}
+# The methods that can be wished for.
+MEANS = ('t', 'bootstrap')
+# Each method in a heading, and in a row.
+NAMES = {'t': 'Student\'s t', 'bootstrap': 'the bootstrap', 'wilson': 'Wilson\'s score',
+         'within': 'Student\'s t cut at 0 and 1'}
+OF_ROW = {'t': 't', 'bootstrap': 'bootstrap', 'wilson': 'Wilson', 'within': 't, cut at 0 and 1',
+          'one': 'none: one run', 'alike': 'none: equal runs', 'quartiles': 'quartiles'}

@@ -4,7 +4,7 @@ from __future__ import annotations
 from collections.abc import Mapping, Sequence
 from typing import NamedTuple
 
-from motesim.analysis.estimates import MEANS, Estimate
+from motesim.analysis.estimates import Estimate, mean_of
 from motesim.experiments.measures import Cell
 from motesim.experiments.results import Row
 from motesim.faults import Fault
@@ -62,6 +62,6 @@ def differences(pairs: Sequence[Pair], confidence: float, interval: str) -> list
     for against, its in groups.items():
         gaps = [pair.other - pair.one for pair in its]
         found.append(Difference(against, sum(it.one for it in its) / len(its), sum(it.other for it in its) / len(its),
-                                MEANS[interval](gaps, confidence), sum(it > 0 for it in gaps),
+                                mean_of(gaps, confidence, interval), sum(it > 0 for it in gaps),
                                 sum(it < 0 for it in gaps)))
     return found

@@ -4,12 +4,15 @@ from __future__ import annotations
 from collections.abc import Sequence
 from typing import NamedTuple
 
-from motesim.analysis.estimates import METHODS, Estimate, Measured, measured, median_with_quartiles, method_of
+from motesim.analysis.estimates import NAMES, Estimate, Measured, mean_of, measured, median_with_quartiles
 from motesim.experiments.measures import Cell
-from motesim.experiments.results import Row
+from motesim.experiments.results import Row, text_of
 from motesim.faults import Fault
 
 SHOWS = ('median', 'mean', 'points', 'cdf', 'heat')
+# A parameter whose name contains this makes runs that are repetitions of one another.
+REPEATS = 'seed'
+MOST_VALUES = 4
 
 
 class Wish(NamedTuple):
@@ -42,11 +45,7 @@ class Wish(NamedTuple):
         """What the runs of a point say."""
         if self.show == 'median':
             return median_with_quartiles(values, self.part)
-        return METHODS[self.method(values, measure)](values, self.part)
-
-    def method(self, values: Sequence[float], measure: Measured) -> str:
-        """How the interval of a mean is found."""
-        return method_of(values, self.part, self.interval, measure)
+        return mean_of(values, self.part, self.interval, measure)
 
 
 class Point(NamedTuple):
@@ -58,19 +57,28 @@ class Point(NamedTuple):
     across: Estimate | None = None
     # Of each run, in the order of the values, the parameters in which the runs of a point differ.
     keys: tuple[tuple[Cell, ...], ...] = ()
+    # Of each run the measure from left to right, if that is one.
+    others: tuple[float, ...] = ()
 
     @property
     def x(self) -> float:
         return float(self.against) if isinstance(self.against, int | float) else 0.0
 
+    @property
+    def estimates(self) -> list[Estimate]:
+        return [self.estimate, self.across] if self.across else [self.estimate]
+
 
 class Shown(NamedTuple):
-    """What is shown, what its runs differ in, how many are left out, and how the intervals were found."""
+    """What is shown, what its runs differ in, and how many are left out."""
     points: list[Point]
     over: list[str]
     faults: int
     empty: int
-    methods: tuple[str, ...] = ()
+
+    def methods(self) -> list[str]:
+        """The methods by which intervals of means were found."""
+        return list(dict.fromkeys(it.method for point in self.points for it in point.estimates if it.method in NAMES))
 
 
 def parameters_of(rows: Sequence[Row]) -> list[str]:
@@ -107,6 +115,34 @@ def number_of(row: Row, measure: str) -> float | None:
     return None if value is None else float(value)
 
 
+def repeats_of(varying: Sequence[str], over: str) -> list[str]:
+    """The parameters that only repeat a run: those that are named, or else those with `seed` in their names."""
+    return [it for it in over.split(',') if it] or [it for it in varying if REPEATS in it]
+
+
+def check_mixture(rows: Sequence[Row], mixed: Sequence[str], repeats: Sequence[str], by: str, what: str) -> None:
+    """Refuses to mix runs that differ in more than what only repeats them."""
+    if not mixed:
+        return
+    first = mixed[0]
+    values = sorted({row[first] for row in rows}, key=order)
+    shown = ', '.join(map(text_of, values[:MOST_VALUES])) + (', ..' if len(values) > MOST_VALUES else '')
+    ways = [] if by else ['--by %s separates them' % first]
+    ways += ['--where %s=%s selects some' % (first, text_of(values[0])),
+             '--over %s mixes them' % ','.join(dict.fromkeys([*repeats, *mixed]))]
+    names = ' and '.join(['%s (%s)' % (first, shown), *mixed[1:]])
+    raise Fault('%s would mix runs that differ in %s: %s' % (what, names, ', '.join(ways)))
+
+
+def check_pairs(rows: Sequence[Row], wish: Wish, kept: Sequence[str]) -> None:
+    """Refuses to mix pairs of treatments at one point of a comparison run by run."""
+    good = [row for row in rows if not row['fault']]
+    varying = [name for name in kept if name != wish.against and len({row[name] for row in good}) > 1]
+    repeats = repeats_of(varying, wish.over)
+    # (a comparison has one line)
+    check_mixture(good, [it for it in varying if it not in repeats], repeats, 'none', 'each point')
+
+
 def shown_of(rows: Sequence[Row], wish: Wish) -> Shown:
     """The points that are to be shown."""
     _check(rows, wish)
@@ -115,6 +151,9 @@ def shown_of(rows: Sequence[Row], wish: Wish) -> Shown:
     if wish.against in measures_of(rows):
         return _of_two_measures(rows, good, varying, wish)
     over = [name for name in varying if name not in (wish.against, wish.by)]
+    repeats = repeats_of(varying, wish.over)
+    check_mixture(good, [it for it in over if it not in repeats], repeats, wish.by,
+                  'each point' if wish.against else 'a line')
     groups: dict[tuple[Cell, Cell], list[tuple[float, tuple[Cell, ...]]]] = {}
     empty = 0
     for row in good:
@@ -126,19 +165,21 @@ def shown_of(rows: Sequence[Row], wish: Wish) -> Shown:
             group.append((value, tuple(row[name] for name in over)))
     keys = sorted(groups, key=lambda key: (order(key[0]), order(key[1])))
     kind = measured([value for its in groups.values() for value, _ in its])
-    points, methods = [], []
+    points = []
     for key in (it for it in keys if groups[it]):
         values = [value for value, _ in groups[key]]
-        methods.append(wish.method(values, kind))
         points.append(Point(*key, tuple(values), wish.estimate(values, kind), keys=tuple(it for _, it in groups[key])))
-    return Shown(points, over, len(rows) - len(good), empty, tuple(dict.fromkeys(methods)))
+    return Shown(points, over, len(rows) - len(good), empty)
 
 
 def _of_two_measures(rows: Sequence[Row], good: Sequence[Row], varying: Sequence[str], wish: Wish) -> Shown:
-    """Points with a measure on either axis: the runs that differ in `over` alone are one point."""
-    over = [it for it in wish.over.split(',') if it] or [it for it in ('seed',) if it in varying]
+    """Points with a measure on either axis: the runs that differ only in repetitions are one point."""
+    over = repeats_of(varying, wish.over)
     kept = [name for name in varying if name not in over]
-    groups: dict[tuple[Cell, ...], list[tuple[float, float]]] = {}
+    along = [name for name in kept if name != wish.by]
+    if len(along) > 1 and wish.show != 'points':
+        check_mixture(good, along, over, wish.by, 'one line')
+    groups: dict[tuple[Cell, ...], list[tuple[float, float, tuple[Cell, ...]]]] = {}
     bys: dict[tuple[Cell, ...], Cell] = {}
     empty = 0
     for row in good:
@@ -147,14 +188,14 @@ def _of_two_measures(rows: Sequence[Row], good: Sequence[Row], varying: Sequence
         if x is None or y is None:
             empty += 1
             continue
-        groups.setdefault(key, []).append((x, y))
+        groups.setdefault(key, []).append((x, y, tuple(row[name] for name in over)))
         bys[key] = row[wish.by] if wish.by else None
-    kinds = [measured([pair[side] for pairs in groups.values() for pair in pairs]) for side in (0, 1)]
-    points, methods = [], []
-    for key, pairs in groups.items():
-        xs, values = [x for x, _ in pairs], tuple(y for _, y in pairs)
-        across = wish.estimate(xs, kinds[0])
-        methods += [wish.method(xs, kinds[0]), wish.method(values, kinds[1])]
-        points.append(Point(bys[key], across.middle, values, wish.estimate(values, kinds[1]), across))
+    of_x = measured([x for runs in groups.values() for x, _, _ in runs])
+    of_y = measured([y for runs in groups.values() for _, y, _ in runs])
+    points = []
+    for key, runs in groups.items():
+        xs, values, keys = zip(*runs)
+        across = wish.estimate(xs, of_x)
+        points.append(Point(bys[key], across.middle, values, wish.estimate(values, of_y), across, keys, xs))
     points.sort(key=lambda it: (order(it.by), order(it.against)))
-    return Shown(points, over, len(rows) - len(good), empty, tuple(dict.fromkeys(methods)))
+    return Shown(points, over, len(rows) - len(good), empty)

@@ -1,18 +1,25 @@
 """The tables behind pictures."""
 from __future__ import annotations
 
+import math
+import statistics
 from collections.abc import Sequence
+from functools import lru_cache
 from typing import Any
 
-from motesim.analysis.crossings import crossing
-from motesim.analysis.estimates import NAMES
+from motesim.analysis.crossings import Crossing, Middle, Runs, crossing
+from motesim.analysis.estimates import LEAST_RUNS, NAMES, OF_ROW, Estimate
 from motesim.analysis.paired import Difference
 from motesim.analysis.points import Point, Shown, Wish
+from motesim.experiments.measures import Cell
 from motesim.experiments.results import line_of, text_of
 from motesim.faults import Fault
 from motesim.summary.counts import table
 
 Row = dict[str, Any]
+
+# (a picture, its table and the lines on the terminal need the same crossings)
+_crossing = lru_cache(maxsize=64)(crossing)
 
 
 def rows_of(shown: Shown, wish: Wish) -> list[Row]:
@@ -30,8 +37,18 @@ def rows_of(shown: Shown, wish: Wish) -> list[Row]:
         if wish.show == 'median':
             rows.append({**row, 'first quartile': low, 'median': middle, 'third quartile': high})
         else:
-            rows.append({**row, 'mean': middle, 'low': low, 'high': high})
+            rows.append({**row, 'mean': middle, 'low': low, 'high': high,
+                         'interval': ' and '.join(dict.fromkeys(OF_ROW[it.method] for it in point.estimates))})
     return rows
+
+
+def rows_with_crossings(shown: Shown, wish: Wish) -> list[Row]:
+    """The points as rows of the table behind a picture: each has the crossing of its curve."""
+    rows, found = rows_of(shown, wish), crossings_of(shown, wish)
+    if not found:
+        return rows
+    return [{**row, 'threshold': float(wish.threshold), **columns_of_crossing(found[row.get(wish.by)])}
+            for row in rows]
 
 
 def _of_by(point: Point, wish: Wish) -> Row:
@@ -50,7 +67,8 @@ def _of_against(point: Point, wish: Wish) -> Row:
 def table_of(shown: Shown, wish: Wish) -> list[str]:
     """The points as a table, with what it leaves out."""
     rows = rows_of(shown, wish)
-    return [heading(shown, wish), *table(rows, list(rows[0])), *crossings(shown, wish), *left_out(shown, wish)]
+    return [heading(shown, wish), *table(rows, list(rows[0])), *crossings(shown, wish), *left_out(shown, wish),
+            *remarks(shown, wish)]
 
 
 def csv_of(rows: Sequence[Row]) -> str:
@@ -66,10 +84,16 @@ def heading(shown: Shown, wish: Wish) -> str:
 
 def how(shown: Shown, wish: Wish) -> str:
     """How the intervals were found, if there are some."""
-    if wish.show != 'mean':
+    found = by_methods(shown.methods())
+    if wish.show != 'mean' or not found:
         return ''
-    by = ' or '.join(NAMES[it] for it in shown.methods or (wish.interval,))
-    return ': means with intervals of %d %% by %s' % (wish.confidence, by)
+    return ': means with intervals of %d %% %s' % (wish.confidence, found)
+
+
+def by_methods(methods: Sequence[str]) -> str:
+    """The methods of intervals, in words."""
+    names = [NAMES[it] for it in dict.fromkeys(methods) if it in NAMES]
+    return 'by ' + ' or '.join(names) if names else ''
 
 
 def left_out(shown: Shown, wish: Wish) -> list[str]:
@@ -82,6 +106,25 @@ def left_out(shown: Shown, wish: Wish) -> list[str]:
     return lines
 
 
+def remarks(shown: Shown, wish: Wish) -> list[str]:
+    """What the intervals don't say."""
+    return of_intervals([it for point in shown.points for it in point.estimates]) if wish.show == 'mean' else []
+
+
+def of_intervals(estimates: Sequence[Estimate]) -> list[str]:
+    """Which intervals there aren't, and which are too narrow."""
+    lines = []
+    few = [it.runs for it in estimates if it.method == 'bootstrap' and it.runs < LEAST_RUNS]
+    if few:
+        lines.append('the bootstrap of %d runs is too narrow: use --interval t, or %d runs or more' % (
+            min(few), LEAST_RUNS))
+    alike = sum(it.method == 'alike' for it in estimates)
+    if alike:
+        lines.append('no interval for %d mean%s: equal runs don\'t show how far others would spread' % (
+            alike, 's' if alike > 1 else ''))
+    return lines
+
+
 def threshold_of(wish: Wish) -> float | None:
     """The threshold, or None."""
     try:
@@ -90,31 +133,60 @@ def threshold_of(wish: Wish) -> float | None:
         raise Fault('a threshold is a number, and not %r' % wish.threshold) from None
 
 
-def crossings(shown: Shown, wish: Wish) -> list[str]:
-    """Where each curve crosses the threshold."""
+def middle_of(wish: Wish) -> tuple[str, Middle]:
+    """The middle of some runs that a curve shows, with its name."""
+    if wish.show == 'median':
+        return 'median', statistics.median
+    return 'mean', statistics.fmean
+
+
+def crossings_of(shown: Shown, wish: Wish) -> dict[Cell, Crossing | None]:
+    """Where the curve of each value of `by` crosses the threshold, if it does."""
     threshold = threshold_of(wish)
-    if threshold is None:
-        return []
-    lines = []
+    if threshold is None or not wish.against:
+        return {}
+    found: dict[Cell, Crossing | None] = {}
     for by in dict.fromkeys(point.by for point in shown.points):
         its = [point for point in shown.points if point.by == by]
         if not all(isinstance(point.against, int | float) for point in its):
             raise Fault('a threshold is crossed along numbers, and %s has others' % wish.against)
-        found = crossing([(point.x, point.values) for point in its], threshold, wish.part,
-                         [point.keys for point in its])
-        name = '%s %s: ' % (wish.by, text_of(by)) if wish.by else ''
-        if found is None:
-            lines.append('%sthe mean doesn\'t cross %g' % (name, threshold))
-            continue
-        share = '' if found.share > 0.995 else '; %d %% of the drawn curves cross' % round(100 * found.share)
-        lines.append('%sthe mean %s %g at %s %.4g (%d %%: %.4g to %.4g%s)' % (
-            name, 'rises above' if found.is_rising else 'falls below', threshold, wish.against, found.at,
-            wish.confidence, found.low, found.high, share))
-    return lines
+        if wish.log and any(x <= 0 for point in its for x in point.others or (point.x,)):
+            raise Fault('--log needs values above 0, and some of %s are not' % wish.against)
+        curve = tuple(Runs(it.others or (it.x,) * len(it.values), it.values, it.keys) for it in its)
+        found[by] = _crossing(curve, threshold, wish.part, middle_of(wish)[1], wish.log)
+    return found
+
+
+def crossings(shown: Shown, wish: Wish) -> list[str]:
+    """Where each curve crosses the threshold, in words."""
+    return [('%s %s: ' % (wish.by, text_of(by)) if wish.by else '') + of_crossing(found, wish)
+            for by, found in crossings_of(shown, wish).items()]
+
+
+def of_crossing(found: Crossing | None, wish: Wish) -> str:
+    """Where a curve crosses, with its interval."""
+    middle, threshold = middle_of(wish)[0], float(wish.threshold)
+    if found is None:
+        return 'the %s doesn\'t cross %g' % (middle, threshold)
+    at = 'the %s %s %g at %s %.4g, between the points %.4g and %.4g' % (
+        middle, 'rises above' if found.is_rising else 'falls below', threshold, wish.against, found.at, *found.gap)
+    if found.low is None or found.high is None:
+        return at + '; one run for each point shows no interval'
+    ends = 'before the first point' if math.isinf(found.low) else '%.4g' % found.low, (
+        'behind the last point' if math.isinf(found.high) else '%.4g' % found.high)
+    share = '' if found.share > 0.995 else '; %d %% of the drawn curves cross' % round(100 * found.share)
+    return '%s\n  with %d %%, by the bootstrap of %d runs: %s to %s%s' % (at, wish.confidence, found.draws, *ends, share)
+
+
+def columns_of_crossing(found: Crossing | None) -> Row:
+    """Where a curve crosses, as columns: an end of the interval beyond the axis is empty."""
+    at, low, high = (found.at, found.low, found.high) if found else (None, None, None)
+    return {'crossing': at, **{'crossing ' + name: None if it is None or math.isinf(it) else it
+                               for name, it in (('low', low), ('high', high))}}
 
 
 def rows_of_differences(found: Sequence[Difference], against: str, one: str, other: str) -> list[Row]:
     """A paired comparison as rows of a table."""
     return [{against: it.against, 'pairs': it.difference.runs, one: it.one, other: it.other,
              'difference': it.difference.middle, 'low': it.difference.low, 'high': it.difference.high,
-             'greater': it.greater, 'less': it.less} for it in found]
+             'interval': OF_ROW[it.difference.method], 'greater': it.greater, 'less': it.less} for it in found]

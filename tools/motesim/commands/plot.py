@@ -8,12 +8,13 @@
   tools/plot a.csv --compare b.csv --measure ratio --against period          run by run, both with the same parameters
   tools/plot net.csv --plan net.plan.toml                                    what the plan's `plot` describes
 
-RESULTS is a file that tools/sweep wrote. Each point represents the runs that differ in the other parameters, such as
-the seed. --show selects the statistic: median (with quartiles), mean (with an interval by --interval t or bootstrap),
-points (all runs), cdf (the share of the runs with at most this value) or heat (a map of --against and --by).
---where seed=3 selects some of the runs. A picture is SVG, PDF or PNG, by its name, and the table behind it is written
-next to it, as NAME.table.csv. Pictures need matplotlib (on Debian: apt-get install python3-matplotlib); without it
-there is a table, and a line that says so. docs/use/EXPERIMENTS.md shows all of it at work.
+RESULTS is a file that tools/sweep wrote. Each point represents the runs that differ only in the seed, or in what
+--over names; runs that differ in more aren't mixed. --show selects the statistic: median (with quartiles), mean (with
+an interval by --interval t or bootstrap), points (all runs), cdf (the share of the runs with at most this value) or
+heat (a map of --against and --by). --where seed=3 selects some of the runs. A picture is SVG, PDF or PNG, by its name,
+and the table behind it is written next to it, as NAME.table.csv. Pictures need matplotlib (on Debian: apt-get install
+python3-matplotlib); without it there is a table, and a line that says so. docs/use/EXPERIMENTS.md shows all of it at
+work.
 
 Ends with status 0, with 1 if there is a table instead of a picture, or with 2 if there is nothing to show.
 """
@@ -39,10 +40,9 @@ def arguments() -> argparse.Namespace:
     words.add_argument('--interval', choices=MEANS, default='t', help='how intervals of means are found (t)')
     words.add_argument('--confidence', type=int, default=95, metavar='PERCENT',
                        help='the confidence of the intervals (95)')
-    words.add_argument('--threshold', metavar='VALUE',
-                       help='report at which parameter values the mean crosses this value')
+    words.add_argument('--threshold', metavar='VALUE', help='report where each curve crosses this value')
     words.add_argument('--over', metavar='NAMES',
-                       help='if --against names a measure: the parameters in which the runs of a point differ (seed)')
+                       help='the parameters in which runs of a point may differ (those with `seed` in their names)')
     words.add_argument('--compare', metavar='RESULTS', help='the other side of a comparison, run by run')
     words.add_argument('--pair', metavar='NAME=ONE,OTHER', help='compare two values of a parameter, run by run')
     words.add_argument('--where', action='append', default=[], metavar='NAME=VALUE', help='only runs with this value')

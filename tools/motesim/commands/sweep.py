@@ -2,9 +2,10 @@
 
   tools/sweep net.plan.toml --vary period=10,20,40 --vary seed=1..30 --measure sent --measure ratio -o net.csv
 
-Each combination becomes a row of net.csv (CSV, or SQLite if the name ends in .sqlite), with its parameters. The
-same command again makes only the missing runs. Ctrl-C keeps what is finished. A run with an error is a row with it.
-Options that the plan's table `sweep` sets aren't needed; --plot draws what its `plot` describes.
+Each combination becomes a row of net.csv (CSV, or SQLite if the name ends in .sqlite), with its parameters. The same
+command again makes only the missing runs. Ctrl-C keeps what is finished. A run with an error is a row with it; a
+measure that fails is an empty cell with a note. Options that the plan's table `sweep` sets aren't needed; --plot draws
+what its `plot` describes.
 
 Values are 10,20,40 or 1..30 or 0..100..25 (in steps of 25). Measures are
   sent, ratio, collided, ..     the columns of tools/summary, for the net; `sent of mote 3`
@@ -18,7 +19,7 @@ Values are 10,20,40 or 1..30 or 0..100..25 (in steps of 25). Measures are
   python: measures.py:energy    a function in a file of yours, next to the plan, which has the run as argument
 and `name = MEASURE` names its column.
 
-docs/use/EXPERIMENTS.md shows a sweep from its beginning to a plot. Ends with status 0, with 1 if a row has an error,
+docs/use/EXPERIMENTS.md shows a sweep from its beginning to a plot. Ends with status 0, with 1 if a row has an error or a note,
 with 2 if nothing could be done, and with 130 after Ctrl-C.
 """
 from __future__ import annotations
@@ -42,12 +43,12 @@ def main() -> int:
     words.add_argument('--jobs', type=int, default=os.cpu_count() or 1, metavar='N',
                        help='how many runs at a time (one for each processor)')
     words.add_argument('--seconds', type=float, metavar='N',
-                       help='the limit of a run, in seconds (that of the plan, or 60)')
+                       help='the limit of a run, in seconds of processor time (that of the plan, or 60)')
     words.add_argument('--bytes', type=int, default=MOST_BYTES, metavar='N',
                        help='the limit of a report, in bytes (200,000,000)')
     words.add_argument('--dask', metavar='ADDRESS', help='give the runs to the Dask scheduler there')
     words.add_argument('--renew', action='store_true', help='repeat the rows of another plan, program or measure')
-    words.add_argument('--retry', action='store_true', help='repeat runs with an error')
+    words.add_argument('--retry', action='store_true', help='repeat runs with an error or a note')
     words.add_argument('--plot', action='store_true', help="draw what the plan's `plot` describes")
     asked = words.parse_args()
     if asked.jobs < 1 or asked.seconds is not None and not 0 < asked.seconds <= MOST_SECONDS:

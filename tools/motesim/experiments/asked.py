@@ -8,7 +8,7 @@ from collections.abc import Iterator, Mapping, Sequence
 from dataclasses import dataclass
 
 from motesim.faults import Fault
-from motesim.experiments.measures import file_of, read_measure
+from motesim.experiments.measures import file_of, mote_of, read_measure
 from motesim.plan.plan import Plan
 from motesim.plan.tables import Value, optional, text_of_value, value_of_text
 from motesim.runner.run import read_file
@@ -22,8 +22,8 @@ SECONDS, MOST_SECONDS, MOST_BYTES = 60, 86_400, 200_000_000
 RANGE = re.compile(r'(-?[0-9]{1,9})\.\.(-?[0-9]{1,9})(?:\.\.([0-9]{1,9}))?')
 SWEEP = {'vary': optional(dict, {}), 'measure': optional(list, []), 'seconds': optional(int, SECONDS, 1, MOST_SECONDS)}
 # The columns that say what made a row.
-MADE = ('fault', 'plan', 'plan_sha256', 'scenario_sha256', 'report_sha256', 'program', 'program_sha256', 'kit',
-        'measures_sha256', 'parameters')
+MADE = ('fault', 'note', 'plan', 'plan_sha256', 'scenario_sha256', 'report_sha256', 'program', 'program_sha256',
+        'kit', 'measures_sha256', 'parameters')
 
 
 def values_of(words: str) -> list[Value]:
@@ -133,19 +133,34 @@ def some_runs(sweep: Sweep) -> Iterator[dict[str, Value]]:
 
 
 def known_names(sweep: Sweep) -> Names:
-    """The names that sentences may have. If none of the runs that are tried makes a scenario, the first fault."""
+    """The names that sentences may have. If none of the runs that are tried makes a scenario, the first fault.
+
+    The names are those of the first net that has all motes that measures name, or of the largest net.
+    """
     first: Fault | None = None
+    largest: Scenario | None = None
+    needed = max((mote for mote in map(mote_of, sweep.measures) if mote is not None), default=0)
     for given in some_runs(sweep):
         try:
-            return names_of(Scenario.parse(sweep.plan.scenario(given)))
+            found = Scenario.parse(sweep.plan.scenario(given))
         except Fault as fault:
             first = first or fault
-    assert first
-    raise first
+            continue
+        if largest is None or found.motes > largest.motes:
+            largest = found
+        if largest.motes > needed:
+            break
+    if largest is None:
+        assert first
+        raise first
+    if largest.motes <= needed:
+        raise Fault('in a measure: there is no mote %d: the largest net has the motes 0 to %d' % (
+            needed, largest.motes - 1))
+    return names_of(largest)
 
 
 def columns_of(sweep: Sweep, names: Names, sources: Mapping[str, str]) -> list[str]:
-    """The columns of the results. A measure that can't be read is told."""
+    """The columns of the results. A measure that can't be read is refused, before any run."""
     measures = []
     for words in sweep.measures:
         try:

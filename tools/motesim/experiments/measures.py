@@ -218,22 +218,37 @@ def _said(fault: Exception, file: str) -> str:
     return '%s%s: %s' % (where, type(fault).__name__, ' '.join(what.split()))
 
 
+def name_of(words: str) -> str:
+    """The name of a measure's column."""
+    named, text = _parts(words)
+    python = OF_PYTHON.fullmatch(text)
+    return named or (python[2] if python else ' '.join(text.split()))
+
+
+def _parts(words: str) -> tuple[str, str]:
+    """The name that a measure is given, or an empty text, and the measure itself."""
+    named = NAMED.fullmatch(words)
+    return (named[1], named[2].strip()) if named else ('', words.strip())
+
+
 def file_of(words: str) -> str:
     """The user's file that a measure takes, or an empty text."""
-    named = NAMED.fullmatch(words)
-    found = OF_PYTHON.fullmatch((named[2] if named else words).strip())
+    found = OF_PYTHON.fullmatch(_parts(words)[1])
     return found[1] if found else ''
+
+
+def mote_of(words: str) -> int | None:
+    """The mote of a measure such as `sent of mote 3`."""
+    found = OF_SUMMARY.fullmatch(_parts(words)[1])
+    return int(found[2]) if found and found[2] else None
 
 
 def read_measure(words: str, names: Names = Names(), sources: Mapping[str, str] = {}) -> Measure:
     """A measure from its words, with the sources of users' files."""
-    named = NAMED.fullmatch(words)
-    text = (named[2] if named else words).strip()
-    name = named[1] if named else ' '.join(text.split())
+    name, text = name_of(words), _parts(words)[1]
     python, flow, sentence = OF_PYTHON.fullmatch(text), OF_FLOW.fullmatch(text), OF_SENTENCE.fullmatch(text)
     try:
         if python:
-            name = named[1] if named else python[2]
             return Measure(name, text, _of_python(python[1], python[2], sources), python[1])
         if flow and flow[1] in FLOWS:
             return Measure(name, text, _of_flow(flow[1], flow[2]))

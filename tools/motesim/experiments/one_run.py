@@ -18,8 +18,8 @@ from typing import NamedTuple
 
 from motesim.faults import Fault
 from motesim.runner.batch import fault_of
-from motesim.runner.process import Limits, Runner
-from motesim.experiments.measures import Bench, Cell, read_measure
+from motesim.runner.process import LimitMet, Limits, Runner
+from motesim.experiments.measures import Bench, Cell, name_of, read_measure
 from motesim.plan.plan import Plan
 from motesim.plan.files import Files
 from motesim.plan.tables import Value
@@ -29,6 +29,10 @@ from motesim.scenario import Scenario
 from motesim.judge.sentences import names_of
 
 DIGITS = 16
+# The time on the clock that a run may last is this many times its processor time: rows must not depend on what else
+# the machine does. A run past it has a fault with these words, and the same sweep runs it again.
+BUSY = 30
+TOO_BUSY = 'the machine is too busy'
 LONGEST_FAULT = 400
 
 
@@ -38,6 +42,7 @@ class Work(NamedTuple):
     files     the files beside the plan, by name; what isn't there is read from the folder
     measures  their words, with the sources of users' files
     program   the program's path, and its SHA-256: another one there is a fault
+    seconds   the limit of a run, and of each measure, in processor time
     """
     plan: str
     text: str
@@ -59,12 +64,16 @@ class Job(NamedTuple):
 
 
 class Result(NamedTuple):
-    """What came of a run: the measures by name, digests of scenario and report, and a fault, or an empty text."""
+    """What came of a run: the measures by name, digests of scenario and report, and a fault, or an empty text.
+
+    note  which measures failed and why: their cells are empty, and the others are there
+    """
     place: int
     measures: dict[str, Cell]
     scenario: str
     report: str
     fault: str
+    note: str = ''
 
 
 def digest(data: bytes) -> str:
@@ -96,21 +105,21 @@ def program_here(work: Work) -> Path:
 
 @contextmanager
 def limited(seconds: float) -> Iterator[None]:
-    """Ends what is in it by a TimeoutError after so many seconds, where this is the process's main thread."""
+    """Ends what is in it by a TimeoutError after so many seconds of processor time, in a process's main thread."""
     if threading.current_thread() is not threading.main_thread():
         yield
         return
 
     def stop(signal_number: int, frame: FrameType | None) -> None:
-        raise TimeoutError('no end in %g seconds' % seconds)
+        raise TimeoutError('no end in %g seconds of processor time' % seconds)
 
-    before = signal.signal(signal.SIGALRM, stop)
-    signal.setitimer(signal.ITIMER_REAL, seconds)
+    before = signal.signal(signal.SIGPROF, stop)
+    signal.setitimer(signal.ITIMER_PROF, seconds)
     try:
         yield
     finally:
-        signal.setitimer(signal.ITIMER_REAL, 0)
-        signal.signal(signal.SIGALRM, before)
+        signal.setitimer(signal.ITIMER_PROF, 0)
+        signal.signal(signal.SIGPROF, before)
 
 
 def one_line(text: str) -> str:
@@ -119,9 +128,34 @@ def one_line(text: str) -> str:
     return line if len(line) <= LONGEST_FAULT else line[:LONGEST_FAULT] + '..'
 
 
+def reason_of(told: BaseException) -> str:
+    """Why something failed, in one line."""
+    if isinstance(told, LimitMet) and told.limit == 'seconds':
+        return '%s: %s, though it used less processor time than it may; the same command runs it again' % (
+            TOO_BUSY, told)
+    return one_line(str(told) if isinstance(told, Fault | TimeoutError) else fault_of(told))
+
+
+def measured(work: Work, bench: Bench, known: Scenario) -> tuple[dict[str, Cell], str]:
+    """The measures of a run, and a note on those that fail. Each has the same limit as the run."""
+    found: dict[str, Cell] = {}
+    notes = []
+    names, sources = names_of(known), dict(work.sources)
+    for words in work.measures:
+        name = name_of(words)
+        try:
+            with limited(work.seconds):
+                found[name] = read_measure(words, names, sources).of(bench)
+        except BaseException as told:
+            # (a measure of the user's may raise anything, and ask Python to exit)
+            found[name] = None
+            notes.append('%s: %s' % (name, reason_of(told)))
+    return found, '; '.join(notes)
+
+
 def run_job(job: Job) -> Result:
     """Runs a job. What goes wrong is in the result."""
-    scenario = report = fault = ''
+    scenario = report = fault = note = ''
     measures: dict[str, Cell] = {}
     work = job.work
     try:
@@ -129,23 +163,13 @@ def run_job(job: Job) -> Result:
             plan = Plan(work.plan, work.text, Files(Path(work.folder), dict(job.files)))
             text = plan.scenario(dict(job.given))
             scenario = digest(text.encode())
-            limits = Limits(work.seconds, report=work.most_bytes)
-            got = Runner(program_here(work), limits).answer(text.encode())
-            if got.status:
-                raise ProgramFault(got.fault.decode('utf-8', 'backslashreplace').strip() or 'status %d' % got.status)
-            report = digest(got.report)
-            known = Scenario.parse(text)
-            bench = Bench(Run(work.plan, Report.parse(got.report), known))
-            for words in work.measures:
-                measure = read_measure(words, names_of(known), dict(work.sources))
-                measures[measure.name] = measure.of(bench)
-    except Fault as told:
-        fault = one_line(str(told))
-    except TimeoutError as told:
-        fault = str(told)
-    except MemoryError:
-        fault = 'out of memory'
+        limits = Limits(BUSY * work.seconds, report=work.most_bytes, processor=work.seconds)
+        got = Runner(program_here(work), limits).answer(text.encode())
+        if got.status:
+            raise ProgramFault(got.fault.decode('utf-8', 'backslashreplace').strip() or 'status %d' % got.status)
+        report = digest(got.report)
+        known = Scenario.parse(text)
+        measures, note = measured(work, Bench(Run(work.plan, Report.parse(got.report), known)), known)
     except BaseException as told:
-        # (a measure of the user's may raise anything, and ask Python to exit)
-        fault = one_line(fault_of(told))
-    return Result(job.place, {} if fault else measures, scenario, report, fault)
+        fault = reason_of(told)
+    return Result(job.place, measures, scenario, report, fault, note)

@@ -11,18 +11,18 @@ from motesim.analysis.drawing import FORMATS
 from motesim.analysis.estimates import MEANS
 from motesim.analysis.estimates import quartiles as quartiles
 from motesim.analysis.paired import differences, pairs_of
-from motesim.analysis.points import SHOWS, Wish, measures_of, order, parameters_of, shown_of
+from motesim.analysis.points import SHOWS, Wish, check_pairs, measures_of, order, parameters_of, shown_of
 from motesim.experiments import packages
 from motesim.experiments.results import Row, cell, read_results
 from motesim.faults import Fault
 from motesim.plan.plan import Plan
-from motesim.plan.tables import Tables, needed, optional
+from motesim.plan.tables import Tables, any_kind, needed, optional
 from motesim.summary.counts import table
 
 PLOT = {'file': needed(str), 'measure': needed(str), 'against': optional(str, ''), 'by': optional(str, ''),
         'title': optional(str, None), 'x': optional(str, ''), 'y': optional(str, ''), 'log': optional(bool, False),
         'show': optional(str, 'median'), 'interval': optional(str, 't'), 'confidence': optional(int, 95, 50, 99),
-        'threshold': optional(str, ''), 'over': optional(str, ''),
+        'threshold': any_kind('a number', False), 'over': optional(str, ''),
         'footer': optional(str, None), 'size': optional(str, '')}
 
 
@@ -34,21 +34,29 @@ def table_path(picture: Path) -> Path:
 def wishes_of(plan: Plan) -> list[Wish]:
     """What a plan's `plot` says."""
     tables: Tables = plan.tables
-    found = []
+    found: list[Wish] = []
     for path, given in tables.array('plot'):
         values = tables.read(given, path, PLOT, 'A plot')
         if Path(values['file']).suffix not in FORMATS:
             raise tables.fault(path + ('file',), 'A picture is SVG, PDF or PNG.',
                                'a name that ends in `.svg`, `.pdf` or `.png`')
+        if table_path(Path(values['file'])) in {table_path(Path(it.file)) for it in found}:
+            raise tables.fault(path + ('file',), 'Another picture has this name up to the ending: both would write %s.' %
+                               table_path(Path(values['file'])), 'another name')
         for key, known in ('show', SHOWS), ('interval', tuple(MEANS)):
             if values[key] not in known:
                 raise tables.fault(path + (key,), 'A plot has no such `%s`.' % key, ', '.join('`"%s"`' %
                                                                                               it for it in known))
+        values['threshold'] = '' if values['threshold'] is None else str(values['threshold'])
         wish = Wish(**values)
         try:
             drawing.size_of(wish.size)
         except Fault as fault:
             raise tables.fault(path + ('size',), str(fault), '`size`: a text such as `"16x10"`') from None
+        try:
+            text.threshold_of(wish)
+        except Fault as fault:
+            raise tables.fault(path + ('threshold',), str(fault), '`threshold`: a number') from None
         if not wish.against and wish.show != 'cdf':
             raise tables.fault(path, 'A plot needs the key `against`, and it is not there.', '`against`: a text',
                                False)
@@ -73,9 +81,10 @@ def show(rows: Sequence[Row], wish: Wish, folder: Path) -> bool:
         raise Fault('there is no value of %s to show' % wish.measure)
     if wish.file and packages.is_here('matplotlib'):
         drawing.draw(shown, wish, folder / wish.file)
-        write_table(table_path(folder / wish.file), text.rows_of(shown, wish))
+        write_table(table_path(folder / wish.file), text.rows_with_crossings(shown, wish))
         print(folder / wish.file)
-        print('\n'.join(text.crossings(shown, wish)), end='\n' if wish.threshold else '')
+        for line in text.crossings(shown, wish) + text.remarks(shown, wish):
+            print(line)
         return True
     print('\n'.join(text.table_of(shown, wish)))
     return not wish.file
@@ -89,18 +98,19 @@ def compare(rows: Sequence[Row], others: Sequence[Row], wish: Wish, names: tuple
             wish.measure, ', '.join(it for it in measures_of(rows) if it in measures_of(others))))
     if wish.against not in kept:
         raise Fault('there is no parameter %s on both sides; there are: %s' % (wish.against, ', '.join(kept)))
+    check_pairs([*rows, *others], wish, kept)
     found = differences(pairs_of(rows, others, wish.measure, kept, wish.against), wish.part, wish.interval)
     found.sort(key=lambda it: order(it.against))
-    by = 'Student\'s t' if wish.interval == 't' else 'the bootstrap'
-    words = '%s against %s: %s less %s, run by run, with intervals of %d %% by %s' % (
-        wish.measure, wish.against, names[1], names[0], wish.confidence, by)
+    by = text.by_methods([it.difference.method for it in found])
+    words = '%s against %s: %s less %s, run by run' % (wish.measure, wish.against, names[1], names[0])
+    words += ', with intervals of %d %% %s' % (wish.confidence, by) if by else ''
     made = text.rows_of_differences(found, wish.against, *names)
     if wish.file and packages.is_here('matplotlib'):
         drawing.draw_differences(found, wish, words, Path(wish.file))
         write_table(table_path(Path(wish.file)), made)
         print(wish.file)
         return True
-    print('\n'.join([words, *table(made, list(made[0]))]))
+    print('\n'.join([words, *table(made, list(made[0])), *text.of_intervals([it.difference for it in found])]))
     return not wish.file
 
 

@@ -13,7 +13,7 @@ from typing import Any
 
 from motesim.experiments import packages
 from motesim.faults import Fault
-from motesim.experiments.one_run import Job, Result, run_job
+from motesim.experiments.one_run import BUSY, Job, Result, run_job
 from motesim.runner.batch import run_each
 
 PACKAGE = Path(__file__).resolve().parents[1]
@@ -22,9 +22,9 @@ DASK_SECONDS = 10
 DASK_TICK, TASKS_AHEAD = 1, 4
 # The most runs of a task of Dask.
 MOST_IN_TASK = 50
-# A job has a time for the run, and one for the measures. After so many times its time, and some seconds more, its process
-# is ended.
-LATER, SECONDS_MORE = 2, 5
+# A job has a limit for the scenario, for the run and for each measure. If it lasts so much longer that none of these
+# can have ended it, its process is ended.
+SECONDS_MORE = 5
 
 
 class Stopped(Exception):
@@ -56,14 +56,19 @@ class Break:
             signal.signal(number, handler)
 
 
+def longest(seconds: float, measures: int) -> float:
+    """How many seconds on the clock a job may last with this limit of processor time."""
+    return BUSY * seconds * (2 + measures) + SECONDS_MORE
+
+
 def run_here(jobs: Iterable[Job], processes: int, seconds: float) -> Generator[Result, None, None]:
     """The results of the jobs, as they come, by so many processes.
 
-    A job that doesn't end by itself, long after its own time, is ended with its process; that is its fault.
+    A job that lasts so many seconds is ended with its process; that is its fault.
     """
     stop, left = threading.Event(), iter(jobs)
     with Break(stop):
-        for done in run_each(run_job, left, workers=processes, seconds=seconds * LATER + SECONDS_MORE, stop=stop):
+        for done in run_each(run_job, left, workers=processes, seconds=seconds, stop=stop):
             yield done.result or Result(done.item.place, {}, '', '', done.fault)
     if next(left, None) is not None:
         raise Stopped

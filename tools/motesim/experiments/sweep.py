@@ -12,7 +12,7 @@ from typing import Any
 
 from motesim.experiments import packages
 from motesim.faults import INTERRUPTED, Fault
-from motesim.experiments.one_run import DIGITS, Job, Result, Work, program_digest
+from motesim.experiments.one_run import DIGITS, TOO_BUSY, Job, Result, Work, program_digest
 from motesim.output import beside
 from motesim.plan.plan import Plan
 from motesim.plan.tables import Value, text_of_value, value_of_text
@@ -20,7 +20,7 @@ from motesim.experiments.results import CsvFile, Row, SqliteFile, open_results, 
 from motesim.runner.run import TOP, program_path
 from motesim.experiments.asked import Sweep, columns_of, known_names, sources_of, sweep_of
 from motesim.experiments.progress import Progress
-from motesim.experiments.runs import Stopped, run_by_dask, run_here
+from motesim.experiments.runs import Stopped, longest, run_by_dask, run_here
 from motesim.runner.versions import kit_version, program_version
 
 RowKey = tuple[str, ...]
@@ -68,8 +68,10 @@ class Sweeper:
         if others and not is_renewed:
             raise Fault('%s has %d rows that another plan, program or measure made. --renew runs them again, and -o '
                         'names another file' % (self.path, others))
+        # (a run for which the machine had no time says nothing)
+        kept = [row for row in kept if not str(row['fault'] or '').startswith(TOO_BUSY)]
         if retries:
-            kept = [row for row in kept if not row['fault']]
+            kept = [row for row in kept if not row['fault'] and not row['note']]
         if len(kept) < len(self.file.rows):
             self.file.replace(kept)
         self.rows = {self.key(row): row for row in kept}
@@ -95,7 +97,8 @@ class Sweeper:
     def row(self, given: Mapping[str, Value], result: Result) -> Row:
         parameters = {name: text_of_value(value) if type(value) is bool else value for name, value in given.items()}
         return {**parameters, **result.measures, **self.made, 'plan_sha256': self.plan_digest(given),
-                'scenario_sha256': result.scenario, 'report_sha256': result.report, 'fault': result.fault or None}
+                'scenario_sha256': result.scenario, 'report_sha256': result.report, 'fault': result.fault or None,
+                'note': result.note or None}
 
     def run(self, processes: int, address: str | None) -> int:
         """Runs what is missing; gives how many."""
@@ -105,7 +108,8 @@ class Sweeper:
         if address and missing:
             results = run_by_dask(jobs, len(missing), address)
         else:
-            results = run_here(jobs, min(processes, len(missing)) or 1, self.sweep.seconds)
+            most = longest(self.sweep.seconds, len(self.sweep.measures))
+            results = run_here(jobs, min(processes, len(missing)) or 1, most)
         try:
             for result in results:
                 given = missing[result.place]
@@ -137,7 +141,10 @@ def said(sweeper: Sweeper, ran: int) -> int:
     print('%s: %d runs, %d of them now, %d with a fault' % (sweeper.path, len(rows), ran, len(faults)))
     if faults:
         print('the first fault: %s' % faults[0]['fault'])
-    return 1 if faults else 0
+    noted = [row for row in rows if row['note']]
+    if noted:
+        print('%d runs lack a measure; the first: %s' % (len(noted), noted[0]['note']))
+    return 1 if faults or noted else 0
 
 
 def status_of(asked: argparse.Namespace) -> int:

@@ -2,7 +2,14 @@
 
 A loss with `every = 2` loses each second packet of its sender. If the sender alternates between two kinds of packet, it
 loses all of one kind and none of the other, though the summary says 0.500. `resonances(scenario, report)` finds the
-losses of which that is so in a run: one kind of value is lost far more often than the period says.
+losses of which that is so in a run: one kind of packet is lost far more often than the period says.
+
+A kind is a flow of packets, which a report doesn't name. So the packets are divided in several ways:
+
+    by value            a value that is sent again and again is a kind; the others are kinds by their upper bytes
+    by frequent value   the same, but only values that make up much of all packets: a value that a program sends some
+                        times until it is acknowledged belongs to the flow of its neighbours
+    by repetition       the first packet with a value, and those that repeat one, in each flow
 """
 from __future__ import annotations
 
@@ -14,8 +21,9 @@ from typing import NamedTuple
 from motesim.report import Report
 from motesim.scenario import Scenario
 
-# A value that is sent so often is a kind of its own; others are of one kind if their upper bytes are the same.
+# A value that is sent so often, or that makes up this part of the packets, is a kind of its own.
 REPEATED = 3
+FREQUENT = 1 / 8
 # A kind of fewer packets says nothing; nor does what comes about by chance once in so many runs.
 LEAST_PACKETS = 5
 RARE = 1e-3
@@ -23,17 +31,19 @@ PRIMES = (2, 3, 5, 7, 11, 13, 17, 19, 23, 29, 31, 37, 41, 43, 47)
 
 
 class Kind(NamedTuple):
-    """A kind of packet on a link: how many there are, how many are lost, and the least and the greatest value."""
+    """A kind of packet on a link: how many there are, how many are lost, the least and the greatest value, and what
+    they are: packets, first packets or repeated packets."""
     packets: int
     lost: int
     least: int
     most: int
+    what: str = 'packets'
 
     def __str__(self) -> str:
         values = 'the value %d' % self.least if self.least == self.most else 'the values %d to %d' % (
             self.least, self.most)
-        return '%s of the %d packets with %s' % ('all' if self.lost == self.packets else self.lost, self.packets,
-                                                 values)
+        return '%s of the %d %s with %s' % ('all' if self.lost == self.packets else self.lost, self.packets, self.what,
+                                            values)
 
 
 class Resonance(NamedTuple):
@@ -53,10 +63,30 @@ class Resonance(NamedTuple):
                                        round(self.kind.packets / self.every), more))
 
 
-def kinds_of(values: Sequence[int]) -> list[tuple[int, int]]:
-    """Of each packet its kind."""
+Division = list[tuple[str, int, int]]
+
+
+def by_value(values: Sequence[int], least: float) -> Division:
+    """Of each packet its kind: its value if that is sent so often, or else its upper byte."""
     counts = Counter(values)
-    return [(1, value) if counts[value] >= REPEATED else (0, value >> 8) for value in values]
+    return [('packets', 1, value) if counts[value] >= least else ('packets', 0, value >> 8) for value in values]
+
+
+def by_repetition(values: Sequence[int]) -> Division:
+    """Of each packet its flow, and whether it is the first with its value or repeats one."""
+    found: Division = []
+    sent: set[int] = set()
+    for value, (what, is_frequent, flow) in zip(values, by_value(values, FREQUENT * len(values))):
+        what = what if is_frequent else 'repeated packets' if value in sent else 'first packets'
+        sent.add(value)
+        found.append((what, is_frequent, flow))
+    return found
+
+
+def divisions(values: Sequence[int]) -> list[Division]:
+    """The ways to divide the packets of a mote into kinds."""
+    repeated, frequent = by_value(values, REPEATED), by_value(values, max(REPEATED, FREQUENT * len(values)))
+    return [repeated, frequent, by_repetition(values)]
 
 
 def _chance(packets: int, lost: int, of: int, all_lost: int) -> float:
@@ -72,20 +102,24 @@ def hit(values: Sequence[int], every: int) -> Kind | None:
     """The kind of packet that a loss of this period hits far more than others."""
     if every < 2 or len(values) < 2 * LEAST_PACKETS:
         return None
-    groups: dict[tuple[int, int], list[int]] = defaultdict(list)
-    for number, kind in enumerate(kinds_of(values)):
+    found = [it for division in divisions(values) for it in hits(values, every, division)]
+    return min(found, key=lambda it: it[0])[1] if found else None
+
+
+def hits(values: Sequence[int], every: int, division: Division) -> Iterator[tuple[float, Kind]]:
+    """The kinds that are hit far more than others, with the chance that it happens without a reason."""
+    groups: dict[tuple[str, int, int], list[int]] = defaultdict(list)
+    for number, kind in enumerate(division):
         groups[kind].append(number)
     all_lost = len(values) // every
-    worst: tuple[float, Kind] | None = None
-    for numbers in groups.values():
+    for (what, _, _), numbers in groups.items():
         lost = sum((number + 1) % every == 0 for number in numbers)
         if len(numbers) < LEAST_PACKETS or len(numbers) == len(values) or lost * every < 1.8 * len(numbers):
             continue
         chance = _chance(len(numbers), lost, len(values), all_lost)
         its = [values[number] for number in numbers]
-        if chance < RARE and (worst is None or chance < worst[0]):
-            worst = chance, Kind(len(numbers), lost, min(its), max(its))
-    return worst[1] if worst else None
+        if chance < RARE:
+            yield chance, Kind(len(numbers), lost, min(its), max(its), what)
 
 
 def resonances(scenario: Scenario, report: Report) -> Iterator[Resonance]:

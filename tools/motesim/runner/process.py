@@ -10,6 +10,7 @@ The program gets the scenario on standard input. A run that another thread may s
 from __future__ import annotations
 
 import contextlib
+import math
 import os
 import select
 import signal
@@ -29,7 +30,7 @@ MOST_FAULT = 1 << 16
 # Seconds between two looks at the clock and at the memory that a run has.
 TICK = 0.02
 
-LimitName = Literal['seconds', 'memory', 'report']
+LimitName = Literal['seconds', 'memory', 'report', 'processor']
 
 
 def _most_memory() -> int:
@@ -41,10 +42,14 @@ def _most_memory() -> int:
 
 
 class Limits(NamedTuple):
-    """The limits of a run: seconds, and bytes of memory and of its report."""
+    """The limits of a run: seconds, bytes of memory and of its report, and seconds of processor time.
+
+    The seconds of a run depend on what else the machine does, those of processor time hardly.
+    """
     seconds: float = 600.0
     memory: int = _most_memory()
     report: int = 1 << 30
+    processor: float = math.inf
 
 
 # Limits for scenarios that other people wrote.
@@ -59,6 +64,7 @@ class LimitMet(ProgramFault):
             'seconds': 'no answer in %g seconds' % limits.seconds,
             'memory': 'the run needs more than %d megabytes of memory' % (limits.memory // MEGABYTE),
             'report': 'the report is longer than {:,} bytes'.format(limits.report),
+            'processor': 'no answer in %g seconds of processor time' % limits.processor,
         }[limit])
         self.limit: LimitName = limit
 
@@ -96,6 +102,15 @@ def memory_of(pid: int) -> int:
             return int(file.read().split()[1]) * os.sysconf('SC_PAGE_SIZE')
     except (OSError, IndexError, ValueError):
         return 0
+
+
+def processor_seconds_of(pid: int) -> float:
+    """The seconds of processor time that a process has used; 0 if the system doesn't say."""
+    try:
+        # (the clock of a process, as clock_getcpuclockid makes its number)
+        return time.clock_gettime(~pid << 3 | 2)
+    except OSError:
+        return 0.0
 
 
 class Running:
@@ -197,12 +212,14 @@ class Running:
         return data
 
     def _check(self) -> None:
-        """Ends the run if it has met a limit of time or memory."""
+        """Ends the run if it has met a limit of time, processor time or memory."""
         now = time.monotonic()
         if now < self._look:
             return
         self._look = now + TICK
-        if now > self._end:
+        if processor_seconds_of(self._process.pid) > self._limits.processor:
+            self._end_by(LimitMet('processor', self._limits))
+        elif now > self._end:
             self._end_by(LimitMet('seconds', self._limits))
         elif memory_of(self._process.pid) > self._limits.memory:
             self._end_by(LimitMet('memory', self._limits))
