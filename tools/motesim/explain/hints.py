@@ -9,7 +9,7 @@ from __future__ import annotations
 import re
 
 from motesim.from_c.expressions import TOO_LARGE
-from motesim.explain.synonyms import CHANCE, at, like_of_missing, missing, nearest
+from motesim.explain.synonyms import CHANCE, at, like_of_missing, nearest
 from motesim.notation.keywords import RESERVED
 from motesim.notation.parentheses import written
 from motesim.notation.faults import OPERATORS, STATEMENTS, ProgramError, Token, tokens_of
@@ -228,7 +228,7 @@ def _of_no_toml(text: str, fault: ScenarioError, place: tuple[int, int]) -> str 
 
 def of_scenario(tables: dict[str, object] | None, fault: ScenarioError, text: str) -> str | None:
     """A hint on a fault of a scenario. Its tables are None where the text is no TOML."""
-    line, name = fault.told, str(fault.path[-1]) if fault.path else ''
+    line, name = fault.message, str(fault.path[-1]) if fault.path else ''
     if line == 'scenario fault 1' and fault.line:
         return _of_no_toml(text, fault, fault.line)
     if line == 'scenario fault 2' and tables is not None:
@@ -248,7 +248,7 @@ def of_scenario(tables: dict[str, object] | None, fault: ScenarioError, text: st
 
 def _of_missing(tables: dict[str, object], fault: ScenarioError) -> str | None:
     """What most likely is meant by a key that is missing."""
-    wanted = missing(fault)
+    wanted = fault.missing
     like = like_of_missing(tables, fault)
     if like:
         return 'It has `%s`: did you mean `%s`?' % (like, wanted)

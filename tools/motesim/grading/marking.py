@@ -178,5 +178,5 @@ def fix_of(entry: Entry, data: bytes) -> tuple[str, ...]:
         lines = of_program_file(entry.name, source, error) if error else []
     else:
         fault = find_fault(data) if data else None
-        lines = explanation(entry.name, data, 'motesim: ' + fault.told) if fault else []
+        lines = explanation(entry.name, data, 'motesim: ' + fault.message) if fault else []
     return tuple(line[:LONGEST_WHY] for line in lines[:MOST_LINES])
