@@ -14,6 +14,7 @@ from motesim.notation.keywords import RESERVED
 from motesim.notation.parentheses import written
 from motesim.notation.faults import OPERATORS, STATEMENTS, ProgramError, Token, tokens_of
 from motesim.scenario.faults import LONG_QUOTES, LOSS, MEDIUM, MOTE, TOP, ScenarioError, last_outside
+from motesim.toml import MANY_PARTS, TOO_DEEP
 
 # What people write who know other languages, and what is written instead.
 WISHES = {
@@ -62,6 +63,9 @@ NO_TOML = {
     'twice': 'A table is there once; only motes and losses are many, and each of them is a table `[[mote]]`, '
     '`[[loss]]`.',
     'overwrite': 'A key is only once in its table.',
+    MANY_PARTS: 'A dot between two words of a key makes a table in a table. A scenario needs two parts at most: '
+                '`medium.range = 10`.',
+    TOO_DEEP: 'A scenario needs no bracket in more than two others. Is a `]` or a `}` missing?',
     '': 'Texts are in quotes, programs of several lines in three: p = """ .. """.',
 }
 QUOTES = '\u2018\u2019\u201a\u201b\u201c\u201d\u201e\u201f\u00ab\u00bb\u00b4`'
