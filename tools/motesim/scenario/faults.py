@@ -58,7 +58,8 @@ class ScenarioError(Exception):
 
     def is_of_value(self) -> bool:
         """Returns whether the value after the key is not allowed, and not the key."""
-        if not self.path or type(self.path[-1]) is int or self.path[0] == 'queue' and self.message == 'scenario fault 6':
+        if not self.path or type(self.path[-1]) is int or (
+                self.path[0] == 'queue' and self.message == 'scenario fault 6'):
             return False
         return self.message not in ('scenario fault 2', 'scenario fault 3')
 
