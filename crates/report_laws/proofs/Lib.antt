@@ -1,0 +1,7 @@
+pub mod Blocks
+pub mod Calls
+pub mod Declared
+pub mod Nets
+pub mod States
+pub mod Threads
+pub mod Turns

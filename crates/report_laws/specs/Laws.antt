@@ -1,0 +1,41 @@
+-- Laws of the reports of runs: they name only what the programs declare, so equal bytes mean equal runs.
+use Rattle.std.specs.Prelude.{◌≡◌, ℕ, List, [], ◌++◌}
+use Rattle.std.specs.List.{AllByRecursion as Each}
+use Rattle.mote_program.specs.Complete.{IsComplete}
+use Rattle.mote_program.specs.Declarations.{IsDeclared}
+use Rattle.mote_net.specs.Net.{MoteSetup, NetTold}
+use Rattle.mote_net.specs.Report.{ReportTold}
+use Rattle.serial_run.specs.NetRun.{IsReportOf}
+use Rattle.trace_printer.specs.Named.{NetNamesDiffer}
+use Rattle.trace_printer.specs.ReportText.{report_text}
+use Rattle.report_laws.specs.Names.{NameOnly, Is64Report}
+
+-- each program of the net declares what it names, and each declaration has its parts, as in the tree of any text
+abbrev pub ProgramsDeclare : NetTold → Type 0
+ProgramsDeclare net = Each (λ (m : MoteSetup). IsDeclared m.tree × IsComplete m.tree) net.motes
+
+-- each process and event in each line of a run has its name
+abbrev pub RunsNameOnly : Type 0
+RunsNameOnly = (net : NetTold) → ProgramsDeclare net → (r : ReportTold) → IsReportOf net r → NameOnly net.motes r.traces
+
+-- a report of a run of this net, in numbers of 64 bits
+pub record IsRunOf (net : NetTold) (r : ReportTold) : Type 0 where
+  pub report : IsReportOf net r
+  pub numbers : Is64Report r
+
+-- two nets of the same motes, whose ends, media and collisions may differ
+pub record AreComparable (m n : NetTold) : Type 0 where
+  pub motes : n.motes ≡ m.motes
+  pub declare : ProgramsDeclare m
+  pub differ : NetNamesDiffer m
+
+-- Comparing bytes is comparing runs: two runs of the same motes that write the same text have the same traces, the same
+-- log, and as many copies left.
+abbrev pub ComparingBytesIsComparingRuns : Type 0
+ComparingBytesIsComparingRuns = (m n : NetTold) → AreComparable m n → (a b : ReportTold) → IsRunOf m a → IsRunOf n b
+    → report_text m a ≡ report_text n b → a ≡ b
+
+-- and the text of neither is a proper prefix of the other's
+abbrev pub NoRunBeginsAnother : Type 0
+NoRunBeginsAnother = (m n : NetTold) → AreComparable m n → (a b : ReportTold) → IsRunOf m a → IsRunOf n b
+    → (more : List ℕ) → report_text n b ≡ report_text m a ++ more → more ≡ []

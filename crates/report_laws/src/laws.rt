@@ -1,0 +1,24 @@
+//! Laws of the reports of runs. Each is a theorem, stated as the contract of a function that is empty or only calls
+//! other laws.
+ghost use Rattle.report_laws.specs.Laws.{ComparingBytesIsComparingRuns, NoRunBeginsAnother, RunsNameOnly};
+
+use trace_printer::laws::{no_text_begins_another, text_determines_report};
+
+/// In the report of a run of a net, however it was made, each line names only processes that the mote's program has,
+/// and events that it declares, besides those of the system. The programs have to declare what they name, as the
+/// program of each text does (`what_a_text_names_is_declared` of `mote_program`).
+pub fn runs_name_only()
+    ensures { RunsNameOnly }
+{}
+
+/// Comparing bytes is comparing runs. Let two nets have the same motes, with programs that declare what they name and
+/// whose names differ; their ends and their media may differ. Of two reports of their runs, in numbers of 64 bits, the
+/// texts are equal only if the traces, the logs and the numbers of copies left are; and neither text is a proper
+/// prefix of the other.
+pub fn comparing_bytes_is_comparing_runs()
+    ensures same { ComparingBytesIsComparingRuns }
+    ensures whole { NoRunBeginsAnother }
+{
+    text_determines_report();
+    no_text_begins_another();
+}
