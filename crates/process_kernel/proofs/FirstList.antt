@@ -1,8 +1,9 @@
 -- The process list of the beginning of a boot or a run.
-use Rattle.std.proofs.Common.{ℕ, ◌≡◌, ◌+◌, ◌∙◌, true, ◌∷◌, drop, Some, ap, sym}
+use Rattle.std.proofs.Common.{ℕ, zero, suc, ◌≡◌, ◌+◌, ◌∙◌, true, List, [], ◌∷◌, drop, Some, ap, sym, arith}
 use Rattle.std.specs.Prelude.{if◌then◌else◌, slice_get}
 use Rattle.process_kernel.specs.declared.machine.Machine.{Machine}
 use Rattle.process_kernel.specs.declared.process.Member.{Member}
+use Rattle.process_kernel.specs.Members.{holds_member}
 use Rattle.process_kernel.specs.Views.{first_list_of}
 use Rattle.process_kernel.proofs.First.{drop_from}
 
@@ -17,3 +18,11 @@ pub rest_begins : (old now : Machine) (place : ℕ) (m : Member) → old.is_numb
 rest_begins old now place m numbered same is =
     drop_from old.members.items place m
     (ap (λ ms. slice_get ms place) (sym (same ∙ first_is_current old numbered)) ∙ is)
+
+-- the incarnation at a place of a list is on it
+pub held_at : (ms : List Member) (place : ℕ) (m : Member) → slice_get ms place ≡ Some m → holds_member ms m ≡ true
+held_at [] place m is = cc
+held_at (x ∷ ms) zero m is = grind arith
+held_at (x ∷ ms) (suc i) m is =
+    let there = held_at ms i m is in
+    grind arith

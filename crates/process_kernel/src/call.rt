@@ -104,6 +104,7 @@ impl Machine {
 
     /// Runs the event's handler, if there is one.
     #[cycle(kernel)]
+    #[inline(always)]
     #[tactic(auto, unfolding(crate::specs::Reaction::handler_of))]
     fn handle(
         &mut self,
@@ -181,6 +182,7 @@ impl Machine {
 
     /// Runs a handler or a callback of a process from its beginning.
     #[cycle(kernel)]
+    #[inline(always)]
     fn run_part(
         &mut self,
         program: &Program,

@@ -2,6 +2,7 @@
 
 ghost use Rattle.std.specs.Prelude.{◌≡◌, true};
 ghost use Rattle.process_kernel.specs.Follows.{Follows};
+ghost use Rattle.process_kernel.specs.Members.{holds_member};
 ghost use Rattle.process_kernel.specs.Polls.{poll_turn_of, walk_polls, polls_of, polls_due_of};
 ghost use Rattle.process_kernel.specs.Views.{HasRoom};
 
@@ -47,7 +48,8 @@ impl Machine {
     {
         for place in 0..self.members.len() {
             let member = self.first_member(place);
-            self.poll_in_turn(program, member)?;
+            let is_there = self.is_still_on_list(member);
+            self.poll_in_turn(program, member, is_there)?;
         }
         Ok(())
     }
@@ -68,7 +70,8 @@ impl Machine {
         ensures { Follows program.now self.old result self.new (λ calls. walk_polls calls members.now) }
     {
         for member in members {
-            self.poll_in_turn(program, *member)?;
+            let is_there = self.is_on_list(*member);
+            self.poll_in_turn(program, *member, is_there)?;
         }
         Ok(())
     }
@@ -76,14 +79,20 @@ impl Machine {
     /// The turn of an incarnation in the polls: if it is on the list, and needs a poll, it is called with POLL.
     #[inline(always)]
     #[tactic(auto, unfolding(crate::specs::Polls::poll_turn_of))]
-    fn poll_in_turn(&mut self, program: &Program, member: Member) -> Result<(), Stop>
-        requires { HasRoom 0 self.old }
+    fn poll_in_turn(
+        &mut self,
+        program: &Program,
+        member: Member,
+        is_there: bool,
+    ) -> Result<(), Stop>
+        requires room { HasRoom 0 self.old }
+        requires there { is_there ≡ holds_member self.old.members.items member }
         ensures { Follows program.now self.old result self.new (λ calls state. poll_turn_of calls state member) }
     {
-        if !self.process_needs_poll(member.process) {
+        if !is_there {
             return Ok(());
         }
-        if !self.is_on_list(member) {
+        if !self.process_needs_poll(member.process) {
             return Ok(());
         }
         self.set_needs_poll(member.process, false);

@@ -1,12 +1,12 @@
 //! The tables of processes.
 
-ghost use Rattle.std.specs.Prelude.{◌≡◌, ◌||◌, nat_lt, length, slice_get, unwrap_or};
+ghost use Rattle.std.specs.Prelude.{◌≡◌, ◌||◌, true, nat_lt, length, slice_get, unwrap_or};
 ghost use Rattle.program_tree.specs.Code.{Tree};
 ghost use Rattle.process_kernel.specs.Members.{place_of, is_same as are_same, holds_member, stands_in};
 ghost use Rattle.process_kernel.specs.Processes.{state_at as state_of_process, at_process, is_running_state};
 ghost use Rattle.process_kernel.specs.Processes.{is_called_state, with_state, with_exiting, with_needs_poll};
 ghost use Rattle.process_kernel.specs.Processes.{is_alive as lives};
-ghost use Rattle.process_kernel.specs.Views.{state_of, Grows, KeepsCounts, OnlyAdds};
+ghost use Rattle.process_kernel.specs.Views.{first_list_of, state_of, Grows, KeepsCounts, OnlyAdds};
 
 use crate::machine::Machine;
 use crate::process::{Member, ProcessState};
@@ -114,6 +114,20 @@ impl Machine {
         }
         let place = member.incarnation as usize;
         place < self.members.len() && is_same(member.process, self.members[place].process)
+    }
+
+    /// Returns whether an incarnation that was on the process list when the boot or run began is still there. No list
+    /// that is numbered has changed since then.
+    #[inline(always)]
+    pub fn is_still_on_list(&self, member: Member) -> bool
+        requires { holds_member (first_list_of self.now) member ≡ true }
+        ensures { result ≡ holds_member self.now.members.items member }
+    {
+        if self.is_numbered {
+            true
+        } else {
+            self.is_among_all(member)
+        }
     }
 
     /// Returns whether this incarnation is on the process list, by looking at each member.

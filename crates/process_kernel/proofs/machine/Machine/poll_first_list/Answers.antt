@@ -3,8 +3,8 @@ use Rattle.program_tree.specs.Program.{tree_of}
 use Rattle.process_kernel.specs.State.{◌>>=◌}
 use Rattle.process_kernel.specs.Call.{calls_of}
 use Rattle.process_kernel.specs.Polls.{walk_polls}
-use Rattle.process_kernel.specs.Views.{state_of}
-use Rattle.process_kernel.proofs.FirstList.{rest_begins}
+use Rattle.process_kernel.specs.Views.{first_list_of, state_of}
+use Rattle.process_kernel.proofs.FirstList.{rest_begins, held_at}
 use Rattle.process_kernel.proofs.machine.Machine.poll_first_list.Goals as goal
 
 pub returns-in_err-poll_in_turn : goal.returns-in_err-poll_in_turn
@@ -17,6 +17,10 @@ returns-in_err-poll_in_turn c = record {
   spends = search rules;
   grows = search rules;
 }
+
+pub is_still_on_list-is_there-requires : goal.is_still_on_list-is_there-requires
+is_still_on_list-is_there-requires c =
+    held_at (first_list_of c.loop-place.self) c.loop-place.place c.first_member-member.result c.first_member-member.ensures
 
 pub loop-place-preserved : goal.loop-place-preserved
 loop-place-preserved c =
