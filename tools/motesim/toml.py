@@ -1,20 +1,35 @@
 """Reads TOML: the one place in which the tools do.
 
 `read_toml(text)` returns the tables, or raises a `NoToml` with the place. Python's own reader fails in three ways (a
-text that isn't TOML, arrays nested deeper than its stack, a number with thousands of digits); here they are one.
+text that isn't TOML, arrays nested deeper than its stack, a number with thousands of digits); here they are one. It
+needs hours for a key of many parts, so keys are counted before it reads. The limits are those of `motesim` itself.
 """
 from __future__ import annotations
 
 import re
 import tomllib
+from collections.abc import Iterator
 from typing import Any
 
 from motesim.faults import Fault
 
 MARK = '\ufeff'
 PLACE = re.compile(r' \(at (?:line (\d+), column (\d+)|end of document)\)$')
-TOO_DEEP = 'Arrays or tables are nested too deeply'
+# How many parts a key may have, and how deep arrays and inline tables may be nested.
+DEEPEST = 80
+MANY_PARTS = 'A key has more than %d parts: write fewer dots' % DEEPEST
+TOO_DEEP = 'Arrays or tables are nested too deeply: at most %d are allowed in each other' % DEEPEST
 TOO_LONG = 'A number has too many digits'
+
+PART = re.compile(r'''[A-Za-z0-9_-]++|"(?:[^"\\\n]|\\.)*+"|'[^'\n]*+\'''')
+# Texts and comments, in which dots and brackets mean nothing, and the rest: keys with all their parts, and brackets.
+PIECE = re.compile(r"""
+    (?P<text> "{3} (?:[^"\\]|\\.|"{1,2}+(?!"))*+ (?:"{3,5}+|\Z)
+            | '{3} (?:[^']|'{1,2}+(?!'))*+ (?:'{3,5}+|\Z)
+            | \#[^\n]*+ )
+  | (?P<key> (?:PART) (?: [ \t]*+ \. [ \t]*+ (?:PART) )*+ )
+  | (?P<bracket> [][{}] )
+""".replace('PART', PART.pattern), re.VERBOSE | re.DOTALL)
 
 
 class NoToml(Fault):
@@ -27,16 +42,60 @@ class NoToml(Fault):
 
 def read_toml(text: str) -> dict[str, Any]:
     """The tables of a text, which may begin with a byte order mark."""
+    text = text.removeprefix(MARK)
+    check_keys(text)
     try:
-        return tomllib.loads(text.removeprefix(MARK))
+        tables = tomllib.loads(text)
     except RecursionError:
+        check_brackets(text)
         said, place = TOO_DEEP, None
     except tomllib.TOMLDecodeError as fault:
         place = PLACE.search(str(fault))
         said = PLACE.sub('', str(fault))
     except ValueError:
         said, place = TOO_LONG, None
+    else:
+        if is_deep(tables):
+            check_brackets(text)
+        return tables
     if place and place[1]:
         raise NoToml(said, int(place[1]), int(place[2]) - 1)
-    lines = text.split('\n')
-    raise NoToml(said, len(lines), len(lines[-1]))
+    raise at(text, len(text), said)
+
+
+def at(text: str, offset: int, said: str) -> NoToml:
+    """The error at an offset of a text."""
+    return NoToml(said, text.count('\n', 0, offset) + 1, offset - text.rfind('\n', 0, offset) - 1)
+
+
+def pieces(text: str) -> Iterator[re.Match[str]]:
+    """The keys, the brackets, and the texts of several lines and comments of a text, in their order."""
+    return PIECE.finditer(text)
+
+
+def check_keys(text: str) -> None:
+    """Raises a `NoToml` at a key with too many parts."""
+    if text.count('.') < DEEPEST:
+        return
+    for piece in pieces(text):
+        if piece['key'] and piece['key'].count('.') >= DEEPEST and len(PART.findall(piece['key'])) > DEEPEST:
+            raise at(text, piece.start(), MANY_PARTS)
+
+
+def check_brackets(text: str) -> None:
+    """Raises a `NoToml` at the first bracket that is in too many others."""
+    depth = 0
+    for piece in pieces(text):
+        if piece['bracket']:
+            depth += 1 if piece['bracket'] in '[{' else -1
+            if depth > DEEPEST:
+                raise at(text, piece.start(), TOO_DEEP)
+
+
+def is_deep(tables: dict[str, Any]) -> bool:
+    """True if something is in more tables and arrays than may be in each other."""
+    level: list[Any] = [tables]
+    for _ in range(DEEPEST + 1):
+        members = [it for one in level for it in (one.values() if isinstance(one, dict) else one)]
+        level = [it for it in members if isinstance(it, (dict, list))]
+    return bool(level)

@@ -1,17 +1,14 @@
-"""What the words of ./run ask for, looked at before a build: none begins where the program would refuse them."""
+"""Reads the arguments of ./run before a build: none begins if the program would refuse them."""
 from __future__ import annotations
 
-import re
+import argparse
 from collections.abc import Sequence
-from typing import NamedTuple
-
-# The program's options that take a value, and which it takes.
-VALUES = {'--workers': r'\+?0*([1-9]|1[0-6])', '--cut': 'block|stripe', '--sync': 'joins|marks'}
+from typing import NamedTuple, NoReturn
 
 
 class Asked(NamedTuple):
-    """The program's words, the scenario's file and whether help is asked for; whether the program is to be the unproved
-    one; and why the program would refuse the words, if it would."""
+    """The program's arguments, the scenario's file and whether help is asked for; whether the program is to be the unproved
+    one; and why the program would refuse the arguments, if it would."""
     words: list[str]
     file: str | None
     wants_help: bool
@@ -19,62 +16,32 @@ class Asked(NamedTuple):
     refusal: str | None
 
 
-def refusal_of(option: str, value: str) -> str | None:
-    """Why an option doesn't take a value, if it doesn't."""
-    return None if re.fullmatch(VALUES[option], value) else "invalid value '%s' for '%s'" % (value, option)
+class Refused(Exception):
+    """The program would refuse the arguments."""
 
 
-class Reader:
-    """Goes over the words once. `refusals` has the first refusal in front."""
+class Reader(argparse.ArgumentParser):
+    """Reads the program's arguments."""
 
-    def __init__(self, words: Sequence[str]):
-        self.left = iter(words)
-        self.words: list[str] = []
-        self.files: list[str] = []
-        self.refusals: list[str] = []
-        self.wants_help = self.is_unproved = False
+    def __init__(self) -> None:
+        super().__init__(add_help=False, allow_abbrev=False)
+        self.add_argument('--workers', type=int, choices=range(1, 17))
+        self.add_argument('--cut', choices=['block', 'stripe'])
+        self.add_argument('--sync', choices=['joins', 'marks'])
+        self.add_argument('file', nargs='?')
 
-    def asked(self) -> Asked:
-        for word in self.left:
-            if word == '--unproved':
-                self.is_unproved = True
-            else:
-                self.words.append(word)
-                self.take(word)
-        if len(self.files) > 1:
-            self.refuse("unexpected argument '%s' found" % self.files[1])
-        return Asked(self.words, next(iter(self.files), None), self.wants_help, self.is_unproved,
-                     next(iter(self.refusals), None))
-
-    def take(self, word: str) -> None:
-        option, sign, value = word.partition('=')
-        if word == '--':
-            rest = list(self.left)
-            self.words += rest
-            self.files += rest
-        elif word in VALUES:
-            self.take_value(word)
-        elif sign and option in VALUES:
-            self.refuse(refusal_of(option, value))
-        elif word == '--help' or word.startswith('-h'):
-            self.wants_help = True
-        elif word.startswith('-') and word != '-':
-            self.refuse("unexpected argument '%s' found" % word)
-        else:
-            self.files.append(word)
-
-    def take_value(self, option: str) -> None:
-        value = next(self.left, None)
-        if value is None:
-            self.refuse("a value is required for '%s' but none was supplied" % option)
-        else:
-            self.words.append(value)
-            self.refuse(refusal_of(option, value))
-
-    def refuse(self, why: str | None) -> None:
-        self.refusals += [why] if why else []
+    def error(self, message: str) -> NoReturn:
+        raise Refused(message)
 
 
 def asked_by(words: Sequence[str]) -> Asked:
-    """What the words of ./run ask for."""
-    return Reader(words).asked()
+    """What the arguments of ./run ask for. Those after `--` are no options."""
+    end = words.index('--') if '--' in words else len(words)
+    options = set(words[:end])
+    kept = [*(it for it in words[:end] if it != '--unproved'), *words[end:]]
+    wants_help, file, refusal = bool(options & {'--help', '-h'}), None, None
+    try:
+        file = Reader().parse_args([it for it in kept if it not in ('--help', '-h')] if wants_help else kept).file
+    except Refused as fault:
+        refusal = str(fault)
+    return Asked(kept, file, wants_help, '--unproved' in options, refusal)

@@ -21,7 +21,7 @@ import subprocess
 import sys
 import tempfile
 import time
-from collections.abc import Callable, Sequence
+from collections.abc import Sequence
 from pathlib import Path
 from typing import NamedTuple
 
@@ -35,11 +35,9 @@ SCENARIOS: dict[str, tuple[list[int], list[int]]] = {
     'timers': ([64, 200000], [64, 20000]), 'steps': ([10, 1000], [10, 100]),
 }
 WAYS: list[list[str]] = [[], *(['--workers', workers, '--sync', sync] for sync in ('joins', 'marks') for workers in '24')]
-# The commands that count instructions: the processor's own count, and one by one, which needs some fifty times as long.
-COUNTERS = {
-    'perf': (['stat', '-x', ',', '-e', 'instructions:u'], r'(?m)^(\d+),,instructions:u'),
-    'valgrind': (['--tool=cachegrind', '--cache-sim=no', '--cachegrind-out-file=/dev/null'], r'I +refs: +([\d,]+)'),
-}
+COUNTER = ['valgrind', '--tool=cachegrind', '--cache-sim=no', '--cachegrind-out-file=/dev/null']
+# How each measure is shown: its form, and its unit.
+SHOWN = {'user': ('%.3f s', 1), 'clock': ('%.3f s', 1), 'memory': ('%.1f MB', 1e6), 'instructions': ('%.1f M', 1e6)}
 SECONDS = 600
 
 
@@ -49,13 +47,6 @@ class Ran(NamedTuple):
     clock: float
     memory: int
     report: str
-
-
-class Ratio(NamedTuple):
-    """The middle of several ratios, and the quarters around it."""
-    low: float
-    middle: float
-    high: float
 
 
 def generated(name: str, sizes: Sequence[int]) -> bytes:
@@ -82,45 +73,24 @@ def run_once(program: str, words: Sequence[str], scenario: Path, room: Path) -> 
         return Ran(used.ru_utime, clock, used.ru_maxrss * 1024, hashlib.file_digest(found, 'sha256').hexdigest())
 
 
-def ratio_of(ours: Sequence[float], others: Sequence[float]) -> Ratio | None:
-    """The ratios of runs that were made in turn."""
-    ratios = sorted(one / other for one, other in zip(ours, others) if other > 0)
-    if len(ratios) < 4:
-        return Ratio(ratios[0], statistics.median(ratios), ratios[-1]) if ratios else None
-    return Ratio(*statistics.quantiles(ratios, n=4, method='inclusive'))
+def instructions(program: str, scenario: Path) -> int:
+    """The instructions of a run, counted one by one, for which it needs some fifty times as long."""
+    done = subprocess.run([*COUNTER, program, str(scenario)], stdout=subprocess.DEVNULL, stderr=subprocess.PIPE,
+                          encoding='utf-8', timeout=SECONDS)
+    counted = re.search(r'I +refs: +([\d,]+)', done.stderr)
+    if not counted:
+        raise Fault('valgrind counts no instructions of %s: %s' % (program, done.stderr[:200].strip()))
+    return int(counted[1].replace(',', ''))
 
 
-def instructions(program: str, scenario: Path) -> int | None:
-    """The instructions of a run, or None if nothing here counts them."""
-    for name, (words, pattern) in COUNTERS.items():
-        if shutil.which(name):
-            done = subprocess.run([name, *words, program, str(scenario)], stdout=subprocess.DEVNULL, stderr=subprocess.PIPE,
-                                  encoding='utf-8', timeout=SECONDS)
-            counted = re.search(pattern, done.stderr)
-            if counted:
-                return int(counted[1].replace(',', ''))
-    return None
-
-
-def seconds(number: float) -> str:
-    return '%.3f s' % number
-
-
-def megabytes(number: float) -> str:
-    return '%.1f MB' % (number / 1e6)
-
-
-def millions(number: float) -> str:
-    return '%.1f M' % (number / 1e6)
-
-
-def cell(name: str, ours: Sequence[float], others: Sequence[float], shown: Callable[[float], str]) -> str:
-    """A measure of this program, with that of the earlier one and their ratio."""
-    if not others:
-        return '%s %s' % (name, shown(min(ours)))
-    ratio = ratio_of(ours, others)
-    spread = ' (%.2f to %.2f)' % (ratio.low, ratio.high) if ratio and len(ours) > 1 else ''
-    return '%s %s, %s%s' % (name, shown(min(ours)), shown(min(others)), ': %.2f%s' % (ratio.middle, spread) if ratio else '')
+def cell(name: str, ours: Sequence[float], others: Sequence[float]) -> str:
+    """A measure of this program; with that of the earlier one, and the middle, the least and the greatest of the ratios of
+    runs that were made in turn."""
+    form, unit = SHOWN[name]
+    best = ', '.join(form % (min(it) / unit) for it in (ours, others) if it)
+    ratios = [one / other for one, other in zip(ours, others) if other]
+    spread = ' (%.2f to %.2f)' % (min(ratios), max(ratios)) if len(ratios) > 1 else ''
+    return '%s %s%s' % (name, best, ': %.2f%s' % (statistics.median(ratios), spread) if ratios else '')
 
 
 def built_host(scenario: Path, folder: Path) -> str:
@@ -145,10 +115,9 @@ def measure(name: str, sizes: Sequence[int], programs: Sequence[str], rounds: in
         def show(title: str, programs: Sequence[str], way: Sequence[str]) -> None:
             turns = [[run_once(program, way, scenario, room) for program in programs] for _ in range(rounds)]
             reports.update(it.report for turn in turns for it in turn)
-            ours, others = [it[0] for it in turns], [it[1] for it in turns if len(it) > 1]
-            print('  %-28s %s' % (title, '; '.join(
-                cell(part, [getattr(it, part) for it in ours], [getattr(it, part) for it in others], shown)
-                for part, shown in (('user', seconds), ('clock', seconds), ('memory', megabytes)))), flush=True)
+            cells = [cell(part, [getattr(it[0], part) for it in turns], [getattr(it[1], part) for it in turns if len(it) > 1])
+                     for part in ('user', 'clock', 'memory')]
+            print('  %-28s %s' % (title, '; '.join(cells)), flush=True)
 
         for way in WAYS:
             show(' '.join(way) or 'one thread', programs, way)
@@ -156,11 +125,8 @@ def measure(name: str, sizes: Sequence[int], programs: Sequence[str], rounds: in
             show('one thread, and the host', [programs[0], built_host(scenario, room / 'host')], [])
         if counts:
             scenario.write_bytes(generated(name, SCENARIOS[name][1]))
-            found = [instructions(program, scenario) or 0 for program in programs]
-            if not found[0]:
-                print('  instructions are not counted: on Debian `apt-get install valgrind` installs what counts them')
-            else:
-                print('  %s' % cell('instructions of a tenth, on one thread', found[:1], found[1:], millions))
+            found = [float(instructions(program, scenario)) for program in programs]
+            print('  %s, of a tenth, on one thread' % cell('instructions', found[:1], found[1:]))
     if len(reports) > 1:
         print('  THE REPORTS DIFFER')
     return len(reports) == 1
@@ -180,9 +146,12 @@ def main() -> int:
     for name in asked.names:
         if name not in SCENARIOS:
             raise Fault('there is no scenario %s; there are: %s' % (name, ', '.join(SCENARIOS)))
+    counts = not asked.no_instructions and bool(shutil.which('valgrind'))
+    if not counts and not asked.no_instructions:
+        print('Instructions are not counted: on Debian `apt-get install valgrind` installs what counts them.')
     programs = [program_of(asked.program), *([program_of(asked.against)] if asked.against else [])]
     if len(programs) > 1:
         print('Each measure is that of %s, that of %s, and their ratio.' % tuple(programs))
-    same = [measure(name, SCENARIOS[name][asked.small], programs, max(1, asked.rounds), not asked.no_instructions, asked.host)
+    same = [measure(name, SCENARIOS[name][asked.small], programs, max(1, asked.rounds), counts, asked.host)
             for name in asked.names or SCENARIOS]
     return 0 if all(same) else 1

@@ -14,7 +14,6 @@ import signal
 import subprocess
 import sys
 import tempfile
-import threading
 import time
 from collections.abc import Iterator
 from pathlib import Path
@@ -70,19 +69,17 @@ def room(name: str) -> Iterator[Path]:
 
 
 def waited_for(ran: subprocess.Popen[str], line: Line | None, began: float) -> str:
-    """What a command says until it ends; meanwhile a terminal shows how long it has taken."""
-    said: list[str] = []
-    assert ran.stdout
-    reading = threading.Thread(target=lambda: said.extend(ran.stdout or ()), daemon=True)
-    reading.start()
-    while reading.is_alive():
-        if line:
-            line.renew('%s (%d s so far)' % (COMPILING, time.time() - began), [])
-        reading.join(1)
-    ran.wait()
-    if line:
-        line.end()
-    return ''.join(said)
+    """The messages of a command, once it has ended; until then a terminal shows the time so far."""
+    while True:
+        try:
+            said, _ = ran.communicate(timeout=1)
+        except subprocess.TimeoutExpired:
+            if line:
+                line.renew('%s (%d s so far)' % (COMPILING, time.time() - began))
+        else:
+            if line:
+                line.end()
+            return said
 
 
 def megabytes_free() -> int:

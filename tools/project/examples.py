@@ -1,10 +1,9 @@
-"""Checks that each example shows what is said of it: tools/dev/check_examples [PROGRAM]
+"""Checks that each example shows what is said of it: tools/dev/check_examples [--program FILE]
 
 For each scenario of examples/ the sentences of NAME.expect.toml have to hold, as tools/expect tells them; what
 README.md and the pages of docs/ quote of an example must be in it or in its report. For each task of examples/lesson
-the solution has to meet the expectations, and what students begin with must not. PROGRAM is a built motesim;
-without it the one that is built here, or that the environment variable MOTESIM names. Prints a line for each example,
-and what is broken, and ends with a line `N passed, M failed`, and with status 1 where an example failed.
+the solution has to meet the expectations, and what students begin with must not. Prints a line for each example, and
+what is broken, and ends with a line `N passed, M failed`, and with status 1 if an example failed.
 """
 from __future__ import annotations
 
@@ -21,7 +20,7 @@ from motesim.judge.judge import Judge
 from motesim.report import Report
 from motesim.runner.run import Run, read_run
 from project.runs import Wrong, asked_for, count
-from project.tree import TOP, program_of
+from project.tree import TOP
 
 PAGES = ['README.md', 'docs/use/EXAMPLES.md', 'docs/use/SCENARIO.md', 'docs/use/REPORT.md']
 EXPECTED = '.expect.toml'
@@ -98,8 +97,7 @@ def check_task(task: Path) -> str:
 
 @command('check_examples')
 def main() -> int:
-    asked, program = asked_for(__doc__, 'programs', metavar='PROGRAM', help='the same as --program')
-    os.environ['MOTESIM'] = program_of(asked.programs[0]) if asked.programs else program
+    _, os.environ['MOTESIM'] = asked_for(__doc__)
     paths = [path for path in sorted((TOP / 'examples').glob('*.toml')) if not path.name.endswith(EXPECTED)]
     quotes = quoted([page for page in PAGES if (TOP / page).is_file()])
     tasks = sorted((TOP / 'examples/lesson').glob('*' + EXPECTED))

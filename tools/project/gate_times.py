@@ -24,13 +24,15 @@ from pathlib import Path
 from typing import Any
 
 from motesim.faults import Fault, command
+from motesim.words import words_of
 from project import pace
 from project.headline import crates_of
+from project.marked import Marks
 from project.tree import TOP
 
 KEPT = TOP / 'out/gate_times.json'
 PAGE = TOP / 'docs/dev/GATE.md'
-BEGIN, END = '<!-- by crate: written by tools/dev/gate_times -->', '<!-- end -->'
+MARKS = Marks('<!-- by crate: written by tools/dev/gate_times -->', '<!-- end -->')
 HEAD = '| Crate | Proof | Tests | Mutants |\n|---|---|---|---|\n'
 # The crate whose proof during the run is the unit.
 UNIT = 'delivery_laws'
@@ -171,26 +173,24 @@ def summary(run: Noted) -> str:
 
 @command('gate_times')
 def main() -> int:
-    words = sys.argv[1:]
-    if words[:1] == ['--'] and len(words) > 1:
-        status, run = measured(words[1:])
+    words = words_of(__doc__)
+    words.add_argument('--show', action='store_true', help="print the last run's figures")
+    words.add_argument('--write', action='store_true', help='write them into the tree')
+    words.add_argument('called', nargs='*', metavar='COMMAND', help='the command to measure, after --')
+    asked = words.parse_args()
+    if asked.called:
+        status, run = measured(asked.called)
         KEPT.parent.mkdir(exist_ok=True)
         KEPT.write_text(json.dumps(run, indent=1), 'utf-8')
         print('gate_times: %s (tools/dev/gate_times --show: by crate)' % summary(run), file=sys.stderr, flush=True)
         return status if status >= 0 else 128 - status
-    if words not in (['--show'], ['--write']):
-        print(__doc__, end='')
-        return 0 if words in (['--help'], ['-h']) else 2
     if not KEPT.is_file():
-        raise Fault('no run has been noted')
+        raise Fault('no run has been noted: tools/dev/gate_times -- rt ci makes one')
     run = json.loads(KEPT.read_text('utf-8'))
-    if words == ['--show']:
-        print(table(run))
-    else:
-        before, begin, rest = PAGE.read_text('utf-8').partition(BEGIN)
-        if END not in rest:
-            raise Fault('%s has no marks for the table' % PAGE)
-        PAGE.write_text(before + begin + '\n' + table(run) + END + rest.partition(END)[2], 'utf-8')
+    if asked.write:
+        MARKS.write(PAGE, table(run))
         pace.keep({crate: seconds[PROOF] for crate, seconds in run['crates'].items()})
+    else:
+        print(table(run))
     print(landing(run))
     return 0

@@ -1,11 +1,13 @@
-"""Lists the files of specs/ on which the headline rests, in docs/proof/HEADLINE.md: tools/dev/headline_files [--write |
---check]
+"""Lists the files of specs/ on which the headline rests, in docs/proof/HEADLINE.md.
+
+    tools/dev/headline_files            prints the list
+    tools/dev/headline_files --write    writes it between the marks of the page
+    tools/dev/headline_files --check    ends with status 1 if the page has another list
 
 The headline is the contract of `simulate`, crates/simulation/specs/Simulation*.antt. A file rests on each file of
 specs/ that it imports, and on what those rest on. The list goes from the top down: the crates from the last of
 crates.txt to the first, and within a crate a file before those that it imports. Each file is listed with its lines and
-its own first comment. Without an option the list is printed; `--write` writes it between the marks of the page, and
-`--check` says whether the page has it, and ends with status 1 if it doesn't.
+its own first comment.
 """
 from __future__ import annotations
 
@@ -15,14 +17,14 @@ from dataclasses import dataclass, field
 from pathlib import Path
 
 from motesim.faults import Fault, command
-from motesim.words import words_of
+from project.marked import Marks, list_command
 from project.tree import TOP
 
-PAGE = Path('docs/proof/HEADLINE.md')
+PAGE = 'docs/proof/HEADLINE.md'
 HEADLINE = 'crates/simulation/specs/Simulation*.antt'
 WIDTH = 112
 CONSTANTS = 'TheConstants'
-BEGIN, END = '<!-- the files: written by tools/dev/headline_files -->', '<!-- end of the files -->'
+MARKS = Marks('<!-- the files: written by tools/dev/headline_files -->', '<!-- end of the files -->')
 IMPORT = re.compile(r'^(?:pub )?use ([\w.]+?)(?:\.\{| as |\.?$)', re.M)
 DECLARED = re.compile(r'^(?:pub )?use Rattle\.(\w+)\.specs\.declared\.([\w.]+?)\.([A-Z]\w*)(?:\.|\s|$)', re.M)
 
@@ -163,23 +165,4 @@ def listed(top: Path) -> str:
 
 @command('headline_files')
 def main() -> int:
-    words = words_of(__doc__)
-    way = words.add_mutually_exclusive_group()
-    way.add_argument('--write', action='store_true', help='write the list into %s' % PAGE)
-    way.add_argument('--check', action='store_true', help='say whether %s has the list' % PAGE)
-    asked, text = words.parse_args(), listed(TOP)
-    if not asked.write and not asked.check:
-        print(text.strip())
-        return 0
-    before, begin, rest = (TOP / PAGE).read_text('utf-8').partition(BEGIN + '\n')
-    between, end, after = rest.partition(END)
-    if not begin or not end:
-        raise Fault('%s lacks the marks %s and %s' % (PAGE, BEGIN, END))
-    if asked.write:
-        (TOP / PAGE).write_text(before + begin + text + end + after, 'utf-8')
-    elif between != text:
-        print('%s has another list; tools/dev/headline_files --write renews it' % PAGE)
-        return 1
-    else:
-        print('%s has the files on which the headline rests' % PAGE)
-    return 0
+    return list_command('headline_files', __doc__, TOP / PAGE, MARKS, lambda: listed(TOP))

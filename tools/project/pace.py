@@ -1,4 +1,4 @@
-"""What each crate's proof needs, as it was measured, and how much longer a proof lasts.
+"""The time that each crate's proof needed, as it was measured, and how long a proof of some crates lasts.
 
 tools/project/crate_seconds.json has the processor seconds of each crate's proof, which `tools/dev/gate_times --write`
 writes, and the minutes of a build from nothing by the number of processors, which are written there by hand.
@@ -6,26 +6,25 @@ writes, and the minutes of a build from nothing by the number of processors, whi
 from __future__ import annotations
 
 import json
-import time
 from collections.abc import Iterable, Mapping, Sequence
 from typing import Any, Protocol
 
-from project.tree import PARTS, TOP
+from project.tree import TOP
 
 KEPT = TOP / 'tools/project/crate_seconds.json'
-# The part of the whole for which the pace of earlier proofs counts besides what is measured in this one.
-WEIGHT = 0.15
+# The seconds of a crate if none are noted.
+UNKNOWN = 60.0
 
 
 class Crate(Protocol):
-    """What is asked of a crate here."""
+    """The parts of a crate that are used here."""
     @property
     def name(self) -> str: ...
     def below(self) -> Sequence[Crate]: ...
 
 
 def kept() -> dict[str, Any]:
-    """What is noted; nothing in a tree without the file."""
+    """The noted figures; none in a tree without the file."""
     found: dict[str, Any] = json.loads(KEPT.read_text('utf-8')) if KEPT.is_file() else {}
     return found
 
@@ -36,24 +35,11 @@ def keep(seconds: Mapping[str, float]) -> None:
     KEPT.write_text(json.dumps(noted, indent=1) + '\n', 'utf-8')
 
 
-def lines_of(crate: str) -> int:
-    """The lines that a crate's check reads."""
-    files = [it for part in PARTS for it in (TOP / 'crates' / crate / part).rglob('*') if it.is_file()]
-    return sum(it.read_bytes().count(b'\n') for it in files)
-
-
 def seconds_of(crates: Iterable[str]) -> dict[str, float]:
-    """The noted seconds of each crate; of one that isn't noted, by its lines and the others' seconds per line."""
-    noted, lines = kept().get('proof', {}), {it: lines_of(it) for it in crates}
-    known = {it: noted[it] for it in lines if noted.get(it)}
-    per_line = sum(known.values()) / max(sum(lines[it] for it in known), 1) or 0.05
-    return {it: known.get(it) or 5 + lines[it] * per_line for it in lines}
-
-
-def minutes_from_nothing(processors: int) -> float | None:
-    """The minutes of a build from nothing with the nearest number of processors that was measured."""
-    measured = {int(number): float(it) for number, it in kept().get('minutes from nothing', {}).items()}
-    return measured[min(measured, key=lambda it: abs(it - processors))] if measured else None
+    """The noted seconds of each crate; the mean of all for a crate without a note."""
+    noted = kept().get('proof', {})
+    mean = sum(noted.values()) / len(noted) if noted else UNKNOWN
+    return {it: noted.get(it, mean) for it in crates}
 
 
 def chains(crates: Sequence[Crate], seconds: Mapping[str, float]) -> dict[str, float]:
@@ -67,36 +53,17 @@ def chains(crates: Sequence[Crate], seconds: Mapping[str, float]) -> dict[str, f
     return after
 
 
-def whole(crates: Sequence[Crate], seconds: Mapping[str, float], processors: int) -> float:
-    """The seconds of all crates: no less than the longest chain, and no less than all of them on all processors."""
-    return max([*chains(crates, seconds).values(), sum(seconds[it.name] for it in crates) / processors])
+def minutes_from_nothing(processors: int) -> float | None:
+    """The minutes of a build from nothing with the nearest number of processors that was measured."""
+    measured = {int(number): float(it) for number, it in kept().get('minutes from nothing', {}).items()}
+    return measured[min(measured, key=lambda it: abs(it - processors))] if measured else None
 
 
-def pace_before(crates: Sequence[Crate], processors: int) -> float:
-    """How long a noted second lasted in earlier builds from nothing."""
-    measured = minutes_from_nothing(processors)
-    of_crates = whole(crates, seconds_of(it.name for it in crates), processors)
-    return measured * 60 / of_crates if measured and of_crates else 1
+def minutes_of(left: Sequence[Crate], crates: Sequence[Crate], processors: int) -> float:
+    """The minutes that a proof of the crates that are left lasts, by those of the measured proof of all crates. No proof
+    is shorter than its longest chain, or than all of its crates on all processors."""
+    def whole(some: Sequence[Crate]) -> float:
+        seconds = seconds_of(it.name for it in some)
+        return max([*chains(some, seconds).values(), sum(seconds.values()) / processors])
 
-
-class Estimate:
-    """How much of a proof is left. `shares` has the part of each crate that is proved."""
-
-    def __init__(self, crates: Sequence[Crate], processors: int, pace: float = 1):
-        self.crates, self.processors, self.pace = crates, processors, pace
-        self.seconds = seconds_of(it.name for it in crates)
-        self.shares: dict[str, float] = {}
-        self.began, self.first = time.monotonic(), self.work()
-
-    def left_of(self, crate: Crate) -> float:
-        """The noted seconds of a crate that are left."""
-        return self.seconds[crate.name] * (1 - self.shares.get(crate.name, 0))
-
-    def work(self) -> float:
-        return whole(self.crates, {it.name: self.left_of(it) for it in self.crates}, self.processors)
-
-    def left(self) -> float:
-        """The seconds that are left, at a pace between that of earlier proofs and that of this one."""
-        work, before = self.work(), WEIGHT * self.first
-        elapsed = time.monotonic() - self.began
-        return work * (self.pace * before + elapsed) / (before + self.first - work or 1)
+    return (minutes_from_nothing(processors) or whole(crates) / 60) * whole(left) / (whole(crates) or 1)

@@ -16,6 +16,7 @@ import gzip
 import hashlib
 import io
 import subprocess
+import sys
 import tarfile
 from pathlib import Path
 
@@ -41,7 +42,7 @@ exec "$here/motesim" "$@"
 README = """# motesim %(version)s
 
 `./run examples/flooding.toml` simulates a scenario, and writes its report to standard output. `./run --help` has the
-options. The tools take Python 3.11 or newer; each says by `--help` what it does:
+options. The tools need Python 3.11 or newer; each says by `--help` what it does:
 
 %(tools)s
 
@@ -94,6 +95,8 @@ def program() -> Path:
     """The proved program of these sources; without one, the fast one that is compiled without a proof."""
     found = program_of_sources()
     if found is None or found.name == compiling.FIRST:
+        print('pack: the optimized program is being compiled first, which lasts some minutes',
+              file=sys.stderr, flush=True)
         compiling.make_fast()
         found = program_of_sources()
     if found is None or found.name == compiling.FIRST:
@@ -157,7 +160,7 @@ def files(program: Path) -> dict[str, tuple[bytes, int]]:
 
 
 def is_for_teachers(file: Path) -> bool:
-    """Whether students shouldn't get a file: the solutions of the lesson, and the page on how it is graded."""
+    """True if students shouldn't get a file: the solutions of the lesson, and the page on how it is graded."""
     return TOP / 'examples/lesson/solutions' in file.parents or file == TOP / 'docs/use/TEACH.md'
 
 
@@ -185,4 +188,5 @@ def main() -> int:
     path.write_bytes(data)
     which = 'the proved program' if is_proved(packed) else 'a program that is compiled, not proved (./prove proves it)'
     print('%s: %.1f MB, with %s' % (path, len(data) / 1e6, which))
+    print('Students unpack it by: tar xzf %s && cd %s && ./run examples/flooding.toml' % (path.name, folder))
     return 0

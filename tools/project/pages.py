@@ -1,13 +1,13 @@
-"""Checks that the commands of the tutorial give what the page shows: tools/dev/check_tutorial [--write] [PROGRAM]
+"""Checks that the commands of the pages print what the pages show: tools/dev/check_tutorial [--write] [PAGE ..]
 
 The pages are those of docs/use/. Their blocks of commands begin with ```sh, and the output of these is in the block
 right after, which begins with ```. If there is no such block, they print nothing. A block that begins with ```console
 has commands that open a window, and is not run. A block that begins with ```toml NAME, ```mote NAME or ```python NAME
 is a file that the reader saves under that name. The commands of a page are run in a folder of their own, in which
-./run, tools/ and examples/ are found. PROGRAM is the motesim that they run, else the built one.
+./run, tools/ and examples/ are found.
 
 Shows the difference of each block that fails. Ends with a line `N passed, M failed`, and with status 1 if one failed.
-With `--write` it writes the output of the commands into the pages, to be read before it is kept.
+With `--write` it writes the output of the commands into the pages: read it before you keep it.
 """
 from __future__ import annotations
 
@@ -23,7 +23,7 @@ from pathlib import Path
 from motesim.faults import Fault, command
 from motesim.words import words_of
 from project.runs import count
-from project.tree import TOP, program_of
+from project.tree import TOP, program_of, take_program
 
 PAGES = sorted(TOP.glob('docs/use/*.md'))
 FENCE = '```'
@@ -128,18 +128,18 @@ def check(name: str, text: str, program: Path) -> Checked:
 @command('check_tutorial')
 def main() -> int:
     words = words_of(__doc__)
+    take_program(words)
     words.add_argument('--write', action='store_true', help='put what the commands print into the pages')
-    words.add_argument('--page', action='append', metavar='FILE', help='this page, and no other')
-    words.add_argument('program', nargs='?', metavar='PROGRAM', help='the motesim to run')
+    words.add_argument('pages', nargs='*', type=Path, metavar='PAGE', help='these pages; else those of docs/use')
     asked = words.parse_args()
     program, total = Path(program_of(asked.program)), 0
     faults: list[str] = []
-    for page in map(Path, asked.page or PAGES):
+    for page in asked.pages or PAGES:
         text = page.read_text(encoding='utf-8')
         checked = check(page.name, text, program)
         total += checked.total
         faults += checked.faults
         if asked.write and checked.text != text:
             page.write_text(checked.text, encoding='utf-8')
-            print('%s is written again' % page.name)
+            print('%s is updated' % page.name)
     return 0 if count(total, faults) == 0 or asked.write else 1

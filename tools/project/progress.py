@@ -3,20 +3,13 @@ from __future__ import annotations
 
 import os
 import shutil
-import threading
-from collections.abc import Sequence
 from typing import TextIO
 
 RENEW = '\r\x1b[K'
 
 
-def fitted(text: str, names: Sequence[str], width: int) -> str:
-    """The text, with as many of the names after it as fit whole, and the number of the others."""
-    for shown in range(len(names), 0, -1):
-        more = ' and %d more' % (len(names) - shown) if shown < len(names) else ''
-        line = '%s (now %s%s)' % (text, ', '.join(names[:shown]), more)
-        if len(line) <= width:
-            return line
+def fitted(text: str, width: int) -> str:
+    """The text, or as much of it as fits."""
     return text if len(text) <= width else text[:max(0, width - 2)] + '..'
 
 
@@ -24,21 +17,20 @@ class Line:
     """Standard error with a line that is renewed on a terminal, and lines that stay."""
 
     def __init__(self, stream: TextIO, name: str = 'motesim'):
-        self.stream, self.name, self.printing = stream, name, threading.Lock()
+        self.stream, self.name = stream, name
         self.is_terminal = stream.isatty() and os.environ.get('TERM', 'dumb') != 'dumb'
 
     def print(self, text: str, end: str) -> None:
-        with self.printing:
-            print(RENEW * self.is_terminal + text, end=end, file=self.stream, flush=True)
+        print(RENEW * self.is_terminal + text, end=end, file=self.stream, flush=True)
 
     def say(self, text: str) -> None:
         """Prints a line that stays."""
         self.print('%s: %s' % (self.name, text), '\n')
 
-    def renew(self, text: str, names: Sequence[str] = ()) -> None:
+    def renew(self, text: str) -> None:
         """Prints the line that is renewed, on a terminal."""
         if self.is_terminal:
-            self.print(fitted('%s: %s' % (self.name, text), names, shutil.get_terminal_size().columns - 1), '')
+            self.print(fitted('%s: %s' % (self.name, text), shutil.get_terminal_size().columns - 1), '')
 
     def end(self) -> None:
         """Removes the line that is renewed."""

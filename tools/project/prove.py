@@ -9,84 +9,35 @@ proved. ./test is the gate, which proves everything from nothing, and tests it.
 from __future__ import annotations
 
 import os
-import re
 import signal
 import sys
-import threading
 import time
-from collections.abc import Sequence
+from collections.abc import Iterable, Sequence
 from concurrent.futures import FIRST_COMPLETED, Future, ThreadPoolExecutor, wait
 from pathlib import Path
-from typing import NoReturn
+from typing import NamedTuple, NoReturn
 
 from motesim.faults import Fault, command
 from motesim.runner.programs import proved_program
 from motesim.words import words_of
 from project import kit
 from project.compile import clear_others
-from project.pace import Estimate, chains, pace_before
+from project.pace import chains, minutes_of, seconds_of
 from project.progress import Line
 from project.tree import PROGRAM, TOP
 
 NAME = PROGRAM.name
+# The memory that each further job of a check needs, as a part of that of the first, and the most jobs of a check.
+PART_OF_JOB, MOST_JOBS = 0.6, 8
 
 
-def minutes(seconds: float) -> str:
-    return '%d minutes' % round(seconds / 60) if seconds >= 90 else 'a minute'
+def minutes(number: float) -> str:
+    return '%d minutes' % round(number) if number >= 1.5 else 'a minute'
 
 
-class Log:
-    """Keeps the prover's output about a crate, and finds in it the share of the crate that is checked."""
-
-    def __init__(self, crate: kit.Crate, shares: dict[str, float]):
-        self.name, self.shares, self.path = crate.name, shares, Path(crate.folder) / 'out/build.log'
-        self.path.parent.mkdir(exist_ok=True)
-        self.file = open(self.path, 'w', encoding='utf-8')
-        shares[crate.name] = 0
-
-    def write(self, text: str) -> int:
-        self.file.write(text)
-        counted = re.search(r'(\d+) of (\d+)( functions checked|$)', text.rstrip('\n'))
-        if counted and int(counted[2]):
-            self.shares[self.name] = 0.9 * int(counted[1]) / int(counted[2])
-        return len(text)
-
-    def flush(self) -> None:
-        self.file.flush()
-
-
-class Progress:
-    """Shows how far a proof is: renews the line on a terminal, or says a line each minute, until the proof ends."""
-
-    def __init__(self, estimate: Estimate, line: Line):
-        self.estimate, self.line, self.ended = estimate, line, threading.Event()
-        self.logs: dict[str, Log] = {}
-        self.renewing = threading.Thread(target=self.renew, daemon=True)
-
-    def state(self) -> str:
-        elapsed = time.monotonic() - self.estimate.began
-        done = sum(it == 1 for it in self.estimate.shares.values())
-        left = ', about %s left' % minutes(self.estimate.left()) if done < len(self.estimate.crates) else ''
-        return '%d of %d proved, %d:%02d so far%s' % (done, len(self.estimate.crates), elapsed // 60, elapsed % 60, left)
-
-    def renew(self) -> None:
-        while not self.ended.wait(1 if self.line.is_terminal else 60):
-            names = [it for it, share in list(self.estimate.shares.items()) if share < 1]
-            if self.line.is_terminal:
-                self.line.renew(self.state(), names)
-            else:
-                self.line.say('%s (now %s)' % (self.state(), ', '.join(names)))
-
-    def ends(self, name: str, is_proved: bool) -> None:
-        """Reports that the proof of a crate has ended."""
-        self.logs[name].flush()
-        if is_proved:
-            self.estimate.shares[name] = 1
-            if not self.line.is_terminal:
-                self.line.say('%s is proved: %s' % (name, self.state()))
-        else:
-            self.line.say('%s is not proved (%s):' % (name, self.logs[name].path))
-            self.line.print(self.logs[name].path.read_text('utf-8', 'replace'), '')
+def log_of(crate: kit.Crate) -> Path:
+    """The file with the prover's output about a crate."""
+    return Path(crate.folder) / 'out/build.log'
 
 
 def make(crate: kit.Crate, jobs: int, began: float) -> bool:
@@ -105,52 +56,93 @@ def make(crate: kit.Crate, jobs: int, began: float) -> bool:
     return True
 
 
-def work(crate: kit.Crate, jobs: int, gives_way: bool, log: Log, began: float) -> bool:
+def work(crate: kit.Crate, jobs: int, gives_way: bool, began: float) -> bool:
+    """Proves a crate, and returns whether it is proved."""
     kit.gives_way(gives_way)
-    try:
-        crate.out = log  # type: ignore[assignment]
-        return make(crate, jobs, began)
-    except SystemExit:
-        # (the kit ends so, and says why on standard error)
-        return False
+    log_of(crate).parent.mkdir(exist_ok=True)
+    with open(log_of(crate), 'w', encoding='utf-8') as log:
+        crate.out = log
+        try:
+            return make(crate, jobs, began)
+        except SystemExit:
+            # (the kit ends so, and says why on standard error)
+            return False
 
 
-def jobs_of(crate: kit.Crate, ready: Sequence[kit.Crate], running: Sequence[kit.Crate],
-            estimate: Estimate) -> tuple[int, bool]:
-    """How many jobs a crate is proved by, and whether it leaves the processors to others. The one that all wait for
-    has all processors, and goes first on them; each other one has a fair part of those that are idle."""
-    left = chains(estimate.crates, {it.name: estimate.left_of(it) for it in estimate.crates})
-    is_longest = all(left[it.name] <= left[crate.name] for it in [*ready, *running])
-    idle = max(1, estimate.processors - len(running))
-    return (estimate.processors if is_longest else max(1, idle // len(ready))), not is_longest
+class Running(NamedTuple):
+    """A crate that is being proved, and the memory that this needs."""
+    crate: kit.Crate
+    memory: float
 
 
-def prove(crates: Sequence[kit.Crate], built: Sequence[kit.Crate], progress: Progress) -> bool:
-    """Proves the crates, those with the longest chain first."""
-    estimate, date, memory = progress.estimate, time.time(), 0.85 * kit.free()
-    after = chains(crates, estimate.seconds)
-    left, is_well = sorted(crates, key=lambda it: -after[it.name]), True
-    running: dict[Future[bool], tuple[kit.Crate, float]] = {}
-    proved = {it.name for it in built}
-    with ThreadPoolExecutor(estimate.processors) as pool:
-        while running or (left and is_well):
-            ready = [it for it in left if {below.name for below in it.below()} <= proved] if is_well else []
-            for at, crate in enumerate(ready):
-                need, room = kit.need(crate), memory - sum(it for _, it in running.values())
-                if len(running) >= estimate.processors or (running and need > room):
-                    continue
-                jobs, gives_way = jobs_of(crate, ready[at:], [it for it, _ in running.values()], estimate)
-                # (each further job needs some six tenths of the memory of the first)
-                jobs = max(1, min(jobs, 8, 1 + int((room / need - 1) / 0.6)))
-                left.remove(crate)
-                log = progress.logs[crate.name] = Log(crate, estimate.shares)
-                running[pool.submit(work, crate, jobs, gives_way, log, date)] = crate, need * (1 + 0.6 * (jobs - 1))
-            for ended in wait(running, return_when=FIRST_COMPLETED).done:
-                crate, _ = running.pop(ended)
-                is_well = is_well and ended.result()
-                proved.add(crate.name)
-                progress.ends(crate.name, ended.result())
-    return is_well
+class Proof:
+    """A proof of crates, several at once: first those for which the longest chain of others waits."""
+
+    def __init__(self, crates: Sequence[kit.Crate], proved: Iterable[str], processors: int, line: Line, about: str = ''):
+        self.crates, self.processors, self.line, self.about = crates, processors, line, about
+        self.proved, self.is_well, self.began = set(proved), True, time.time()
+        self.running: dict[Future[bool], Running] = {}
+        self.seconds = seconds_of(it.name for it in crates)
+        after = chains(crates, self.seconds)
+        self.left = sorted(crates, key=lambda it: -after[it.name])
+
+    def state(self) -> str:
+        """How many crates are proved, after which time, and which ones are being proved."""
+        done, elapsed = sum(it.name in self.proved for it in self.crates), time.time() - self.began
+        text = '%d of %d proved, %d:%02d%s' % (done, len(self.crates), elapsed // 60, elapsed % 60, self.about)
+        names = ', '.join(it.crate.name for it in self.running.values())
+        return '%s (now %s)' % (text, names) if names else text
+
+    def jobs_of(self, crate: kit.Crate, ready: Sequence[kit.Crate]) -> tuple[int, bool]:
+        """How many jobs a crate is proved by, and whether it leaves the processors to others. The one that all wait for
+        has all processors, and goes first on them; each other one has a fair part of those that are idle."""
+        left = chains([it for it in self.crates if it.name not in self.proved], self.seconds)
+        running = [it.crate for it in self.running.values()]
+        is_longest = all(left[it.name] <= left[crate.name] for it in [*ready, *running])
+        idle = max(1, self.processors - len(running))
+        return (self.processors if is_longest else max(1, idle // len(ready))), not is_longest
+
+    def start(self, pool: ThreadPoolExecutor, memory: float) -> None:
+        """Begins the crates whose libraries are proved, as far as processors and memory allow."""
+        ready = [it for it in self.left if {below.name for below in it.below()} <= self.proved] if self.is_well else []
+        for at, crate in enumerate(ready):
+            need, room = kit.need(crate), memory - sum(it.memory for it in self.running.values())
+            if len(self.running) >= self.processors or (self.running and need > room):
+                continue
+            jobs, gives_way = self.jobs_of(crate, ready[at:])
+            jobs = max(1, min(jobs, MOST_JOBS, 1 + int((room / need - 1) / PART_OF_JOB)))
+            self.left.remove(crate)
+            ended = pool.submit(work, crate, jobs, gives_way, self.began)
+            self.running[ended] = Running(crate, need * (1 + PART_OF_JOB * (jobs - 1)))
+
+    def end(self, crate: kit.Crate, is_proved: bool) -> None:
+        """Notes that the proof of a crate has ended, and reports it."""
+        self.is_well = self.is_well and is_proved
+        if is_proved:
+            self.proved.add(crate.name)
+            if not self.line.is_terminal:
+                self.line.say('%s is proved: %s' % (crate.name, self.state()))
+        else:
+            self.line.say('%s is not proved (%s):' % (crate.name, log_of(crate)))
+            self.line.print(log_of(crate).read_text('utf-8', 'replace'), '')
+
+    def run(self) -> bool:
+        """Proves the crates, and returns whether all are proved."""
+        memory = 0.85 * kit.free()
+        with ThreadPoolExecutor(self.processors) as pool:
+            self.start(pool, memory)
+            while self.running:
+                ended = wait(self.running, 1 if self.line.is_terminal else 60, FIRST_COMPLETED).done
+                for it in ended:
+                    self.end(self.running.pop(it).crate, it.result())
+                if ended:
+                    self.start(pool, memory)
+                if self.line.is_terminal:
+                    self.line.renew(self.state())
+                elif not ended:
+                    self.line.say(self.state())
+        self.line.end()
+        return self.is_well
 
 
 def stop(line: Line, number: int) -> NoReturn:
@@ -164,7 +156,7 @@ def stop(line: Line, number: int) -> NoReturn:
 @command('prove')
 def main() -> int:
     words_of(__doc__, './prove').parse_args()
-    line, began = Line(sys.stderr, 'prove'), time.monotonic()
+    line = Line(sys.stderr, 'prove')
     for number in signal.SIGINT, signal.SIGTERM, signal.SIGHUP:
         signal.signal(number, lambda number, _: stop(line, number))
     if kit.another():
@@ -177,18 +169,15 @@ def main() -> int:
     if proved_program():
         line.say('the proved program of these sources is built already')
         return 0
-    built = [it for it in crates if not it.is_program and it.is_built()]
-    left = [it for it in crates if it not in built]
+    built = [it.name for it in crates if not it.is_program and it.is_built()]
+    left = [it for it in crates if it.name not in built]
     processors = kit.processors()
-    progress = Progress(Estimate(left, processors, pace_before(crates, processors)), line)
+    estimate = minutes(minutes_of(left, crates, processors))
     line.say('proving %d crate%s%s: about %s on the %s here; interrupt it at any time, ./prove resumes' % (
         len(left), 's' * (len(left) > 1), ' (%d are proved already)' % len(built) if built else '',
-        minutes(progress.estimate.left()), '%d processors' % processors if processors > 1 else 'one processor'))
-    progress.renewing.start()
-    is_well = prove(left, built, progress)
-    progress.ended.set()
-    progress.renewing.join()
-    line.end()
+        estimate, '%d processors' % processors if processors > 1 else 'one processor'))
+    proof = Proof(left, built, processors, line, ' of about %s' % estimate)
+    is_well = proof.run()
     for it in held:
         os.close(it)
     if not is_well:
@@ -197,5 +186,5 @@ def main() -> int:
         raise Fault('everything was proved, but a source has changed meanwhile: ./prove proves what depends on it')
     clear_others()
     line.say('everything is proved, in %s; ./run and the tools now run the proved program' % (
-        minutes(time.monotonic() - began)))
+        minutes((time.time() - proof.began) / 60)))
     return 0

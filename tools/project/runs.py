@@ -11,7 +11,7 @@ from pathlib import Path
 from typing import NamedTuple, TypeVar
 
 from motesim.words import words_of
-from project.tree import program_of
+from project.tree import program_of, take_program
 
 SECONDS = 60
 MOST_LINES = 20
@@ -74,10 +74,10 @@ def count(total: int, faults: Iterable[str]) -> int:
 
 
 def asked_for(about: str | None, *names: str, **how: str) -> tuple[argparse.Namespace, str]:
-    """The words of a command that tries a program, which --program or MOTESIM names, and that program. `names` are the
-    words besides, `how` tells of them."""
+    """The arguments of a command that tries a program, and that program. `names` are further arguments, of which there may
+    be many; `how` describes them."""
     words = words_of(about)
-    words.add_argument('--program', metavar='FILE', help='the motesim to try; else the one that MOTESIM names, or the built one')
+    take_program(words)
     for name in names:
         words.add_argument(name, nargs='*', metavar=how['metavar'], help=how['help'])
     asked = words.parse_args()

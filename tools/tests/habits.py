@@ -1,8 +1,8 @@
 """Mistakes that people make who come from C, Contiki 2.x and other simulators, in programs and in scenarios.
 
 They were written by an engineer who knows C and Contiki, without a look at the hints. So nobody has chosen them for
-the range of the hints; a mistake that is added for a hint belongs elsewhere (c_mistakes.py). Each is a scenario in which
-one line is wrong: HABITS has the line as it was meant, and as it was typed.
+the range of the hints; a mistake that is added for a hint belongs elsewhere (c_mistakes.py). Each is a scenario with
+one wrong line: HABITS has the right line and the typed one.
 """
 from __future__ import annotations
 

@@ -99,7 +99,7 @@ def main() -> int:
             return 1
     fault = find_fault(data)
     if fault:
-        sys.stderr.write('motesim: %s\n' % fault.told)
+        sys.stderr.write('motesim: %s\n' % fault.message)
         return 1
     print('\n'.join(report(Scenario.parse(data))))
     return 0

@@ -9,7 +9,10 @@ from pathlib import Path
 
 STUB = '''#!%s
 import re, sys, time, tomllib
-scenario = tomllib.loads(sys.stdin.read())
+source = sys.stdin.read()
+if 'a.' * 80 in source:
+    sys.exit('motesim: scenario fault 1')
+scenario = tomllib.loads(source)
 out = []
 for number, mote in enumerate(scenario['mote']):
     text = scenario['programs'][mote['program']]

@@ -35,16 +35,12 @@ class Scenarios(unittest.TestCase):
 
 
 class Ratios(unittest.TestCase):
-    def test_the_middle_ratio_counts(self) -> None:
-        self.assertEqual(bench.ratio_of([2, 3, 4, 50], [2, 2, 2, 2]), (1.375, 1.75, 7.75))
-        self.assertEqual(bench.ratio_of([2], [4]), (0.5, 0.5, 0.5))
-        self.assertIsNone(bench.ratio_of([1], [0]))
-
     def test_a_cell_has_both_and_their_ratio(self) -> None:
-        self.assertEqual(bench.cell('user', [0.5], [], bench.seconds), 'user 0.500 s')
-        self.assertEqual(bench.cell('user', [0.5], [1], bench.seconds), 'user 0.500 s, 1.000 s: 0.50')
-        self.assertEqual(bench.cell('user', [1, 2, 1], [1, 1, 1], bench.seconds),
-                         'user 1.000 s, 1.000 s: 1.00 (1.00 to 2.00)')
+        self.assertEqual(bench.cell('user', [0.5], []), 'user 0.500 s')
+        self.assertEqual(bench.cell('memory', [5e6], [1e7]), 'memory 5.0 MB, 10.0 MB: 0.50')
+        self.assertEqual(bench.cell('user', [1, 2, 1], [1, 1, 1]), 'user 1.000 s, 1.000 s: 1.00 (1.00 to 2.00)')
+        self.assertEqual(bench.cell('user', [2, 3, 4, 50], [2, 2, 2, 2]), 'user 2.000 s, 2.000 s: 1.75 (1.00 to 25.00)')
+        self.assertEqual(bench.cell('user', [1], [0]), 'user 1.000 s, 0.000 s')
 
 
 class Command(unittest.TestCase):

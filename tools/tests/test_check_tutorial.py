@@ -79,7 +79,7 @@ class Pages(unittest.TestCase):
     def test_the_command_counts_and_writes(self) -> None:
         page = Path(self.folder.name) / 'PAGE.md'
         page.write_text(PAGE.replace('\ndone\n', '\nover\n'), encoding='utf-8')
-        words = [sys.executable, '-B', str(TOOLS / 'dev/check_tutorial'), '--page', str(page), str(self.program)]
+        words = [sys.executable, '-B', str(TOOLS / 'dev/check_tutorial'), '--program', str(self.program), str(page)]
         calls: list[tuple[list[str], int, str]] = [
             ([], 1, '1 passed, 1 failed'), (['--write'], 0, '1 passed, 1 failed'), ([], 0, '2 passed, 0 failed')]
         for more, status, last in calls:

@@ -166,7 +166,7 @@ class Scenarios(unittest.TestCase):
             with self.subTest(str(changes)):
                 text = changed(changes)
                 fault = scenario_faults.find_fault(text.encode())
-                self.assertEqual(fault and fault.told, told)
+                self.assertEqual(fault and fault.message, told)
                 lines = explain.explanation('s.toml', text.encode(), 'motesim: ' + told)
                 found = mark_of(lines)
                 self.assertEqual((found[0], found[1].strip()), (line, marked))
@@ -205,7 +205,7 @@ class Scenarios(unittest.TestCase):
             data = SCENARIO.encode(codec)
             fault = scenario_faults.find_fault(data)
             assert fault
-            lines = explain.explanation('s.toml', data, 'motesim: ' + fault.told)
+            lines = explain.explanation('s.toml', data, 'motesim: ' + fault.message)
             self.assertTrue(lines[0].startswith('s.toml looks like a text in %s, %s' % (name, why)), lines)
             self.assertIn('`iconv -f %s -t UTF-8 s.toml >NEW`' % taken, ' '.join(line.strip() for line in lines))
             self.assertFalse(any('\0' in line or '^' in line for line in lines))
@@ -274,7 +274,7 @@ class Deep(unittest.TestCase):
                 assert fault
                 with self.subTest('%s, %d' % (body[:20], count)):
                     before = time.monotonic()
-                    self.assertTrue(explain.explanation('s', text.encode(), 'motesim: ' + fault.told))
+                    self.assertTrue(explain.explanation('s', text.encode(), 'motesim: ' + fault.message))
                     self.assertLess(time.monotonic() - before, 30)
 
 

@@ -6,7 +6,7 @@ from here import TOP
 from motesim.explain.advice import advice
 from motesim.from_c.correction import correction
 from motesim.from_c.scope import Scope
-from motesim.from_c.places import Place
+from motesim.from_c.places import Surroundings
 from motesim.from_c.statements import Statements
 from motesim.notation.faults import find_fault, tokens_of
 from motesim.scenario.scenario import Scenario
@@ -141,7 +141,7 @@ class Corpus(unittest.TestCase):
                 for line in text.split('\n'):
                     depth = len(line) - len(line.lstrip())
                     with self.subTest(line):
-                        written = Statements(line, scope, Place(is_head=depth == 2, is_top=depth == 0)).written()
+                        written = Statements(line, scope, Surroundings(is_head=depth == 2, is_top=depth == 0)).written()
                         self.assertEqual(words(written), words(line))
 
     def test_a_whole_program_of_contiki_by_its_messages_alone(self) -> None:

@@ -80,6 +80,46 @@ class Gate(unittest.TestCase):
         self.assertRegex(lines[-1], r'^\d+ passed, \d+ failed, \d+ skipped$')
 
 
+class Landing(unittest.TestCase):
+    """The script .ci/run, which decides whether a landing counts. Debian's commands are stand-ins."""
+
+    def run_it(self, missing: str, can_install: bool, user: int = 0) -> tuple[list[str], int, str]:
+        """The lines, the status, and the calls of apt-get, on a machine that lacks packages."""
+        with tempfile.TemporaryDirectory() as folder:
+            room = Path(folder)
+            for name, text in {
+                'test': 'echo "./test $*"; echo "1 passed, 0 failed, 0 skipped"; exit 3',
+                'bin/dpkg-query': 'case " %s " in *" $4 "*) echo un ;; *) echo "ii " ;; esac' % missing,
+                'bin/id': 'echo %d' % user,
+                'bin/apt-get': 'echo "$*" >>"%s/calls"; exit %d' % (room, not can_install),
+            }.items():
+                path = room / name
+                path.parent.mkdir(exist_ok=True)
+                path.write_text('#!/bin/sh\n%s\n' % text)
+                path.chmod(0o755)
+            (room / '.ci').mkdir()
+            shutil.copy(TOP / '.ci/run', room / '.ci/run')
+            here = {**os.environ, 'PATH': '%s:%s' % (room / 'bin', os.environ['PATH'])}
+            done = subprocess.run([room / '.ci/run', '--quick'], env=here, capture_output=True, text=True, timeout=60)
+            calls = (room / 'calls').read_text() if (room / 'calls').is_file() else ''
+        return done.stdout.splitlines(), done.returncode, calls
+
+    LAST = ['./test --quick', '1 passed, 0 failed, 0 skipped']
+
+    def test_it_ends_as_the_test_does(self) -> None:
+        self.assertEqual(self.run_it('', True), (self.LAST, 3, ''))
+        self.assertEqual(self.run_it('mypy', True, user=1000), (self.LAST, 3, ''))
+
+    def test_it_installs_what_is_missing(self) -> None:
+        lines, status, calls = self.run_it('mypy tcc', True)
+        self.assertEqual((lines, status), (['installing mypy tcc', *self.LAST], 3))
+        self.assertEqual(calls, 'update -q\ninstall -y -q --no-install-recommends mypy tcc\n')
+
+    def test_what_can_not_be_installed_is_named_and_the_test_runs(self) -> None:
+        lines, status, _ = self.run_it('mypy', False)
+        self.assertEqual((lines[1].partition(':')[0], lines[2:], status), ("mypy can't be installed", self.LAST, 3))
+
+
 SOURCE = """import unittest
 class Page(unittest.TestCase):
     @classmethod

@@ -66,7 +66,7 @@ class Tables(unittest.TestCase):
     def test_the_table_stands_between_its_marks(self) -> None:
         with tempfile.TemporaryDirectory() as room:
             page, kept = Path(room, 'GATE.md'), Path(room, 'kept.json')
-            page.write_text('before\n%s\nold\n%s\nafter\n' % (gate_times.BEGIN, gate_times.END))
+            page.write_text('before\n%s\nold\n%s\nafter\n' % gate_times.MARKS)
             kept.write_text(json.dumps(self.WITH_UNIT))
             with mock.patch.multiple(gate_times, PAGE=page, KEPT=kept), mock.patch.object(pace, 'KEPT',
                                                                                           Path(room, 'p.json')), \
@@ -77,7 +77,7 @@ class Tables(unittest.TestCase):
                 self.assertEqual((end.exception.code, pace.kept()['proof']),
                                  (0, {'low': 10, 'high': 20, 'delivery_laws': 18}))
             self.assertEqual(page.read_text(), 'before\n%s\n%s%s\nafter\n' % (
-                gate_times.BEGIN, gate_times.table(self.WITH_UNIT), gate_times.END))
+                gate_times.MARKS.begin, gate_times.table(self.WITH_UNIT), gate_times.MARKS.end))
 
 
 if __name__ == '__main__':

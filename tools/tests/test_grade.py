@@ -1,9 +1,11 @@
 """Marks for a folder of solutions: hostile folders, the teacher's nets, limits, and the forms of marks."""
+import contextlib
 import csv
 import io
 import json
 import os
 import re
+import signal
 import socket
 import subprocess
 import sys
@@ -11,14 +13,18 @@ import tempfile
 import time
 import tomllib
 import unittest
+from collections.abc import Callable
 from pathlib import Path
+from unittest import mock
 
 from here import TOOLS
 from motesim.grading.entries import data_of, entries_of, shown
-from motesim.grading.marking import Mark, Marks
+from motesim.grading.marking import Mark, Marks, page_name
 from motesim.grading.nets import nets_of, program_of
 from motesim.grading.page import page_of
-from motesim.grading.tables import cell
+from motesim.grading.progress import Progress
+from motesim.grading.tables import cell, csv_of
+from motesim.grading.tables import table as table_of
 from motesim.faults import Fault
 from motesim.runner import program_path
 from motesim.scenario import Scenario
@@ -70,6 +76,9 @@ class Folder(unittest.TestCase):
         self.told = done.stderr
         return done.stdout
 
+    def page(self, name: str = 'marks.html') -> str:
+        return (self.top / name).read_text('utf-8')
+
     def rows(self, *words: str) -> dict[str, str]:
         rows = self.grade(*words).split('\n\n')[0].split('\n')
         return {row.split('  ')[0]: row.split('  ', 1)[1].strip() for row in rows}
@@ -97,6 +106,7 @@ class Entries(Folder):
         with socket.socket(socket.AF_UNIX) as made:
             made.bind(str(self.folder / 'socket.toml'))
         self.hand_in('deep.toml', 'x = ' + '[' * 500 + ']' * 500)
+        self.hand_in('key.toml', '.'.join(['a'] * 100_000) + ' = 1')
         self.hand_in('notes.txt', 'hello')
         self.hand_in('new\nline.toml', net(PROGRAM % 3))
         (self.folder / os.fsdecode(b'raw\xff.toml')).write_text(net(PROGRAM % 3))
@@ -110,8 +120,10 @@ class Entries(Folder):
             'x.toml': '0 of 3  an empty folder', 'gone.toml': '0 of 3  a link, and not a file',
             'other.toml': '0 of 3  a link, and not a file', 'pipe.toml': '0 of 3  a pipe, and not a file',
             'socket.toml': '0 of 3  a socket, and not a file',
-            'deep.toml': '0 of 3  the file is not TOML: Arrays or tables are nested too deeply (at line 1, column '
-            '1005)',
+            'deep.toml': '0 of 3  the file is not TOML: Arrays or tables are nested too deeply: at most 80 are allowed '
+            'in each other (at line 1, column 85)',
+            'key.toml': '0 of 3  the file is not TOML: A key has more than 80 parts: write fewer dots (at line 1, '
+            'column 1)',
             'notes.txt': '0 of 3  its name ends neither in .toml nor in .mote',
             'bytes.toml': '0 of 3  the file is not UTF-8 text',
             'large.toml': '0 of 3  the file is longer than 1,048,576 bytes'})
@@ -196,15 +208,111 @@ class Nets(Folder):
                       self.told)
 
 
+    def test_a_page_shows_nothing_of_a_hidden_net(self) -> None:
+        (self.top / 'secret.toml').write_text(net(PROGRAM % 9, motes=5))
+        (self.top / 'task.expect.toml').write_text('expect = ["at most 4 motes print", "every mote prints a 3"]\n')
+        self.hand_in('ben.toml', net(PROGRAM % 4))
+        self.assertEqual(self.rows('--net', 'task.toml', '--hidden', 'secret.toml'), {
+            'anna.toml': '1 of 2  broken: 1', 'ben.toml': '0 of 2  broken: 1, 2'})
+        words = '--net', 'task.toml', '--hidden', 'secret.toml'
+        self.assertIn('5 motes do', self.grade(*words, '--why', 'anna'))
+        self.grade(*words, '-o', 'marks.html')
+        self.assertNotIn('secret', self.page())
+        self.assertNotIn('5 motes do', self.page())
+        self.assertIn('<pre>in a hidden net</pre>', self.page())
+        self.assertEqual(os.listdir(self.top / 'marks_runs'), ['pages.txt'])
+        self.grade('--net', 'secret.toml', '-o', 'marks.html')
+        self.assertEqual(sorted(os.listdir(self.top / 'marks_runs')), [
+            'anna.toml_in_secret.toml.html', 'ben.toml_in_secret.toml.html', 'pages.txt'])
+
+    def test_a_run_page_shows_the_net_that_is_not_hidden(self) -> None:
+        (self.top / 'secret.toml').write_text(net(PROGRAM % 9, motes=5))
+        self.hand_in('ben.toml', net(PROGRAM % 4))
+        self.grade('--hidden', 'secret.toml', '--net', 'task.toml', '-o', 'marks.html')
+        self.assertIn('<pre>in task.toml\nmote 0 has 0 such lines', self.page())
+        self.assertIn('href="marks_runs/ben.toml_in_task.toml.html"', self.page())
+
+
+class Pages(Folder):
+    def test_the_pages_of_an_earlier_marking_are_removed_and_no_others(self) -> None:
+        self.hand_in('ben.toml', net(PROGRAM % 4))
+        self.hand_in('other net.toml', net(PROGRAM % 5))
+        self.grade('-o', 'marks.html')
+        folder = self.top / 'marks_runs'
+        self.assertEqual(sorted(os.listdir(folder)), ['ben.toml.html', 'other_net.toml_3.html', 'pages.txt'])
+        (folder / 'mine.html').write_text('a page of the teacher')
+        with open(folder / 'pages.txt', 'a') as names:
+            names.write('../marks.html\n')
+        (self.folder / 'ben.toml').unlink()
+        self.grade('-o', 'marks.html')
+        self.assertEqual(sorted(os.listdir(folder)), ['mine.html', 'other_net.toml_2.html', 'pages.txt'])
+        self.assertIn('Marked on 20', self.page())
+
+    def test_no_two_pages_have_one_name(self) -> None:
+        names = [page_name(number, name, 'n 1') for number, name in enumerate(('a/b.toml', 'a_b.toml', 'a b.toml', '.a',
+                                                                               'x' * 99, 'x' * 98), 1)]
+        self.assertEqual(len(set(names)), len(names), names)
+
+    def test_progress(self) -> None:
+        with mock.patch('motesim.grading.progress.SHOWN_EVERY', 0), contextlib.redirect_stderr(io.StringIO()) as told:
+            progress = Progress(2)
+            progress.add('anna.toml')
+            progress.end()
+        self.assertEqual(told.getvalue(), 'grade: 1 of 2 solutions are marked; the last one is anna.toml\n')
+
+
+def commands_of(session: int) -> list[str]:
+    """The command lines of the processes of a session that haven't ended."""
+    found = []
+    for it in Path('/proc').glob('[0-9]*'):
+        with contextlib.suppress(OSError):
+            state, _, _, its = (it / 'stat').read_text().rpartition(')')[2].split()[:4]
+            if its == str(session) and state != 'Z':
+                found.append((it / 'cmdline').read_text('utf-8', 'replace'))
+    return found
+
+
 class LimitsOfRuns(Folder):
     def test_time_and_length(self) -> None:
         self.hand_in('long.toml', net('// long\n' + PROGRAM % 3))
-        self.hand_in('wait.toml', net('// wait\n' + PROGRAM % 3))
-        begin = time.monotonic()
+        self.hand_in('burn.toml', net('// burn\n' + PROGRAM % 3))
         self.assertEqual(self.rows('--net', 'task.toml', '--seconds', '2', '--report', '1'), {
             'anna.toml': '3 of 3', 'long.toml': '0 of 3  the run was ended: the report is longer than 1,048,576 bytes',
-            'wait.toml': '0 of 3  the run was ended: no answer in 2 seconds'})
-        self.assertLess(time.monotonic() - begin, 20)
+            'burn.toml': '0 of 3  the run was ended: no answer in 2 seconds of processor time'})
+
+    def test_a_run_that_waits_for_a_busy_machine_has_no_mark(self) -> None:
+        self.hand_in('wait.toml', net('// wait\n' + PROGRAM % 3))
+        why = ('not marked, run it again: no answer in 5 seconds, though the program had used less processor time than '
+               'it may')
+        words = '--net', 'task.toml', '--seconds', '0.5'
+        self.grade(*words, '-o', 'marks.toml', '-o', 'marks.html', status=1)
+        marks = tomllib.loads((self.top / 'marks.toml').read_text())['solution']
+        self.assertEqual(marks[1], {'name': 'wait.toml', 'of': 3, 'fault': why})
+        self.assertIn('>- of 3<', (self.top / 'marks.html').read_text())
+        waiting = Marks('wait.toml', why=why, is_open=True)
+        self.assertEqual(csv_of([waiting], ['a', 'b']).split('\n')[1], 'wait.toml,,2,"%s",,' % why)
+        self.assertEqual(table_of([waiting], ['a', 'b']), ['wait.toml  - of 2  %s' % why])
+
+    def test_all_its_processes_end_with_it(self) -> None:
+        self.hand_in('wait.toml', net('// wait\n' + PROGRAM % 3))
+        for number in signal.SIGTERM, signal.SIGHUP, signal.SIGKILL:
+            with self.subTest(number), subprocess.Popen(
+                    [sys.executable, '-B', str(TOOLS / 'grade'), 'class', 'task.expect.toml'], cwd=self.top,
+                    env={**os.environ, 'MOTESIM': str(self.stub)}, stdout=subprocess.DEVNULL,
+                    start_new_session=True) as made:
+                try:
+                    self.wait_for(lambda: any(str(self.stub) in it for it in commands_of(made.pid)))
+                    made.send_signal(number)
+                    made.wait(60)
+                    self.wait_for(lambda: not commands_of(made.pid))
+                finally:
+                    made.kill()
+
+    def wait_for(self, is_so: Callable[[], bool]) -> None:
+        end = time.monotonic() + 120
+        while not is_so():
+            self.assertLess(time.monotonic(), end)
+            time.sleep(0.05)
 
     def test_memory(self) -> None:
         self.hand_in('memory.toml', net('// memory\n' + PROGRAM % 3))
@@ -222,7 +330,9 @@ class LimitsOfRuns(Folder):
             self.hand_in('s%d.toml' % number, net(PROGRAM % 3, motes=1))
         begin = time.monotonic()
         self.grade('--jobs', '8')
-        self.assertLess(time.monotonic() - begin, 6)
+        several = time.monotonic() - begin
+        self.grade('--jobs', '1')
+        self.assertLess(several, time.monotonic() - begin - several)
 
 
 class Forms(Folder):
@@ -248,7 +358,7 @@ class Forms(Folder):
         self.hand_in('<script>.toml', net(PROGRAM % 4))
         self.grade('-o', 'marks.html', '--net', 'task.toml')
         page = (self.top / 'marks.html').read_text()
-        link = re.search(r'<a href="(marks_runs/[0-9]+\.html)">1\. every mote prints a 3</a>', page)
+        link = re.search(r'<a href="(marks_runs/[^"]+\.html)">1\. every mote prints a 3</a>', page)
         assert link
         picture = (self.top / link[1]).read_text()
         self.assertIn('&lt;script&gt;.toml', picture)

@@ -38,7 +38,7 @@ def message(text: str) -> list[str]:
     data = text.encode()
     fault = find_fault(data)
     assert fault is not None
-    return explanation(NAME, data, 'motesim: ' + fault.told)
+    return explanation(NAME, data, 'motesim: ' + fault.message)
 
 
 def repaired(text: str, lines: list[str]) -> str | None:

@@ -33,7 +33,7 @@ use Rattle.low.specs.declared.place.TheConstants.{MOST}
 ''',
     'crates/low/specs/Near.antt': '-- What is near.\nuse lib.ListN.{get}\n',
     'crates/low/src/place.rt': '',
-    'docs/proof/HEADLINE.md': 'before\n%s\n%s\nbehind\n' % (headline.BEGIN, headline.END),
+    'docs/proof/HEADLINE.md': 'before\n%s\n%s\nbehind\n' % headline.MARKS,
 }
 
 LIST = '''
@@ -90,7 +90,7 @@ class Lists(unittest.TestCase):
         self.assertIn('another list', self.run_with('--check')[1])
         self.assertEqual(self.run_with('--write'), ('', ''))
         page = (self.top / 'docs/proof/HEADLINE.md').read_text('utf-8')
-        marked = headline.BEGIN + '\n' + headline.listed(self.top) + headline.END
+        marked = '%s\n%s%s' % (headline.MARKS.begin, headline.listed(self.top), headline.MARKS.end)
         self.assertEqual(page, 'before\n' + marked + '\nbehind\n')
         self.assertEqual(self.run_with('--check')[1], '')
 

@@ -93,8 +93,8 @@ class PlotTest(unittest.TestCase):
     def test_without_matplotlib(self) -> None:
         # (an interpreter that finds none, as -I and -S leave the packages out)
         words = ['--measure', 'sent', '--against', 'period', '--by', 'density', '-o', 'a.svg']
-        source = 'import sys; sys.path.insert(0, %r); sys.argv[1:] = %r; from motesim.commands.plot import main; main()' % (
-            str(TOOLS), ['net.csv', *words])
+        source = ('import sys; sys.path.insert(0, %r); sys.argv[1:] = %r; '
+                  'from motesim.commands.plot import main; main()' % (str(TOOLS), ['net.csv', *words]))
         done = subprocess.run([sys.executable, '-B', '-I', '-S', '-c', source], cwd=self.folder, text=True,
                               env={**os.environ, packages.HANDED_ON: '1'}, capture_output=True)
         self.assertEqual((done.returncode, ' '.join(done.stdout.split())), (1, ' '.join(TABLE.split())), done)

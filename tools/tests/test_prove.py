@@ -1,4 +1,4 @@
-"""The estimates of ./prove, and its reading of a check's lines."""
+"""The order in which ./prove proves crates, and its estimate."""
 from __future__ import annotations
 
 import contextlib
@@ -12,6 +12,7 @@ import types
 import unittest
 import unittest.mock
 from collections.abc import Sequence
+from concurrent.futures import Future
 from pathlib import Path
 from typing import Any
 
@@ -30,62 +31,60 @@ MIDDLE = crate('middle', LOW)
 TOP = crate('top', LOW, MIDDLE, SIDE)
 CRATES = [LOW, SIDE, MIDDLE, TOP]
 SECONDS = {'low': 100, 'side': 20, 'middle': 50, 'top': 30}
+NOTED = {'proof': SECONDS, 'minutes from nothing': {'2': 40, '4': 25}}
 
 
-def estimate(processors: int) -> pace.Estimate:
-    with unittest.mock.patch.object(pace, 'seconds_of', lambda names: {it: SECONDS[it] for it in names}):
-        return pace.Estimate(CRATES, processors)
+def noted(test: Any) -> Any:
+    """Has these seconds noted during a test."""
+    return unittest.mock.patch.object(pace, 'kept', lambda: NOTED)(test)
 
 
 class Foretold(unittest.TestCase):
     def test_a_chain_has_all_that_wait_for_a_crate(self) -> None:
         self.assertEqual(pace.chains(CRATES, SECONDS), {'low': 180, 'side': 50, 'middle': 80, 'top': 30})
 
-    def test_what_is_left_is_the_longest_chain_or_the_work(self) -> None:
-        self.assertEqual((estimate(4).work(), estimate(1).work()), (180, 200))
-
-    def test_a_crate_that_is_done_leaves_nothing(self) -> None:
-        it = estimate(4)
-        it.shares['low'] = 1
-        self.assertEqual(it.work(), 80)
+    @noted
+    def test_a_proof_lasts_as_long_as_its_longest_chain_or_its_work(self) -> None:
+        self.assertEqual(pace.minutes_of(CRATES, CRATES, 4), 25)
+        self.assertAlmostEqual(pace.minutes_of([MIDDLE, TOP], CRATES, 4), 25 * 80 / 180)
+        self.assertAlmostEqual(pace.minutes_of([SIDE, MIDDLE], CRATES, 1), 40 * 70 / 200)
+        self.assertEqual(pace.minutes_of([], CRATES, 4), 0)
 
     def test_a_build_from_nothing_needs_what_the_readme_says(self) -> None:
         measured = pace.minutes_from_nothing(4)
         assert measured
-        self.assertAlmostEqual(pace.Estimate(CRATES, 4, pace.pace_before(CRATES, 4)).left(), measured * 60, 0)
         numbers = re.search(r'(\d+) to (\d+) minutes\s+on\s+four', (TREE / 'README.md').read_text('utf-8'))
         assert numbers
         self.assertTrue(int(numbers[1]) <= measured <= int(numbers[2]))
 
-    def test_it_follows_what_is_measured(self) -> None:
-        for rate in 0.5, 1, 2, 3:
-            it, said, began = estimate(4), [], 1000.0
-            it.began = began
-            for second in range(0, round(100 * rate), 10):
-                it.shares['low'] = second / (100 * rate)
-                with unittest.mock.patch('project.pace.time.monotonic', lambda: began + second):
-                    said.append(it.left())
-            self.assertLess(max(said), 180 * max(rate, 1) * 1.2)
-            left = (180 - 100 * it.shares['low']) * rate
-            self.assertAlmostEqual(said[-1] / left, 1, delta=0.4)
-
     def test_noted_seconds(self) -> None:
         with tempfile.TemporaryDirectory() as room, unittest.mock.patch.object(pace, 'KEPT', Path(room) / 'kept.json'):
             self.assertEqual((pace.kept(), pace.minutes_from_nothing(4)), ({}, None))
+            self.assertGreater(pace.minutes_of(CRATES, CRATES, 4), 0)
             pace.keep({'low': 10.4, 'high': 20, 'none': 0})
             self.assertEqual(pace.kept()['proof'], {'low': 10, 'high': 20})
-            self.assertEqual(pace.seconds_of(['low', 'high']), {'low': 10, 'high': 20})
-        with unittest.mock.patch.object(pace, 'kept', lambda: {'minutes from nothing': {'2': 40, '4': 25}}):
-            self.assertEqual([pace.minutes_from_nothing(it) for it in (1, 2, 4, 16)], [40, 40, 25, 25])
-        crates = ['delivery_laws', 'motesim', 'no_such_crate']
-        self.assertTrue(all(pace.seconds_of(crates)[it] > 0 for it in crates))
+            self.assertEqual(pace.seconds_of(['low', 'high', 'other']), {'low': 10, 'high': 20, 'other': 15})
+
+    @noted
+    def test_the_nearest_number_of_processors_counts(self) -> None:
+        self.assertEqual([pace.minutes_from_nothing(it) for it in (1, 2, 4, 16)], [40, 40, 25, 25])
 
 
-class Jobs(unittest.TestCase):
+class Proofs(unittest.TestCase):
+    """A proof of four crates by a stand-in for the kit."""
+
+    def setUp(self) -> None:
+        self.said = io.StringIO()
+        for module, name, value in (pace, 'kept', NOTED), (kit, 'free', 1000), (kit, 'need', 100):
+            patch = unittest.mock.patch.object(module, name, lambda *_, value=value: value)
+            patch.start()
+            self.addCleanup(patch.stop)
+        self.proof = prove.Proof(CRATES, [], 4, progress.Line(self.said, 'prove'), ' of about 25 minutes')
+
     def asked(self, crate: Any, ready: list[Any], running: list[Any], done: Sequence[str] = ()) -> tuple[int, bool]:
-        it = estimate(4)
-        it.shares.update(dict.fromkeys(done, 1.0))
-        return prove.jobs_of(crate, ready, running, it)
+        self.proof.running = {Future(): prove.Running(it, 100) for it in running}
+        self.proof.proved.update(done)
+        return self.proof.jobs_of(crate, ready)
 
     def test_the_crate_that_all_wait_for_has_all_processors(self) -> None:
         self.assertEqual(self.asked(LOW, [LOW, SIDE], []), (4, False))
@@ -95,11 +94,29 @@ class Jobs(unittest.TestCase):
         self.assertEqual(self.asked(SIDE, [SIDE], [LOW]), (3, True))
         self.assertEqual(self.asked(SIDE, [SIDE, MIDDLE], [LOW]), (1, True))
 
-    def test_a_crate_that_is_nearly_proved_holds_up_no_longer_than_that(self) -> None:
-        it = estimate(4)
-        with unittest.mock.patch.object(it, 'left_of',
-                                        lambda it: {'low': 0, 'side': 60}.get(it.name, SECONDS[it.name])):
-            self.assertEqual(prove.jobs_of(SIDE, [SIDE], [LOW], it), (4, False))
+    def proved(self, *fails: str) -> tuple[bool, list[str]]:
+        """Whether the proof is well, and the crates in the order in which they were tried."""
+        tried: list[str] = []
+
+        def work(crate: Any, jobs: int, gives_way: bool, began: float) -> bool:
+            tried.append(crate.name)
+            return crate.name not in fails
+        with tempfile.TemporaryDirectory() as room, unittest.mock.patch.object(prove, 'work', work):
+            log = Path(room) / 'build.log'
+            log.write_text('what the prover says\n')
+            with unittest.mock.patch.object(prove, 'log_of', lambda crate: log):
+                return self.proof.run(), tried
+
+    def test_each_crate_comes_after_those_below_it(self) -> None:
+        is_well, tried = self.proved()
+        self.assertEqual((is_well, tried[0], tried[-1], sorted(tried)), (True, 'low', 'top', ['low', 'middle', 'side', 'top']))
+        self.assertIn('prove: top is proved: 4 of 4 proved, 0:00 of about 25 minutes\n', self.said.getvalue())
+
+    def test_nothing_begins_after_a_crate_that_is_not_proved(self) -> None:
+        is_well, tried = self.proved('middle')
+        self.assertEqual((is_well, 'top' in tried), (False, False))
+        self.assertIn('prove: middle is not proved', self.said.getvalue())
+        self.assertIn('what the prover says\n', self.said.getvalue())
 
 
 class Libraries(unittest.TestCase):
@@ -120,21 +137,6 @@ class Libraries(unittest.TestCase):
                 self.assertEqual(kit.write_rlib(low, ['--jobs', '2']), status)
                 self.assertEqual(called, [('build', 'words', '--jobs', '2', '--statements', '-o', low.rlib)])
                 self.assertEqual(Path(low.rlib).with_name('stamp').is_file(), is_stamped)
-
-
-class Logs(unittest.TestCase):
-    def test_a_log_tells_how_much_is_checked(self) -> None:
-        with tempfile.TemporaryDirectory() as room:
-            shares: dict[str, float] = {}
-            low: Any = types.SimpleNamespace(name='low', folder=room)
-            log = prove.Log(low, shares)
-            for line, share in [('anything', 0), ('so far: 1 of 4 functions checked\n', 0.225),
-                                ('checked low::f, 2 of 4\n', 0.45),
-                                ('axioms (2 of the 22 declared)\n', 0.45)]:
-                log.write(line)
-                self.assertEqual(shares, {'low': share})
-            log.file.close()
-            self.assertEqual(log.path.read_text().count('\n'), 3)
 
 
 @unittest.skipUnless(shutil.which('rt'), 'the command rt of the Rattle kit is not here')
@@ -182,22 +184,14 @@ class Proof(Tree):
 
 
 class Lines(unittest.TestCase):
-    def test_names_are_whole(self) -> None:
-        names = ['process_kernel', 'program_reader', 'radio_medium']
-        for width in range(8, 120):
-            line = progress.fitted('3 of 33 proved', names, width)
-            self.assertLessEqual(len(line), width)
-            for name in names:
-                self.assertTrue(name in line or name[:4] not in line or '%s,' % name in line, line)
-        self.assertEqual(progress.fitted('3 of 33 proved', names, 44),
-                         '3 of 33 proved (now process_kernel and 2 more)'[:44]
-                         if len('3 of 33 proved (now process_kernel and 2 more)') <= 44 else '3 of 33 proved')
-        self.assertIn('process_kernel, program_reader, radio_medium)', progress.fitted('3 of 33 proved', names, 90))
+    def test_a_line_fits(self) -> None:
+        self.assertEqual(progress.fitted('3 of 33 proved', 14), '3 of 33 proved')
+        self.assertEqual(progress.fitted('3 of 33 proved', 10), '3 of 33 ..')
 
     def test_a_file_has_no_line_that_is_renewed(self) -> None:
         said = io.StringIO()
         line = progress.Line(said)
-        line.renew('3 of 33 proved', ['low'])
+        line.renew('3 of 33 proved')
         line.say('low is proved')
         line.end()
         self.assertEqual(said.getvalue(), 'motesim: low is proved\n')

@@ -304,7 +304,7 @@ class Runs(unittest.TestCase):
         self.write('net.txt', '').write_bytes(EXAMPLE_REPORT.encode('utf-16'))
         with self.assertRaisesRegex(Fault, 'net.txt looks like a text in UTF-16, .* as UTF-8: iconv -f UTF-16'):
             read_run(Path(self.folder.name) / 'net.txt')
-        with self.assertRaisesRegex(Fault, 'net.txt is empty: a report or a scenario is wanted'):
+        with self.assertRaisesRegex(Fault, 'net.txt is empty: expected a report or a scenario'):
             read_run(self.write('net.txt', '\n'))
 
     def test_what_can_not_be_run_or_read_has_a_fault(self) -> None:

@@ -493,7 +493,7 @@ program = "flood.mote"
         with folder_with() as folder:
             sets, found, said = minimal_sets(folder, '--faults', 'links', '--random', '40', '--seed', '3')
             self.assertIn('a sample of', said)
-            self.assertIn('drawn with the seed 3 (a sample covers nothing wholly)', said)
+            self.assertIn('drawn with the seed 3 (a sample covers no size completely)', said)
             # (whatever was drawn, what is found is minimal: two links, one of each way)
             self.assertTrue(sets[REACHED])
             self.assertEqual({len(it) for it in sets[REACHED]}, {2})
@@ -550,7 +550,7 @@ code flood {
             self.assertEqual(again[0], whole)
             status, _, told = search(folder, '--faults', 'links', '-o', 'part', '--resume')
             self.assertEqual(status, 2)
-            self.assertIn('is of another search', told)
+            self.assertIn('belongs to another search', told)
 
     def test_values_that_are_set_need_no_kind(self) -> None:
         with folder_with() as folder:

@@ -44,8 +44,8 @@ class Intervals(unittest.TestCase):
             # (moments 0 to 4) four packets of mote 0, one of mote 2; one is received at 3, one lost; one post waits 0
             {'sent': 5, 'received': 1, 'lost': 1, 'ratio': 0.5, 'delay': 3.0, 'posted': 2, 'refused': 1, 'queue': 1,
              'prints': 2},
-            # (5 to 9) packets 4 and 5 of mote 0; two copies collide at 5, one meets a full ring at 7, one comes at 9 to a
-            # mote that halted at 8, and one is due at 11
+            # (5 to 9) packets 4 and 5 of mote 0; two copies collide at 5, one meets a full ring at 7, one comes at 9 to
+            # a mote that halted at 8, and one is due at 11
             {'sent': 2, 'ring': 1, 'collided': 2, 'halted': 1, 'late': 1},
             {},
         ])

@@ -1,4 +1,4 @@
-"""Scenarios made small: that the result still fails in the same way, that no step more is possible, that sentences
+"""Scenarios made small: that the result still fails in the same way, that no further step is possible, that sentences
 follow motes with other numbers, and that programs are read and written without a change."""
 from __future__ import annotations
 
@@ -215,7 +215,7 @@ class Shrinks(unittest.TestCase):
             done = subprocess.run([sys.executable, '-B', str(TOOLS / 'shrink'), 'diamond.toml', '--steps'], cwd=folder,
                                   capture_output=True, text=True)
             self.assertEqual(done.returncode, 0, done.stderr)
-            self.assertIn('no step more is possible', done.stdout)
+            self.assertIn('no further step is possible', done.stdout)
             self.assertIn('before: 4 motes, 2 losses, 1 program, 11 statements, end = 100', done.stdout)
             again = subprocess.run([sys.executable, '-B', str(TOOLS / 'expect'), 'diamond.small.toml'], cwd=folder,
                                    capture_output=True, text=True)
@@ -232,7 +232,7 @@ class Shrinks(unittest.TestCase):
             self.assertEqual(done.returncode, 0, done.stderr)
             self.assertIn('now:    2 motes, 1 loss, 1 program', done.stdout)
             for fault, wanted in (('silent 9', 'is no MOTE'), ('lynx 0', 'there is no fault `lynx 0`'),
-                                  ('lose 0 1', 'is to be lose SENDER RECEIVER EVERY'),
+                                  ('lose 0 1', 'must have the form lose SENDER RECEIVER EVERY'),
                                   ('lose 0 1 1', 'only by these faults')):
                 done = subprocess.run([*words, fault], cwd=folder, capture_output=True, text=True)
                 self.assertEqual((done.returncode, done.stdout), (2, ''))

@@ -27,7 +27,7 @@ class SpecIndexTest(unittest.TestCase):
                 'crates.txt': 'low:\nhigh: low\n',
                 'crates/low/specs/Lib.antt': 'pub mod Far\n',
                 'crates/low/specs/Far.antt': '-- The distance. Another sentence.\nfar = 1\n',
-                'docs/dev/SPECS.md': 'before\n' + spec_index.BEGIN + spec_index.END + '\nafter\n',
+                'docs/dev/SPECS.md': 'before\n%s\n%s\nafter\n' % spec_index.MARKS,
             }.items():
                 path = top / name
                 path.parent.mkdir(parents=True, exist_ok=True)

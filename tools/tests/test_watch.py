@@ -18,8 +18,8 @@ from motesim.why.state import after_line, after_moment, as_json, read_state, row
 from motesim.why.translate import translated
 from motesim.why.watch import Unwatched, Watched, read_watch, replayed, watch, with_prints
 
-# A loop of 3,000 rounds has 6,000 units of work: one for each assignment, and one for each further test. With two prints
-# behind each assignment it would have 12,000, and 10,000 are allowed.
+# A loop of 3,000 rounds has 6,000 units of work: one for each assignment, and one for each further test. With two
+# prints behind each assignment it would have 12,000, and 10,000 are allowed.
 LOOP = '''version = 1
 end = 9
 [medium]

@@ -132,10 +132,10 @@ medium
 left 0
 '''
 HEAD = -1
-# Of each line of mote 0 the place of its cause in the trace, from 0. The five processes start at boot. The timer's event
-# comes of `start a` (4), where a set it; a takes it (6), and all that a does follows from that: the post, the start of c,
-# and the calls of c and b, which have no lines. b takes the event (13) that a posted (7). c set its timer when it started
-# (8), so that is the cause of the timer's event (15).
+# Of each line of mote 0 the place of its cause in the trace, from 0. The five processes start at boot. The timer's
+# event comes from `start a` (4), at which a set it; a takes it (6), and all that a does follows from that: the post,
+# the start of c, and the calls of c and b, which have no lines. b takes the event (13) that a posted (7). c set its
+# timer when it started (8), so that is the cause of the timer's event (15).
 CAUSES = [HEAD, HEAD, HEAD, HEAD, HEAD, 4, 5, 6, 6, 6, 6, 6, 6, 7, 13, 8, 15, 16]
 # The same of mote 1, but for what came from mote 0, which line 13 of its lines from 1 sent.
 CAUSES_OF_HEARER = [HEAD, HEAD, HEAD, HEAD, None, 4, 5, 6, 6]
@@ -457,8 +457,8 @@ class Runs(unittest.TestCase):
         return [it.words for _, its in misses(asker, missing) for it in its]
 
     def test_near_misses_of_the_examples(self) -> None:
-        self.assertIn('packet 1 of mote 0, with the value 2, was sent at 80: the medium lost it, as it loses one packet '
-                      'in 2 from 0 to 1', self.near('flooding.toml', 'mote 1 prints flood 2 by 85'))
+        self.assertIn('packet 1 of mote 0, with the value 2, was sent at 80: the medium lost it, as it loses one '
+                      'packet in 2 from 0 to 1', self.near('flooding.toml', 'mote 1 prints flood 2 by 85'))
         self.assertIn('packet 0 of mote 2, with the value 12, was sent at 0: it collided at 2 with packet 0 of mote 0',
                       self.near('small_network.toml', 'mote 1 receives 12'))
         self.assertIn('packet 1 of mote 2, with the value 40, was sent at 19: it would arrive at 21, after the end',

@@ -2,19 +2,22 @@
 
   tools/grade answers task.expect.toml                                 each solution in its own net
   tools/grade answers task.expect.toml --net task.toml                 only its program, in your net
-  tools/grade answers task.expect.toml --net task.toml --net hidden.toml
+  tools/grade answers task.expect.toml --net task.toml --hidden hidden.toml -o marks.html
   tools/grade answers task.expect.toml --net task.plan.toml --vary seed=1..5
 
 A solution is a scenario NAME.toml, or with --net also a program NAME.mote. With --net only the text of the program
 that --program names (or the only one) is taken from it, so nobody gains by changing the net; a sentence holds if it
-holds in all nets. Each entry of the folder has a row, whatever it is, and none stops the others: each run has limits
-(--seconds, --memory, --report), and several run at once (--jobs).
+holds in all nets. With --hidden a net counts as with --net, but a page of marks shows nothing of it.
+
+Each entry of the folder has a row, whatever it is, and none stops the others: each run has limits (--seconds of
+processor time, --memory, --report), and several run at once (--jobs). If a run lasts 10 times its --seconds since the
+machine has other work, the solution isn't marked: grade it again.
 
 Tables `[[change]]` of EXPECTATIONS are not tried: they replace texts of one solution. -o writes the marks to a file:
 NAME.csv for a spreadsheet, NAME.toml, or NAME.html, a page that links each first failed sentence to its timeline.
 --why NAME shows what breaks the sentences in one solution, and where the error of a refused one is.
 
-Ends with status 0, or with 2 if the sentences or the nets can't be read.
+Ends with status 0; with 1 if a solution isn't marked; with 2 if the sentences or the nets can't be read.
 """
 from __future__ import annotations
 
@@ -35,10 +38,13 @@ def arguments() -> argparse.Namespace:
     words.add_argument('expectations', metavar='EXPECTATIONS', type=Path, help='a file of sentences, NAME.expect.toml')
     words.add_argument('--net', action='append', default=[], metavar='NET', type=Path,
                        help='run the programs in this net, a scenario or a plan; several may be named')
+    words.add_argument('--hidden', action='append', default=[], metavar='NET', type=Path,
+                       help='the same, but keep the net out of a page of marks')
     words.add_argument('--vary', action='append', default=[], metavar='NAME=VALUES',
                        help='values of a parameter of a plan, such as seed=1..5')
     words.add_argument('--program', metavar='NAME', help='the program that the students write, if a net has several')
-    words.add_argument('--seconds', type=float, default=SECONDS, help='the limit of a run, in seconds (20)')
+    words.add_argument('--seconds', type=float, default=SECONDS, metavar='N',
+                       help='the limit of a run in processor time; by default 20')
     words.add_argument('--memory', type=int, default=MEGABYTES, metavar='MEGABYTES',
                        help='the limit of the memory of a run (1024)')
     words.add_argument('--report', type=int, default=16, metavar='MEGABYTES',

@@ -117,7 +117,7 @@ def write_folder(data: bytes, path: str, folder: Path, with_host: bool) -> list[
     """Writes the folder of a scenario, which was read from a path, and returns its files."""
     fault = find_fault(data)
     if fault:
-        raise Fault('%s: %s (tools/explain %s says more)' % (path, fault.told, path))
+        raise Fault('%s: %s (tools/explain %s says more)' % (path, fault.message, path))
     scenario = Scenario.parse(data)
     texts = list(folder_files(Path(path).stem, scenario, with_host))
     return [_written(folder / name, text) for name, text in texts]

@@ -91,7 +91,7 @@ def place_of_scenario(text: str, fault: ScenarioError) -> Place | None:
 def place_of_fault(data: bytes, line: str) -> Place | None:
     """Where in the scenario the fault is that the program tells by a line, or None where that isn't known."""
     fault, text = scenario_faults.find_fault(data), data.decode('utf-8', 'replace')
-    if fault is None or fault.told != line.removeprefix('motesim: '):
+    if fault is None or fault.message != line.removeprefix('motesim: '):
         return None
     if not fault.program:
         return place_of_scenario(text, fault)
@@ -166,7 +166,7 @@ def rule_of(line: str) -> str:
 def explanation(name: str, data: bytes, line: str) -> list[str]:
     """What is shown below a fault's line."""
     what, fault = line.removeprefix('motesim: '), scenario_faults.find_fault(data)
-    if fault is None or fault.told != what:
+    if fault is None or fault.message != what:
         # (as of memory, and of texts that are TOML to Python alone)
         return wrapped(rule_of(what)) + ['Where it is, this tool does not know.']
     text = data.decode('utf-8', 'replace')

@@ -9,11 +9,12 @@ from __future__ import annotations
 import re
 
 from motesim.from_c.expressions import TOO_LARGE
-from motesim.explain.synonyms import CHANCE, at, like_of_missing, missing, nearest
+from motesim.explain.synonyms import CHANCE, at, like_of_missing, nearest
 from motesim.notation.keywords import RESERVED
 from motesim.notation.parentheses import written
 from motesim.notation.faults import OPERATORS, STATEMENTS, ProgramError, Token, tokens_of
 from motesim.scenario.faults import LONG_QUOTES, LOSS, MEDIUM, MOTE, TOP, ScenarioError, last_outside
+from motesim.toml import MANY_PARTS, TOO_DEEP
 
 # What people write who know other languages, and what is written instead.
 WISHES = {
@@ -62,6 +63,9 @@ NO_TOML = {
     'twice': 'A table is there once; only motes and losses are many, and each of them is a table `[[mote]]`, '
     '`[[loss]]`.',
     'overwrite': 'A key is only once in its table.',
+    MANY_PARTS: 'A dot between two words of a key makes a table in a table. A scenario needs two parts at most: '
+                '`medium.range = 10`.',
+    TOO_DEEP: 'A scenario needs no bracket in more than two others. Is a `]` or a `}` missing?',
     '': 'Texts are in quotes, programs of several lines in three: p = """ .. """.',
 }
 QUOTES = '\u2018\u2019\u201a\u201b\u201c\u201d\u201e\u201f\u00ab\u00bb\u00b4`'
@@ -228,7 +232,7 @@ def _of_no_toml(text: str, fault: ScenarioError, place: tuple[int, int]) -> str 
 
 def of_scenario(tables: dict[str, object] | None, fault: ScenarioError, text: str) -> str | None:
     """A hint on a fault of a scenario. Its tables are None where the text is no TOML."""
-    line, name = fault.told, str(fault.path[-1]) if fault.path else ''
+    line, name = fault.message, str(fault.path[-1]) if fault.path else ''
     if line == 'scenario fault 1' and fault.line:
         return _of_no_toml(text, fault, fault.line)
     if line == 'scenario fault 2' and tables is not None:
@@ -248,7 +252,7 @@ def of_scenario(tables: dict[str, object] | None, fault: ScenarioError, text: st
 
 def _of_missing(tables: dict[str, object], fault: ScenarioError) -> str | None:
     """What most likely is meant by a key that is missing."""
-    wanted = missing(fault)
+    wanted = fault.missing
     like = like_of_missing(tables, fault)
     if like:
         return 'It has `%s`: did you mean `%s`?' % (like, wanted)

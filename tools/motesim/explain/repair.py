@@ -174,7 +174,7 @@ def _attempts_at_value(text: str, rows: list[str], tables: object, fault: Scenar
         hint = '`%s` is at %s %s' % (name, 'most' if value > nearest else 'least', '{:,}'.format(nearest))
         more = ', in moments: a moment may be as long as you like.' if name == 'end' else '.'
         yield Repair(hint + more, number, number, (_replaced(row, place, str(nearest)),))
-    if fault.told == 'medium fault 4' and type(value) is int:
+    if fault.message == 'medium fault 4' and type(value) is int:
         count = len(synonyms.at(tables, ('mote',)) or ())  # type: ignore[arg-type]
         hint = 'Motes are numbered from 0, in the order of the file: here 0 to %d.' % (count - 1)
         for other in (value - 1, *range(count)):
@@ -194,7 +194,7 @@ def _attempts_at_header(name: str, number: int) -> Iterator[Repair]:
 
 def _attempts_at_missing(text: str, rows: list[str], tables: object, fault: ScenarioError) -> Iterator[Repair]:
     """A key that is missing, and one that most likely is it."""
-    wanted, like = synonyms.missing(fault), synonyms.like_of_missing(tables, fault)
+    wanted, like = fault.missing, synonyms.like_of_missing(tables, fault)
     if not like:
         return
     table, place = synonyms.at(tables, fault.path), place_of(text, (*fault.path, like))
@@ -258,7 +258,7 @@ def _attempts_at_name(text: str, rows: list[str], tables: object, fault: Scenari
 
 def _attempts(text: str, fault: ScenarioError) -> Iterator[Repair]:
     rows = text.split('\n')
-    if fault.told == 'scenario fault 1':
+    if fault.message == 'scenario fault 1':
         yield from _attempts_at_toml(rows, fault)
         return
     try:
@@ -267,21 +267,21 @@ def _attempts(text: str, fault: ScenarioError) -> Iterator[Repair]:
         return
     kinds = {'scenario fault 2': _attempts_at_missing, 'scenario fault 3': _attempts_at_key,
              'scenario fault 6': _attempts_at_name}
-    yield from kinds.get(fault.told, _attempts_at_value)(text, rows, tables, fault)
+    yield from kinds.get(fault.message, _attempts_at_value)(text, rows, tables, fault)
 
 
 def _is_better(fault: ScenarioError, with_it: ScenarioError | None, last: int) -> bool:
     """Whether the fault is gone, or further down."""
     if with_it is None:
         return True
-    if with_it.told == 'scenario fault 1' and with_it.line:
-        return fault.told == 'scenario fault 1' and with_it.line[0] > last
-    return (with_it.told, with_it.path) != (fault.told, fault.path)
+    if with_it.message == 'scenario fault 1' and with_it.line:
+        return fault.message == 'scenario fault 1' and with_it.line[0] > last
+    return (with_it.message, with_it.path) != (fault.message, fault.path)
 
 
 def repair(text: str, fault: ScenarioError) -> Repair | None:
     """The lines that repair a fault of a scenario, or None if none are known."""
-    is_toml = fault.told != 'scenario fault 1'
+    is_toml = fault.message != 'scenario fault 1'
     if len(text) > LONGEST or fault.program or (not fault.path and not fault.lacks if is_toml else not fault.line):
         return None
     rows = text.split('\n')

@@ -49,14 +49,9 @@ def meant(name: str, known: Iterable[str]) -> str | None:
     return nearest(name, names) or next((it for it in names if name.lower() in SYNONYMS.get(it, ())), None)
 
 
-def missing(fault: ScenarioError) -> str:
-    """The key that a table lacks."""
-    return fault.may.split('`')[1] if '`' in fault.may else ''
-
-
 def like_of_missing(tables: object, fault: ScenarioError) -> str | None:
     """A key that isn't known, and most likely means the one that is missing next to it."""
-    wanted, table = missing(fault), at(tables, fault.path)
+    wanted, table = fault.missing, at(tables, fault.path)
     if not isinstance(table, dict):
         return None
     others = [it for it in table if it not in {**TOP, **MEDIUM, **LOSS, **MOTE}]

@@ -2,7 +2,7 @@
 from __future__ import annotations
 
 from motesim.from_c.expressions import ONE_TOO_MANY, READ_ONLY, Expressions, NoCounterpart, Node, Writer
-from motesim.from_c.places import Place
+from motesim.from_c.places import Surroundings
 from motesim.from_c.scope import Scope, allowed
 from motesim.from_c.tokens import tokens_of
 
@@ -10,7 +10,7 @@ from motesim.from_c.tokens import tokens_of
 class Lines(Expressions):
     """Reads lines, and collects what they are in the notation."""
 
-    def __init__(self, text: str, scope: Scope, place: Place = Place(), end: str = ''):
+    def __init__(self, text: str, scope: Scope, place: Surroundings = Surroundings(), end: str = ''):
         """`end` is written for `PROCESS_END`: nothing, or a brace if `PROCESS_BEGIN` became one."""
         super().__init__([it for it in tokens_of(text) if it.kind != 'comment'], scope)
         self.comments = [it.text for it in tokens_of(text) if it.kind == 'comment']

@@ -16,7 +16,7 @@ ENDS = [
 ]
 
 
-class Place(NamedTuple):
+class Surroundings(NamedTuple):
     """Where lines are.
 
     is_head  whether declarations of a `code` may be there
@@ -36,7 +36,7 @@ class Place(NamedTuple):
     last: str = ''
 
 
-def place_below(above: list[str]) -> Place:
+def place_below(above: list[str]) -> Surroundings:
     """Where the line below these is."""
     tokens = tokens_of('\n'.join(above))
     words = [it.text for it in tokens]
@@ -53,11 +53,11 @@ def place_below(above: list[str]) -> Place:
     loop = next((it for it in reversed(opened) if it), '')
     codes = [at for at, word in enumerate(words[:-2]) if word == 'code']
     if not codes or not opened:
-        return Place(len(opened) == 1, not opened, loop, last=_last(words))
+        return Surroundings(len(opened) == 1, not opened, loop, last=_last(words))
     declared = [at for at in range(codes[-1], len(words)) if words[at] == 'var']
     head = tokens[declared[-1] if declared else codes[-1] + 2].line
     names = frozenset(words[at + 1] for at in declared if at + 1 < len(words))
-    return Place(len(opened) == 1, False, loop, words[codes[-1] + 1], head, names, _last(words))
+    return Surroundings(len(opened) == 1, False, loop, words[codes[-1] + 1], head, names, _last(words))
 
 
 def _last(words: list[str]) -> str:

@@ -4,43 +4,54 @@ from __future__ import annotations
 import argparse
 import os
 import sys
+import time
 from collections.abc import Sequence
 from pathlib import Path
 
 from motesim.faults import Fault
 from motesim.grading import page, tables
 from motesim.grading.entries import Entry, entries_of, shown
-from motesim.grading.marking import Marks, Task
+from motesim.grading.marking import Marks, Task, unmarked
 from motesim.grading.nets import nets_of
+from motesim.grading.pages import keep_names, pages_of, remove_earlier
+from motesim.grading.progress import Progress
 from motesim.judge.expectations import parts_of, read_all, text_of
 from motesim.judge.sentences import Names, names_of
 from motesim.runner import Limits, program_path, run_each
 
 MEGABYTE = 1 << 20
-# Seconds that a solution may take beside its runs, for reading and judging reports.
+# A run that lasts so many times its limit of processor time is ended without a mark: the machine has other work.
+PATIENCE = 10
+# Seconds of a net for what isn't the run: reading and judging its report.
 SPARE = 60
 
 
 def grade(entries: Sequence[Entry], task: Task, jobs: int | None = None) -> list[Marks]:
     """The marks of all entries, in their order."""
     seconds = (task.limits.seconds + SPARE) * max(1, len(task.nets))
-    numbered = list(enumerate(entries, 1))
-    return [done.result or Marks(done.item[1].name, why=done.fault or 'it can\'t be graded')
-            for done in run_each(task.of, numbered, workers=jobs, seconds=seconds, ordered=True)]
+    found: dict[int, Marks] = {}
+    progress = Progress(len(entries))
+    for done in run_each(task.of, enumerate(entries, 1), workers=jobs, seconds=seconds):
+        number, entry = done.item
+        found[number] = done.result or unmarked(entry.name, done.fault or 'it can\'t be graded')
+        progress.add(entry.name)
+    progress.end()
+    return [found[number] for number in sorted(found)]
 
 
 def task_of(asked: argparse.Namespace, pictures: Path | None) -> Task:
-    """What is asked of all solutions. Faults of the sentences and of the nets are the teacher's."""
+    """The task of all solutions. Faults of the sentences and of the nets are the teacher's."""
     name = str(asked.expectations)
     part = parts_of(text_of(asked.expectations), name)[0]
-    nets = nets_of(asked.net, asked.vary, asked.program)
+    nets = [*nets_of(asked.net, asked.vary, asked.program),
+            *nets_of(asked.hidden, asked.vary, asked.program, is_hidden=True)]
     try:
         read_all(part.sentences, Names())
         for net in nets:
             read_all(part.sentences, Names(None, names_of(net.scenario).motes))
     except Fault as fault:
         raise Fault('%s: %s' % (name, fault)) from None
-    limits = Limits(asked.seconds, asked.memory * MEGABYTE, asked.report * MEGABYTE)
+    limits = Limits(asked.seconds * PATIENCE, asked.memory * MEGABYTE, asked.report * MEGABYTE, asked.seconds)
     return Task(part, tuple(nets), limits, pictures)
 
 
@@ -69,30 +80,28 @@ def write(path: Path, marked: Sequence[Marks], sentences: Sequence[str], task: T
     elif path.suffix == '.toml':
         text = tables.toml_of(marked, sentences, shown(str(expectations)), [net.name for net in task.nets])
     else:
-        text = page.page_of(marked, sentences, 'Marks: %s' % shown(expectations.name), pictures_of(path).name)
+        text = page.page_of(marked, sentences, 'Marks: %s' % shown(expectations.name), pages_of(path).name,
+                            time.strftime('%Y-%m-%d at %H:%M'), bool(task.nets))
     written(path, text)
     print(path)
-
-
-def pictures_of(path: Path) -> Path:
-    """The folder with the timelines of a page."""
-    return path.with_name(path.stem + '_runs')
 
 
 def status_of(asked: argparse.Namespace) -> int:
     """The work of tools/grade; returns the status."""
     program_path()
     pages = [path for path in asked.output if path.suffix == '.html']
-    pictures = pictures_of(pages[0]) if pages else None
-    if pictures:
-        pictures.mkdir(parents=True, exist_ok=True)
+    pictures = pages_of(pages[0]) if pages else None
     task = task_of(asked, pictures)
     entries = entries_of(asked.folder)
     if asked.why is not None:
         entries = [it for it in entries if asked.why in (it.name, it.name.rpartition('.')[0])]
         if not entries:
-            raise Fault('%s has no solution %s' % (asked.folder, asked.why))
+            raise Fault('%s has no solution %s: --why needs the name of a file in it' % (asked.folder, asked.why))
+    if pictures:
+        remove_earlier(pictures)
     marked = grade(entries, task, asked.jobs)
+    if pictures:
+        keep_names(pictures, [it.picture for it in marked if it.picture])
     sentences = tables.sentences_of(marked) or task.part.sentences
     for line in spoken_of_by_none(marked, sentences):
         print('grade: %s' % line, file=sys.stderr)
@@ -105,4 +114,4 @@ def status_of(asked: argparse.Namespace) -> int:
                          *tables.pointer(marked)]))
     for path in asked.output:
         write(path, marked, sentences, task, asked.expectations)
-    return 0
+    return 1 if any(it.is_open for it in marked) else 0

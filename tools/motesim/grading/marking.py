@@ -1,7 +1,8 @@
 """The marks of one solution: which sentences hold of it, in each net, within limits."""
 from __future__ import annotations
 
-from collections.abc import Iterator
+import re
+from collections.abc import Iterator, Sequence
 from dataclasses import dataclass, replace
 from pathlib import Path
 from typing import NamedTuple
@@ -25,22 +26,31 @@ from motesim.timeline.note import note_of
 # Reports longer than this have no timeline.
 MOST_SHOWN = 4_000_000
 LONGEST_WHY = 300
+# Signs that no name of a page has: all but letters, digits and two more, and a dot in front.
+UNSAFE = re.compile(r'[^A-Za-z0-9.-]|^\.')
+LONGEST_NAME = 80
+OF_HIDDEN = 'in a hidden net'
 # Of an error so many lines are shown.
 MOST_LINES = 40
 
 
 class Mark(NamedTuple):
-    """A sentence: in how many nets it holds, and in the first one in which it doesn't, why."""
+    """A sentence: in which nets it doesn't hold, and why in the first of them.
+
+    shown  the net and the reason as a page may show them to students: nothing of a hidden net
+    """
     sentence: str
     holds: bool
     nets: tuple[str, ...] = ()
     more: tuple[str, ...] = ()
+    shown: tuple[str, ...] = ()
 
 
 @dataclass(frozen=True)
 class Marks:
     """A solution: its name, a mark for each sentence, or why there are none, and what it lacks.
 
+    is_open  whether it has to be marked again: the reason isn't its own
     picture  the page with the timeline of its first failed sentence, in the folder of pictures
     fix      of a refused scenario or program, the place of its error and how it is put right
     """
@@ -50,6 +60,7 @@ class Marks:
     lacks: tuple[str, ...] = ()
     picture: str = ''
     fix: tuple[str, ...] = ()
+    is_open: bool = False
 
     @property
     def held(self) -> int:
@@ -67,18 +78,20 @@ class Marks:
 
 
 class InNet(NamedTuple):
-    """What holds of a solution in one net, and where each broken sentence is broken."""
+    """The marks of a solution in one net (its name), with the place of each broken sentence."""
     marks: list[Mark]
     lacks: list[str]
     why: str
     run: Run | None
     broken: list[Broken | None]
     is_refused: bool = False
+    net: str = ''
+    is_hidden: bool = False
 
 
 @dataclass(frozen=True)
 class Task:
-    """What all solutions have in common: the sentences, the nets (none: each has its own), and the limits."""
+    """The common part of all solutions: the sentences, the nets (none: each has its own), and the limits."""
     part: Part
     nets: tuple[Net, ...]
     limits: Limits
@@ -95,23 +108,26 @@ class Task:
         try:
             data = data_of(entry)
             if not self.nets:
-                found = [('', self.in_net(data.decode('utf-8')))]
+                found = [self.in_net(data.decode('utf-8'))]
             else:
                 source = [program_of(data, entry.path.name, net.program) for net in self.nets]
-                found = [(net.name, self.in_net(net.with_program(text))) for net, text in zip(self.nets, source)]
+                found = [self.in_net(net.with_program(text))._replace(net=net.name, is_hidden=net.is_hidden)
+                         for net, text in zip(self.nets, source)]
         except UnicodeDecodeError:
             return Marks(entry.name, why='the file is not UTF-8 text')
         except LimitMet as fault:
+            if fault.limit == 'seconds':
+                return unmarked(entry.name, '%s, though the program had used less processor time than it may' % fault)
             return Marks(entry.name, why='the run was ended: %s' % fault)
         except Fault as fault:
             return Marks(entry.name, why=str(fault).split('\n', 1)[0], fix=fix_of(entry, data))
         marks = self.together(entry.name, found)
-        if any(its.is_refused for _, its in found):
+        if any(its.is_refused for its in found):
             return replace(marks, fix=fix_of(entry, data))
         return replace(marks, picture=self.picture(number, marks, found))
 
     def in_net(self, text: str) -> InNet:
-        """What holds of a scenario."""
+        """The marks of a scenario."""
         known, names = known_of(text)
         lacks = [lacking(it, names) for it in self.part.sentences]
         part = replace(self.part, sentences=[it for it, lack in zip(self.part.sentences, lacks) if not lack])
@@ -142,32 +158,59 @@ class Task:
         return [Mark(it, False, (), ('the scenario has %s' % lack,)) if lack else next(held)
                 for it, lack in zip(self.part.sentences, lacks)]
 
-    def together(self, name: str, found: list[tuple[str, InNet]]) -> Marks:
+    def together(self, name: str, found: list[InNet]) -> Marks:
         """The marks over all nets: a sentence holds if it holds in each."""
         marks = []
-        for each in zip(*(its.marks for _, its in found)):
-            failed = [(net, mark) for (net, _), mark in zip(found, each) if not mark.holds]
+        for each in zip(*(its.marks for its in found)):
+            failed = [(its, mark) for its, mark in zip(found, each) if not mark.holds]
             first = failed[0][1] if failed else None
-            marks.append(Mark(each[0].sentence, not failed, tuple(net for net, _ in failed if net),
-                              first.more if first else ()))
-        why = ' '.join(next((its.why for _, its in found if its.why), '').split())[:LONGEST_WHY]
-        lacks = [next((it for it in each if it), '') for each in zip(*(its.lacks for _, its in found))]
+            marks.append(Mark(each[0].sentence, not failed, tuple(its.net for its, _ in failed if its.net),
+                              first.more if first else (), shown_of(failed)))
+        why = ' '.join(next((its.why for its in found if its.why), '').split())[:LONGEST_WHY]
+        lacks = [next((it for it in each if it), '') for each in zip(*(its.lacks for its in found))]
         return Marks(name, tuple(marks), why, tuple(lacks))
 
-    def picture(self, number: int, marks: Marks, found: list[tuple[str, InNet]]) -> str:
-        """Writes the timeline that shows the first failed sentence; gives its name, or an empty one."""
+    def picture(self, number: int, marks: Marks, found: list[InNet]) -> str:
+        """Writes the timeline that shows the first failed sentence; returns its name, or an empty one.
+
+        There is none of a run in a hidden net.
+        """
         place = marks.first_failed
         if place is None or self.pictures is None:
             return ''
-        its = next((its for _, its in found if not its.marks[place].holds), None)
+        its = next((its for its in found if not its.marks[place].holds and not its.is_hidden), None)
         if its is None or its.run is None:
             return ''
         mark = its.marks[place]
         note = note_of(its.run, mark.sentence, its.broken[place] if place < len(its.broken) else None, mark.more)
-        name = '%04d.html' % number
+        name = page_name(number, marks.name, its.net)
         write_page(self.pictures / name, '%s: %s' % (marks.name, mark.sentence), [its.run._replace(name=marks.name)],
                    note=note)
         return name
+
+
+def unmarked(name: str, why: str) -> Marks:
+    """A solution that has to be marked again, since the reason isn't its own."""
+    return Marks(name, why='not marked, run it again: %s' % why, is_open=True)
+
+
+def shown_of(failed: Sequence[tuple[InNet, Mark]]) -> tuple[str, ...]:
+    """The net and the reason that a page may show of a sentence that doesn't hold."""
+    shown = next(((its, mark) for its, mark in failed if not its.is_hidden), None)
+    if shown is None:
+        return (OF_HIDDEN,) if failed else ()
+    its, mark = shown
+    return (*(['in %s' % its.net] if its.net else []), *mark.more)
+
+
+def page_name(number: int, solution: str, net: str) -> str:
+    """The name of the page of a run, by its solution and its net.
+
+    Names that can't be part of a file's name unchanged get the number of the solution, so that no two are the same.
+    """
+    plain = UNSAFE.sub('_', solution)[:LONGEST_NAME]
+    return '%s%s%s.html' % (plain, '' if plain == solution else '_%d' % number,
+                            '_in_' + UNSAFE.sub('_', net)[:LONGEST_NAME] if net else '')
 
 
 def fix_of(entry: Entry, data: bytes) -> tuple[str, ...]:
@@ -178,5 +221,5 @@ def fix_of(entry: Entry, data: bytes) -> tuple[str, ...]:
         lines = of_program_file(entry.name, source, error) if error else []
     else:
         fault = find_fault(data) if data else None
-        lines = explanation(entry.name, data, 'motesim: ' + fault.told) if fault else []
+        lines = explanation(entry.name, data, 'motesim: ' + fault.message) if fault else []
     return tuple(line[:LONGEST_WHY] for line in lines[:MOST_LINES])

@@ -3,7 +3,7 @@ from __future__ import annotations
 
 import itertools
 from collections.abc import Iterator, Sequence
-from dataclasses import dataclass
+from dataclasses import dataclass, replace
 from pathlib import Path
 
 from motesim.experiments.asked import values_of
@@ -23,10 +23,14 @@ MOST_NETS = 1_000
 
 @dataclass(frozen=True)
 class Net:
-    """A net by its name, its scenario, and which of its programs is the one that solutions have."""
+    """A net by its name, its scenario, and which of its programs is the one that solutions have.
+
+    is_hidden  whether students may not see it
+    """
     name: str
     scenario: Scenario
     program: str
+    is_hidden: bool = False
 
     def with_program(self, source: str) -> str:
         """The scenario with another text of the program."""
@@ -62,7 +66,7 @@ def _texts(path: Path, vary: Sequence[str]) -> Iterator[tuple[str, str]]:
 def _net(name: str, text: str, program: str | None) -> Net:
     fault = find_fault(text.encode())
     if fault:
-        raise Fault('%s is no net to grade in: motesim: %s (tools/explain says more)' % (name, fault.told))
+        raise Fault('%s is no net to grade in: motesim: %s (tools/explain says more)' % (name, fault.message))
     scenario = Scenario.parse(text)
     names = list(scenario.programs)
     if program is None and len(names) != 1:
@@ -73,9 +77,10 @@ def _net(name: str, text: str, program: str | None) -> Net:
     return Net(name, scenario, program or names[0])
 
 
-def nets_of(paths: Sequence[Path], vary: Sequence[str], program: str | None) -> list[Net]:
+def nets_of(paths: Sequence[Path], vary: Sequence[str], program: str | None, is_hidden: bool = False) -> list[Net]:
     """The nets of these files."""
-    return [_net(name, text, program) for path in paths for name, text in _texts(path, vary)]
+    found = [_net(name, text, program) for path in paths for name, text in _texts(path, vary)]
+    return [replace(it, is_hidden=is_hidden) for it in found]
 
 
 def program_of(data: bytes, name: str, wanted: str) -> str:

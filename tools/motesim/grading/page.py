@@ -6,6 +6,7 @@ from html import escape
 from urllib.parse import quote
 
 from motesim.grading.marking import Marks
+from motesim.grading.tables import count_of
 
 HEAD = """<!DOCTYPE html>
 <html lang="en">
@@ -31,7 +32,7 @@ pre { margin: 2px 0 0; font: 12.5px/1.4 ui-monospace, "DejaVu Sans Mono", monosp
 
 
 def _colour(marks: Marks, count: int) -> str:
-    return 'all' if marks.held == count and count else 'some' if marks.held else 'none'
+    return '' if marks.is_open else 'all' if marks.held == count and count else 'some' if marks.held else 'none'
 
 
 def _first_failed(marks: Marks, folder: str) -> str:
@@ -43,18 +44,18 @@ def _first_failed(marks: Marks, folder: str) -> str:
     words = '%d. %s' % (place + 1, mark.sentence)
     link = '<a href="%s/%s">%s</a>' % (quote(folder), quote(marks.picture), escape(words)) if marks.picture \
         else escape(words)
-    more = [*('in %s' % net for net in mark.nets[:1]), *mark.more]
-    return link + ('<pre>%s</pre>' % escape('\n'.join(more)) if more else '')
+    return link + ('<pre>%s</pre>' % escape('\n'.join(mark.shown)) if mark.shown else '')
 
 
 def _row(marks: Marks, count: int, folder: str) -> str:
     dots = ''.join('<span title="%s">%s</span>' % (escape(it.sentence, True), '●' if it.holds else '○')
                    for it in marks.marks)
-    return '<tr><td>%s</td><td class="number %s">%d of %d</td><td class="marks">%s</td><td>%s</td></tr>' % (
-        escape(marks.name), _colour(marks, count), marks.held, count, dots, _first_failed(marks, folder))
+    return '<tr><td>%s</td><td class="number %s">%s</td><td class="marks">%s</td><td>%s</td></tr>' % (
+        escape(marks.name), _colour(marks, count), count_of(marks, count), dots, _first_failed(marks, folder))
 
 
-def page_of(marked: Sequence[Marks], sentences: Sequence[str], title: str, folder: str) -> str:
+def page_of(marked: Sequence[Marks], sentences: Sequence[str], title: str, folder: str, date: str = '',
+            has_nets: bool = False) -> str:
     """The page. `folder` has the timelines."""
     rows = [_row(it, len(sentences), folder) for it in marked]
     held = [sum(len(it.marks) > place and it.marks[place].holds for it in marked) for place in range(len(sentences))]
@@ -63,6 +64,8 @@ def page_of(marked: Sequence[Marks], sentences: Sequence[str], title: str, folde
                                                                                                  1)]
     return '\n'.join([
         HEAD % escape(title) + '<h1>%s</h1>' % escape(title),
+        '<p>%s ● means that a sentence holds%s, ○ that it doesn\'t.</p>' % (
+            'Marked on %s.' % date if date else '', ' in all nets' if has_nets else ''),
         '<table><thead><tr><th>Solution</th><th class="number">Holds</th><th>Sentences</th><th>First that '
         'fails</th></tr>'
         '</thead><tbody>', *rows, '</tbody></table>',

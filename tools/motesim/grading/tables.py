@@ -17,13 +17,18 @@ def sentences_of(marked: Sequence[Marks]) -> list[str]:
     return max(([it.sentence for it in one.marks] for one in marked), key=len, default=[])
 
 
+def count_of(marks: Marks, count: int) -> str:
+    """The number of sentences that hold of a solution."""
+    return '- of %d' % count if marks.is_open else '%d of %d' % (marks.held, count)
+
+
 def table(marked: Sequence[Marks], sentences: Sequence[str]) -> list[str]:
     """A row for each solution."""
     width = max(len(it.name) for it in marked)
     rows = []
     for it in marked:
         broken = ', '.join(str(number) for number, one in enumerate(it.marks, 1) if not one.holds)
-        count = '%d of %d' % (it.held, len(sentences))
+        count = count_of(it, len(sentences))
         shown = it.why or '; '.join(one for one in (broken and 'broken: %s' % broken, it.fault) if one)
         rows.append(('%s  %s  %s' % (it.name.ljust(width), count, shown)).rstrip())
     return rows
@@ -32,12 +37,12 @@ def table(marked: Sequence[Marks], sentences: Sequence[str]) -> list[str]:
 def below(marked: Sequence[Marks], sentences: Sequence[str]) -> list[str]:
     """The sentences, each with how many solutions meet it."""
     return ['%3d  %d of %d  %s' % (number,
-                                   sum(len(it.marks) >= number and it.marks[number - 1].holds for it in marked),
+                                   sum(holds(it, number) for it in marked),
                                    len(marked), sentence) for number, sentence in enumerate(sentences, 1)]
 
 
 def pointer(marked: Sequence[Marks]) -> list[str]:
-    """What shows the errors of refused solutions."""
+    """The line that says how to see the errors of refused solutions."""
     refused = [it.name for it in marked if any(line.startswith('Hint: ') for line in it.fix)]
     return ['', '--why %s shows where its error is, and how to put it right' % refused[0]] if refused else []
 
@@ -48,13 +53,15 @@ def cell(text: str) -> str:
 
 
 def csv_of(marked: Sequence[Marks], sentences: Sequence[str]) -> str:
-    """A row for each solution, with 1 for each sentence that holds and 0 for each other."""
+    """A row for each solution, with 1 for each sentence that holds and 0 for each other; nothing if it isn't marked."""
     out = io.StringIO(newline='')
     rows = csv.writer(out, lineterminator='\n')
     rows.writerow(['scenario', 'holds', 'of', 'fault', *map(cell, sentences)])
     for it in marked:
-        holds = [int(one.holds) for one in it.marks]
-        rows.writerow([cell(it.name), it.held, len(sentences), cell(it.fault), *(holds or [0] * len(sentences))])
+        holds: list[object] = [int(one.holds) for one in it.marks]
+        missing = '' if it.is_open else 0
+        rows.writerow([cell(it.name), missing if it.is_open else it.held, len(sentences), cell(it.fault),
+                       *(holds or [missing] * len(sentences))])
     return out.getvalue()
 
 
@@ -64,15 +71,23 @@ def quoted(text: str) -> str:
                                                   else '\\u%04X' % ord(sign)) for sign in text)
 
 
+def holds(marks: Marks, number: int) -> bool:
+    """True if a sentence holds of a solution. Of one that has no run, none does."""
+    return len(marks.marks) >= number and marks.marks[number - 1].holds
+
+
 def toml_of(marked: Sequence[Marks], sentences: Sequence[str], expectations: str, nets: Sequence[str]) -> str:
     """The marks as a TOML document."""
     lines = ['# Written by tools/grade.', 'expectations = %s' % quoted(expectations),
              'nets = [%s]' % ', '.join(map(quoted, nets)), 'sentences = [',
              *('  %s,' % quoted(it) for it in sentences), ']']
     for it in marked:
-        broken = [str(number) for number, one in enumerate(it.marks, 1) if not one.holds]
-        lines += ['', '[[solution]]', 'name = %s' % quoted(it.name), 'holds = %d' % it.held,
-                  'of = %d' % len(sentences), 'broken = [%s]' % ', '.join(broken)]
+        lines += ['', '[[solution]]', 'name = %s' % quoted(it.name)]
+        if not it.is_open:
+            broken = [number for number in range(1, len(sentences) + 1) if not holds(it, number)]
+            lines.append('holds = %d' % it.held)
+            lines.append('broken = [%s]' % ', '.join(map(str, broken)))
+        lines.append('of = %d' % len(sentences))
         lines += ['fault = %s' % quoted(it.fault)] if it.fault else []
         failed = it.first_failed
         if failed is not None and it.marks[failed].more:
@@ -81,7 +96,7 @@ def toml_of(marked: Sequence[Marks], sentences: Sequence[str], expectations: str
 
 
 def why(marks: Marks) -> list[str]:
-    """What breaks the sentences in one solution."""
+    """The lines on the sentences of one solution."""
     lines = [*([marks.why] if marks.why else []), *marks.fix]
     for it in marks.marks:
         lines.append(('holds   ' if it.holds else 'broken  ') + it.sentence)

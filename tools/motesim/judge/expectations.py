@@ -74,7 +74,7 @@ def part_of(table: dict[str, Any], name: str, keys: set[str]) -> Part:
             raise Fault('%s of %s is not %s' % (key, name, WRITTEN[key]))
     sentences, replace = table.get('expect', []), table.get('replace', {})
     if not all(type(it) is str for it in [*sentences, *replace.values()]):
-        raise Fault('%s holds something else than texts' % name)
+        raise Fault('%s must contain only texts' % name)
     if not sentences and 'report' not in table:
         raise Fault('%s expects nothing' % name)
     return Part(table.get('about', name), sentences, table.get('report'), replace)

@@ -34,7 +34,7 @@ def checked(text: str) -> str:
     if fault:
         place = fault.place(text)
         raise Fault('the plan has no fault, but the scenario that it makes has: %s, line %d\n  %s' % (
-            fault.told, place.line, text.split('\n')[place.line - 1]))
+            fault.message, place.line, text.split('\n')[place.line - 1]))
     return text
 
 
@@ -43,7 +43,7 @@ def write_from(source: str, output: str | None) -> int:
     data = read_file(source)
     fault = scenario_faults.find_fault(data)
     if fault:
-        raise Fault('%s has a fault: motesim: %s (tools/explain says more)' % (source, fault.told))
+        raise Fault('%s has a fault: motesim: %s (tools/explain says more)' % (source, fault.message))
     name = 'net' if source == '-' else Path(source).stem
     plan = Path(output) if output else beside(source, name + '.plan.toml')
     if plan.suffix != '.toml':

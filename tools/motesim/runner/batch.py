@@ -16,6 +16,7 @@ import time
 from collections import deque
 from collections.abc import Callable, Generator, Iterable, Iterator
 from dataclasses import dataclass
+from types import FrameType
 from typing import TYPE_CHECKING, Any, Generic, TypeVar
 
 from motesim.faults import Fault
@@ -32,6 +33,8 @@ MOST_AHEAD = 32
 # Seconds between two looks at the clock while workers work.
 TICK = 0.2
 SECONDS_TO_END = 2.0
+# Of prctl(2): which signal a process gets when its parent ends.
+PR_SET_PDEATHSIG = 1
 # How many processes share one piece of work.
 MOST_SHARING = 4
 
@@ -60,14 +63,33 @@ def _tried(work: Callable[[Item], Result], item: Item) -> tuple[Result | None, s
         return None, fault_of(fault)
 
 
-def _serve(work: Callable[[Any], Any], channel: Connection, others: list[Connection]) -> None:
-    """A worker: reads lists of items from the channel, and sends an answer for each."""
+def _end_group(number: int, frame: FrameType | None) -> None:
+    """Ends this worker with its runs."""
+    os.killpg(0, signal.SIGKILL)
+
+
+def _end_with_parent(parent: int | None) -> None:
+    """Has the system send SIGTERM to this process once its parent has ended, even by SIGKILL."""
+    import ctypes
+    ctypes.CDLL(None).prctl(PR_SET_PDEATHSIG, signal.SIGTERM)
+    # (it may have ended before)
+    if parent is not None and os.getppid() != parent:
+        _end_group(signal.SIGTERM, None)
+
+
+def _serve(work: Callable[[Any], Any], channel: Connection, others: list[Connection], parent: int | None) -> None:
+    """A worker: reads lists of items from the channel, and sends an answer for each.
+
+    Its parent is known unless a server process forks the workers.
+    """
     share_group()
     # (a channel is closed once nobody holds its other end)
     for other in others:
         other.close()
     signal.signal(signal.SIGINT, signal.SIG_IGN)
-    signal.signal(signal.SIGTERM, signal.SIG_DFL)
+    signal.signal(signal.SIGHUP, _end_group)
+    signal.signal(signal.SIGTERM, _end_group)
+    _end_with_parent(parent)
     gc.freeze()
     gc.enable()
     while True:
@@ -100,7 +122,8 @@ class _Worker:
         self.channel: Connection
         self.channel, there = context.Pipe()
         inherited = [*others, self.channel] if is_forked else []
-        self.process = context.Process(target=_serve, args=(work, there, inherited), daemon=True)
+        parent = os.getpid() if is_forked else None
+        self.process = context.Process(target=_serve, args=(work, there, inherited, parent), daemon=True)
         self.process.start()
         there.close()
         self.given: deque[int] = deque()

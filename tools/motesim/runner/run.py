@@ -89,7 +89,7 @@ def read_run(path: str | Path, scenario: str | Path | None = None, limits: Limit
     if is_run and scenario is not None:
         raise Fault('%s is a scenario itself: leave the other one out' % path)
     if not (is_run or data.strip()):
-        raise Fault('%s is empty: a report or a scenario is wanted' % (
+        raise Fault('%s is empty: expected a report or a scenario' % (
             'standard input' if str(path) == '-' else path))
     encoding = None if is_run else encoding_of(data)
     if encoding:

@@ -43,28 +43,30 @@ RULES: dict[str, str] = {
 
 @dataclass
 class ScenarioError(Exception):
-    """The first fault of a scenario: its line in the form of motesim, its place, and what is allowed there.
+    """The first fault of a scenario: its message as motesim prints it, its place, and what is allowed there.
 
     path  the table or the key; of a missing key its table
     line  instead of the path, the line and the column, if the text is no TOML or no text
+    missing  the key that the table lacks, or nothing
     """
-    told: str
+    message: str
     path: Path = ()
     may: str = ''
     line: tuple[int, int] | None = None
     program: ProgramError | None = None
+    missing: str = ''
 
     def is_of_value(self) -> bool:
         """Returns whether the value after the key is not allowed, and not the key."""
-        if not self.path or type(self.path[-1]) is int or self.path[0] == 'queue' and self.told == 'scenario fault 6':
+        if not self.path or type(self.path[-1]) is int or (
+                self.path[0] == 'queue' and self.message == 'scenario fault 6'):
             return False
-        return self.told not in ('scenario fault 2', 'scenario fault 3')
+        return self.message not in ('scenario fault 2', 'scenario fault 3')
 
     @property
     def lacks(self) -> str | None:
         """The key or the table that the scenario lacks at its top, which has no place."""
-        is_missing = self.told == 'scenario fault 2' and not self.path
-        return self.may.split('`')[1] if is_missing else None
+        return self.missing if self.missing and not self.path else None
 
     def place(self, text: str) -> Place:
         """The place of the fault."""
@@ -111,7 +113,7 @@ def _check_table(table: dict[str, Any], path: Path, keys: dict[str, Rule]) -> No
     """A table's first fault: missing keys, unknown ones, values of another kind, and those out of range."""
     for name, key in keys.items():
         if key.is_needed and name not in table:
-            raise _fault(2, path, 'the key %s' % may_of(name, key))
+            raise ScenarioError('scenario fault 2', path, 'the key %s' % may_of(name, key), missing=name)
     for name in table:
         if name not in keys:
             raise _fault(3, path + (name,), 'one of the keys %s' % ', '.join('`%s`' % it for it in keys))
@@ -168,8 +170,8 @@ def _check_texts(programs: dict[str, Any]) -> None:
     for name in sorted(programs, key=str.encode):
         fault = find_program_fault(programs[name])
         if fault:
-            told = 'program %s fault %d line %d' % (name, fault.kind, fault.token.line)
-            raise ScenarioError(told, ('programs', name), program=fault)
+            message = 'program %s fault %d line %d' % (name, fault.kind, fault.token.line)
+            raise ScenarioError(message, ('programs', name), program=fault)
 
 
 def _check_medium(tables: dict[str, Any]) -> None:

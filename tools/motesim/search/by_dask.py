@@ -29,7 +29,7 @@ def run_batch(number: str, work: Work, digest: str, tasks: list[Task]) -> list[O
         path = Path(os.environ.get('MOTESIM') or work.program)
         try:
             if program_digest(path) != digest:
-                raise ProgramFault('%s is another program than that of the search' % path)
+                raise ProgramFault('%s differs from the program of the search' % path)
         except OSError as fault:
             raise ProgramFault('%s: %s' % (path, fault.strerror)) from None
         _here.bench = Bench(work._replace(program=str(path)))

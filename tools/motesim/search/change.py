@@ -69,7 +69,7 @@ class Base:
         self.plan, self.others = plan, dict[tuple[tuple[str, Value], ...], Base]()
         fault = None if is_checked else find_fault(source.encode())
         if fault:
-            raise Fault('%s has no report: motesim: %s (tools/explain %s says more)' % (name, fault.told, name))
+            raise Fault('%s has no report: motesim: %s (tools/explain %s says more)' % (name, fault.message, name))
         self.source, self.name = source, name
         self.scenario_itself = Scenario.parse(source)
         self.tables = read_toml(source)

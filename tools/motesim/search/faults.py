@@ -119,10 +119,10 @@ def effect_of(words: str, motes: int) -> tuple[str | int, ...]:
         is_number = word.lstrip('-').isdecimal()
         if is_number == (part in ('PROGRAM', 'NAME')) or (
                 part in ('MOTE', 'SENDER', 'RECEIVER') and not 0 <= int(word) < motes):
-            raise Fault('the fault `%s` is to be %s %s, and %s is no %s' % (words, name, wanted, word, part))
+            raise Fault('the fault `%s` must have the form %s %s, and %s is no %s' % (words, name, wanted, word, part))
         found.append(int(word) if is_number else word)
     if len(rest) != len(wanted.split()):
-        raise Fault('the fault `%s` is to be %s %s' % (words, name, wanted))
+        raise Fault('the fault `%s` must have the form %s %s' % (words, name, wanted))
     return tuple(found)
 
 

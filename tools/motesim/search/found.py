@@ -99,7 +99,8 @@ def covered_lines(search: Search) -> list[str]:
     if len(search.why) > SHOWN_REASONS:
         rows.append('  and %s' % counted(len(search.why) - SHOWN_REASONS, 'other reason', 'other reasons'))
     if search.sample.sets:
-        rows.append('a sample of {:,} larger sets, drawn with the seed {} (a sample covers nothing wholly): {:,} run'
+        rows.append('a sample of {:,} larger sets, drawn with the seed {} (a sample covers no size completely): '
+                    '{:,} run'
                     .format(search.sample.sets, search.bounds.seed, search.sample.run))
     return rows
 

@@ -35,7 +35,7 @@ class Kept:
     def read(self, path: Path, digest: str) -> None:
         rows = path.read_text('utf-8', 'replace').split('\n')
         if rows[0] != 'search ' + digest:
-            raise Fault('%s is of another search: of another scenario, other expectations, faults or another program. '
+            raise Fault('%s belongs to another search, with another scenario, expectations, faults or program. '
                         'Search without --resume, or name another folder by -o' % path)
         # (of a line that was cut off there is no end)
         for row in rows[1:-1]:

@@ -75,6 +75,6 @@ def status_of(asked: argparse.Namespace) -> int:
     print('now:    %s' % sizes(shrinking.text))
     print('%d steps, %d runs; %s' % (
         len(shrinking.taken), shrinking.runs,
-        'no step more is possible' if shrinking.is_whole else 'STOPPED: more steps may be possible'))
+        'no further step is possible' if shrinking.is_whole else 'STOPPED: more steps may be possible'))
     print('%s breaks: %s' % (output, shrinking.case.sentence))
     return 0 if shrinking.is_whole else INTERRUPTED

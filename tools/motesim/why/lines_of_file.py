@@ -4,7 +4,7 @@ from __future__ import annotations
 from dataclasses import dataclass
 
 from motesim.scenario.faults import place_of
-from motesim.why.translate import Place
+from motesim.why.translate import ProgramPlace
 
 
 @dataclass(frozen=True)
@@ -13,7 +13,7 @@ class ScenarioFile:
     name: str
     text: str
 
-    def place(self, name: str, program: str) -> Place | None:
+    def place(self, name: str, program: str) -> ProgramPlace | None:
         """The place of a program's text in the file, if all of its lines are found there."""
         rows, lines = self.text.split('\n'), [line.strip() for line in program.rstrip().split('\n')]
         quotes = place_of(self.text, ('programs', name)).line - 1
@@ -21,5 +21,5 @@ class ScenarioFile:
         for begin in quotes, quotes + 1:
             beside = rows[begin:begin + len(lines)]
             if len(beside) == len(lines) and all(line in row for line, row in zip(lines, beside)):
-                return Place(self.name, begin)
+                return ProgramPlace(self.name, begin)
         return None

@@ -66,7 +66,7 @@ class Statement(NamedTuple):
     around: tuple[Around, ...] = ()
 
 
-class Place(NamedTuple):
+class ProgramPlace(NamedTuple):
     """The place of a program's text in a file: the file's name, and how many of its lines are above the text."""
     file: str
     above: int
@@ -83,7 +83,7 @@ class Program:
     autostart: list[int] = field(default_factory=list)
     receiver: int | None = None
     statements: list[Statement] = field(default_factory=list)
-    place: Place | None = None
+    place: ProgramPlace | None = None
 
     def statement(self, number: int) -> Statement:
         """A statement by its number, from 1."""

@@ -100,7 +100,8 @@ def with_marks(source: Source, watched: list[Watched]) -> list[Watched]:
             taken[key] = {int(source.traces.text_at(line.where).rsplit(' ', 1)[1]) for its in prints for line in its}
         mark = next((value for value in range(MOST_VALUE, -1, -1) if value not in taken[key]), None)
         if mark is None:
-            raise Unwatched('the process prints each value there is, so that no added print can be told from its own')
+            raise Unwatched('the process prints every possible value, so added prints can\'t be distinguished from '
+                            'its own')
         taken[key].add(mark)
         found.append(it._replace(mark=mark))
     return found
