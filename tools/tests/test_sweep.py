@@ -242,13 +242,12 @@ class SweepTest(Bed):
         self.assertEqual((columns[:4], rows[0]['period']), (['period', 'motes', 'name', 'end'], 1))
 
     def test_faults_are_rows(self) -> None:
-        for name, line in ('burn', '// burn'), ('long', '// long'), ('refuse', '// refuse'), ('text', 'code a'):
+        for name, line in ('long', '// long'), ('refuse', '// refuse'), ('text', 'code a'):
             (self.folder / (name + '.mote')).write_text(MOTE + line + '\n')
-        done = self.sweep('--vary', 'name=a,burn,refuse,text,no', '--measure', 'prints', '--seconds', '0.7')
+        done = self.sweep('--vary', 'name=a,refuse,text,no', '--measure', 'prints')
         self.assertEqual(done.returncode, 1, done)
         faults = {row['name']: row['fault'] for row in self.rows()}
         self.assertEqual((faults['a'], faults['refuse']), ('', 'motesim: out of memory'))
-        self.assertEqual(faults['burn'], 'no answer in 0.7 seconds of processor time')
         self.assertRegex(faults['text'], '^text.mote, with its parameters, line 4: ')
         self.assertRegex(faults['no'], 'no.mote: No such file')
         self.assertEqual(self.sweep('--vary', 'name=a,refuse', '--measure', 'prints').stdout.split('\n')[0],
@@ -256,16 +255,22 @@ class SweepTest(Bed):
         self.assertEqual(self.sweep('--vary', 'name=a,refuse', '--measure', 'prints', '--retry').stdout.split('\n')[0],
                          'net.csv: 2 runs, 1 of them now, 1 with a fault')
 
-    def test_a_run_that_the_machine_has_no_time_for_is_run_again(self) -> None:
-        (self.folder / 'wait.mote').write_text(MOTE + '// wait\n')
-        with mock.patch.dict(os.environ, MOTESIM=str(self.stub)), mock.patch('motesim.experiments.one_run.BUSY', 0.5):
+    def fault_of_one(self, name: str, seconds: float, busy: float) -> str:
+        """The fault of the run of a program, which this process makes with so much time on the clock."""
+        (self.folder / (name + '.mote')).write_text('%s// %s\n' % (MOTE, name))
+        with mock.patch.dict(os.environ, MOTESIM=str(self.stub)), mock.patch('motesim.experiments.one_run.BUSY', busy):
             plan = Plan.read(self.folder / 'net.plan.toml')
-            sweeper = Sweeper(sweep_of(plan, ['name=a,wait'], ['prints'], 2), self.folder / 'net.csv')
+            sweeper = Sweeper(sweep_of(plan, ['name=a,' + name], ['prints'], seconds), self.folder / (name + '.csv'))
             self.addCleanup(sweeper.file.close)
-            fault = run_job(next(sweeper.jobs([plan.with_given({'name': 'wait'})]))).fault
+            return run_job(next(sweeper.jobs([plan.with_given({'name': name})]))).fault
+
+    def test_the_limit_of_a_run_is_processor_time(self) -> None:
+        self.assertEqual(self.fault_of_one('burn', 0.5, 10_000), 'no answer in 0.5 seconds of processor time')
+
+    def test_a_run_that_the_machine_has_no_time_for_is_run_again(self) -> None:
+        fault = self.fault_of_one('wait', 2, 0.5)
         self.assertEqual(fault, 'the machine is too busy: no answer in 1 seconds, though it used less processor time '
                                 'than it may; the same command runs it again')
-        sweeper.file.close()
         words = '--vary', 'name=a,refuse', '--measure', 'prints', '-o', 'busy.csv'
         (self.folder / 'refuse.mote').write_text(MOTE + '// refuse\n')
         self.sweep(*words)

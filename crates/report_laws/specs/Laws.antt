@@ -5,6 +5,7 @@ use Rattle.mote_program.specs.Complete.{IsComplete}
 use Rattle.mote_program.specs.Declarations.{IsDeclared}
 use Rattle.mote_net.specs.Net.{MoteSetup, NetTold}
 use Rattle.mote_net.specs.Report.{ReportTold}
+use Rattle.net_scenario.specs.Reading.{TellsNet}
 use Rattle.serial_run.specs.NetRun.{IsReportOf}
 use Rattle.trace_printer.specs.Named.{NetNamesDiffer}
 use Rattle.trace_printer.specs.ReportText.{report_text}
@@ -14,9 +15,14 @@ use Rattle.report_laws.specs.Names.{NameOnly, Is64Report}
 abbrev pub ProgramsDeclare : NetTold → Type 0
 ProgramsDeclare net = Each (λ (m : MoteSetup). IsDeclared m.tree × IsComplete m.tree) net.motes
 
+-- the net of each scenario's text has such programs
+abbrev pub TextsDeclare : Type 0
+TextsDeclare = (text : List ℕ) (net : NetTold) → TellsNet text net → ProgramsDeclare net
+
 -- each process and event in each line of a run has its name
 abbrev pub RunsNameOnly : Type 0
-RunsNameOnly = (net : NetTold) → ProgramsDeclare net → (r : ReportTold) → IsReportOf net r → NameOnly net.motes r.traces
+RunsNameOnly = (net : NetTold) → ProgramsDeclare net → (r : ReportTold) → IsReportOf net r
+    → NameOnly net.motes r.traces
 
 -- a report of a run of this net, in numbers of 64 bits
 pub record IsRunOf (net : NetTold) (r : ReportTold) : Type 0 where
@@ -29,8 +35,8 @@ pub record AreComparable (m n : NetTold) : Type 0 where
   pub declare : ProgramsDeclare m
   pub differ : NetNamesDiffer m
 
--- Comparing bytes is comparing runs: two runs of the same motes that write the same text have the same traces, the same
--- log, and as many copies left.
+-- Comparing bytes is comparing runs: two runs of the same motes that write the same text have the same traces, the
+-- same log, and as many copies left.
 abbrev pub ComparingBytesIsComparingRuns : Type 0
 ComparingBytesIsComparingRuns = (m n : NetTold) → AreComparable m n → (a b : ReportTold) → IsRunOf m a → IsRunOf n b
     → report_text m a ≡ report_text n b → a ≡ b

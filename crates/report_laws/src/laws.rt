@@ -1,12 +1,19 @@
 //! Laws of the reports of runs. Each is a theorem, stated as the contract of a function that is empty or only calls
 //! other laws.
-ghost use Rattle.report_laws.specs.Laws.{ComparingBytesIsComparingRuns, NoRunBeginsAnother, RunsNameOnly};
+ghost use Rattle.report_laws.specs.Laws.{ComparingBytesIsComparingRuns, NoRunBeginsAnother, RunsNameOnly, TextsDeclare};
 
+use mote_program::name_laws::what_a_text_names_is_declared;
 use trace_printer::laws::{no_text_begins_another, text_determines_report};
 
-/// In the report of a run of a net, however it was made, each line names only processes that the mote's program has,
-/// and events that it declares, besides those of the system. The programs have to declare what they name, as the
-/// program of each text does (`what_a_text_names_is_declared` of `mote_program`).
+/// The programs of the net of each scenario's text declare what they name, and each declaration has its parts.
+pub fn texts_declare()
+    ensures { TextsDeclare }
+{
+    what_a_text_names_is_declared();
+}
+
+/// In the report of a run of a net whose programs declare what they name, however the run was made, each line names
+/// only processes that the mote's program has, and events that it declares, besides those of the system.
 pub fn runs_name_only()
     ensures { RunsNameOnly }
 {}

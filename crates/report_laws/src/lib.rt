@@ -1,5 +1,5 @@
-//! Laws of the reports of runs, about definitions only: what the lines of a run name, and that the bytes of two reports
-//! tell their runs apart.
+//! Laws of the reports of runs, about definitions only: what the lines of a run name, and that reports with the same
+//! bytes are of the same run.
 #![tactic(auto)]
 
 pub mod laws;
