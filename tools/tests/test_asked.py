@@ -29,10 +29,9 @@ class Words(unittest.TestCase):
         for words, why in [
             (['--wrokers'], '--wrokers'), (['-x'], '-x'), (['--version'], '--version'), (['a', 'b', 'c'], 'b c'),
             (['a', '--', 'b'], 'b'), (['--sync'], 'argument --sync: expected one argument'),
-            (['--sync', 'mark'], "argument --sync: invalid choice: 'mark'"), (['--cut=blocks'],
-                                                                              "invalid choice: 'blocks'"),
-            (['--workers='], "argument --workers: invalid int value: ''"), (['--cut', '--unproved'],
-                                                                            'expected one argument'),
+            (['--sync', 'mark'], "argument --sync: invalid choice: 'mark'"),
+            (['--cut=blocks'], "invalid choice: 'blocks'"), (['--cut', '--unproved'], 'expected one argument'),
+            (['--workers='], "argument --workers: invalid int value: ''"),
             (['--work', '2'], '--work'), (['a', 'b', '--cut', 'x', '--y'], 'argument --cut'),
         ]:
             refusal = asked_by(words).refusal

@@ -155,5 +155,27 @@ class Corpus(unittest.TestCase):
         self.assertEqual(words(text), words(OURS))
 
 
+class Packets(unittest.TestCase):
+    def test_a_value_that_leaves_no_room_for_an_address_has_no_line(self) -> None:
+        for value, line in ('(512 + from)', None), ('300', None), ('(x + 255)', 'send ((from * 256) + (x + 255));'):
+            source = PROGRAM % {'top': '', 'head': '', 'body': 'send %s to from;' % value}
+            fault = find_fault(source)
+            assert fault
+            found = advice(source, fault)
+            assert found
+            self.assertEqual((found.line or '').strip() or None, line)
+            self.assertEqual('at most 255' in ' '.join(found.hint.split()), line is None)
+
+    def test_a_sign_of_bits_between_tests_is_a_sign_of_truth(self) -> None:
+        for sign, line in (('&', 'if ((x == 1) && (y == 2)) { print 1; }'),
+                           ('|', 'if ((x == 1) || (y == 2)) { print 1; }')):
+            source = PROGRAM % {'top': '', 'head': '', 'body': 'if ((x == 1) %s (y == 2)) { print 1; }' % sign}
+            fault = find_fault(source)
+            assert fault
+            found = advice(source, fault)
+            assert found and found.line
+            self.assertEqual(found.line.strip(), line)
+
+
 if __name__ == '__main__':
     unittest.main()

@@ -153,6 +153,19 @@ class Warnings(unittest.TestCase):
     def test_a_loop_that_waits_is_in_order(self) -> None:
         self.assertEqual(self.told(program=CODE % 'set t 1; while 1 { yield_until fired(t); reset t; }'), [])
 
+    def test_a_loop_that_waits_for_an_event_that_it_has_is_shown_with_its_line(self) -> None:
+        for test in 'is(packet)', 'fired(t)', 'gone(a)':
+            text = scenario(program=(CODE % ('set t 1; while 1 { wait_until %s; print 1; }' % test)).replace(
+                'autostart', 'receiver a; autostart'))
+            found = [it for it in warnings(Scenario.parse(text)) if it.instead]
+            shown = explain.warned('a.toml', text, found[0])
+            self.assertIn('`yield_until` waits for the next call first', ' '.join(' '.join(shown).split()))
+            self.assertRegex(shown[-2], 'Write, as line [0-9]+')
+            self.assertIn('while 1 { yield_until %s; print 1; }' % test, shown[-1])
+        for body in 'wait_until expired(t); reset t;', 'wait_until is(packet); yield;', 'yield_until is(packet);':
+            told = self.told((CODE % ('set t 1; while 1 { %s }' % body)).replace('autostart', 'receiver a; autostart'))
+            self.assertEqual([it for it in told if 'without an end' in it], [])
+
     def test_the_examples_have_none(self) -> None:
         for path in sorted((TOP / 'examples').glob('*.toml')):
             if path.name.endswith('.expect.toml') or path.name in ('wrong.toml', 'runaway.toml', 'processes.toml'):

@@ -7,7 +7,6 @@ mod inboxes;
 mod lent_motes;
 mod many_motes;
 mod nets;
-mod one_inbox;
 mod overlaps;
 mod polled;
 mod runs;

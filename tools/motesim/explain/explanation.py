@@ -198,10 +198,18 @@ def warned(name: str, text: str, warning: Warned) -> list[str]:
     """A warning, with its place."""
     lines = wrapped('Warning: %s.' % warning.text)
     if warning.program is not None and warning.token is not None:
-        return lines + shown_program(name, text, warning.program, warning.token)
+        lines += shown_program(name, text, warning.program, warning.token)
+        return lines + (with_instead(text, warning.program, warning.token, warning.instead) if warning.instead else [])
     if warning.path is not None:
         return lines + shown_place(name, text, scenario_faults.place_of(text, warning.path))
     return lines
+
+
+def with_instead(text: str, program: str, token: program_faults.Token, word: str) -> list[str]:
+    """The line of a token of a program with another word in its place."""
+    line, place = program_line(text, program, token), place_of_token(text, program, token)
+    row = 'line %d' % place.line if place else 'line %d of program %s' % (token.line, program)
+    return ['Write, as %s:' % row, '  %s%s%s' % (line[:token.column], word, line[token.column + len(token.text):])]
 
 
 def all_warnings(name: str, data: bytes, report: bytes) -> list[str]:

@@ -14,18 +14,29 @@ from motesim.report import Report
 from motesim.scenario import Scenario
 
 ENDLESS = 'a loop without an end, in which nothing waits: the mote halts when its work is used up'
+# The word that passes at once if its test is already true; the tests that stay true within a call; and the word that
+# waits for another call first.
+AT_ONCE, OF_EVENT, LATER = 'wait_until', ('is', 'fired', 'gone'), 'yield_until'
+STILL_TRUE = ('a loop without an end, in which only `%s` waits: its test is about the event of this call, and stays '
+              'true until the next call, so the loop turns until the mote\'s work is used up, and the mote halts; `%s` '
+              'waits for the next call first' % (AT_ONCE, LATER))
+LOOPS = ENDLESS, STILL_TRUE
 # How many other places are named.
 MOST_PLACES = 8
 
 
 class Warned(NamedTuple):
-    """A warning in words. Its place is a token of a program, a mote, a loss, or nothing in particular."""
+    """A warning in words. Its place is a token of a program, a mote, a loss, or nothing in particular.
+
+    instead  the word that is most likely meant instead of the token
+    """
     text: str
     program: str | None = None
     token: Token | None = None
     mote: int | None = None
     loss: int | None = None
     cause: str = ''
+    instead: str = ''
 
     @property
     def path(self) -> tuple[str, int] | None:
@@ -71,13 +82,17 @@ class Program:
                 return behind
         return len(self.words) - 1
 
-    def endless_loops(self) -> Iterator[Token]:
-        """Each `while` of a number above 0 in which nothing waits, exits or begins again."""
+    def endless_loops(self) -> Iterator[tuple[str, Token]]:
+        """Each `while` of a number above 0 in which nothing waits, exits or begins again, or only a `wait_until` of an
+        event, with the warning."""
         for at, word in enumerate(self.words):
             if word == 'while' and self.tokens[at + 1].kind == 'number' and self.words[at + 1] != '0':
                 block = self.words[at + 2:self.end_of_block(at + 2)]
-                if not any(it in WAITS for it in block):
-                    yield self.tokens[at]
+                waits = [place for place, it in enumerate(block) if it in WAITS]
+                if not waits:
+                    yield ENDLESS, self.tokens[at]
+                elif len(waits) == 1 and block[waits[0]] == AT_ONCE and block[waits[0] + 1] in OF_EVENT:
+                    yield STILL_TRUE, self.tokens[at + 2 + waits[0]]
 
 
 def of_program(program: Program) -> Iterator[Warned]:
@@ -92,8 +107,8 @@ def of_program(program: Program) -> Iterator[Warned]:
     packet = program.first('is', '(', 'packet', ')')
     if packet and not program.receivers:
         yield Warned('packets are waited for, and no process is the `receiver`: they are dropped', name, packet)
-    for loop in program.endless_loops():
-        yield Warned(ENDLESS, name, loop)
+    for text, token in program.endless_loops():
+        yield Warned(text, name, token, instead=LATER if text == STILL_TRUE else '')
     for kind in 'etimer', 'ctimer':
         for at, word in enumerate(program.words[:-1]):
             if word == kind and program.tokens[at + 1].kind == 'name':
@@ -139,14 +154,14 @@ def warnings(scenario: Scenario, report: Report | None = None) -> list[Warned]:
 
 def by_cause(found: list[Warned]) -> list[Warned]:
     """One warning for each cause, at its first place, with how many places have it."""
-    loops = {it.program for it in found if it.text == ENDLESS}
+    loops = {it.program: it.text for it in found if it.text in LOOPS}
     groups: dict[object, list[Warned]] = {}
     for number, it in enumerate(found):
         kind, _, program = it.cause.partition(' ')
         if kind == 'halt' and program in loops:
-            groups[ENDLESS, program].append(it)
+            groups[loops[program], program].append(it)
         else:
-            key: object = (ENDLESS, it.program) if it.text == ENDLESS else it.cause or number
+            key: object = (it.text, it.program) if it.text in LOOPS else it.cause or number
             groups.setdefault(key, []).append(it)
     return [together(its) for its in groups.values()]
 
@@ -158,7 +173,7 @@ def together(its: list[Warned]) -> Warned:
         return first
     places = [it.mote if it.mote is not None else it.loss for it in others]
     shown = ', '.join(str(it) for it in places[:MOST_PLACES]) + (', ..' if len(places) > MOST_PLACES else '')
-    if first.text == ENDLESS:
+    if first.text in LOOPS:
         return first._replace(text='%s (mote%s %s)' % (first.text, 's' if len(places) > 1 else '', shown))
     what = 'loss' if others[0].mote is None else 'mote'
     many = what + ('es' if what == 'loss' else 's')

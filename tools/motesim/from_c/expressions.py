@@ -82,6 +82,12 @@ class Node:
     parts: tuple[Node, ...] = ()
 
 
+def is_test(node: Node) -> bool:
+    """True if an expression compares two values, or joins or negates tests."""
+    return node.kind == 'binary' and node.text in ('==', '!=', '<', '<=', '>', '>=', '&&', '||') or (
+        node.kind == 'unary' and node.text in ('!', 'not'))
+
+
 def number_of(text: str) -> int | None:
     """The value of a number of C, or None."""
     plain = text.lower().rstrip('ul') or text
@@ -427,6 +433,9 @@ class Writer:
         return '(%s %s %d)' % (self.text(left), '*' if sign == '<<' else '/', 2 ** places)
 
     def mask(self, sign: str, left: Node, right: Node) -> str:
+        if sign in ('&', '|') and is_test(right) and left.kind not in ('name', 'number'):
+            self.why('There are no operators on bits: `%s` is "%s".' % (2 * sign, 'and' if sign == '&' else 'or'))
+            return '(%s %s %s)' % (self.text(left), 2 * sign, self.text(right))
         mask = number_of(right.text) if right.kind == 'number' else None
         if sign != '&' or mask is None or mask & (mask + 1) or not mask:
             return self.refuse(NO_BITS)

@@ -22,6 +22,11 @@ SENDS = ('send_packet', 'sendpacket', 'radio_send', 'send_value')
 UNICAST = ('A packet goes to all who hear it; for whom it is may be part of its value: `send ((dest * 256) + x);`, '
            'and '
            'the receiver tests `((data / 256) == self)`.')
+# A packet that says for whom it is has 8 bits for that, and 8 for its value.
+LARGEST_PART = 255
+TOO_LARGE_PART = ('A packet goes to all who hear it, and has 16 bits. If the upper 8 say for whom it is, its value is '
+                  'at most 255, and this one may be larger: send a smaller one, `send ((dest * 256) + x);`, or two '
+                  'packets.')
 LEDS = {'leds_on': '1', 'leds_off': '0', 'leds_toggle': '1'}
 OF_LEDS = 'A mote has no LEDs: a `print` shows the moment in the report.'
 OPENS = ('broadcast_open', 'abc_open', 'unicast_open', 'runicast_open', 'nullnet_set_input_callback',
@@ -278,6 +283,8 @@ class Statements(Declarations, Calls, Control):
                 self.why('A packet goes to all who hear it: its value may say for whom it is. The receiver tests '
                          '`((data / '
                          '256) == self)`, and takes `(data % 256)`.')
+                if any(int(it) > LARGEST_PART for it in re.findall(r'\b[0-9]+\b', value)):
+                    raise NoCounterpart(TOO_LARGE_PART)
                 value = '((%s * 256) + %s)' % (self.value(), value)
             return self.end('%s %s' % (word, value))
         has_brackets = self.token.text == '(' and bool(self.accept('('))

@@ -1,0 +1,243 @@
+//! Two workers in threads of their own: worker 2, which receives windows, and worker 1, which fails.
+
+ghost use Rattle.std.specs.Prelude.{◌≡◌, true, IfOk, IfSome, IsTrue};
+ghost use Rattle.copy_exchange.specs.Marks.{Counts};
+
+use super::push_mark;
+use super::windows::Scene;
+use copy_exchange::{MarkEndpoint, Standing};
+use copy_inbox::{Inbox, InboxError, Sender};
+use fork_join::{Refused, Watch, Work, fork_join};
+use radio_packet::RadioCopy;
+use std::alloc::{AllocError, Global};
+use std::sync::atomic::AtomicU64;
+use std::sync::atomic::Ordering::SeqCst;
+use std::sync::ledger::Ledger;
+use std::sync::{Mutex, Wait};
+use std::thread;
+use std::thread::Threads;
+use std::time::{Clock, Duration};
+
+/// The worker of each mote.
+const OF: [u16; 3] = [0, 1, 2];
+
+/// Writes down the copies of a window whose marks have come.
+fn write_copies(text: &mut String, copies: &[RadioCopy]) -> Result<(), AllocError> {
+    for copied in copies {
+        write!(text, "{} {}, ", copied.at, copied.number)?;
+    }
+    text.push_str("marks|")
+}
+
+/// Writes down the copies of a window, or the reason why there are none. Returns whether its marks came.
+fn write_window<R: Wait, L: Ledger>(
+    rt: &R,
+    alloc: Global,
+    text: &mut String,
+    inbox: &Inbox,
+    worker_2: &mut MarkEndpoint,
+    watch: &mut Watch<'_, L>,
+    from: u64,
+    window: u64,
+) -> Result<bool, AllocError>
+    requires inbox { worker_2.old.base.taker.inbox ≡ inbox.now }
+    requires counts { Counts worker_2.old.marks.items worker_2.old.base.taker.state }
+    ensures inbox { IfOk result (λ took. IsTrue took → worker_2.new.base.taker.inbox ≡ inbox.now) }
+    ensures counts { IfOk result
+        (λ took. IsTrue took → Counts worker_2.new.marks.items worker_2.new.base.taker.state) }
+{
+    let standing = Standing {
+        worker: 2,
+        of: &OF,
+        from,
+    };
+    match worker_2.take_window(rt, alloc, inbox, watch, &standing, window) {
+        Ok(copies) => {
+            write_copies(text, copies.as_slice())?;
+            Ok(true)
+        }
+        Err(error) => {
+            write!(text, "{error:?}|")?;
+            Ok(false)
+        }
+    }
+}
+
+/// The record of a worker: of worker 2 its endpoint, and of worker 1 its sender.
+#[derive(Drop)]
+struct Member {
+    worker_2: Option<MarkEndpoint>,
+    second: Option<Sender>,
+}
+
+/// The team of workers 1 and 2.
+struct Team<'a, R> {
+    rt: &'a R,
+    alloc: Global,
+    inbox: &'a Inbox,
+    scene: Scene,
+    /// The number of windows for which worker 2 has begun to wait; at its end the greatest number.
+    begun: AtomicU64,
+    /// The text that worker 2 writes.
+    text: &'a Mutex<String>,
+}
+
+impl<R> Drop for Team<'_, R> {
+    fn drop(self) {
+        let Team {
+            rt: _,
+            alloc: _,
+            inbox: _,
+            scene: _,
+            begun: _,
+            text: _,
+        } = self;
+    }
+}
+
+impl<R: Wait + Clock> Team<'_, R> {
+    /// Worker 2 receives the windows of the scene, as long as they come; if worker 1 fails at once, only after the flag
+    /// is set.
+    fn take<L: Ledger>(
+        &self,
+        mut worker_2: MarkEndpoint,
+        watch: &mut Watch<'_, L>,
+    ) -> Result<(), AllocError>
+        requires inbox { worker_2.base.taker.inbox ≡ self.now.inbox.now }
+        requires counts { Counts worker_2.marks.items worker_2.base.taker.state }
+    {
+        let mut text = String::new(self.alloc);
+        if matches!(self.scene, Scene::Windows | Scene::Stopped) {
+            wait_for_flag(self.rt, watch);
+        }
+        for (from, window) in self.scene.windows() {
+            self.begun.fetch_add(1, SeqCst);
+            if !write_window(
+                self.rt,
+                self.alloc,
+                &mut text,
+                self.inbox,
+                &mut worker_2,
+                watch,
+                *from,
+                *window,
+            )? {
+                break;
+            }
+        }
+        // Worker 1 waits no longer.
+        self.begun.store(u64::MAX, SeqCst);
+        self.text.lock(self.rt).push_str(text.as_str())
+    }
+
+    /// Waits until worker 2 has begun to wait for this many windows, and a while longer, so that it has fallen asleep.
+    fn wait_until_begun<L: Ledger>(&self, watch: &mut Watch<'_, L>, begun: u64) {
+        for _ in self.rt.forever() {
+            if self.begun.load(SeqCst) >= begun || watch.is_set(self.rt) {
+                break;
+            }
+            thread::yield_now();
+        }
+        thread::sleep(self.rt, Duration::from_millis(30));
+    }
+
+    /// Worker 1 waits for worker 2, if it doesn't fail at once, and pushes its late mark, if there is one.
+    fn push_late<L: Ledger>(
+        &self,
+        mut second: Sender,
+        watch: &mut Watch<'_, L>,
+    ) -> Result<(), InboxError>
+        requires inbox { second.inbox ≡ self.now.inbox.now }
+        requires marked { second.state.marked ≡ true }
+    {
+        match self.scene {
+            Scene::Windows | Scene::Stopped => {}
+            Scene::Woken => self.wait_until_begun(watch, 1),
+            Scene::Late => {
+                self.wait_until_begun(watch, 2);
+                push_mark(self.rt, self.inbox, &mut second, 1002)?;
+                self.wait_until_begun(watch, 3);
+            }
+        }
+        Ok(())
+    }
+}
+
+impl<R: Wait + Clock> Work<Member> for Team<'_, R> {
+    ghost ready = { λ team member. IfSome member.worker_2 (λ worker_2. (worker_2.base.taker.inbox ≡ team.inbox.now)
+        × Counts worker_2.marks.items worker_2.base.taker.state)
+        × IfSome member.second (λ second. (second.inbox ≡ team.inbox.now) × (second.state.marked ≡ true)) };
+
+    ghost makes = { λ _ _ _. Unit {0} };
+
+    fn work<L: Ledger>(&self, member: Member, watch: &mut Watch<'_, L>) -> Result<Member, Refused> {
+        let Member { worker_2, second } = member;
+        if let Some(worker_2) = worker_2 {
+            self.take(worker_2, watch)?;
+        }
+        if let Some(second) = second {
+            return match self.push_late(second, watch) {
+                Ok(()) => Err(Refused::Thread),
+                Err(InboxError::Memory) => Err(Refused::Memory),
+            };
+        }
+        Ok(Member {
+            worker_2: None,
+            second: None,
+        })
+    }
+
+    fn may_start(&self, _member: &Member) -> bool {
+        true
+    }
+}
+
+/// Waits until the flag is set.
+fn wait_for_flag<R: Wait, L: Ledger>(rt: &R, watch: &mut Watch<'_, L>) {
+    for _ in rt.forever() {
+        if watch.is_set(rt) {
+            return;
+        }
+        thread::yield_now();
+    }
+}
+
+/// Runs both workers, and writes down the result of the team, and what worker 2 wrote.
+pub(crate) fn write_team<R: Threads + Wait + Clock + Sync>(
+    rt: &R,
+    alloc: Global,
+    text: &mut String,
+    scene: Scene,
+    inbox: &Inbox,
+    worker_2: MarkEndpoint,
+    second: Sender,
+) -> Result<(), AllocError>
+    requires taker { worker_2.base.taker.inbox ≡ inbox.now }
+    requires counts { Counts worker_2.marks.items worker_2.base.taker.state }
+    requires sender { (second.inbox ≡ inbox.now) × (second.state.marked ≡ true) }
+{
+    let taken = Mutex::new(String::new(alloc));
+    let team = Team {
+        rt,
+        alloc,
+        inbox,
+        scene,
+        begun: AtomicU64::new(0),
+        text: &taken,
+    };
+    let members = Vec::from_array(
+        alloc,
+        [
+            Member {
+                worker_2: Some(worker_2),
+                second: None,
+            },
+            Member {
+                worker_2: None,
+                second: Some(second),
+            },
+        ],
+    )?;
+    let done = fork_join(rt, alloc, members, &team).map(|_members| ());
+    write!(text, "{done:?} {}", taken.lock(rt).as_str())
+}

@@ -1,0 +1,194 @@
+//! The windows of a worker that waits for marks, by hand: workers 0 and 1 push, and worker 2 receives. Mote 0 is
+//! worker 0's, mote 1 worker 1's, and mote 2 worker 2's.
+
+ghost use Rattle.std.specs.Prelude.{◌≡◌, true, [], IfOk};
+ghost use Rattle.copy_inbox.specs.Views.{make_taker_state};
+ghost use Rattle.copy_exchange.specs.Marks.{Counts};
+
+use super::team::write_team;
+use super::{push, push_mark, with_two};
+use copy_exchange::{Endpoint, MarkEndpoint};
+use copy_inbox::{Inbox, InboxError, Sender, Taker};
+use radio_packet::RadioCopy;
+use std::alloc::{AllocGlobal, Global};
+use std::sync::Wait;
+use std::test::Fail;
+use std::thread::Threads;
+use std::time::Clock;
+use test_helpers::same_text;
+
+/// The actions of worker 2, which receives windows, and of worker 1, which fails.
+#[derive(Clone, Copy)]
+pub(crate) enum Scene {
+    /// Worker 1 fails at once, and the marks of each window are there.
+    Windows,
+    /// Worker 1 fails at once, and its mark is missing.
+    Stopped,
+    /// Worker 1 fails while worker 2 waits for its mark.
+    Woken,
+    /// Windows above 1,000: one whose marks are there, one whose last mark comes late, and one whose marks don't come
+    /// before worker 1 fails.
+    Late,
+}
+
+impl Scene {
+    /// The windows that worker 2 receives, as long as they come, each after the moment at which it begins.
+    pub(crate) fn windows(self) -> &'static [(u64, u64)] {
+        match self {
+            Scene::Windows => &[(5, 0), (9, 1), (10, 2)],
+            Scene::Stopped | Scene::Woken => &[(5, 0)],
+            Scene::Late => &[(5, 1001), (5, 1002), (5, 1003)],
+        }
+    }
+}
+
+/// A copy of mote 0's packet for mote 2.
+fn copy(at: u64, number: u64) -> RadioCopy {
+    RadioCopy {
+        at,
+        to: 2,
+        sender: 0,
+        number,
+        value: 9,
+    }
+}
+
+/// The endpoint of worker 2.
+fn make_worker_2(alloc: Global, taker: Taker) -> Result<MarkEndpoint, InboxError>
+    requires taker { taker.state ≡ make_taker_state true 2 [] [] }
+    ensures taker { IfOk result (λ worker_2. worker_2.base.taker ≡ taker) }
+    ensures counts { IfOk result (λ worker_2. Counts worker_2.marks.items worker_2.base.taker.state) }
+{
+    let endpoint = Endpoint {
+        worker: 2,
+        taker,
+        senders: Vec::new(alloc),
+    };
+    MarkEndpoint::new(alloc, endpoint, 2)
+}
+
+/// Pushes a copy and the mark of a window.
+fn push_window<R: Wait>(
+    rt: &R,
+    inbox: &Inbox,
+    sender: &mut Sender,
+    copied: RadioCopy,
+    window: u64,
+) -> Result<(), InboxError>
+    requires inbox { sender.old.inbox ≡ inbox.now }
+    requires marked { sender.old.state.marked ≡ true }
+    ensures sender { (sender.new.inbox ≡ inbox.now) × (sender.new.state.marked ≡ true) }
+{
+    push(rt, inbox, sender, copied)?;
+    push_mark(rt, inbox, sender, window)
+}
+
+/// Pushes the marks of the windows before this one.
+fn push_marks<R: Wait>(
+    rt: &R,
+    inbox: &Inbox,
+    sender: &mut Sender,
+    windows: u64,
+) -> Result<(), InboxError>
+    requires inbox { sender.old.inbox ≡ inbox.now }
+    requires marked { sender.old.state.marked ≡ true }
+    ensures sender { (sender.new.inbox ≡ inbox.now) × (sender.new.state.marked ≡ true) }
+{
+    for window in 0..windows {
+        push_mark(rt, inbox, sender, window)?;
+    }
+    Ok(())
+}
+
+/// Worker 0 pushes windows 0 and 1, and worker 1 window 0, so that taking window 0 returns the copies that worker 0
+/// sent in both; then worker 1 pushes its next mark, after which taking window 1 returns nothing more. Then worker 0
+/// pushes a copy that comes too soon.
+fn push_three_windows<R: Wait>(
+    rt: &R,
+    inbox: &Inbox,
+    first: &mut Sender,
+    second: &mut Sender,
+) -> Result<(), InboxError>
+    requires first { (first.old.inbox ≡ inbox.now) × (first.old.state.marked ≡ true) }
+    requires second { (second.old.inbox ≡ inbox.now) × (second.old.state.marked ≡ true) }
+    ensures second { (second.new.inbox ≡ inbox.now) × (second.new.state.marked ≡ true) }
+{
+    push_window(rt, inbox, first, copy(5, 0), 0)?;
+    push_window(rt, inbox, first, copy(9, 1), 1)?;
+    push_mark(rt, inbox, second, 0)?;
+    push_mark(rt, inbox, second, 1)?;
+    push_window(rt, inbox, first, copy(9, 2), 2)
+}
+
+/// Worker 0 pushes the marks of the windows up to 1002, and worker 1 those up to 1001.
+fn push_thousand_marks<R: Wait>(
+    rt: &R,
+    inbox: &Inbox,
+    first: &mut Sender,
+    second: &mut Sender,
+) -> Result<(), InboxError>
+    requires first { (first.old.inbox ≡ inbox.now) × (first.old.state.marked ≡ true) }
+    requires second { (second.old.inbox ≡ inbox.now) × (second.old.state.marked ≡ true) }
+    ensures second { (second.new.inbox ≡ inbox.now) × (second.new.state.marked ≡ true) }
+{
+    push_marks(rt, inbox, first, 1003)?;
+    push_marks(rt, inbox, second, 1002)
+}
+
+/// Pushes the items that are in the inbox of worker 2 from the start.
+fn push_before<R: Wait>(
+    rt: &R,
+    inbox: &Inbox,
+    first: &mut Sender,
+    second: &mut Sender,
+    scene: Scene,
+) -> Result<(), InboxError>
+    requires first { (first.old.inbox ≡ inbox.now) × (first.old.state.marked ≡ true) }
+    requires second { (second.old.inbox ≡ inbox.now) × (second.old.state.marked ≡ true) }
+    ensures second { (second.new.inbox ≡ inbox.now) × (second.new.state.marked ≡ true) }
+{
+    match scene {
+        Scene::Windows => push_three_windows(rt, inbox, first, second),
+        Scene::Stopped | Scene::Woken => push_mark(rt, inbox, first, 0),
+        Scene::Late => push_thousand_marks(rt, inbox, first, second),
+    }
+}
+
+/// Runs a scene, and writes down the result of the team, and the windows that worker 2 received.
+fn write_scene<R: Threads + Wait + Clock + Sync>(
+    rt: &R,
+    alloc: Global,
+    text: &mut String,
+    scene: Scene,
+) -> Result<(), InboxError> {
+    let (inbox, taker, mut first, mut second) = with_two(alloc, true)?;
+    push_before(rt, &inbox, &mut first, &mut second, scene)?;
+    let worker_2 = make_worker_2(alloc, taker)?;
+    write_team(rt, alloc, text, scene, &inbox, worker_2, second)?;
+    Ok(())
+}
+
+/// Writes all scenes down.
+fn write_scenes<R: Threads + Wait + Clock + Sync>(
+    rt: &R,
+    alloc: Global,
+    text: &mut String,
+) -> Result<(), InboxError> {
+    write_scene(rt, alloc, text, Scene::Windows)?;
+    write_scene(rt, alloc, text, Scene::Stopped)?;
+    write_scene(rt, alloc, text, Scene::Woken)?;
+    write_scene(rt, alloc, text, Scene::Late)
+}
+
+/// The windows that come, though the flag is set; one whose mark is missing; that with a worker that sleeps when the
+/// flag is set; and windows above 1,000.
+#[test]
+fn windows_by_hand(rt: HostRuntime) -> Result<(), Fail> {
+    let mut text = String::new(rt.alloc());
+    write_scenes(&rt, rt.alloc(), &mut text)?;
+    same_text(
+        text.as_str(),
+        "Err(Thread) 5 0, 9 1, marks|marks|Unexpected|Err(Thread) Stopped|Err(Thread) Stopped|\
+         Err(Thread) marks|marks|Stopped|",
+    )
+}
