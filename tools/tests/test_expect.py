@@ -331,7 +331,7 @@ class Files(unittest.TestCase):
             ('', 'expects nothing'), ('expect = "x"', 'is not an array'), ('wanted = []', 'has a key wanted'),
             ('expct = []', 'did you mean expect?'),
             ('version = 1', 'has a key version, as a scenario has;'),
-            ('expect = [1]', 'something else'),
+            ('expect = [1]', 'must contain only texts'),
             (change, 'has no table replace'), (change + 'replace = { "no such text" = "" }', 'has no text'),
         ]:
             out, err, code = self.said(text)
