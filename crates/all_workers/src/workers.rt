@@ -57,8 +57,8 @@ impl Workers {
         ensures at { IfOk result (λ group. IsAt (net_of net.now) of.now 0 group) }
         ensures first { IfOk result
             (λ group. AreFirst (net_of net.now) of.now (length inboxes.items) group.shares.items) }
-        ensures inboxes { IfOk result (λ group. group.inboxes.items ≡ inboxes.items) }
-        ensures takers { IfOk result (λ group. group.takers.items ≡ takers.items) }
+        ensures inboxes { IfOk result
+            (λ group. (group.inboxes.items ≡ inboxes.items) × (group.takers.items ≡ takers.items)) }
         ensures err { IfErr result (λ e. e ≡ Memory) }
     {
         let shares = first_shares(alloc, net, of, inboxes.len() as u16)?;

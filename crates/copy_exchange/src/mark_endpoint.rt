@@ -87,10 +87,10 @@ impl MarkEndpoint {
         requires counts { Counts self.old.marks.items self.old.base.taker.state }
         ensures took { IfOk result
             (λ copies. TakesExpected (position_of standing.now) self.old.base.taker self.new.base.taker copies.items) }
-        ensures counts { OnOk result (Counts self.new.marks.items self.new.base.taker.state) }
-        ensures marked { OnOk result (AllPast window self.new.marks.items) }
-        ensures worker { self.new.base.worker ≡ self.old.base.worker }
-        ensures senders { self.new.base.senders ≡ self.old.base.senders }
+        ensures marked { OnOk result (Counts self.new.marks.items self.new.base.taker.state
+            × AllPast window self.new.marks.items) }
+        ensures kept { (self.new.base.worker ≡ self.old.base.worker)
+            × (self.new.base.senders ≡ self.old.base.senders) }
         ensures stopped { IfErr result (λ error. error ≡ Stopped → watch.new.seen ≡ true) }
         ensures unexpected { IfErr result
             (λ error. error ≡ Unexpected → TakesUnexpected (position_of standing.now) self.old.base.taker

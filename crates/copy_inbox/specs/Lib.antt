@@ -1,3 +1,4 @@
+pub mod Drains
 pub mod Gathered
 pub mod Handles
 pub mod Items

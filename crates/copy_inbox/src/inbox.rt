@@ -5,13 +5,14 @@ ghost use Rattle.std.specs.Prelude.{OnErr, IfErr, IfSome, IfNone};
 ghost use Rattle.copy_inbox.specs.declared.items.Carried.TheVariants.{Packet, Mark};
 ghost use Rattle.copy_inbox.specs.declared.inbox.InboxError.TheVariants.{Memory};
 ghost use Rattle.copy_inbox.specs.Items.{is_packet, Packets, part, BeginsWith, OfMade};
-ghost use Rattle.copy_inbox.specs.Gathered.{known_of, TookFronts, Whole, NoOthers};
+ghost use Rattle.copy_inbox.specs.Gathered.{known_of, TookFronts};
 ghost use Rattle.copy_inbox.specs.Views.{make_taker_state, make_sender_state};
 ghost use Rattle.copy_inbox.specs.Handles.{InboxId, TakerView, SenderView, after_sender, after_pushing, after_gather};
 ghost use Rattle.copy_inbox.specs.Handles.{after_taking, TakesCopies, Empties, AllGathered, NoMarkLeft, TakesPackets};
-ghost use Rattle.copy_inbox.specs.Handles.{taker_state_in, sender_state_in, IsSender, IsNextTaken, IsAllKnown};
+ghost use Rattle.copy_inbox.specs.Handles.{taker_state_in, sender_state_in, IsSender, IsNextTaken};
 ghost use Rattle.copy_inbox.specs.Kept.{KeepsCounts};
 ghost use Rattle.copy_inbox.specs.Rule.{WasEmpty};
+ghost use Rattle.copy_inbox.specs.Drains.{Drains};
 
 use crate::count::{Count, count_taken, forget_first};
 use crate::items::{Carried, Item};
@@ -303,16 +304,15 @@ impl Inbox {
     /// stay a prefix of those that it pushed.
     pub fn take_next<R: Wait>(&self, rt: &R, taker: &mut Taker) -> Option<Item>
         requires { taker.old.inbox ≡ self.now }
-        ensures inbox { taker.new.inbox ≡ taker.old.inbox }
-        ensures still { (taker.new.state.made ≡ taker.old.state.made)
+        ensures still { (taker.new.inbox ≡ taker.old.inbox) × (taker.new.state.made ≡ taker.old.state.made)
             × (taker.new.state.gathered ≡ taker.old.state.gathered) }
         ensures taken { IfSome result (λ x. taker.new ≡ after_taking taker.old (x ∷ [])) }
         ensures next { IfSome result (λ x. IsNextTaken taker.old.state x) }
-        ensures begun { TookFronts taker.new.state.gathered taker.new.state.taken }
-        ensures made { OfMade taker.new.state.made taker.new.state.taken }
+        ensures items { TookFronts taker.new.state.gathered taker.new.state.taken
+            × OfMade taker.new.state.made taker.new.state.taken }
         ensures same { IfNone result (taker.new ≡ taker.old) }
-        ensures none { IfNone result (known_of taker.old.state.gathered taker.old.state.taken ≡ 0) }
-        ensures empty { IfNone result (WasEmpty taker.old.state) }
+        ensures none { IfNone result ((known_of taker.old.state.gathered taker.old.state.taken ≡ 0)
+            × WasEmpty taker.old.state) }
     {
         let item = self.queue.pop_as::<Takes, R>(rt, &mut taker.pass)?;
         let gathered = count_taken(taker.first, &mut taker.counts, item.sender);
@@ -333,18 +333,7 @@ impl Inbox {
         requires known { n ≤ known_of taker.old.state.gathered taker.old.state.taken }
         ensures count { IfOk result (λ copies. length copies.items ≡ n) }
         ensures taken { IfOk result (λ copies. TakesCopies taker.old taker.new copies.items) }
-        ensures begun { OnOk result (TookFronts taker.new.state.gathered taker.new.state.taken) }
-        ensures made { OnOk result (OfMade taker.new.state.made taker.new.state.taken) }
-
-        // If `n` is all that is known, and no item of a sender that isn't gathered can come before any of it.
-        ensures whole { OnOk result
-            (IsAllKnown taker.old.state n → Whole taker.new.state.gathered taker.new.state.taken) }
-
-        // And then all that was taken is of gathered senders.
-        ensures others { OnOk result
-            (IsAllKnown taker.old.state n
-            → NoOthers taker.old.state.gathered taker.old.state.taken taker.new.state.taken) }
-
+        ensures drained { OnOk result (Drains taker.old.state taker.new.state n) }
         ensures refused { OnErr result (taker.new ≡ taker.old) }
     {
         self.take_packets(rt, taker, n)
@@ -362,13 +351,7 @@ impl Inbox {
         requires known { n ≤ known_of taker.old.state.gathered taker.old.state.taken }
         ensures count { IfOk result (λ copies. length copies.items ≡ n) }
         ensures taken { IfOk result (λ copies. TakesCopies taker.old taker.new copies.items) }
-        ensures begun { OnOk result (TookFronts taker.new.state.gathered taker.new.state.taken) }
-        ensures made { OnOk result (OfMade taker.new.state.made taker.new.state.taken) }
-        ensures whole { OnOk result
-            (IsAllKnown taker.old.state n → Whole taker.new.state.gathered taker.new.state.taken) }
-        ensures others { OnOk result
-            (IsAllKnown taker.old.state n
-            → NoOthers taker.old.state.gathered taker.old.state.taken taker.new.state.taken) }
+        ensures drained { OnOk result (Drains taker.old.state taker.new.state n) }
         ensures refused { OnErr result (taker.new ≡ taker.old) }
     {
         let mut copies = Vec::with_capacity(self.alloc, n as usize)?;

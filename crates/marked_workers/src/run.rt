@@ -8,12 +8,10 @@ ghost use Rattle.mote_net.specs.Net.{net_of};
 ghost use Rattle.net_agenda.specs.NetSystem.{system_of};
 ghost use Rattle.copy_inbox.specs.Gathered.{Whole};
 ghost use Rattle.copy_exchange.specs.Endpoints.{IsOnInboxes};
-ghost use Rattle.copy_exchange.specs.Inboxes.{IsFresh};
 ghost use Rattle.copy_exchange.specs.Steps.{GathersBack};
 ghost use Rattle.all_workers.specs.Workers.{IsAt};
 ghost use Rattle.all_workers.specs.WindowLength.{length_of_window};
-ghost use Rattle.all_workers.specs.Start.{AreFirst};
-ghost use Rattle.all_workers.specs.Workers.{IsCut};
+ghost use Rattle.all_workers.specs.Start.{AreReady};
 ghost use Rattle.marked_workers.specs.Bounds.{windows_of};
 ghost use Rattle.marked_workers.specs.Run.{GroupRunsMarked};
 ghost use Rattle.marked_workers.specs.Thread.{IsFirst, WorkerRunsAllWindows};
@@ -88,11 +86,8 @@ where
     G: Gate + Sync,
     requires wide { 0 < width }
     requires short { width ≤ (system_of (net_of net.now)).lookahead }
-    requires few { length group.inboxes.items ≤ 16 }
-    requires cut { IsCut (length (net_of net.now).motes) (length group.inboxes.items) of.now }
-    requires fresh { AllZip IsFresh group.inboxes.items group.takers.items }
+    requires ready { AreReady (net_of net.now) of.now group }
     requires marked { Each (λ taker. taker.state.marked ≡ true) group.takers.items }
-    requires first { AreFirst (net_of net.now) of.now (length group.inboxes.items) group.shares.items }
     ensures runs { IfOk result (GroupRunsMarked (net_of net.now) of.now width group) }
     ensures failed { IfErr result (λ e. is_own e ≡ true) }
 {
@@ -140,11 +135,8 @@ pub fn run_marked<R, G>(
 where
     R: Threads + Wait + RandomSource + AllocGlobal + Sync,
     G: Gate + Sync,
-    requires few { length group.inboxes.items ≤ 16 }
-    requires cut { IsCut (length (net_of net.now).motes) (length group.inboxes.items) of.now }
-    requires fresh { AllZip IsFresh group.inboxes.items group.takers.items }
+    requires ready { AreReady (net_of net.now) of.now group }
     requires marked { Each (λ taker. taker.state.marked ≡ true) group.takers.items }
-    requires first { AreFirst (net_of net.now) of.now (length group.inboxes.items) group.shares.items }
     ensures at { let n = net_of net.now in IfOk result (λ done. IsAt n of.now (suc n.end) done) }
     ensures inboxes { IfOk result (λ done. done.inboxes.items ≡ group.inboxes.items) }
     // Each worker ran all windows of this length.

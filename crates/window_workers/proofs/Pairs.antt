@@ -52,3 +52,8 @@ seconds_have P (p ∷ ps) h = (h.0, seconds_have P ps h.1)
 pub if_ok : {X E : Type 0} (P Q : X → Type 0) (r : Result X E) → ((x : X) → P x → Q x) → IfOk r P → IfOk r Q
 if_ok P Q (Ok x) f h = f x h
 if_ok P Q (Err e) f h = tt
+
+-- three properties of the result are one
+pub all_ok : {T E : Type 0} (P Q R : T → Type 0) (r : Result T E) → IfOk r P → IfOk r Q → IfOk r R → IfOk r (λ x. P x × Q x × R x)
+all_ok P Q R (Ok x) p q r = (p, q, r)
+all_ok P Q R (Err e) p q r = tt

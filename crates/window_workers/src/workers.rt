@@ -1,14 +1,13 @@
 //! The run of a net by workers: each has a new thread for each window, or one thread for the whole run.
 
-ghost use Rattle.std.specs.Prelude.{◌≡◌, ◌≤◌, suc, length, map, vec_len, All, None, IfOk, IfErr};
-ghost use Rattle.std.specs.List.{AllByRecursion as Each, AllZip, zip};
+ghost use Rattle.std.specs.Prelude.{◌≡◌, suc, length, map, vec_len, All, None, IfOk, IfErr};
+ghost use Rattle.std.specs.List.{AllByRecursion as Each, zip};
 ghost use Rattle.kernel_laws.specs.Going.{IsInOrder};
 ghost use Rattle.mote_net.specs.Net.{net_of};
 ghost use Rattle.copy_inbox.specs.Gathered.{Whole, known_of};
 ghost use Rattle.copy_exchange.specs.Inboxes.{IsFresh, IsSettled};
 ghost use Rattle.all_workers.specs.Workers.{IsAt};
-ghost use Rattle.all_workers.specs.Start.{AreFirst};
-ghost use Rattle.all_workers.specs.Workers.{IsCut};
+ghost use Rattle.all_workers.specs.Start.{AreReady};
 ghost use Rattle.mote_net.specs.Report.{report_of};
 ghost use Rattle.window_workers.specs.Crossed.{AllCrossed};
 ghost use Rattle.window_workers.specs.Fits.{cut_fault, IsAnswerTo};
@@ -88,12 +87,9 @@ fn run_by_kind<R, G>(
 where
     R: Threads + Wait + RandomSource + AllocGlobal + Sync,
     G: Gate + Sync,
-    requires few { length group.inboxes.items ≤ 16 }
-    requires cut { IsCut (length (net_of net.now).motes) (length group.inboxes.items) of.now }
+    requires ready { AreReady (net_of net.now) of.now group }
     requires at { IsAt (net_of net.now) of.now 0 group }
-    requires fresh { AllZip IsFresh group.inboxes.items group.takers.items }
     requires kind { Each (IsFor sync) group.takers.items }
-    requires first { AreFirst (net_of net.now) of.now (length group.inboxes.items) group.shares.items }
     ensures at { let n = net_of net.now in IfOk result (λ done. IsAt n of.now (suc n.end) done) }
     ensures inboxes { IfOk result (λ done. done.inboxes.items ≡ group.inboxes.items) }
     ensures all_taken { IfOk result (λ done. sync ≡ Marks
@@ -134,24 +130,20 @@ where
     requires fresh { Each (λ pair. IsFresh pair.0 pair.1) pairs.items }
     requires kind { Each (λ pair. IsFor sync pair.1) pairs.items }
     ensures report { IfOk result (λ r. IsReportOf (net_of net.now) (report_of r.0)) }
-    // There is a trace for each mote.
-    ensures traces { IfOk result (λ r. vec_len r.0.traces ≡ length (net_of net.now).motes) }
-    // Each trace delivers events in the order in which they were accepted, nothing follows a halt in it, and only a
-    // process that is not listed starts.
-    ensures handed_on { IfOk result (λ r. All (λ trace. IsInOrder trace.items) r.0.traces.items) }
-    // The inboxes come back, in order, each with its taker, which has gathered all senders.
-    ensures inboxes { IfOk result (λ r. map (λ pair. pair.0) r.1.items ≡ map (λ pair. pair.0) pairs.items) }
-    ensures settled { IfOk result (λ r. Each (λ pair. IsSettled pair.0 pair.1) r.1.items) }
-    // With marks nothing is left in them.
-    ensures none_known { IfOk result (λ r. sync ≡ Marks
-        → Each (λ pair. known_of pair.1.state.gathered pair.1.state.taken ≡ 0) r.1.items) }
+    // There is a trace for each mote. Each delivers events in the order in which they were accepted, nothing follows a
+    // halt in it, and only a process that is not listed starts.
+    ensures traces { IfOk result (λ r. (vec_len r.0.traces ≡ length (net_of net.now).motes)
+        × All (λ trace. IsInOrder trace.items) r.0.traces.items) }
+    // The inboxes come back, in order, each with its taker, which has gathered all senders. With marks nothing is left
+    // in them.
+    ensures inboxes { IfOk result (λ r. (map (λ pair. pair.0) r.1.items ≡ map (λ pair. pair.0) pairs.items)
+        × Each (λ pair. IsSettled pair.0 pair.1) r.1.items
+        × (sync ≡ Marks → Each (λ pair. known_of pair.1.state.gathered pair.1.state.taken ≡ 0) r.1.items)) }
     // Through them went the copies from worker to worker, each once and nothing else.
     ensures crossed { IfOk result (λ r. AllCrossed (net_of net.now) cut.now.of.items (report_of r.0) r.1.items) }
     // A fault of the cut is returned exactly when there is one.
-    ensures fits { IfOk result (λ r. cut_fault (length (net_of net.now).motes) (length pairs.items) cut.now.of.items
-        ≡ None) }
-    ensures err { IfErr result (IsAnswerTo
-        (cut_fault (length (net_of net.now).motes) (length pairs.items) cut.now.of.items)) }
+    ensures fault { let fault = cut_fault (length (net_of net.now).motes) (length pairs.items) cut.now.of.items in
+        IfOk result (λ r. fault ≡ None) × IfErr result (IsAnswerTo fault) }
 {
     let of = cut.of.as_slice();
     if let Some(fault) = fault_of(net.motes(), pairs.len(), of) {

@@ -17,7 +17,7 @@ returns-clause-at g c =
     let width = c.window_length-width.result in
     let short = subst (λ l. width ≤ l) c.lookahead_of.ensures.value c.window_length-width.ensures.within in
     IfOk-weaker c.run_threads.result (GroupRunsMarked n c.args.of.now width c.args.group) (λ done. IsAt n c.args.of.now (suc n.end) done)
-    (λ done all. (ended n c.lookahead_of.ensures.forward c.args.of.now width c.window_length-width.ensures.above_zero short c.args.group done c.requires.cut all).0) c.run_threads.ensures.runs
+    (λ done all. (ended n c.lookahead_of.ensures.forward c.args.of.now width c.window_length-width.ensures.above_zero short c.args.group done c.requires.ready.cut all).0) c.run_threads.ensures.runs
 
 pub returns-clause-all_taken : goal.returns-clause-all_taken
 returns-clause-all_taken g c =
@@ -25,7 +25,7 @@ returns-clause-all_taken g c =
     let width = c.window_length-width.result in
     let short = subst (λ l. width ≤ l) c.lookahead_of.ensures.value c.window_length-width.ensures.within in
     IfOk-weaker c.run_threads.result (GroupRunsMarked n c.args.of.now width c.args.group) (λ done. Each (λ (t : TakerView). Whole t.state.gathered t.state.taken) done.takers.items)
-    (λ done all. (ended n c.lookahead_of.ensures.forward c.args.of.now width c.window_length-width.ensures.above_zero short c.args.group done c.requires.cut all).1) c.run_threads.ensures.runs
+    (λ done all. (ended n c.lookahead_of.ensures.forward c.args.of.now width c.window_length-width.ensures.above_zero short c.args.group done c.requires.ready.cut all).1) c.run_threads.ensures.runs
 
 pub returns-clause-windows : goal.returns-clause-windows
 returns-clause-windows g c =

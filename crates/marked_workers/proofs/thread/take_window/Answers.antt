@@ -4,9 +4,9 @@ pub returns-clause-takes : goal.returns-clause-takes
 returns-clause-takes g c = record {
   arrived = c.in-Ok.arrived.items;
   took = c.in-Ok.ensures.took;
-  counts = c.in-Ok.ensures.counts;
-  past = c.in-Ok.ensures.marked;
-  worker = c.in-Ok.ensures.worker;
-  senders = c.in-Ok.ensures.senders;
+  counts = c.in-Ok.ensures.marked.0;
+  past = c.in-Ok.ensures.marked.1;
+  worker = c.in-Ok.ensures.kept.0;
+  senders = c.in-Ok.ensures.kept.1;
   keeps = rw c.deref.ensures.value at c.in_ok-take_in.ensures;
 }

@@ -8,3 +8,9 @@ run_group-ran-requires-clause-plain g c κs within = subst (λ s. Each (IsFor s)
 
 pub run_marked-ran-requires-clause-marked : goal.run_marked-ran-requires-clause-marked
 run_marked-ran-requires-clause-marked g c κs within = subst (λ s. Each (IsFor s) c.args.group.takers.items) c.in-Marks.is c.requires.kind
+
+pub run_marked-ran-requires-clause-ready : goal.run_marked-ran-requires-clause-ready
+run_marked-ran-requires-clause-ready g c κs within = c.requires.ready
+
+pub run_group-ran-requires-clause-few : goal.run_group-ran-requires-clause-few
+run_group-ran-requires-clause-few g c κs within = c.requires.ready.few

@@ -1,4 +1,4 @@
-use Rattle.std.proofs.Common.{rules, ◌≡◌, ℕ, List, length, map, vec_len, Vec, None, sym, ap, ◌∙◌, subst}
+use Rattle.std.proofs.Common.{rules, ◌≡◌, ◌≤◌, ℕ, List, length, map, vec_len, Vec, None, sym, ap, ◌∙◌, subst}
 use Rattle.std.specs.Prelude.{All, IfOk}
 use Rattle.std.specs.declared.alloc.Global.{Global}
 use Rattle.std.specs.List.{AllZip, zip, AllByRecursion as Each}
@@ -8,7 +8,7 @@ use Rattle.kernel_laws.specs.Going.{IsInOrder}
 use Rattle.mote_net.specs.Net.{net_of}
 use Rattle.copy_inbox.specs.Gathered.{known_of}
 use Rattle.copy_inbox.specs.Handles.{InboxId, TakerView}
-use Rattle.copy_exchange.specs.Inboxes.{IsFresh}
+use Rattle.copy_exchange.specs.Inboxes.{IsFresh, IsSettled}
 use Rattle.all_workers.specs.Start.{AreFirst}
 use Rattle.all_workers.specs.Workers.{IsCut}
 use Rattle.mote_net.specs.declared.report.Report.{Report}
@@ -21,7 +21,7 @@ use Rattle.window_workers.specs.declared.sync.SyncKind.TheVariants.{Marks}
 use Rattle.window_workers.proofs.ByWorkers.{one_trace_each, all_hand_on}
 use Rattle.window_workers.proofs.Fitting.{fits_is}
 use Rattle.window_workers.proofs.Marked.{none_known}
-use Rattle.window_workers.proofs.Pairs.{zip_each, seconds_have, if_ok}
+use Rattle.window_workers.proofs.Pairs.{zip_each, seconds_have, if_ok, all_ok}
 use Rattle.window_workers.proofs.workers.run_inboxes.Goals as goal
 
 long_as : (v : Vec (Vec Line Global) Global) → vec_len v ≡ length v.items
@@ -30,13 +30,13 @@ long_as v = search rules
 pairs_long : (v : Vec Pair Global) → vec_len v ≡ length v.items
 pairs_long v = search rules
 
--- the cut is one among the workers of these inboxes
+-- the cut is one among the workers of these inboxes, of which there are at most 16
 is_cut : (motes there workers : ℕ) (pairs : List Pair) (inboxes : List InboxId) (of : List ℕ) → cut_fault motes workers of ≡ None → motes ≡ there → workers ≡ length pairs → inboxes ≡ map (λ (pair : Pair). pair.0) pairs
-    → IsCut there (length inboxes) of
+    → (length inboxes ≤ 16) × IsCut there (length inboxes) of
 is_cut motes there workers pairs inboxes of none all each same =
-    let cut : IsCut motes workers of = (fits_is motes workers of none).1 in
+    let fits : (workers ≤ 16) × IsCut motes workers of = fits_is motes workers of none in
     let long : workers ≡ length inboxes = each ∙ (sym (length-map pairs (λ (pair : Pair). pair.0)) ∙ ap length (sym same)) in
-    subst (λ k. IsCut k (length inboxes) of) all (subst (λ k. IsCut motes k of) long cut)
+    (subst (λ k. k ≤ 16) long fits.0, subst (λ k. IsCut k (length inboxes) of) all (subst (λ k. IsCut motes k of) long fits.1))
 
 are_fresh : (pairs : List Pair) (inboxes : List InboxId) (takers : List TakerView) → inboxes ≡ map (λ (pair : Pair). pair.0) pairs → takers ≡ map (λ (pair : Pair). pair.1) pairs → Each (λ (pair : Pair). IsFresh pair.0 pair.1) pairs
     → AllZip IsFresh inboxes takers
@@ -45,48 +45,56 @@ are_fresh pairs inboxes takers e f fresh =
 
 pub new-requires-clause-cut : goal.new-requires-clause-cut
 new-requires-clause-cut g c =
-    is_cut c.motes.result (length (net_of c.args.net.now).motes) c.len.result c.args.pairs.items c.in-Ok.inboxes.items c.as_slice-of.result.now
-    (sym c.fault_of.ensures ∙ c.in_default.is) c.motes.ensures.value (c.len.ensures ∙ pairs_long c.args.pairs) c.in-Ok.ensures.inboxes
+    (is_cut c.motes.result (length (net_of c.args.net.now).motes) c.len.result c.args.pairs.items c.in-Ok.inboxes.items c.as_slice-of.result.now
+    (sym c.fault_of.ensures ∙ c.in_default.is) c.motes.ensures.value (c.len.ensures ∙ pairs_long c.args.pairs) c.in-Ok.ensures.inboxes).1
 
 pub new-requires-clause-fresh : goal.new-requires-clause-fresh
 new-requires-clause-fresh g c = are_fresh c.args.pairs.items c.in-Ok.inboxes.items c.in-Ok.takers.items c.in-Ok.ensures.inboxes c.in-Ok.ensures.takers c.requires.fresh
 
-pub run_by_kind-requires-clause-cut : goal.run_by_kind-requires-clause-cut
-run_by_kind-requires-clause-cut g c κs within =
-    is_cut c.motes.result (length (net_of c.args.net.now).motes) c.len.result c.args.pairs.items c.in-Ok-new.group.inboxes.items c.as_slice-of.result.now
-    (sym c.fault_of.ensures ∙ c.in_default.is) c.motes.ensures.value (c.len.ensures ∙ pairs_long c.args.pairs) (c.in-Ok-new.ensures.inboxes ∙ c.in-Ok.ensures.inboxes)
-
-pub run_by_kind-requires-clause-fresh : goal.run_by_kind-requires-clause-fresh
-run_by_kind-requires-clause-fresh g c κs within =
-    are_fresh c.args.pairs.items c.in-Ok-new.group.inboxes.items c.in-Ok-new.group.takers.items
-    (c.in-Ok-new.ensures.inboxes ∙ c.in-Ok.ensures.inboxes) (c.in-Ok-new.ensures.takers ∙ c.in-Ok.ensures.takers) c.requires.fresh
+pub run_by_kind-requires-clause-ready : goal.run_by_kind-requires-clause-ready
+run_by_kind-requires-clause-ready g c κs within =
+    let n = net_of c.args.net.now in
+    let of = c.as_slice-of.result.now in
+    let group = c.in-Ok-new.group in
+    let inboxes = c.in-Ok-new.ensures.inboxes.0 ∙ c.in-Ok.ensures.inboxes in
+    let takers = c.in-Ok-new.ensures.inboxes.1 ∙ c.in-Ok.ensures.takers in
+    let fits : (length group.inboxes.items ≤ 16) × IsCut (length n.motes) (length group.inboxes.items) of =
+    is_cut c.motes.result (length n.motes) c.len.result c.args.pairs.items group.inboxes.items of
+    (sym c.fault_of.ensures ∙ c.in_default.is) c.motes.ensures.value (c.len.ensures ∙ pairs_long c.args.pairs) inboxes in
+    record {
+      few = fits.0;
+      cut = fits.1;
+      fresh = are_fresh c.args.pairs.items group.inboxes.items group.takers.items inboxes takers c.requires.fresh;
+      first = subst (λ l. AreFirst n of (length l) group.shares.items) (sym c.in-Ok-new.ensures.inboxes.0) c.in-Ok-new.ensures.first;
+    }
 
 pub run_by_kind-requires-clause-kind : goal.run_by_kind-requires-clause-kind
 run_by_kind-requires-clause-kind g c κs within =
-    subst (Each (IsFor c.args.sync)) (sym (c.in-Ok-new.ensures.takers ∙ c.in-Ok.ensures.takers)) (seconds_have (IsFor c.args.sync) c.args.pairs.items c.requires.kind)
-
-pub run_by_kind-requires-clause-first : goal.run_by_kind-requires-clause-first
-run_by_kind-requires-clause-first g c κs within =
-    subst (λ l. AreFirst (net_of c.args.net.now) c.as_slice-of.result.now (length l) c.in-Ok-new.group.shares.items) (sym c.in-Ok-new.ensures.inboxes) c.in-Ok-new.ensures.first
+    subst (Each (IsFor c.args.sync)) (sym (c.in-Ok-new.ensures.inboxes.1 ∙ c.in-Ok.ensures.takers)) (seconds_have (IsFor c.args.sync) c.args.pairs.items c.requires.kind)
 
 pub returns-clause-traces : goal.returns-clause-traces
 returns-clause-traces g c =
     let n = net_of c.args.net.now in
-    if_ok (λ (r : Report × Vec Pair Global). IsReportOf n (report_of r.0)) (λ (r : Report × Vec Pair Global). vec_len r.0.traces ≡ length n.motes) c.make_report.result (λ r h. long_as r.0.traces ∙ one_trace_each n r.0 h) c.make_report.ensures.report
-
-pub returns-clause-handed_on : goal.returns-clause-handed_on
-returns-clause-handed_on g c =
-    let n = net_of c.args.net.now in
-    if_ok (λ (r : Report × Vec Pair Global). IsReportOf n (report_of r.0)) (λ (r : Report × Vec Pair Global). All (λ (v : Vec Line Global). IsInOrder v.items) r.0.traces.items) c.make_report.result (λ r h. all_hand_on n r.0 h) c.make_report.ensures.report
+    if_ok (λ (r : Report × Vec Pair Global). IsReportOf n (report_of r.0))
+    (λ (r : Report × Vec Pair Global). (vec_len r.0.traces ≡ length n.motes) × All (λ (v : Vec Line Global). IsInOrder v.items) r.0.traces.items)
+    c.make_report.result (λ r h. (long_as r.0.traces ∙ one_trace_each n r.0 h, all_hand_on n r.0 h)) c.make_report.ensures.report
 
 pub returns-clause-crossed : goal.returns-clause-crossed
 returns-clause-crossed g c =
     let n = net_of c.args.net.now in
     subst (λ l. IfOk c.make_report.result (λ (r : Report × Vec Pair Global). AllCrossed n l (report_of r.0) r.1.items)) c.as_slice-of.ensures.value c.make_report.ensures.crossed
 
-pub returns-clause-none_known : goal.returns-clause-none_known
-returns-clause-none_known g c =
+pub returns-clause-inboxes : goal.returns-clause-inboxes
+returns-clause-inboxes g c =
     let group = c.in_ok-group.group in
-    let NoneKnown : List Pair → Type 0 = Each (λ (pair : Pair). known_of pair.1.state.gathered pair.1.state.taken ≡ 0) in
-    if_ok (λ (r : Report × Vec Pair Global). r.1.items ≡ zip group.inboxes.items group.takers.items) (λ (r : Report × Vec Pair Global). c.args.sync ≡ Marks → NoneKnown r.1.items) c.make_report.result
-    (λ r e marks. subst NoneKnown (sym e) (none_known group.inboxes.items group.takers.items (c.in_ok-group.ensures.all_taken marks))) c.make_report.ensures.pairs
+    let ids : List Pair → List InboxId = map (λ (pair : Pair). pair.0) in
+    let Same : Report × Vec Pair Global → Type 0 = λ r. ids r.1.items ≡ ids c.args.pairs.items in
+    let AllSettled : Report × Vec Pair Global → Type 0 = λ r. Each (λ (pair : Pair). IsSettled pair.0 pair.1) r.1.items in
+    let Known : List Pair → Type 0 = Each (λ (pair : Pair). known_of pair.1.state.gathered pair.1.state.taken ≡ 0) in
+    let NoneKnown : Report × Vec Pair Global → Type 0 = λ r. c.args.sync ≡ Marks → Known r.1.items in
+    let back = c.in_ok-group.ensures.inboxes ∙ (c.in-Ok-new.ensures.inboxes.0 ∙ c.in-Ok.ensures.inboxes) in
+    all_ok Same AllSettled NoneKnown c.make_report.result
+    (if_ok (λ (r : Report × Vec Pair Global). ids r.1.items ≡ group.inboxes.items) Same c.make_report.result (λ r e. e ∙ back) c.make_report.ensures.inboxes)
+    c.make_report.ensures.settled
+    (if_ok (λ (r : Report × Vec Pair Global). r.1.items ≡ zip group.inboxes.items group.takers.items) NoneKnown c.make_report.result
+    (λ r e marks. subst Known (sym e) (none_known group.inboxes.items group.takers.items (c.in_ok-group.ensures.all_taken marks))) c.make_report.ensures.pairs)

@@ -7,11 +7,16 @@ returns-clause-collects g c =
     let known = c.known-known.ensures in
     let later = c.requires.endpoint.orderly.later in
     let told = c.drain.ensures in
-    collects c.args.inboxes.now c.args.self.now c.drain.new.taker c.drain.result c.requires.endpoint told.taken told.begun
-    (on_ok_weaker c.drain.result (λ f. f (known, later)) told.others) c.requires.plain (on_ok_weaker c.drain.result (λ f. f (known, later)) told.whole)
+    let after = c.drain.result in
+    collects c.args.inboxes.now c.args.self.now c.drain.new.taker after c.requires.endpoint told.taken
+    (on_ok_weaker after (λ d. d.begun) told.drained) (on_ok_weaker after (λ d. d.others (known, later)) told.drained)
+    c.requires.plain (on_ok_weaker after (λ d. d.whole (known, later)) told.drained)
 
 pub returns-clause-endpoint : goal.returns-clause-endpoint
 returns-clause-endpoint g c =
+    let known = c.known-known.ensures in
+    let later = c.requires.endpoint.orderly.later in
     let told = c.drain.ensures in
-    endpoint_on c.args.inboxes.now c.args.self.now c.drain.new.taker c.drain.result c.requires.endpoint told.taken told.begun
-    (on_ok_weaker c.drain.result (λ f. f (c.known-known.ensures, c.requires.endpoint.orderly.later)) told.others)
+    let after = c.drain.result in
+    endpoint_on c.args.inboxes.now c.args.self.now c.drain.new.taker after c.requires.endpoint told.taken
+    (on_ok_weaker after (λ d. d.begun) told.drained) (on_ok_weaker after (λ d. d.others (known, later)) told.drained)

@@ -14,16 +14,11 @@ pop_as-requires-clause-rule g c = (takes_as _ _ (taker_state_in c.taker.inside.p
 pub returns-in_err-item-clause-none : goal.returns-in_err-item-clause-none
 returns-in_err-item-clause-none g c =
     let told = c.in_err-item.ensures.rule in
-    let none = none_known _ _ _ c.taker.invariant.0.taker told.1 in
-    let P : TakerState → Type 0 = λ d. known_of d.gathered d.taken ≡ 0 in
-    rw c.from_residual.ensures (subst P (ap (λ t. t.state) c.taker.view_is) none)
-
-pub returns-in_err-item-clause-empty : goal.returns-in_err-item-clause-empty
-returns-in_err-item-clause-empty g c =
-    let told = c.in_err-item.ensures.rule in
     let v = c.taker.inside.pass.me.view.client in
+    let none = none_known _ _ _ c.taker.invariant.0.taker told.1 in
     let empty : WasEmpty (taker_state_in v) = subst (λ w. SeenBy w []) c.taker.invariant.0.taker.is told.1 in
-    rw c.from_residual.ensures (subst WasEmpty (ap (λ t. t.state) c.taker.view_is) empty)
+    let P : TakerState → Type 0 = λ d. (known_of d.gathered d.taken ≡ 0) × WasEmpty d in
+    rw c.from_residual.ensures (subst P (ap (λ t. t.state) c.taker.view_is) (none, empty))
 
 pub count_taken-gathered-requires-clause-made : goal.count_taken-gathered-requires-clause-made
 count_taken-gathered-requires-clause-made g c =
@@ -53,12 +48,8 @@ returns-clause-next g c =
     let P : TakerState → Type 0 = λ d. IsNextTaken d c.in_ok-item.item in
     subst P (ap (λ t. t.state) c.taker.view_is) next
 
-pub returns-clause-begun : goal.returns-clause-begun
-returns-clause-begun g c =
+pub returns-clause-items : goal.returns-clause-items
+returns-clause-items g c =
     let told = c.in_ok-item.ensures.rule in
-    (keeps_taken c.taker.inside.pass.me.view.client c.taker.inside.first _ c.taker.inside.known c.in_ok-item.item told.0.1.0 c.taker.invariant.0 told.0.1.1 _ _ _ c.count_taken-gathered.ensures c.from.ensures _ told.0.0).taker.begun
-
-pub returns-clause-made : goal.returns-clause-made
-returns-clause-made g c =
-    let told = c.in_ok-item.ensures.rule in
-    (keeps_taken c.taker.inside.pass.me.view.client c.taker.inside.first _ c.taker.inside.known c.in_ok-item.item told.0.1.0 c.taker.invariant.0 told.0.1.1 _ _ _ c.count_taken-gathered.ensures c.from.ensures _ told.0.0).taker.of_made
+    let taker = (keeps_taken c.taker.inside.pass.me.view.client c.taker.inside.first _ c.taker.inside.known c.in_ok-item.item told.0.1.0 c.taker.invariant.0 told.0.1.1 _ _ _ c.count_taken-gathered.ensures c.from.ensures _ told.0.0).taker in
+    (taker.begun, taker.of_made)

@@ -1,4 +1,5 @@
 use Rattle.std.proofs.Common.{◌≡◌, subst, arith}
+use Rattle.copy_inbox.specs.Items.{OfMade}
 use Rattle.copy_inbox.specs.Gathered.{TookFronts}
 use Rattle.copy_inbox.specs.Handles.{TakerView}
 use Rattle.copy_inbox.proofs.Counts.{whole_of}
@@ -15,22 +16,22 @@ loop-preserved g c =
     let room = i.room in
     record { drained = d; long = omega arith; room = omega arith }
 
-pub returns-clause-whole : goal.returns-clause-whole
-returns-clause-whole g c = λ takes.
-    let all = takes.0 in
-    let later = takes.1 in
+pub returns-clause-drained : goal.returns-clause-drained
+returns-clause-drained g c =
+    let end = c.loop-test.false in
+    let top = c.loop.auto.counter-end in
     let P : TakerView → Type 0 = λ t. TookFronts t.state.gathered t.state.taken in
+    let M : TakerView → Type 0 = λ t. OfMade t.state.made t.state.taken in
     let begun = subst P c.taker.view_is c.taker.invariant.0.taker.begun in
-    let end = c.loop-test.false in
-    let top = c.loop.auto.counter-end in
-    let known = c.loop.invariant.drained.later later (omega arith) in
-    let none : known_to c.loop.taker ≡ 0 = omega arith in
-    whole_of c.loop.taker.state.gathered c.loop.taker.state.taken none begun
-
-pub returns-clause-others : goal.returns-clause-others
-returns-clause-others g c = λ takes.
-    let all = takes.0 in
-    let later = takes.1 in
-    let end = c.loop-test.false in
-    let top = c.loop.auto.counter-end in
-    c.loop.invariant.drained.others later (omega arith)
+    record {
+      begun = begun;
+      made = subst M c.taker.view_is c.taker.invariant.0.taker.of_made;
+      whole = λ all.
+          let n = all.0 in
+          let known = c.loop.invariant.drained.later all.1 (omega arith) in
+          let none : known_to c.loop.taker ≡ 0 = omega arith in
+          whole_of c.loop.taker.state.gathered c.loop.taker.state.taken none begun;
+      others = λ all.
+          let n = all.0 in
+          c.loop.invariant.drained.others all.1 (omega arith);
+    }
