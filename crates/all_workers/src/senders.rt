@@ -11,7 +11,10 @@ use copy_inbox::{Inbox, Taker};
 use fork_join::Refused;
 use std::alloc::Global;
 
-/// Makes each worker's endpoint, with a sender on the inbox of each other worker. The only error is out of memory.
+/// Makes each worker's endpoint, with a sender on the inbox of each other worker.
+///
+/// # Errors
+/// `Memory` if an allocation fails. It is the only error.
 pub fn make_endpoints(
     alloc: Global,
     inboxes: &[Inbox],

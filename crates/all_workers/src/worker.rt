@@ -20,6 +20,9 @@ pub struct Worker {
 }
 
 /// Makes each worker of its share and its endpoint.
+///
+/// # Errors
+/// `Memory` if an allocation fails. It is the only error.
 pub fn workers_of(
     alloc: Global,
     shares: Vec<Share>,
@@ -40,6 +43,9 @@ pub fn workers_of(
 }
 
 /// Separates the workers' shares from their endpoints.
+///
+/// # Errors
+/// `Memory` if an allocation fails. It is the only error.
 pub fn split_workers(
     alloc: Global,
     workers: Vec<Worker>,

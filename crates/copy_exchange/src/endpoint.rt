@@ -46,7 +46,10 @@ impl Endpoint {
     }
 
     /// Takes all copies that other workers delivered in earlier windows, while they may already deliver more. The
-    /// inbox has no marks. An error changes nothing.
+    /// inbox has no marks.
+    ///
+    /// # Errors
+    /// `Memory` if an allocation fails. Nothing has changed then.
     pub fn collect<R: Wait>(
         &mut self,
         rt: &R,
@@ -63,8 +66,10 @@ impl Endpoint {
         inbox.drain(rt, &mut self.taker, known)
     }
 
-    /// Delivers each copy, in order, to the worker of its receiver; `of` is the worker of each mote. If a push fails,
-    /// the error is [`InboxError::Memory`]; the copies delivered before it stay.
+    /// Delivers each copy, in order, to the worker of its receiver; `of` is the worker of each mote.
+    ///
+    /// # Errors
+    /// [`InboxError::Memory`] if a push fails. The copies delivered before it stay.
     pub fn deliver<R: Wait>(
         &mut self,
         rt: &R,
@@ -84,7 +89,10 @@ impl Endpoint {
     }
 
     /// Pushes those of the copies that are for motes of other workers, each to that worker, in order; `of` is the
-    /// worker of each mote. If a push fails, the error is [`InboxError::Memory`]; the copies pushed before it stay.
+    /// worker of each mote.
+    ///
+    /// # Errors
+    /// [`InboxError::Memory`] if a push fails. The copies pushed before it stay.
     pub fn push_copies<R: Wait>(
         &mut self,
         rt: &R,
@@ -122,8 +130,10 @@ impl Endpoint {
         self.deliver_one(rt, inboxes, of, copy)
     }
 
-    /// Pushes the mark of a window to each other worker. The inboxes have marks. If a push fails, the error is
-    /// [`InboxError::Memory`]; the marks pushed before it stay.
+    /// Pushes the mark of a window to each other worker. The inboxes have marks.
+    ///
+    /// # Errors
+    /// [`InboxError::Memory`] if a push fails. The marks pushed before it stay.
     pub fn push_marks<R: Wait>(
         &mut self,
         rt: &R,

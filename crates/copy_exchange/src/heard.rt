@@ -6,6 +6,9 @@ ghost use Rattle.copy_exchange.specs.Marks.{AllPast, AreNone};
 use std::alloc::{AllocError, Global};
 
 /// A count of 0 for each of the senders.
+///
+/// # Errors
+/// `AllocError` if an allocation fails.
 pub fn no_marks(alloc: Global, senders: usize) -> Result<Vec<u64>, AllocError>
     ensures count { IfOk result (λ marks. length marks.items ≡ senders) }
     ensures none { IfOk result (λ marks. AreNone marks.items) }

@@ -9,6 +9,9 @@ use copy_inbox::{Inbox, InboxError, Taker};
 use std::alloc::Global;
 
 /// Makes `count` inboxes, each with its taker, with marks or without.
+///
+/// # Errors
+/// `Memory` if an allocation fails.
 pub fn make_inboxes(
     alloc: Global,
     count: usize,
@@ -38,6 +41,9 @@ fn make_inbox(alloc: Global, marked: bool) -> Result<(Inbox, Taker), InboxError>
 }
 
 /// Separates the inboxes from their takers.
+///
+/// # Errors
+/// `Memory` if an allocation fails. The inboxes and takers are dropped then.
 pub fn split_pairs(
     alloc: Global,
     pairs: Vec<(Inbox, Taker)>,
@@ -55,6 +61,9 @@ pub fn split_pairs(
 }
 
 /// Pairs each inbox with its taker.
+///
+/// # Errors
+/// `Memory` if an allocation fails. The inboxes and takers are dropped then.
 pub fn pair_inboxes(
     alloc: Global,
     inboxes: Vec<Inbox>,

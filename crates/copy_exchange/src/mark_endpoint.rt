@@ -31,6 +31,9 @@ pub struct MarkEndpoint {
 
 impl MarkEndpoint {
     /// The endpoint of a worker that has taken nothing yet, and on whose inbox this many senders were made.
+    ///
+    /// # Errors
+    /// `Memory` if the allocation for the counts of marks fails.
     pub fn new(alloc: Global, base: Endpoint, senders: usize) -> Result<MarkEndpoint, InboxError>
         requires made { base.taker.state.made ≡ senders }
         requires taken { base.taker.state.taken ≡ [] }
@@ -46,8 +49,10 @@ impl MarkEndpoint {
     }
 
     /// Pushes the copies of a window, each to the worker of its receiver, and then the window's mark to each other
-    /// worker; `of` is the worker of each mote. If a push fails, the error is [`InboxError::Memory`]; the items pushed
-    /// before it stay.
+    /// worker; `of` is the worker of each mote.
+    ///
+    /// # Errors
+    /// [`InboxError::Memory`] if a push fails. The items pushed before it stay.
     pub fn deliver_window<R: Wait>(
         &mut self,
         rt: &R,

@@ -29,6 +29,7 @@ pub struct Waiting {
 }
 
 impl Waiting {
+    /// The state before the first window, in which the worker may look 1,024 times before it sleeps.
     pub fn new() -> Waiting {
         Waiting {
             looks: MOST_LOOKS,
@@ -49,6 +50,9 @@ impl Waiting {
 }
 
 /// After a look that found nothing: gives up if the flag is set, and else lets some time pass.
+///
+/// # Errors
+/// `Stopped` if the flag is set. It is the only error.
 pub fn wait<R: Wait, L: Ledger>(
     rt: &R,
     inbox: &Inbox,

@@ -14,6 +14,9 @@ use std::alloc::Global;
 use std::sync::Wait;
 
 /// Before a window: makes an endpoint for each worker, with a new sender on the inbox of each other worker.
+///
+/// # Errors
+/// `Memory` if an allocation fails.
 pub fn endpoints(
     alloc: Global,
     inboxes: &[Inbox],
@@ -76,6 +79,9 @@ fn sender_on(inbox: &Inbox, taker: &mut Taker, own: bool) -> Result<Option<Sende
 
 /// The end of a window: [`gather_back`], with a contract on the copies delivered to each worker. The inboxes have no
 /// marks.
+///
+/// # Errors
+/// `Memory` if an allocation fails.
 pub fn gather_window<R: Wait>(
     rt: &R,
     alloc: Global,
@@ -92,6 +98,9 @@ pub fn gather_window<R: Wait>(
 
 /// After the workers have run: each worker's taker gathers the senders on its inbox, one after another, in the order
 /// of the workers.
+///
+/// # Errors
+/// `Memory` if an allocation fails.
 pub fn gather_back<R: Wait>(
     rt: &R,
     alloc: Global,

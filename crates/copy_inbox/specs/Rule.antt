@@ -62,7 +62,8 @@ pub record InboxRule (items : List Item) (views : List View) : Type 0 where
       → get_elem? views pass ≡ some (Sending (make_sender_state taker_state.marked s (pushed s)))
   pub fits : (pass : ℕ) (v : View) → get_elem? views pass ≡ some v → PassFits taker pass_of taker_state pushed pass v
 
--- ---- the knowledge that a pass gains from its step: the rule held while the queue had these items and a pass had this view
+-- ---- the knowledge that a pass gains from its step: the rule held while the queue had these items and a pass had this
+-- view
 abbrev pub SeenBy : View → List Item → Type 0
 SeenBy v items = (views : List View) × (pass : ℕ) × InboxRule items views × (get_elem? views pass ≡ some v)
 

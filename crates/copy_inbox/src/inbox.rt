@@ -165,6 +165,9 @@ impl Sender {
 
 impl Inbox {
     /// A new inbox, into which nothing was pushed, and its taker, which has made no sender.
+    ///
+    /// # Errors
+    /// `Memory` if an allocation fails.
     pub fn make(alloc: Global) -> Result<(Inbox, Taker), InboxError>
         ensures inbox { IfOk result (λ made. made.1.inbox ≡ made.0) }
         ensures empty { IfOk result (λ made. made.1.state ≡ make_taker_state false 0 [] []) }
@@ -185,6 +188,9 @@ impl Inbox {
     }
 
     /// As [`Inbox::make`], for an inbox with marks.
+    ///
+    /// # Errors
+    /// `Memory` if an allocation fails.
     pub fn make_marked(alloc: Global) -> Result<(Inbox, Taker), InboxError>
         ensures inbox { IfOk result (λ made. made.1.inbox ≡ made.0) }
         ensures empty { IfOk result (λ made. made.1.state ≡ make_taker_state true 0 [] []) }
@@ -196,6 +202,9 @@ impl Inbox {
     }
 
     /// A new sender, which has pushed nothing. Senders are numbered from 0, in the order in which they are made.
+    ///
+    /// # Errors
+    /// `Memory` if an allocation fails. The taker is unchanged then.
     pub fn sender(&self, taker: &mut Taker) -> Result<Sender, InboxError>
         requires { taker.old.inbox ≡ self.now }
         ensures inbox { IfOk result (λ sender. sender.inbox ≡ self.now) }
@@ -218,7 +227,10 @@ impl Inbox {
         })
     }
 
-    /// Pushes a copy. It comes back if an allocation failed, or after 2^62 pushes, and then nothing has changed.
+    /// Pushes a copy.
+    ///
+    /// # Errors
+    /// The copy, if an allocation fails, or after 2^62 pushes. Nothing has changed then.
     pub fn push_copy<R: Wait>(
         &self,
         rt: &R,
@@ -235,8 +247,10 @@ impl Inbox {
             .map_err(|_| copy)
     }
 
-    /// Pushes the mark of a window. The window's number comes back if an allocation failed, or after 2^62 pushes, and
-    /// then nothing has changed.
+    /// Pushes the mark of a window.
+    ///
+    /// # Errors
+    /// The window's number, if an allocation fails, or after 2^62 pushes. Nothing has changed then.
     pub fn push_mark<R: Wait>(&self, rt: &R, sender: &mut Sender, window: u64) -> Result<(), u64>
         requires inbox { sender.old.inbox ≡ self.now }
         requires marked { sender.old.state.marked ≡ true }
@@ -320,8 +334,10 @@ impl Inbox {
         Some(item)
     }
 
-    /// Takes the `n` oldest copies of an inbox without marks. It allocates before it takes, so a failed allocation
-    /// changes nothing.
+    /// Takes the `n` oldest copies of an inbox without marks.
+    ///
+    /// # Errors
+    /// `Memory` if an allocation fails. It allocates before it takes, so nothing has changed then.
     pub fn drain<R: Wait>(
         &self,
         rt: &R,
@@ -368,7 +384,10 @@ impl Inbox {
         Ok(copies)
     }
 
-    /// Ends the inbox, and returns all that is left in it. If an allocation fails, it is given up.
+    /// Ends the inbox, and returns all that is left in it.
+    ///
+    /// # Errors
+    /// `Memory` if an allocation fails. The inbox is given up then, with all that is left in it.
     pub fn close<R: Wait>(self, rt: &R, taker: Taker) -> Result<Vec<RadioCopy>, InboxError>
         requires inbox { taker.inbox ≡ self }
         requires gathered { AllGathered taker.state }

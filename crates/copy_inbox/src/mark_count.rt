@@ -15,6 +15,7 @@ pub struct MarkCount {
 }
 
 impl MarkCount {
+    /// The count of an inbox into which no mark was pushed, and whose taker waits for none.
     pub fn new() -> MarkCount {
         MarkCount {
             marks: AtomicU64::new(0),

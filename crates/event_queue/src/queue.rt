@@ -81,6 +81,9 @@ fn take_oldest(waiting: &mut HeapCircularBuffer<Waiting>) -> Option<Waiting>
 
 impl EventQueue {
     /// An empty queue with room for this many events, 1 to 128.
+    ///
+    /// # Errors
+    /// `AllocError` if an allocation fails.
     pub fn new(alloc: Global, capacity: u16) -> Result<EventQueue, AllocError>
         requires some_room { 1 ≤ capacity }
         requires limit { capacity ≤ 128 }
@@ -109,8 +112,10 @@ impl EventQueue {
         self.taken + self.waiting.len() as u64
     }
 
-    /// Appends an event and returns its serial: 0 for the first that was ever accepted, one more for each after it. A
-    /// full queue refuses it and stays unchanged.
+    /// Appends an event and returns its serial: 0 for the first that was ever accepted, one more for each after it.
+    ///
+    /// # Errors
+    /// [`Full`] if the queue is full. It is unchanged then.
     #[tactic(auto, using(crate::proofs::Posting::length_posted))]
     pub fn post(&mut self, target: Target, event: Event) -> Result<u64, Full>
         requires { self.old.accepted < 2 ^ 62 }

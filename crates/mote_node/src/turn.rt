@@ -147,6 +147,10 @@ fn write_collisions(moment: u64, packets: &[Arrival], out: &mut Out) -> Result<(
 }
 
 /// The turn of a mote in a net: if packets that collide are to be lost, and these collide, it gets none of them.
+///
+/// # Errors
+/// `AllocError` if an allocation fails, or failed in an earlier call of the kernel. Lines and packets may have been
+/// appended to `out` then.
 #[tactic(auto, unfolding(crate::specs::Turn::net_turn))]
 pub fn turn_in_net(
     kernel: &mut Kernel,

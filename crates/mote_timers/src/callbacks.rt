@@ -24,6 +24,9 @@ impl Model for Callbacks {
 
 impl Callbacks {
     /// An empty list, with room for the timers 0 to n - 1.
+    ///
+    /// # Errors
+    /// `AllocError` if an allocation fails.
     pub fn new(alloc: Global, n: u16) -> Result<Callbacks, AllocError>
         ensures { IfOk result (λ callbacks. callbacks ≡ numbers [] n) }
     {

@@ -27,6 +27,9 @@ impl Model for NumberList {
 
 impl NumberList {
     /// An empty list of numbers below the limit.
+    ///
+    /// # Errors
+    /// `AllocError` if an allocation fails.
     pub fn new(alloc: Global, limit: u16) -> Result<NumberList, AllocError>
         ensures { IfOk result (λ list. list ≡ numbers [] limit) }
     {
@@ -43,6 +46,7 @@ impl NumberList {
         self.members.as_slice()
     }
 
+    /// Returns whether a number is on the list.
     pub fn contains(&self, number: u16) -> bool
         ensures { result ≡ is_member number self.now.members }
     {

@@ -36,6 +36,9 @@ impl Model for Timers {
 
 impl Timers {
     /// The timers 0 to n - 1, none of which is set yet.
+    ///
+    /// # Errors
+    /// `AllocError` if an allocation fails.
     #[tactic(auto, unfolding(crate::specs::TimerLists::new_timers))]
     pub fn new(alloc: Global, n: u16) -> Result<Timers, AllocError>
         ensures new { IfOk result (λ timers. timers ≡ new_timers n) }

@@ -54,6 +54,9 @@ impl Agenda {
     }
 
     /// Adds a wake of a mote.
+    ///
+    /// # Errors
+    /// `AllocError` if an allocation fails.
     pub fn put_wake(&mut self, moment: u64, mote: u16) -> Result<(), AllocError>
         ensures { OnOk result (Adds self.old.buckets self.new.buckets (Wake moment mote ∷ [])) }
     {
@@ -61,6 +64,9 @@ impl Agenda {
     }
 
     /// Adds the next wake of a mote, if it has one.
+    ///
+    /// # Errors
+    /// `AllocError` if an allocation fails.
     pub fn put_next_wake(&mut self, wake: Option<u64>, mote: u16) -> Result<(), AllocError>
         ensures { OnOk result (Adds self.old.buckets self.new.buckets (wake_items mote wake)) }
     {
@@ -91,6 +97,9 @@ impl Agenda {
     }
 
     /// Adds packets on their way.
+    ///
+    /// # Errors
+    /// `AllocError` if an allocation fails. Some of the packets may have been added then.
     pub fn put_copies(&mut self, copies: &[RadioCopy]) -> Result<(), AllocError>
         ensures { OnOk result (Adds self.old.buckets self.new.buckets (map Packet copies.now)) }
     {
@@ -127,6 +136,9 @@ impl Agenda {
     }
 
     /// Adds the copies of a packet whose fates these are: those that aren't lost.
+    ///
+    /// # Errors
+    /// `AllocError` if an allocation fails. Some of the copies may have been added then.
     pub fn put_fates(&mut self, sent: &Sent, fates: &[Fate]) -> Result<(), AllocError>
         ensures { OnOk result (Adds self.old.buckets self.new.buckets
             (map Packet (filter_map (copy_of sent.now) fates.now))) }
@@ -139,6 +151,9 @@ impl Agenda {
     }
 
     /// Takes out the one wake of a mote, if it has one.
+    ///
+    /// # Errors
+    /// `AllocError` by its type only: the body allocates nothing and returns no error.
     pub fn drop_wake(&mut self, wake: Option<u64>, mote: u16) -> Result<(), AllocError>
         ensures { OnOk result (DropsWake mote wake self.old.buckets self.new.buckets) }
     {
@@ -155,6 +170,9 @@ impl Agenda {
     }
 
     /// Moves the one wake of a mote, if it has one, to its next one.
+    ///
+    /// # Errors
+    /// `AllocError` if an allocation fails. The old wake may be gone then, without the next one.
     pub fn move_wake(
         &mut self,
         wake: Option<u64>,
@@ -173,6 +191,9 @@ impl Agenda {
 
     /// Takes out all pending events of a mote at a moment. The mote's packets replace the contents of the list, in
     /// order.
+    ///
+    /// # Errors
+    /// `AllocError` if an allocation fails. The events are out of the agenda then too, and the list may lack packets.
     pub fn take_due_into(
         &mut self,
         moment: u64,

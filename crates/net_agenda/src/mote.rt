@@ -10,6 +10,9 @@ use mote_node::Mote;
 use std::alloc::{AllocError, Global};
 
 /// The mote with this number, before its first turn.
+///
+/// # Errors
+/// `AllocError` if an allocation for the mote fails.
 pub fn new_mote(alloc: Global, net: &Net, number: u16) -> Result<Mote, AllocError>
     requires { number < length (net_of net.now).motes }
     ensures { let n = net_of net.now in IfOk result

@@ -21,6 +21,9 @@ impl Machine {
     }
 
     /// Starts the system processes and then those that the program names; returns how much is left to do.
+    ///
+    /// # Errors
+    /// `Halted` if the mote halts meanwhile; `Memory` if an allocation fails.
     #[tactic(auto, unfolding(crate::specs::Boot::boot_of))]
     pub fn boot(&mut self, program: &Program) -> Result<u16, Stop>
         requires { HasRoom 1 self.old }

@@ -28,6 +28,9 @@ fn has_ended(answer: PtState) -> bool
 
 impl Machine {
     /// Calls a process with an event. If the process isn't running, nothing happens (`call_process` of `process.c`).
+    ///
+    /// # Errors
+    /// `Halted` if no unit of work is left, or if the mote halts in the call; `Memory` if an allocation fails.
     #[cycle(kernel)]
     #[tactic(auto, unfolding(crate::specs::Call::call_of, crate::specs::Call::answered))]
     pub fn call(&mut self, program: &Program, process: Proc, event: &Event) -> Result<(), Stop>
@@ -51,6 +54,9 @@ impl Machine {
     }
 
     /// Lets a process react to an event.
+    ///
+    /// # Errors
+    /// `Halted` if the mote halts meanwhile; `Memory` if an allocation fails.
     #[cycle(kernel)]
     #[inline(always)]
     #[tactic(auto, unfolding(crate::specs::Reaction::react_of))]

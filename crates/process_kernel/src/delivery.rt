@@ -14,6 +14,9 @@ use trace_lines::What;
 
 impl Machine {
     /// Removes the oldest event from the queue, if there is one, and delivers it.
+    ///
+    /// # Errors
+    /// `Halted` if the mote halts meanwhile; `Memory` if an allocation fails.
     pub fn deliver_front(&mut self, program: &Program) -> Result<(), Stop>
         requires { HasRoom 0 self.old }
         ensures { Follows program.now self.old result self.new (λ calls. deliver_front calls self.old.queue.events) }

@@ -22,6 +22,7 @@ pub enum Ran {
     Halted,
 }
 
+/// The reason why a call of a kernel failed.
 #[derive(Clone, Copy, Debug, PartialEq, Eq)]
 pub enum KernelError {
     /// Out of memory: an allocation failed.
@@ -254,6 +255,7 @@ impl Kernel {
         self.machine.accept_packet(packet)
     }
 
+    /// The number of the kernel's mote.
     #[tactic(auto, unfolding(crate::specs::Public::mote_in, crate::specs::Public::held_in))]
     pub fn number(&self) -> u16
         ensures mote { (t : Tree) → IfSome (mote_in t self.now) (λ m. result ≡ m.state.mote) }
@@ -262,6 +264,7 @@ impl Kernel {
         self.machine.shown.mote
     }
 
+    /// Returns whether the mote was booted.
     #[tactic(auto, unfolding(crate::specs::Public::mote_in, crate::specs::Public::held_in))]
     pub fn is_booted(&self) -> bool
         ensures mote { (t : Tree) → IfSome (mote_in t self.now) (λ m. result ≡ m.booted) }
@@ -270,6 +273,7 @@ impl Kernel {
         self.booted
     }
 
+    /// Returns whether the mote has halted. It runs no more then.
     #[tactic(auto, unfolding(crate::specs::Public::mote_in, crate::specs::Public::held_in))]
     pub fn is_halted(&self) -> bool
         ensures mote { (t : Tree) → IfSome (mote_in t self.now) (λ m. result ≡ m.halted) }

@@ -166,6 +166,9 @@ impl Machine {
     }
 
     /// Puts a new incarnation at the front of the list, running and with a fresh body.
+    ///
+    /// # Errors
+    /// `Memory` if an allocation for the list or for the line fails. It is never `Halted`.
     #[tactic(auto, unfolding(crate::specs::ProcessList::enlist_of))]
     pub fn enlist(&mut self, process: Proc) -> Result<(), Stop>
         requires there { place_of process < length self.old.shown.states.items }
@@ -207,6 +210,9 @@ impl Machine {
     }
 
     /// Ends the exit of a process, which leaves the list.
+    ///
+    /// # Errors
+    /// `Memory` if an allocation for the list or for the line fails. It is never `Halted`.
     #[tactic(auto, unfolding(crate::specs::ProcessList::leave_of))]
     pub fn leave(&mut self, process: Proc) -> Result<(), Stop>
         ensures exact { (t : Tree) → Tells result (state_of t self.new) (leave_of (state_of t self.old) process) }

@@ -44,6 +44,9 @@ fn process_number(process: Proc) -> u16
 
 impl Machine {
     /// Performs an operation for the current process, and tells its thread the answer.
+    ///
+    /// # Errors
+    /// `Halted` if the mote halts meanwhile; `Memory` if an allocation fails.
     #[cycle(kernel)]
     #[tactic(auto, unfolding(crate::specs::Operation::perform_of))]
     pub fn perform(
@@ -97,6 +100,9 @@ impl Machine {
 
     /// Starts a process: if it isn't on the process list, it is put at its front and called with INIT (`process_start`
     /// of `process.c`).
+    ///
+    /// # Errors
+    /// `Halted` if the mote halts meanwhile; `Memory` if an allocation fails.
     #[cycle(kernel)]
     #[tactic(auto, unfolding(crate::specs::Start::start_of))]
     pub fn start(&mut self, program: &Program, process: Proc) -> Result<(), Stop>
@@ -130,6 +136,9 @@ impl Machine {
 
     /// Exits a process on behalf of another, or of itself: the others are informed first (`exit_process` of
     /// `process.c`).
+    ///
+    /// # Errors
+    /// `Halted` if the mote halts meanwhile; `Memory` if an allocation fails.
     #[cycle(kernel)]
     #[tactic(auto, unfolding(crate::specs::Exit::exit_of))]
     pub fn exit(&mut self, program: &Program, process: Proc, behalf: Proc) -> Result<(), Stop>

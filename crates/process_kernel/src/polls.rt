@@ -13,6 +13,9 @@ use program_tree::{Program, SystemEvent};
 
 impl Machine {
     /// Polls each listed process that needs a poll, if a poll was requested.
+    ///
+    /// # Errors
+    /// `Halted` if the mote halts meanwhile; `Memory` if an allocation fails.
     #[inline(always)]
     #[tactic(auto, unfolding(crate::specs::Polls::polls_of, crate::specs::Polls::polls_due_of))]
     pub fn poll_due(&mut self, program: &Program) -> Result<(), Stop>

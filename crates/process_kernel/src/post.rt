@@ -18,6 +18,10 @@ use trace_lines::{Line, What};
 const LIMIT: u64 = 1 << 62;
 
 impl Machine {
+    /// Appends a line about an event of the current moment.
+    ///
+    /// # Errors
+    /// `Memory` if the allocation for the line fails. It is never `Halted`.
     #[tactic(auto, unfolding(crate::specs::Writes::write_of, crate::specs::Views::Begins))]
     pub fn write(&mut self, what: What) -> Result<(), Stop>
         ensures exact { (t : Tree) → Tells result (state_of t self.new) (write_of (state_of t self.old) what) }
@@ -42,7 +46,10 @@ impl Machine {
         }
     }
 
-    /// Spends a unit of work; without one the mote halts.
+    /// Spends a unit of work.
+    ///
+    /// # Errors
+    /// `Halted` if no unit is left; `Memory` if the allocation for the line of the halt fails.
     #[inline(always)]
     #[tactic(auto, unfolding(crate::specs::Writes::spend_of))]
     pub fn spend(&mut self) -> Result<(), Stop>
@@ -58,6 +65,10 @@ impl Machine {
     }
 
     /// Posts an event; returns whether the queue was full.
+    ///
+    /// # Errors
+    /// `Halted` if the mote has accepted 2^62 events; `Memory` if the allocation for the line fails. A full queue is
+    /// no error.
     #[inline(always)]
     #[tactic(auto, unfolding(crate::specs::Posts::post_of))]
     pub fn post(&mut self, target: Target, event: Event) -> Result<bool, Stop>
@@ -106,6 +117,11 @@ impl Machine {
         Ok(())
     }
 
+    /// Sends a packet with this value at the current moment, and writes a line about it. The packets of a mote are
+    /// numbered from 0.
+    ///
+    /// # Errors
+    /// `Halted` if the mote has sent 2^62 packets; `Memory` if an allocation for the packet or for a line fails.
     #[tactic(auto, unfolding(crate::specs::Posts::send_of))]
     pub fn send(&mut self, value: u16) -> Result<(), Stop>
         ensures exact { (t : Tree) → Tells result (state_of t self.new) (send_of (state_of t self.old) value) }
@@ -126,6 +142,7 @@ impl Machine {
         self.write(What::Send(number, value))
     }
 
+    /// Subtracts one from a semaphore's count if it is above 0. If the mote has no such semaphore, nothing changes.
     #[tactic(auto, unfolding(crate::specs::Semaphores::take_of))]
     pub fn take_semaphore(&mut self, semaphore: u8)
         ensures exact { (t : Tree) → state_of t self.new ≡ take_of (state_of t self.old) semaphore }
@@ -138,6 +155,7 @@ impl Machine {
         }
     }
 
+    /// Adds one to a semaphore's count, modulo 65,536. If the mote has no such semaphore, nothing changes.
     #[tactic(auto, unfolding(crate::specs::Semaphores::signal_of))]
     pub fn signal_semaphore(&mut self, semaphore: u8)
         ensures exact { (t : Tree) → state_of t self.new ≡ signal_of (state_of t self.old) semaphore }

@@ -81,6 +81,9 @@ impl Machine {
     }
 
     /// The reaction of the radio process to an event.
+    ///
+    /// # Errors
+    /// `Halted` if the mote halts meanwhile; `Memory` if an allocation fails.
     #[tactic(auto, unfolding(crate::specs::Radio::radio_of))]
     pub fn react_as_radio(&mut self, program: &Program, event: &Event) -> Result<(), Stop>
         ensures exact { Tells result (state_of (tree_of program.now) self.new)

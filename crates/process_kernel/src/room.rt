@@ -136,6 +136,9 @@ impl Machine {
     }
 
     /// The kernel of a mote that was never booted.
+    ///
+    /// # Errors
+    /// `AllocError` if an allocation fails.
     #[tactic(auto, unfolding(crate::specs::Mote::unbooted))]
     pub fn new(
         alloc: Global,

@@ -17,6 +17,9 @@ pub const UNITS: u32 = 10_000;
 
 impl Machine {
     /// One kernel run; returns how much is left to do.
+    ///
+    /// # Errors
+    /// `Halted` if the mote halts meanwhile; `Memory` if an allocation fails.
     #[tactic(auto, unfolding(crate::specs::Run::kernel_of))]
     pub fn run_kernel(&mut self, program: &Program) -> Result<u16, Stop>
         requires { HasRoom 0 self.old }

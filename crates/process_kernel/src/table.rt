@@ -26,6 +26,7 @@ pub fn place_of(process: Proc) -> usize
     }
 }
 
+/// Returns whether both are the same process.
 pub fn is_same(left: Proc, right: Proc) -> bool
     ensures { result ≡ are_same left right }
 {
@@ -39,6 +40,7 @@ pub fn state_at(states: &[ProcessState], place: usize) -> ProcessState
     states.get(place).copied().unwrap_or(ProcessState::Off)
 }
 
+/// Returns whether a process in this state has started and not ended: it is running or called.
 pub fn is_alive(state: ProcessState) -> bool
     ensures { result ≡ lives state }
 {
@@ -50,12 +52,14 @@ pub fn is_alive(state: ProcessState) -> bool
 }
 
 impl Machine {
+    /// The state of a process; `Off` if the mote has no such process.
     pub fn process_state(&self, process: Proc) -> ProcessState
         ensures { result ≡ state_of_process self.now.shown.states.items process }
     {
         state_at(&self.shown.states, place_of(process))
     }
 
+    /// Returns whether a process is running: it has started, and isn't being called.
     pub fn is_running(&self, process: Proc) -> bool
         ensures { result ≡ is_running_state (state_of_process self.now.shown.states.items process) }
     {
@@ -66,6 +70,7 @@ impl Machine {
         }
     }
 
+    /// Returns whether a process is being exited; false if the mote has no such process.
     pub fn is_exiting(&self, process: Proc) -> bool
         ensures { result ≡ at_process self.now.exiting.items process }
     {
@@ -87,6 +92,7 @@ impl Machine {
         }
     }
 
+    /// Returns whether a process needs a poll; false if the mote has no such process.
     pub fn process_needs_poll(&self, process: Proc) -> bool
         ensures { result ≡ at_process self.now.needs_poll.items process }
     {
@@ -148,6 +154,7 @@ impl Machine {
             .any(|x| place_of(process) == place_of(x.process))
     }
 
+    /// Sets the state of a process. If the mote has no such process, nothing changes.
     #[tactic(auto, unfolding(crate::specs::Processes::with_state))]
     pub fn set_state(&mut self, process: Proc, state: ProcessState)
         ensures exact { (t : Tree) → state_of t self.new ≡ with_state (state_of t self.old) process state }
@@ -160,6 +167,7 @@ impl Machine {
         }
     }
 
+    /// Records whether a process is being exited. If the mote has no such process, nothing changes.
     #[tactic(auto, unfolding(crate::specs::Processes::with_exiting))]
     pub fn set_exiting(&mut self, process: Proc, exiting: bool)
         ensures exact { (t : Tree) → state_of t self.new ≡ with_exiting (state_of t self.old) process exiting }
@@ -172,6 +180,7 @@ impl Machine {
         }
     }
 
+    /// Records whether a process needs a poll. If the mote has no such process, nothing changes.
     #[tactic(auto, unfolding(crate::specs::Processes::with_needs_poll))]
     pub fn set_needs_poll(&mut self, process: Proc, needs_poll: bool)
         ensures exact { (t : Tree) → state_of t self.new ≡ with_needs_poll (state_of t self.old) process needs_poll }

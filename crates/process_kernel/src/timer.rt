@@ -62,6 +62,8 @@ impl Machine {
         self.poll(Proc::Etimer);
     }
 
+    /// Sets a timer to an interval in moments, which begins now (`etimer_set` of `etimer.c`). The process `current`
+    /// becomes its owner, or for a callback timer the ctimer process. If the mote has no such timer, nothing changes.
     #[tactic(auto, unfolding(crate::specs::TimerOperations::set_of))]
     pub fn set_timer(&mut self, program: &Program, timer: u16, interval: u16, current: u8)
         ensures exact { state_of (tree_of program.now) self.new
@@ -78,6 +80,9 @@ impl Machine {
         }
     }
 
+    /// Sets a timer again from the moment at which it was or is due (`etimer_reset` of `etimer.c`). The process
+    /// `current` becomes its owner, or for a callback timer the ctimer process. If the mote has no such timer, nothing
+    /// changes.
     #[tactic(auto, unfolding(crate::specs::TimerOperations::reset_of))]
     pub fn reset_timer(&mut self, program: &Program, timer: u16, current: u8)
         ensures exact { state_of (tree_of program.now) self.new
@@ -93,6 +98,9 @@ impl Machine {
         }
     }
 
+    /// Sets a timer again from now, with the interval that it has (`etimer_restart` of `etimer.c`). The process
+    /// `current` becomes its owner, or for a callback timer the ctimer process. If the mote has no such timer, nothing
+    /// changes.
     #[tactic(auto, unfolding(crate::specs::TimerOperations::restart_of))]
     pub fn restart_timer(&mut self, program: &Program, timer: u16, current: u8)
         ensures exact { state_of (tree_of program.now) self.new
@@ -107,6 +115,8 @@ impl Machine {
         }
     }
 
+    /// Stops a timer, and removes its callback from the callback list (`etimer_stop` of `etimer.c`). If the mote has
+    /// no such timer, nothing changes.
     #[tactic(auto, unfolding(crate::specs::TimerOperations::stop_of))]
     pub fn stop_timer(&mut self, timer: u16)
         ensures exact { (t : Tree) → state_of t self.new ≡ stop_of (state_of t self.old) timer }
@@ -170,6 +180,9 @@ impl Machine {
     }
 
     /// The reaction of the etimer process to an event.
+    ///
+    /// # Errors
+    /// `Halted` if the mote has accepted 2^62 events; `Memory` if the allocation for a line fails.
     #[tactic(auto, unfolding(crate::specs::Etimer::etimer_of))]
     pub fn react_as_etimer(&mut self, event: &Event) -> Result<(), Stop>
         ensures exact { (t : Tree) → Tells result (state_of t self.new) (etimer_of (state_of t self.old) event.now) }

@@ -80,6 +80,9 @@ fn wake_at(motes: &[Mote], number: u16) -> Option<u64>
 
 impl Engine {
     /// The net before its first turn: each mote wakes at 0.
+    ///
+    /// # Errors
+    /// `AllocError` if an allocation fails.
     pub fn boot(alloc: Global, net: &Net) -> Result<Engine, AllocError>
         ensures stands { let n = net_of net.now in IfOk result (λ engine. StandsAt n engine (boot (system_of n))) }
         ensures whole { let n = net_of net.now in IfOk result (λ engine. IsWhole n engine) }
@@ -102,6 +105,9 @@ impl Engine {
     }
 
     /// The turn of a mote on all that is due for it. It has not failed, and its last turn was before this moment.
+    ///
+    /// # Errors
+    /// `AllocError` if an allocation fails. The engine may have changed in part then.
     pub fn turn(&mut self, net: &Net, moment: u64, number: u16) -> Result<(), AllocError>
         requires there { number < length (net_of net.now).motes }
         requires early { moment ≤ 2 ^ 40 }

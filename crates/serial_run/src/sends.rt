@@ -36,6 +36,9 @@ fn send(
 }
 
 /// Sends the packets of a mote's turn.
+///
+/// # Errors
+/// `AllocError` if an allocation fails. Some of the packets may have been sent then.
 pub fn send_all(
     medium: &Medium,
     moment: u64,

@@ -5,7 +5,10 @@ use std::alloc::AllocError;
 use std::test::Fail;
 use trace_lines::Line;
 
-/// Fails if two texts differ, and shows both.
+/// Requires that two texts are equal.
+///
+/// # Errors
+/// `Fail`, which shows both texts, if they differ.
 pub fn same_text(told: &str, want: &str) -> Result<(), Fail> {
     if told == want {
         return Ok(());
@@ -14,6 +17,9 @@ pub fn same_text(told: &str, want: &str) -> Result<(), Fail> {
 }
 
 /// Writes each copy down: its moment and receiver, its sender, its number and its value.
+///
+/// # Errors
+/// `AllocError` if an allocation for the text fails.
 pub fn write_copies(text: &mut String, copies: &[RadioCopy]) -> Result<(), AllocError> {
     for copy in copies {
         write!(
@@ -26,6 +32,9 @@ pub fn write_copies(text: &mut String, copies: &[RadioCopy]) -> Result<(), Alloc
 }
 
 /// Writes each line down as its moment and its event.
+///
+/// # Errors
+/// `AllocError` if an allocation for the text fails.
 pub fn write_lines(text: &mut String, lines: &[Line]) -> Result<(), AllocError> {
     for line in lines {
         write!(text, "{} {:?}|", line.at, line.what)?;
@@ -34,6 +43,9 @@ pub fn write_lines(text: &mut String, lines: &[Line]) -> Result<(), AllocError> 
 }
 
 /// Writes down each packet that was sent: its moment, its sender, its number and its value.
+///
+/// # Errors
+/// `AllocError` if an allocation for the text fails.
 pub fn write_sends(text: &mut String, sends: &[Sent]) -> Result<(), AllocError> {
     for sent in sends {
         write!(

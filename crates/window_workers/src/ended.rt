@@ -12,6 +12,10 @@ use std::alloc::{AllocError, Global};
 use worker_window::{Ended, Share};
 
 /// Takes the shares of all workers apart.
+///
+/// # Errors
+/// `AllocError` if an allocation fails. It is also the error if a share's number of copies is above `u64::MAX`, for
+/// which no memory has room.
 pub fn end_all(alloc: Global, shares: Vec<Share>) -> Result<Vec<Ended>, AllocError>
     ensures { IfOk result (λ all. AllZip TellsWhatItKept shares.items all.items) }
 {
@@ -55,6 +59,9 @@ fn left_in_inboxes(pairs: &[(Inbox, Taker)]) -> Result<u64, AllocError>
 }
 
 /// The number of copies left, with the workers and in the inboxes.
+///
+/// # Errors
+/// `AllocError` only for a number above `u64::MAX`, for which no memory has room. Nothing is allocated.
 pub fn left_of_all(ended: &[Ended], pairs: &[(Inbox, Taker)]) -> Result<u64, AllocError>
     requires { Each (λ pair. IsSettled pair.0 pair.1) pairs.now }
     ensures { IfOk result (λ left. sum_by (λ one. one.left) ended.now

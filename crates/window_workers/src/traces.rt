@@ -20,6 +20,9 @@ fn take_trace(alloc: Global, ended: &mut Vec<Ended>, worker: usize, mote: usize)
 }
 
 /// The trace of each mote, by its number, from its worker. `of` is the worker of each mote.
+///
+/// # Errors
+/// `AllocError` if an allocation fails.
 pub fn joined_traces(
     alloc: Global,
     of: &[u16],

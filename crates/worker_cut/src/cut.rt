@@ -26,6 +26,9 @@ fn in_blocks(mote: u16, motes: u16, workers: u16) -> u16
 impl Cut {
     /// Gives each worker a block of consecutive motes, the blocks differing in size by at most one: mote i goes to the
     /// worker `i * workers / motes`.
+    ///
+    /// # Errors
+    /// `AllocError` if an allocation fails.
     pub fn block(alloc: Global, motes: u16, workers: u16) -> Result<Cut, AllocError>
         requires motes { 0 < motes }
         requires workers { 0 < workers }
@@ -40,6 +43,9 @@ impl Cut {
     }
 
     /// Deals the motes out in turn: mote i goes to the worker `i` mod `workers`.
+    ///
+    /// # Errors
+    /// `AllocError` if an allocation fails.
     pub fn stripe(alloc: Global, motes: u16, workers: u16) -> Result<Cut, AllocError>
         requires motes { 0 < motes }
         requires workers { 0 < workers }

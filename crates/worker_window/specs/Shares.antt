@@ -17,8 +17,8 @@ abbrev pub window_of : (until : ℕ) → MoteSetup → LentMote → Option Windo
 window_of until m lent_mote =
     opened m.tree until lent_mote.copies.items lent_mote.trace.items (node_in m.tree lent_mote.mote)
 
--- a mote that had failed, to which these copies come, gives no more than these lines, which it wrote before, and none of
--- the copies came in the window
+-- a mote that had failed, to which these copies come, returns only these lines, which it wrote before, and none of the
+-- copies came in the window
 pub record GivesNothing (program : Tree) (until : ℕ) (copies : List RadioCopy) (lines : List Line) (out : WindowOut)
     : Type 0 where
   pub no_copies : AllByRecursion (λ copy. until ≤ copy.at) copies

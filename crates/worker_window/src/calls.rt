@@ -119,6 +119,9 @@ fn add_copies(
 }
 
 /// Takes all pending events before a moment out of the agenda, mote by mote.
+///
+/// # Errors
+/// `AllocError` if an allocation fails. Some of the events may be out of the agenda then.
 pub fn take_events_before(
     alloc: Global,
     agenda: &mut Agenda,

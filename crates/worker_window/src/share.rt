@@ -79,6 +79,9 @@ fn begin(
 
 impl Share {
     /// The share of a worker before the motes' first turns: each mote wakes at 0. `of` is the worker of each mote.
+    ///
+    /// # Errors
+    /// `AllocError` if an allocation fails.
     pub fn new(alloc: Global, net: &Net, of: &[u16], worker: u16) -> Result<Share, AllocError>
         requires { length of.now ≡ length (net_of net.now).motes }
         ensures { let n = net_of net.now in IfOk result
@@ -113,6 +116,9 @@ impl Share {
     }
 
     /// Takes the share apart at the end.
+    ///
+    /// # Errors
+    /// `AllocError` only for a number of copies above `u64::MAX`, for which no memory has room. Nothing is allocated.
     pub fn end(self) -> Result<Ended, AllocError>
         ensures { (n : NetTold) (of : List ℕ) (worker from : ℕ) (motes : Motes) (taken : List RadioCopy)
             → Keeps n of worker from motes taken self

@@ -59,8 +59,8 @@ fn has_failed(program: &Program, kernel: &mut Kernel, out: &mut Out) -> bool {
     all && out.lines.len() == lines
 }
 
-/// Tests whether a kernel fails for good once it is out of memory, and keeps the lines written before. One with room for
-/// all its lines allocates only a thread at a process's first call, and a copy of its first process list.
+/// Tests whether a kernel fails for good once it is out of memory, and keeps the lines written before. One with room
+/// for all its lines allocates only a thread at a process's first call, and a copy of its first process list.
 fn kernel_fails_for_good(program: &Program, kernel: &mut Kernel, out: &mut Out) -> bool {
     let has_room = out.lines.capacity() >= LINES;
     let fails = match first_error(program, kernel, out) {
