@@ -143,7 +143,7 @@ class OwnErrors(unittest.TestCase):
     def test_an_error_of_the_tool_is_one_line(self) -> None:
         here = {name: value for name, value in os.environ.items() if name != SHOW}
         done = subprocess.run([sys.executable, '-B', '-c', self.SOURCE], env=here, capture_output=True, text=True)
-        said = "tool: an error in the tool itself: KeyError: 'key' (MOTESIM_TRACEBACK=1 shows where)\n"
+        said = "tool: an error in the tool itself: KeyError: 'key' (MOTESIM_TRACEBACK=1 shows its place)\n"
         self.assertEqual((done.returncode, done.stdout, done.stderr), (2, '', said))
         done = subprocess.run([sys.executable, '-B', '-c', self.SOURCE], env={**here, SHOW: '1'}, capture_output=True,
                               text=True)
