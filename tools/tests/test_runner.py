@@ -16,8 +16,15 @@ from pathlib import Path
 
 from here import TOOLS
 from motesim.faults import Fault
-from motesim.runner import Cache, LimitMet, Limits, NoReport, ProgramFault, Runner, Stopped, run_each
+from motesim.runner import Cache, LimitMet, Limits, NoReport, ProgramFault, Runner, Stopped, ending, run_each
 from motesim.runner.batch import each_part
+
+SCENARIO = '''version = 2
+end = 10
+medium = { range = 10, base = 2, per = 100, collide = false }
+mote = [{ x = 0, y = 0, program = "a" }]
+programs = { a = "process a; code a { body { print 1; } }" }
+'''
 
 
 def is_alive(number: int) -> bool:
@@ -117,6 +124,44 @@ class Runs(Room):
         running = Runner(self.program('echo done')).start(b'')
         self.assertEqual(running.wait().report, b'done\n')
         running.stop()
+
+    def test_a_signal_that_ends_a_tool_ends_its_run(self) -> None:
+        program = self.program('echo $$ > "$0.pid"; exec sleep 60')
+        noted, words = self.room / 'program.pid', [sys.executable, '-B', str(TOOLS / 'summary'), 'a.toml']
+        (self.room / 'a.toml').write_text(SCENARIO)
+        for number, status in (signal.SIGTERM, -signal.SIGTERM), (signal.SIGHUP, -signal.SIGHUP), (signal.SIGINT, 130):
+            with self.subTest(number), subprocess.Popen(
+                    words, cwd=self.room, env={**os.environ, 'MOTESIM': str(program)}, stdout=subprocess.DEVNULL,
+                    stderr=subprocess.PIPE, start_new_session=True) as tool:
+                self.assertTrue(within(60, lambda: noted.is_file() and noted.read_text().endswith('\n')))
+                run = int(noted.read_text())
+                noted.unlink()
+                self.assertNotEqual(os.getpgid(run), os.getpgid(tool.pid))
+                os.killpg(tool.pid, number)
+                said = tool.communicate(timeout=30)[1]
+                is_over = within(5, lambda: not is_alive(run))
+                if not is_over:
+                    os.kill(run, signal.SIGKILL)
+                self.assertEqual((is_over, tool.returncode, said), (True, status, b''))
+
+    def test_once_no_run_is_left_a_signal_has_its_own_effect_again(self) -> None:
+        def handlers() -> list[object]:
+            return [signal.getsignal(it) for it in (signal.SIGTERM, signal.SIGHUP)]
+        before = handlers()
+        running = [Runner(self.program('sleep 60')).start(b'') for _ in range(2)]
+        during = handlers()
+        for one in running:
+            one.stop()
+            with self.assertRaises(Stopped):
+                one.wait()
+        self.assertTrue(all(it in (old, ending._end) for it, old in zip(during, before)))
+        self.assertEqual(handlers(), before)
+        # (a handler of the tool itself stays)
+        mine = signal.signal(signal.SIGTERM, lambda number, frame: None)
+        self.addCleanup(signal.signal, signal.SIGTERM, mine)
+        its = signal.getsignal(signal.SIGTERM)
+        self.assertEqual(Runner(self.program('echo done')).report(b''), b'done\n')
+        self.assertIs(signal.getsignal(signal.SIGTERM), its)
 
     def test_a_program_that_is_not_there_or_can_not_be_run(self) -> None:
         for path in self.room / 'none', self.room:

@@ -20,6 +20,7 @@ import time
 from pathlib import Path
 from typing import IO, Literal, NamedTuple
 
+from motesim.runner import ending
 from motesim.runner.cache import Answer, Cache, key_of
 from motesim.runner.programs import ProgramFault, program_path
 
@@ -159,6 +160,8 @@ class Running:
     def _reap(self) -> None:
         with self._lock:
             self._kill()
+            if self._is_leader:
+                ending.over(self._process.pid)
             self._process.wait()
         for pipe in self._pipes():
             pipe.close()
@@ -243,9 +246,11 @@ class Runner:
             with open(given, 'wb+') as file:
                 file.write(scenario)
                 file.seek(0)
-                process = subprocess.Popen(['motesim', *arguments], executable=str(path.resolve()), stdin=file,
-                                           stdout=subprocess.PIPE, stderr=subprocess.PIPE,
-                                           process_group=0 if is_leader else None)
+                def begin() -> subprocess.Popen[bytes]:
+                    return subprocess.Popen(['motesim', *arguments], executable=str(path.resolve()), stdin=file,
+                                            stdout=subprocess.PIPE, stderr=subprocess.PIPE,
+                                            process_group=0 if is_leader else None)
+                process = ending.started(begin) if is_leader else begin()
         except (OSError, ValueError) as fault:
             why = fault.strerror if isinstance(fault, OSError) else fault
             raise ProgramFault('%s can\'t be run: %s' % (path, why)) from None

@@ -1,0 +1,86 @@
+"""Ends the runs of this process when a signal ends it.
+
+A run is the leader of a process group of its own, so that a signal that ends a tool doesn't reach it: without this it
+would continue, and nobody would watch its limits.
+"""
+from __future__ import annotations
+
+import contextlib
+import os
+import signal
+import subprocess
+import threading
+from collections.abc import Callable, Iterator
+from types import FrameType
+
+ENDING = signal.SIGTERM, signal.SIGHUP
+
+
+class _Runs:
+    """The process groups of the runs that haven't ended."""
+    leaders: set[int] = set()
+
+
+def started(start: Callable[[], subprocess.Popen[bytes]]) -> subprocess.Popen[bytes]:
+    """Starts a run that is the leader of its group, and notes it until it is `over`."""
+    process = None
+    try:
+        with _deferred():
+            process = start()
+            _Runs.leaders.add(process.pid)
+    except BaseException:
+        if process:
+            _kill(process.pid)
+            over(process.pid)
+            process.wait()
+        raise
+    return process
+
+
+def over(leader: int) -> None:
+    """Forgets a run that has ended. Without runs, signals end this process at once again."""
+    _Runs.leaders.discard(leader)
+    if _is_main() and not _Runs.leaders:
+        for number in ENDING:
+            if signal.getsignal(number) is _end:
+                signal.signal(number, signal.SIG_DFL)
+
+
+@contextlib.contextmanager
+def _deferred() -> Iterator[None]:
+    """Defers signals until a run is noted; those that would end this process at once end its runs too from then on."""
+    if not _is_main():
+        yield
+        return
+    came: list[int] = []
+    before = {it: signal.getsignal(it) for it in (*ENDING, signal.SIGINT)}
+    # (a handler that the tool has set itself stays)
+    before = {it: handler for it, handler in before.items()
+              if handler in (signal.SIG_DFL, signal.default_int_handler, _end)}
+    for number in before:
+        signal.signal(number, lambda number, _: came.append(number))
+    try:
+        yield
+    finally:
+        for number, handler in before.items():
+            signal.signal(number, _end if handler == signal.SIG_DFL and number in ENDING else handler)
+        for one in came:
+            signal.raise_signal(one)
+
+
+def _is_main() -> bool:
+    """True in the main thread: only that one can set handlers of signals."""
+    return threading.current_thread() is threading.main_thread()
+
+
+def _kill(leader: int) -> None:
+    with contextlib.suppress(OSError):
+        os.killpg(leader, signal.SIGKILL)
+
+
+def _end(number: int, frame: FrameType | None) -> None:
+    """Ends all runs, and then this process, by the same signal."""
+    for leader in list(_Runs.leaders):
+        _kill(leader)
+    signal.signal(number, signal.SIG_DFL)
+    os.kill(os.getpid(), number)
