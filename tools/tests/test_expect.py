@@ -17,7 +17,7 @@ from motesim.judge import expectations
 from motesim.judge.expectations import expect, parts_of
 from motesim.judge.judge import Judge
 from motesim.report import Report
-from motesim.runner import LimitMet, Limits
+from motesim.runner import LimitMet, Limits, programs
 from motesim.scenario import Scenario
 from motesim.judge.sentences import (
     Copies, Count, Does, Names, Refused, Sentence, SentenceFault, names_of, read_sentence,
@@ -342,6 +342,14 @@ class Files(unittest.TestCase):
         err = self.said('expect = ["mote 0 sends", "mote 0 hops"]')[1].splitlines()
         self.assertRegex(err[0], '^expect: /.*/a.expect.toml: sentence 2 is not known$')
         self.assertEqual(err[1].index('hops'), err[2].index('^'))
+
+    def test_a_program_that_is_not_compiled_is_no_fault_of_the_expectations(self) -> None:
+        with mock.patch.dict(os.environ), mock.patch.object(programs, '_program_here', return_value=None):
+            del os.environ['MOTESIM']
+            out, err, code = self.said('expect = ["mote 0 sends"]')
+        self.assertEqual((out, code), ('', 2))
+        self.assertEqual(err, "expect: motesim isn't compiled yet: ./run FILE.toml compiles it within a minute or so, "
+                              "once; or name a compiled one by the environment variable MOTESIM\n")
 
     def test_no_program_and_no_file(self) -> None:
         with mock.patch.dict(os.environ, MOTESIM=str(self.room / 'none')):

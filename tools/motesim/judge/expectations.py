@@ -14,7 +14,7 @@ from motesim.faults import Fault
 from motesim.explain.synonyms import nearest
 from motesim.judge.judge import Broken, Judge
 from motesim.report import Report
-from motesim.runner import LimitMet
+from motesim.runner import LimitMet, ProgramFault
 from motesim.runner.run import Answer, answer, read_file
 from motesim.scenario import Scenario, ScenarioFault
 from motesim.scenario.faults import TOP
@@ -196,6 +196,9 @@ def expect(scenario: Path, expectations: Path, is_quiet: bool = False) -> tuple[
             verdicts = judged(text, part)
         except LimitMet as fault:
             raise Fault('%s: the run was ended: %s' % (scenario, fault)) from None
+        except ProgramFault:
+            # (the expectations aren't its reason)
+            raise
         except Fault as fault:
             raise Fault('%s: %s' % (part.name, fault)) from None
         if part.replace and not (is_quiet and all(it.holds for it in verdicts)):

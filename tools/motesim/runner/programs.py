@@ -222,8 +222,8 @@ def program_path() -> Path:
         return Path(named)
     found = _program_here()
     if found is None:
-        raise ProgramFault('the program is not built yet: ./run FILE.toml compiles it within a minute or so, once; '
-                           'or name one by the environment variable MOTESIM')
+        raise ProgramFault('motesim isn\'t compiled yet: ./run FILE.toml compiles it within a minute or so, once; '
+                           'or name a compiled one by the environment variable MOTESIM')
     if is_compiled(found):
         say_not_proved()
     hold(found)
