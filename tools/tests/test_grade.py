@@ -248,6 +248,26 @@ class Pages(Folder):
         self.assertEqual(sorted(os.listdir(folder)), ['mine.html', 'other_net.toml_2.html', 'pages.txt'])
         self.assertIn('Marked on 20', self.page())
 
+    def test_the_pages_of_a_marking_that_was_killed_are_removed_by_the_next(self) -> None:
+        self.hand_in('ben.toml', net(PROGRAM % 4))
+        self.hand_in('other net.toml', net('// wait\n' + PROGRAM % 5))
+        folder = self.top / 'marks_runs'
+        with subprocess.Popen([sys.executable, '-B', str(TOOLS / 'grade'), 'class', 'task.expect.toml', '--jobs', '1',
+                               '-o', 'marks.html'], cwd=self.top, env={**os.environ, 'MOTESIM': str(self.stub)},
+                              start_new_session=True) as made:
+            try:
+                end = time.monotonic() + 60
+                while not (folder / 'ben.toml.html').exists() and time.monotonic() < end:
+                    time.sleep(0.02)
+            finally:
+                made.kill()
+        self.assertIn('ben.toml.html\n', (folder / 'pages.txt').read_text())
+        (folder / 'mine.html').write_text('a page of the teacher')
+        for name in 'ben.toml', 'other net.toml':
+            (self.folder / name).unlink()
+        self.grade('-o', 'marks.html')
+        self.assertEqual(sorted(os.listdir(folder)), ['mine.html', 'pages.txt'])
+
     def test_no_two_pages_have_one_name(self) -> None:
         names = [page_name(number, name, 'n 1') for number, name in enumerate(('a/b.toml', 'a_b.toml', 'a b.toml', '.a',
                                                                                'x' * 99, 'x' * 98), 1)]

@@ -99,6 +99,8 @@ def status_of(asked: argparse.Namespace) -> int:
             raise Fault('%s has no solution %s: --why needs the name of a file in it' % (asked.folder, asked.why))
     if pictures:
         remove_earlier(pictures)
+        # (all that it may make: it can be ended at any time)
+        keep_names(pictures, task.possible_pictures(entries))
     marked = grade(entries, task, asked.jobs)
     if pictures:
         keep_names(pictures, [it.picture for it in marked if it.picture])

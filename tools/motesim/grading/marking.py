@@ -170,6 +170,11 @@ class Task:
         lacks = [next((it for it in each if it), '') for each in zip(*(its.lacks for its in found))]
         return Marks(name, tuple(marks), why, tuple(lacks))
 
+    def possible_pictures(self, entries: Sequence[Entry]) -> list[str]:
+        """The names of all pages that the marking of these entries may write."""
+        nets = [net.name for net in self.nets if not net.is_hidden] if self.nets else ['']
+        return [page_name(number, entry.name, net) for number, entry in enumerate(entries, 1) for net in nets]
+
     def picture(self, number: int, marks: Marks, found: list[InNet]) -> str:
         """Writes the timeline that shows the first failed sentence; returns its name, or an empty one.
 
