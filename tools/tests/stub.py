@@ -2,13 +2,22 @@
 
 Mote n prints P at moment P * (n + 1), where P is what the first `print` of its program has. A comment `// wait`,
 `// burn`, `// long` or `// refuse` in the program makes it answer nothing for a minute, use a minute of processor
-time, or answer a long report or a fault.
+time, or answer a long report or a fault. It can't grow: it ends at a gigabyte of memory, at two minutes of processor
+time, and after 100 megabytes of its report.
 """
+import contextlib
+import os
+import signal
+import subprocess
 import sys
+from collections.abc import Sequence
 from pathlib import Path
 
 STUB = '''#!%s
-import re, sys, time, tomllib
+import re, resource, sys, time, tomllib
+for limit, most in (resource.RLIMIT_AS, 1 << 30), (resource.RLIMIT_CPU, 120), (resource.RLIMIT_CORE, 0):
+    most = min(it for it in (most, *resource.getrlimit(limit)) if it >= 0)
+    resource.setrlimit(limit, (most, most))
 source = sys.stdin.read()
 if 'a.' * 80 in source:
     sys.exit('motesim: scenario fault 1')
@@ -21,7 +30,7 @@ for number, mote in enumerate(scenario['mote']):
     while '// burn' in text and time.process_time() < 60:
         pass
     if '// long' in text:
-        while True:
+        for _ in range(100):
             sys.stdout.write('x' * 1000000)
     if '// refuse' in text:
         sys.stderr.write('motesim: out of memory\\n')
@@ -40,3 +49,28 @@ def write_stub(folder: Path) -> Path:
     path.write_text(STUB % sys.executable)
     path.chmod(0o755)
     return path
+
+
+def processes_of(session: int) -> list[int]:
+    """The numbers of the processes of a session that haven't ended."""
+    found = []
+    for it in Path('/proc').glob('[0-9]*'):
+        with contextlib.suppress(OSError):
+            state, _, _, its = (it / 'stat').read_text().rpartition(')')[2].split()[:4]
+            if its == str(session) and state not in 'ZX':
+                found.append(int(it.name))
+    return found
+
+
+def run_whole(words: Sequence[str], folder: Path, seconds: float = 60,
+              **environment: str) -> subprocess.CompletedProcess[str]:
+    """Runs a command in a session of its own, and ends all that it leaves running, also after its time."""
+    with subprocess.Popen(words, cwd=folder, env={**os.environ, **environment}, stdin=subprocess.DEVNULL,
+                          stdout=subprocess.PIPE, stderr=subprocess.PIPE, text=True, start_new_session=True) as ran:
+        try:
+            out, err = ran.communicate(timeout=seconds)
+        finally:
+            for process in processes_of(ran.pid):
+                with contextlib.suppress(OSError):
+                    os.kill(process, signal.SIGKILL)
+    return subprocess.CompletedProcess(words, ran.returncode, out, err)
