@@ -10,11 +10,19 @@ from pathlib import Path
 from motesim.faults import Fault
 
 
+class NotWritten(Fault):
+    """A file that can't be written, and the reason."""
+
+    def __init__(self, path: Path, why: str):
+        super().__init__('%s: %s' % (path, why))
+        self.why = why
+
+
 def write_whole(path: str | Path, parts: Iterable[bytes]) -> None:
     """Writes a file under another name, and renames it at the end; an earlier file stays until then.
 
     A file that exists keeps its mode. Something else than a plain file, such as /dev/stdout, is written directly.
-    Raises a `Fault` if the file can't be written.
+    Raises a `NotWritten` if the file can't be written.
     """
     path = Path(path)
     try:
@@ -28,7 +36,7 @@ def write_whole(path: str | Path, parts: Iterable[bytes]) -> None:
             raise PermissionError(0, 'it may not be written')
         _replace(target, parts)
     except OSError as fault:
-        raise Fault('%s: %s' % (path, fault.strerror or fault)) from None
+        raise NotWritten(path, fault.strerror or str(fault)) from None
 
 
 def _replace(target: Path, parts: Iterable[bytes]) -> None:

@@ -14,7 +14,7 @@ from unittest import mock
 from here import TOOLS
 from motesim.commands import expect as command
 from motesim.judge import expectations
-from motesim.judge.expectations import expect, parts_of
+from motesim.judge.expectations import UnknownSentence, expect, parts_of, read_all
 from motesim.judge.judge import Judge
 from motesim.report import Report
 from motesim.runner import LimitMet, Limits, programs
@@ -342,6 +342,12 @@ class Files(unittest.TestCase):
         err = self.said('expect = ["mote 0 sends", "mote 0 hops"]')[1].splitlines()
         self.assertRegex(err[0], '^expect: /.*/a.expect.toml: sentence 2 is not known$')
         self.assertEqual(err[1].index('hops'), err[2].index('^'))
+
+    def test_a_sentence_that_cannot_be_read_is_known_by_its_number(self) -> None:
+        with self.assertRaises(UnknownSentence) as raised:
+            read_all(['mote 0 sends', 'mote 0 hops'], Names())
+        self.assertEqual(raised.exception.which, 'sentence 2 is not known')
+        self.assertEqual(str(raised.exception).split('\n')[0], 'sentence 2 is not known')
 
     def test_a_program_that_is_not_compiled_is_no_fault_of_the_expectations(self) -> None:
         with mock.patch.dict(os.environ), mock.patch.object(programs, '_program_here', return_value=None):

@@ -14,7 +14,7 @@ from unittest import mock
 
 from here import TOOLS, TOP
 from motesim.faults import SHOW, Fault
-from motesim.files import write_whole
+from motesim.files import NotWritten, write_whole
 from motesim.report import Report
 from motesim.runner.run import Run
 from motesim.timeline.html import write_page
@@ -96,8 +96,9 @@ class Whole(Room):
         self.assertEqual((got, self.names()), ([b'text'], ['pipe']))
 
     def test_a_folder_that_is_not_there(self) -> None:
-        with self.assertRaisesRegex(Fault, 'none/a: No such file or directory$'):
+        with self.assertRaisesRegex(NotWritten, 'none/a: No such file or directory$') as raised:
             write_whole(self.room / 'none/a', [b''])
+        self.assertEqual(raised.exception.why, 'No such file or directory')
 
     def test_a_page_that_can_not_be_made_leaves_the_one_before(self) -> None:
         page = self.room / 'page.html'

@@ -400,6 +400,27 @@ class Forms(Folder):
         self.grade(*words, '-o', 'marks.html')
         self.assertIn('Write, as line 2:', (self.top / 'marks.html').read_text())
 
+    def test_why_says_what_to_do_if_something_was_renamed(self) -> None:
+        self.hand_in('ben.toml', net((PROGRAM % 3).replace(' a', ' b')))
+        other = "[programs]\nother = 'process b; code b { body { } }'\n"
+        self.hand_in('cem.toml', net(PROGRAM % 3, name='mine').replace('[programs]\n', other))
+        rows = self.grade('--why', 'ben').split('\n')
+        self.assertIn('          the scenario has no process `a` (it has `b`)', rows)
+        self.assertIn('if a process was renamed, rename it back, and grade again', rows[-2])
+        # (that no other solution has it isn't known here)
+        self.assertEqual(self.told, '')
+        self.assertEqual(self.grade('--why', 'cem', '--net', 'task.toml').split('\n'), [
+            'it has no program `task`, but: `other`, `mine`',
+            'Hint: rename the program that solves the task to `task`, and grade again', ''])
+        self.assertNotIn('Hint', self.grade('--why', 'anna'))
+        self.grade('--why', 'cemm', status=2)
+        self.assertEqual(self.told, 'grade: class has no solution cemm (did you mean cem?): --why needs the name of '
+                                    'one of its files: anna.toml, ben.toml, cem.toml\n')
+        for number in range(20):
+            self.hand_in('s%d.toml' % number, '')
+        self.grade('--why', 'x', status=2)
+        self.assertRegex(self.told, r'^grade: class has no solution x: .*: anna.toml, (\S+, ){19}\.\.\n$')
+
     def test_a_page_is_escaped(self) -> None:
         marks = Marks('<b>', (Mark('"a" & <i>', False, ('<net>',), ('<why>',)),))
         page = page_of([marks], ['"a" & <i>'], '<title>', 'x"y')

@@ -8,6 +8,7 @@ import time
 from collections.abc import Sequence
 from pathlib import Path
 
+from motesim.explain.synonyms import nearest
 from motesim.faults import Fault
 from motesim.grading import page, tables
 from motesim.grading.entries import Entry, entries_of, shown
@@ -22,6 +23,8 @@ from motesim.runner import Limits, program_path, run_each
 MEGABYTE = 1 << 20
 # A run that lasts so many times its limit of processor time is ended without a mark: the machine has other work.
 PATIENCE = 10
+# How many names of solutions an error lists.
+MOST_NAMES = 20
 # Seconds of a net for what isn't the run: reading and judging its report.
 SPARE = 60
 
@@ -86,6 +89,19 @@ def write(path: Path, marked: Sequence[Marks], sentences: Sequence[str], task: T
     print(path)
 
 
+def entry_of(name: str, entries: Sequence[Entry], folder: Path) -> Entry:
+    """The solution that a name means, with or without its ending. Raises a `Fault` that lists the solutions if it
+    means none, as when the file was renamed."""
+    found = next((it for it in entries if name in (it.name, it.name.rpartition('.')[0])), None)
+    if found:
+        return found
+    names = [it.name for it in entries]
+    like = nearest(name, [*names, *(it.rpartition('.')[0] for it in names)])
+    more = [] if len(names) <= MOST_NAMES else ['..']
+    raise Fault('%s has no solution %s%s: --why needs the name of one of its files: %s' % (
+        folder, name, ' (did you mean %s?)' % like if like else '', ', '.join([*names[:MOST_NAMES], *more])))
+
+
 def status_of(asked: argparse.Namespace) -> int:
     """The work of tools/grade; returns the status."""
     program_path()
@@ -94,9 +110,7 @@ def status_of(asked: argparse.Namespace) -> int:
     task = task_of(asked, pictures)
     entries = entries_of(asked.folder)
     if asked.why is not None:
-        entries = [it for it in entries if asked.why in (it.name, it.name.rpartition('.')[0])]
-        if not entries:
-            raise Fault('%s has no solution %s: --why needs the name of a file in it' % (asked.folder, asked.why))
+        entries = [entry_of(asked.why, entries, asked.folder)]
     if pictures:
         remove_earlier(pictures)
         # (all that it may make: it can be ended at any time)
@@ -105,7 +119,7 @@ def status_of(asked: argparse.Namespace) -> int:
     if pictures:
         keep_names(pictures, [it.picture for it in marked if it.picture])
     sentences = tables.sentences_of(marked) or task.part.sentences
-    for line in spoken_of_by_none(marked, sentences):
+    for line in spoken_of_by_none(marked, sentences) if asked.why is None else ():
         print('grade: %s' % line, file=sys.stderr)
     if asked.why is not None:
         print('\n'.join(tables.why(marked[0])))

@@ -10,8 +10,10 @@ from typing import NamedTuple
 from motesim.explain.explanation import explanation, of_program_file
 from motesim.faults import Fault
 from motesim.grading.entries import Entry, data_of
-from motesim.grading.nets import Net, program_of
-from motesim.judge.expectations import REFUSED, Part, known_of, more_of, read_all, refused, same_report
+from motesim.grading.nets import Net, NoProgram, program_of
+from motesim.judge.expectations import (
+    REFUSED, Part, UnknownSentence, known_of, more_of, read_all, refused, same_report,
+)
 from motesim.judge.judge import Broken, Judge
 from motesim.judge.sentences import lacking
 from motesim.notation.faults import find_fault as find_program_fault
@@ -119,8 +121,12 @@ class Task:
             if fault.limit == 'seconds':
                 return unmarked(entry.name, '%s, though the program had used less processor time than it may' % fault)
             return Marks(entry.name, why='the run was ended: %s' % fault)
+        except NoProgram as fault:
+            return Marks(entry.name, why=str(fault), fix=(fault.hint,))
+        except UnknownSentence as fault:
+            return Marks(entry.name, why=fault.which, fix=fix_of(entry, data))
         except Fault as fault:
-            return Marks(entry.name, why=str(fault).split('\n', 1)[0], fix=fix_of(entry, data))
+            return Marks(entry.name, why=str(fault), fix=fix_of(entry, data))
         marks = self.together(entry.name, found)
         if any(its.is_refused for its in found):
             return replace(marks, fix=fix_of(entry, data))

@@ -2,7 +2,7 @@
 from __future__ import annotations
 
 import itertools
-from collections.abc import Iterator, Sequence
+from collections.abc import Iterable, Iterator, Sequence
 from dataclasses import dataclass, replace
 from pathlib import Path
 
@@ -77,6 +77,14 @@ def _net(name: str, text: str, program: str | None) -> Net:
     return Net(name, scenario, program or names[0])
 
 
+class NoProgram(Fault):
+    """A solution has several programs, and none of the wanted name; and what to do."""
+
+    def __init__(self, wanted: str, names: Iterable[str]):
+        super().__init__('it has no program `%s`, but: %s' % (wanted, ', '.join('`%s`' % it for it in names)))
+        self.hint = 'Hint: rename the program that solves the task to `%s`, and grade again' % wanted
+
+
 def nets_of(paths: Sequence[Path], vary: Sequence[str], program: str | None, is_hidden: bool = False) -> list[Net]:
     """The nets of these files."""
     found = [_net(name, text, program) for path in paths for name, text in _texts(path, vary)]
@@ -101,7 +109,7 @@ def program_of(data: bytes, name: str, wanted: str) -> str:
         raise Fault('the file has no table `[programs]`')
     found = programs.get(wanted) or (next(iter(programs.values())) if len(programs) == 1 else None)
     if found is None:
-        raise Fault('it has no program `%s`, but: %s' % (wanted, ', '.join('`%s`' % it for it in programs)))
+        raise NoProgram(wanted, programs)
     if type(found) is not str:
         raise Fault('the program `%s` is not a text' % wanted)
     return found

@@ -9,6 +9,7 @@ from motesim.grading.marking import Marks
 
 # A cell that begins so is a formula to some spreadsheets.
 OF_FORMULA = ('=', '+', '-', '@', '\t', '\r', '|', '%')
+RENAMED = 'Hint: sentences use the names of the task: if a process was renamed, rename it back, and grade again'
 ESCAPES = {'\\': '\\\\', '"': '\\"', '\n': '\\n', '\t': '\\t', '\r': '\\r'}
 
 
@@ -96,10 +97,10 @@ def toml_of(marked: Sequence[Marks], sentences: Sequence[str], expectations: str
 
 
 def why(marks: Marks) -> list[str]:
-    """The lines on the sentences of one solution."""
+    """The lines on the sentences of one solution, and what to do if they name what it doesn't have."""
     lines = [*([marks.why] if marks.why else []), *marks.fix]
     for it in marks.marks:
         lines.append(('holds   ' if it.holds else 'broken  ') + it.sentence)
         nets = ['in %s' % ', '.join(it.nets)] if it.nets else []
         lines += ['          ' + row for row in [*nets, *it.more]]
-    return lines
+    return lines + [RENAMED] * any(marks.lacks)

@@ -102,14 +102,22 @@ def changed(scenario: str, replace: dict[str, str]) -> str:
     return scenario
 
 
+class UnknownSentence(Fault):
+    """A sentence that can't be read: in one line, which one it is; the text of the error shows its place too."""
+
+    def __init__(self, number: int, explained: str):
+        self.which = 'sentence %d is not known' % number
+        super().__init__('%s\n%s' % (self.which, explained))
+
+
 def read_all(sentences: list[str], names: Names) -> list[Sentence]:
-    """The sentences of a part. Raises a `Fault` with the number of the first one that can't be read."""
+    """The sentences of a part. Raises an `UnknownSentence` at the first one that can't be read."""
     found = []
     for number, sentence in enumerate(sentences, 1):
         try:
             found.append(read_sentence(sentence, names))
         except SentenceFault as fault:
-            raise Fault('sentence %d is not known\n%s' % (number, fault.explained)) from None
+            raise UnknownSentence(number, fault.explained) from None
     return found
 
 

@@ -13,7 +13,7 @@ from pathlib import Path
 from typing import Any, NamedTuple
 
 from motesim.faults import Fault, in_words
-from motesim.files import write_whole
+from motesim.files import NotWritten, write_whole
 from motesim.runner.programs import TOP
 
 LONGEST = 1_048_576
@@ -211,5 +211,5 @@ class Desk:
             raise Fault('%s is read-only' % path.name)
         try:
             write_whole(path, [data])
-        except Fault as fault:
-            raise Fault('%s was not written: %s' % (path.name, str(fault).removeprefix('%s: ' % path))) from None
+        except NotWritten as fault:
+            raise Fault('%s was not written: %s' % (path.name, fault.why)) from None
