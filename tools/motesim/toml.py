@@ -20,12 +20,15 @@ DEEPEST = 80
 MANY_PARTS = 'A key has more than %d parts: write fewer dots' % DEEPEST
 TOO_DEEP = 'Arrays or tables are nested too deeply: at most %d are allowed in each other' % DEEPEST
 TOO_LONG = 'A number has too many digits'
+# Messages that aren't Python's.
+OURS = MANY_PARTS, TOO_DEEP, TOO_LONG
 
 PART = re.compile(r'''[A-Za-z0-9_-]++|"(?:[^"\\\n]|\\.)*+"|'[^'\n]*+\'''')
 # Texts and comments, in which dots and brackets mean nothing, and the rest: keys with all their parts, and brackets.
+# (A text of several lines always has a match, so its repetitions needn't be possessive: in those, Python 3.11.2 fails.)
 PIECE = re.compile(r"""
-    (?P<text> "{3} (?:[^"\\]|\\.|"{1,2}+(?!"))*+ (?:"{3,5}+|\Z)
-            | '{3} (?:[^']|'{1,2}+(?!'))*+ (?:'{3,5}+|\Z)
+    (?P<text> "{3} (?:[^"\\]+|\\(?:.|\Z)|"(?!""))* (?:"{3,5}|\Z)
+            | '{3} (?:[^']+|'(?!''))* (?:'{3,5}|\Z)
             | \#[^\n]*+ )
   | (?P<key> (?:PART) (?: [ \t]*+ \. [ \t]*+ (?:PART) )*+ )
   | (?P<bracket> [][{}] )
@@ -38,6 +41,11 @@ class NoToml(Fault):
     def __init__(self, said: str, line: int, column: int):
         super().__init__('%s (at line %d, column %d)' % (said, line, column + 1))
         self.said, self.line, self.column = said, line, column
+
+    @property
+    def shown(self) -> str:
+        """The reason, and that Python says it if it does."""
+        return self.said if self.said in OURS else 'Python says: %s' % self.said
 
 
 def read_toml(text: str) -> dict[str, Any]:

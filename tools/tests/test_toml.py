@@ -9,7 +9,7 @@ import unittest
 from pathlib import Path
 
 from here import TOOLS
-from motesim.toml import NoToml, read_toml
+from motesim.toml import NoToml, pieces, read_toml
 from stub import processes_of, run_whole, write_stub
 
 DEEP = 'x = ' + '[' * 500 + ']' * 500 + '\n'
@@ -51,6 +51,17 @@ class Reader(unittest.TestCase):
                 with self.subTest(text):
                     read_toml(text % words)
         read_toml('\n'.join('[a%d.b.c]\nd = [1.5, 2.5]' % it for it in range(300)))
+
+    def test_the_pieces_of_a_text(self) -> None:
+        for text, wanted in [
+            ("a = '''it's\n // ''x'''' # y", ['a', "'''it's\n // ''x''''", '# y']),
+            ("a = '''x''''' 1", ['a', "'''x'''''", '1']), ("''''''1", ["''''''", '1']),
+            ("'''no 'end''", ["'''no 'end''"]), ('a."b.c" = """x \\""" ""y"""" # z', ['a."b.c"', '"""x \\""" ""y""""',
+                                                                                    '# z']),
+            ('"""no end \\', ['"""no end \\']), ('"""no end""', ['"""no end""']), ('# a\n[b]', ['# a', '[', 'b', ']']),
+        ]:
+            with self.subTest(text):
+                self.assertEqual([it[0] for it in pieces(text)], wanted)
 
     def test_80_brackets_in_each_other_and_no_more(self) -> None:
         for begin, inner, end in ('[', '', ']'), ('[', '1', ']'), ('{a = ', '1', '}'), ('{a = ', '[]', '}'):

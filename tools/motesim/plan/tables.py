@@ -119,7 +119,7 @@ class Tables:
     def _no_toml(self, fault: NoToml) -> NoReturn:
         place = Place(fault.line, fault.column, 1)
         raise PlanFault(shown(self.shown_as, self.text, place, 'A plan is a TOML document, and this text is not.',
-                              'TOML (Python says: %s)' % fault.said))
+                              'TOML (%s)' % fault.shown))
 
     def fault(self, path: Path, rule: str, may: str = '', is_value: bool = True) -> PlanFault:
         """A fault at a key or a table; `is_value` marks the value after the key."""

@@ -211,7 +211,7 @@ def _read(data: bytes) -> dict[str, Any]:
         tables = read_toml(text)
     except NoToml as fault:
         raise ScenarioError('scenario fault 1', line=(fault.line, fault.column),
-                            may='TOML (Python says: %s)' % fault.said) from None
+                            may='TOML (%s)' % fault.shown) from None
     for path in _too_large(tables, ()):
         raise ScenarioError('scenario fault 1', path, may='a whole number of 64 bits')
     return tables
