@@ -194,7 +194,7 @@ class Scenarios(unittest.TestCase):
 
     def test_a_report_is_named(self) -> None:
         lines = explain.explanation('r', b'mote 0 p\nmedium\nleft 0\n', 'motesim: scenario fault 1')
-        self.assertIn('Hint: This is a report, and no scenario', lines[-1])
+        self.assertIn('Hint: This is a report, and no scenario', lines[-2])
 
     def test_a_text_in_another_encoding_is_named(self) -> None:
         for codec, name, taken, why in [
@@ -215,7 +215,7 @@ class Scenarios(unittest.TestCase):
         data = SCENARIO.replace('version', '# Zürich\nversion', 1).encode('cp1252')
         lines = explain.explanation('s.toml', data, 'motesim: scenario is not UTF-8')
         self.assertEqual(mark_of(lines)[0], 1)
-        self.assertIn('this byte is `ü`', lines[-1])
+        self.assertIn('this byte is `ü`', lines[-2])
 
     def test_no_sign_that_a_terminal_takes_for_a_command_is_shown(self) -> None:
         lines = explain.explanation('s.toml', b'\x1b[2J = 5\n', 'motesim: scenario fault 1')

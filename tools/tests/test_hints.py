@@ -12,6 +12,8 @@ from motesim.commands import explain as command
 from motesim.explain import explanation as explain
 from motesim.explain import hints
 from motesim.explain.advice import advice
+from motesim.faults import Fault
+from motesim.plan.tables import Tables
 from motesim.scenario import faults as scenario_faults
 from motesim.summary.flows import FlowFault, flow_rows, read_flow
 from motesim.explain.lint import warnings
@@ -125,6 +127,77 @@ class Hints(unittest.TestCase):
         ]:
             with self.subTest(text):
                 self.assertIn(wanted, hint_of(text))
+
+    def shown(self, text: str) -> list[str]:
+        """The lines of a scenario's message below the place of the error and its rule."""
+        fault = scenario_faults.find_fault(text.encode())
+        assert fault
+        lines = explain.explanation('a.toml', text.encode(), 'motesim: ' + fault.message)
+        return lines[next(at for at, it in enumerate(lines) if it.startswith('Hint: ')):]
+
+    def test_the_hint_is_above_all_that_is_allowed(self) -> None:
+        mistake = "'''\n%s\n'''" % (CODE % '\nseq = seq + 1;\n')
+        text = scenario().replace('"%s"' % (CODE % 'set t 1; print 1;'), mistake)
+        self.assertEqual(self.shown(text), [
+            'Hint: Two values with `+` between them are in parentheses: `(seq + 1)`.', 'Write, as line 11:',
+            '  seq = (seq + 1);', 'Allowed here: `;`'])
+        for text in scenario().replace('end = 9', 'end = "9"'), scenario().replace('end', 'ende'), 'mote 0 p\n':
+            with self.subTest(text[:20]):
+                lines = self.shown(text)
+                self.assertEqual([it.split(':')[0] for it in lines if it.startswith(('Hint: ', 'Allowed here: '))],
+                                 ['Hint', 'Allowed here'])
+
+    def test_a_thread_with_parameters(self) -> None:
+        code = 'process a; autostart a; code a { var seq = 0; thread t%s { seq = %s; } body { spawn t%s; } }'
+        for parameters in '(n)', '(int n)', '(uint16_t n, int m)':
+            with self.subTest(parameters):
+                self.assertIn('A thread has no parameters', self.hint(code % (parameters, 'n', '')))
+        self.assertIn('thread t { seq = 1; }', self.hint(code % ('(struct pt *pt)', '1', '')))
+        for values in '(seq)', '(seq, 1)':
+            self.assertIn('A `spawn` passes nothing', self.hint(code % ('', '1', values)))
+
+    def test_quotes_in_a_comment_that_end_the_program(self) -> None:
+        for quotes in "'''", '"""':
+            for comment in '// no %s here', "// it's %s", '// %s', '// %s and %s', 'x // a %s, # b':
+                text = scenario(program='\nprocess a;\n%s\ncode a { body { } }\n' % comment.replace('%s', quotes))
+                text = text.replace('"\nprocess', quotes + '\nprocess').replace('}\n"', '}\n' + quotes)
+                with self.subTest(comment, quotes=quotes):
+                    self.assertEqual(self.shown(text)[:3], [
+                        'Hint: The three quotes in this comment end the text of the program: leave them out.',
+                        'Write, as line 11:', '  ' + comment.replace('%s', '')])
+        # (these end the program rightly)
+        for end in "'''", "// the end '''", "''' # // the end":
+            text = scenario().replace('"%s"' % (CODE % 'set t 1; print 1;'), "'''\nprocess a;\n" + end)
+            self.assertNotIn('comment', self.shown(text + 'end : 5\n')[0])
+
+    def test_a_program_of_several_lines_in_one_pair_of_quotes(self) -> None:
+        for comment, quotes in ('', "'''"), (" // it's", "'''"), (" // '''", '"""'), (' // \\\\', '"""'):
+            text = scenario(program='process a;%s\ncode a { body { } }' % comment)
+            with self.subTest(comment):
+                self.assertEqual(self.shown(text)[:-1], [
+                    'Hint: A text in single or double quotes ends on its line: a program of several lines is between '
+                    'three, `%s`.' % quotes, 'Write, as lines 9 to 10:',
+                    '  source = %sprocess a;%s' % (quotes, comment), '  code a { body { } }%s' % quotes])
+
+    def test_a_program_without_an_end_is_no_array_without_a_comma(self) -> None:
+        text = scenario().replace('"process', "'''\nprocess")
+        text = text[:text.index(' }"\n') + 2] + '\n'
+        self.assertEqual(self.shown(text)[:-1], [
+            'Hint: The text that begins on line 9 has no end: the three quotes that close it are missing.'])
+
+    def test_python_says_only_what_it_says(self) -> None:
+        for text, told in [
+            ('.'.join(['a'] * 81) + ' = 1', 'TOML (A key has more than 80 parts: write fewer dots)'),
+            ('x = ' + '[' * 81 + ']' * 81, 'TOML (Arrays or tables are nested too deeply: at most 80 are allowed in '
+                                           'each other)'),
+            ('x = ' + '7' * 5000, 'TOML (A number has too many digits)'),
+            ('x = ', 'TOML (Python says: Invalid value)'),
+        ]:
+            fault = scenario_faults.find_fault(text.encode())
+            self.assertEqual(fault and fault.may, told)
+            with self.assertRaises(Fault) as raised:
+                Tables('a.plan.toml', text, 'a.plan.toml')
+            self.assertIn('Allowed here: ' + told, ' '.join(str(raised.exception).split()))
 
     def test_none_where_nothing_is_known(self) -> None:
         text = CODE % 'print 1; }'

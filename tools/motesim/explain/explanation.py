@@ -129,14 +129,19 @@ def rule_and_advice(source: str, its: program_faults.ProgramError, offset: int |
     title, rule = program_faults.RULES[its.kind]
     if its.token.kind == 'end' and its.kind == 2:
         rule = 'The text ends here, which can\'t follow the words before it.'
-    lines = wrapped('%s: %s' % (title, rule)) + wrapped('Allowed here: %s' % ', '.join(its.may))
     found = advice(source, its)
-    return lines + (hinted(found.hint) + found.shown(source, offset) if found else [])
+    hint = hinted(found.hint) + found.shown(source, offset) if found else []
+    return wrapped('%s: %s' % (title, rule)) + hint + allowed(', '.join(its.may))
 
 
 def repaired(found: Repair) -> list[str]:
     """The repair of a scenario, with the lines as they should be."""
     return hinted(found.hint) + [found.head()] + ['  ' + line for line in found.lines]
+
+
+def allowed(may: str) -> list[str]:
+    """All that is allowed at the place of an error. A hint is above it, since it is more likely what was meant."""
+    return wrapped('Allowed here: %s' % may)
 
 
 def hinted(hint: str | None) -> list[str]:
@@ -175,15 +180,15 @@ def explanation(name: str, data: bytes, line: str) -> list[str]:
     encoding = encodings.encoding_of(data) if fault.line else None
     if encoding:
         return (wrapped(encodings.shown(name, encoding)) + wrapped(rule_of(what))
-                + wrapped('Allowed here: text in UTF-8') + hinted(encodings.hint(name, encoding)))
-    may = missing.may_stand(fault.lacks) if fault.lacks else fault.may
-    lines = where_told(name, text, fault) + wrapped(rule_of(what)) + wrapped('Allowed here: %s' % may)
+                + hinted(encodings.hint(name, encoding)) + allowed('text in UTF-8'))
+    may = allowed(missing.may_stand(fault.lacks) if fault.lacks else fault.may)
+    lines = where_told(name, text, fault) + wrapped(rule_of(what))
     found = None if is_report(data) else repair(text, fault)
     if found:
-        return lines + repaired(found)
+        return lines + repaired(found) + may
     hint = OF_REPORT if is_report(data) else (
         hints.of_scenario(tables_or_none(text), fault, text) or encodings.hint_of_byte(data))
-    return lines + hinted(hint)
+    return lines + hinted(hint) + may
 
 
 def where_told(name: str, text: str, fault: ScenarioError) -> list[str]:

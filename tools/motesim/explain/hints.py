@@ -9,11 +9,12 @@ from __future__ import annotations
 import re
 
 from motesim.from_c.expressions import TOO_LARGE
+from motesim.explain import quotes
 from motesim.explain.synonyms import CHANCE, at, like_of_missing, nearest
 from motesim.notation.keywords import RESERVED
 from motesim.notation.parentheses import written
 from motesim.notation.faults import OPERATORS, STATEMENTS, ProgramError, Token, tokens_of
-from motesim.scenario.faults import LONG_QUOTES, LOSS, MEDIUM, MOTE, TOP, ScenarioError, last_outside
+from motesim.scenario.faults import LOSS, MEDIUM, MOTE, TOP, ScenarioError
 from motesim.toml import MANY_PARTS, TOO_DEEP
 
 # Forms that readers of other languages write, and the forms of the notation.
@@ -68,10 +69,11 @@ NO_TOML = {
     TOO_DEEP: 'A scenario needs no bracket in more than two others. Is a `]` or a `}` missing?',
     '': 'Texts are in quotes, programs of several lines in three: p = """ .. """.',
 }
+OF_PARAMETERS = ('A thread has no parameters, `thread t { .. }`: it uses the variables of its process, as `var n = 0;` '
+                 'at the head of its `code`.')
+OF_ARGUMENTS = 'A `spawn` passes nothing, `spawn t;`: set a variable of the process before it, which the thread reads.'
 QUOTES = '\u2018\u2019\u201a\u201b\u201c\u201d\u201e\u201f\u00ab\u00bb\u00b4`'
 OF_QUOTES = 'These are quotes of another kind, as word processors make them: write plain ones, `"` or `\'`.'
-# What Python says of a text of several lines that has no end.
-NO_END = re.compile('Expected "\'\'\'"|Unterminated string')
 # Letters that look like digits.
 DIGITS = str.maketrans('OoIl', '0011')
 
@@ -141,6 +143,11 @@ def _of_sign(here: Token, behind: Token) -> str | None:
 def _of_unexpected(before: list[Token], here: Token, behind: Token, may: list[str]) -> str | None:
     last = before[-1] if before else None
     word = here.text
+    named = before[-2].text if len(before) > 1 else ''
+    if word == '(' and named == 'thread' and may == ['`{`']:
+        return OF_PARAMETERS
+    if word == '(' and named == 'spawn':
+        return OF_ARGUMENTS
     if last and last.text == 'else' and word == 'if':
         return 'A block follows `else`: put the `if` into it, `else { if .. { .. } }`.'
     if word in ('+', '-') and behind.text == word or last and last.text == word and word in ('+', '-'):
@@ -222,8 +229,8 @@ def _of_no_toml(text: str, fault: ScenarioError, place: tuple[int, int]) -> str 
     row = text.split('\n')[place[0] - 1]
     if row[place[1]:place[1] + 1] in QUOTES and place[1] < len(row):
         return OF_QUOTES
-    opened = last_outside(text)
-    if NO_END.search(fault.may) and any(it in text.split('\n')[opened - 1] for it in LONG_QUOTES):
+    opened = quotes.unclosed(text, fault.may)
+    if opened:
         return 'The text that begins on line %d has no end: the three quotes that close it are missing.' % opened
     if row.lstrip().startswith('[') and 'overwrite' in fault.may:
         return NO_TOML['twice']

@@ -10,7 +10,7 @@ from collections.abc import Callable, Iterator
 from fractions import Fraction
 from typing import NamedTuple
 
-from motesim.explain import synonyms
+from motesim.explain import quotes, synonyms
 from motesim.scenario.faults import LOSS, MEDIUM, MOTE, TOP, Place, Rule, ScenarioError, find_fault, place_of
 from motesim.toml import NoToml, read_toml
 
@@ -87,6 +87,18 @@ FORMS = [
           '`[[mote]]`, `[[loss]]`.'),
 ]
 COMMA = 'Between the tables of an array there are commas.'
+
+
+def _attempts_at_quotes(rows: list[str], fault: ScenarioError) -> Iterator[Repair]:
+    """Changes of the quotes of a text of several lines."""
+    assert fault.line
+    here, comment = fault.line[0], quotes.closed_in_comment('\n'.join(rows), fault.line)
+    if comment:
+        number, found = comment
+        yield Repair(quotes.OF_COMMENT, number, number, (rows[number - 1].replace(found, ''),))
+    several = quotes.in_three(rows, here) if quotes.LINE_ENDS in fault.may else None
+    if several:
+        yield Repair(quotes.OF_LINES % several[0], here, here + len(several[1]) - 1, tuple(several[1]))
 
 
 def _attempts_at_toml(rows: list[str], fault: ScenarioError) -> Iterator[Repair]:
@@ -260,7 +272,9 @@ def _attempts_at_name(text: str, rows: list[str], tables: object, fault: Scenari
 def _attempts(text: str, fault: ScenarioError) -> Iterator[Repair]:
     rows = text.split('\n')
     if fault.message == 'scenario fault 1':
-        yield from _attempts_at_toml(rows, fault)
+        if not quotes.unclosed(text, fault.may):
+            of_quotes = list(_attempts_at_quotes(rows, fault))
+            yield from of_quotes or _attempts_at_toml(rows, fault)
         return
     try:
         tables: object = read_toml(text)

@@ -1,0 +1,54 @@
+"""Texts of several lines in a scenario whose quotes are missing, too few, or in a comment."""
+from __future__ import annotations
+
+import re
+
+from motesim.scenario.faults import LONG_QUOTES, last_outside
+from motesim.toml import pieces
+
+# What Python says of a text of several lines that has no end, and of one in single quotes whose line ends.
+NO_END = re.compile('Expected "\'\'\'"|Unterminated string')
+LINE_ENDS = "Illegal character '\\n'"
+OF_COMMENT = 'The three quotes in this comment end the text of the program: leave them out.'
+OF_LINES = 'A text in single or double quotes ends on its line: a program of several lines is between three, `%s`.'
+OPENED = re.compile(r'''^(\s*[\w"'-]+\s*=\s*)(["'])(?!\2)(.*)$''')
+
+
+def unclosed(text: str, said: str) -> int | None:
+    """The line on which a text begins that has no end, by what Python says of it."""
+    opened = last_outside(text)
+    row = text.split('\n')[opened - 1]
+    return opened if NO_END.search(said) and any(it in row for it in LONG_QUOTES) else None
+
+
+def closed_in_comment(text: str, place: tuple[int, int]) -> tuple[int, str] | None:
+    """The line of a comment in a program whose quotes end the text too early, above an error, and these quotes."""
+    offset = sum(len(row) + 1 for row in text.split('\n')[:place[0] - 1]) + place[1]
+    texts = [it for it in pieces(text) if (it['text'] or '').startswith(LONG_QUOTES) and it.end() <= offset]
+    if not texts or '\n' not in texts[-1][0]:
+        return None
+    last, quotes = texts[-1], texts[-1][0][:3]
+    rest = text[last.end():].split('\n', 1)
+    is_early = bool(rest[0].strip(' \t\r,}')) and not rest[0].lstrip().startswith('#')
+    # (behind the right end, each text that begins ends too)
+    is_early = is_early or text.count(quotes, last.end()) % 2 == 1
+    if '//' not in last[0].rsplit('\n', 1)[1] or not is_early:
+        return None
+    return text.count('\n', 0, last.end()) + 1, quotes
+
+
+def in_three(rows: list[str], number: int) -> tuple[str, list[str]] | None:
+    """A text of several lines that is in single or double quotes: the quotes that it needs, and its lines with them."""
+    opened = OPENED.match(rows[number - 1])
+    if not opened or opened[2] in re.sub(r'\\.', '', opened[3]):
+        return None
+    last = next((at for at in range(number, len(rows)) if rows[at].rstrip().endswith(opened[2])), None)
+    if last is None:
+        return None
+    inner = [opened[3], *rows[number:last], rows[last].rstrip()[:-1]]
+    # (a backslash begins an escape between double quotes only)
+    known = [it for it in LONG_QUOTES if it[0] == opened[2]] if '\\' in '\n'.join(inner) else LONG_QUOTES
+    quotes = next((it for it in known if it not in '\n'.join(inner)), None)
+    if quotes is None:
+        return None
+    return quotes, [opened[1] + quotes + inner[0], *inner[1:-1], inner[-1] + quotes]
