@@ -1,14 +1,25 @@
 """Losses: those in step with a sender's rhythm, prime periods for links, and losses by chance in a program."""
-import math
+import itertools
 import re
 import unittest
+from pathlib import Path
+from statistics import correlation, fmean
+from typing import NamedTuple
 
 from here import TOP
+from motesim.analysis.estimates import mean_by_t
+from motesim.explain.hints import WISHES
 from motesim.explain.lint import warnings
 from motesim.explain.resonance import hit, resonances
+from motesim.from_c.expressions import NO_CHANCE
+from motesim.plan.files import Files
+from motesim.plan.plan import Plan
 from motesim.plan.primes import near, periods
 from motesim.report import Report
+from motesim.runner.process import Limits, Runner
+from motesim.runner.run import program_path
 from motesim.scenario import Scenario
+from skips import need_program
 
 SCENARIO = '''version = 2
 end = 500
@@ -113,48 +124,140 @@ class Primes(unittest.TestCase):
         self.assertNotEqual(found, periods(links, 10, 4))
 
 
+WORD = 65_536
+ASSIGNED = re.compile(r'(\w+) = (\(.*\));')
+# Programs whose motes draw by chance, each with the variable that has its generator's state.
+DRAWING = {'docs/use/EXPERIMENTS.md': 'dice', 'examples/studies/density.mote': 'dice',
+           'examples/studies/flooding.mote': 'seed', 'examples/studies/trickle.mote': 'seed'}
+STEP = '((dice * 25173) + 13849)'
+# How many receivers and packets a run has, and the limit of the state below which a packet is lost.
+CONFIGURATIONS = [(motes, packets, limit) for motes, packets in (
+    (4, 25), (8, 100), (20, 50), (50, 20), (99, 100), (8, 1_000)) for limit in (3_277, 6_554, 13_107, 32_768)]
+SEEDS, SEEDS_OF_SWEEP = 250, 10
+
+
+def mixing_of(file: str) -> list[str]:
+    """The expressions by which a program makes its generator's first state, in their order."""
+    name = DRAWING[file]
+    lines = (TOP / file).read_text('utf-8').split('\n')
+    first = next(number for number, line in enumerate(lines) if '((self * ' in line)
+    found = []
+    for line in lines[first:]:
+        assigned = ASSIGNED.match(line.strip())
+        if not assigned or assigned[1] != name:
+            break
+        found.append(re.sub(r'(?<!{)\b%s\b' % name, 'dice', assigned[2]))
+    return found
+
+
+class Cycle:
+    """The states of the generator in their order, and how many of them lose a packet."""
+
+    def __init__(self, mixing: list[str]) -> None:
+        self.mixing = [compile(it.replace('${seed}', 'seed').replace(' / ', ' // '), it, 'eval') for it in mixing]
+        self.states = [0]
+        while len(self.states) < WORD:
+            self.states.append((self.states[-1] * 25_173 + 13_849) % WORD)
+        self.places = {state: place for place, state in enumerate(self.states)}
+
+    def first(self, mote: int, seed: int) -> int:
+        """The place of a mote's first state."""
+        dice = 0
+        for code in self.mixing:
+            dice = eval(code, {'self': mote, 'seed': seed, 'dice': dice}) % WORD
+        return self.places[dice]
+
+    def lost(self, limit: int) -> list[bool]:
+        """Of each place, two rounds long, whether the packet there is lost."""
+        return [state < limit for state in self.states] * 2
+
+
+class Measured(NamedTuple):
+    """Losses of a configuration against those by chance.
+
+    spread, within  the variance of a run's losses over the seeds, and of the receivers that lose a broadcast, each as
+                    a part of a binomial distribution's
+    lag             the correlation between the losses of consecutive seeds
+    covers          the part of the sweeps of ten seeds whose interval of 95 % by Student's t contains the true mean
+    """
+    spread: float
+    within: float
+    lag: float
+    covers: float
+
+
+def measured(cycle: Cycle, motes: int, packets: int, limit: int) -> Measured:
+    """What a configuration has over all seeds."""
+    part, lost = limit / WORD, cycle.lost(limit)
+    sums = [0, *itertools.accumulate(lost)]
+    places = [[cycle.first(mote, seed) for mote in range(1, motes + 1)] for seed in range(1, SEEDS + 1)]
+    runs = [sum(sums[it + 1 + packets] - sums[it + 1] for it in its) for its in places]
+    true, variance = motes * packets * part, motes * packets * part * (1 - part)
+    gaps = [sum(lost[it + packet] for it in its) - motes * part for its in places
+            for packet in range(1, min(packets, 40) + 1)]
+    sweeps = [mean_by_t(runs[at:at + SEEDS_OF_SWEEP], 0.95) for at in range(0, SEEDS, SEEDS_OF_SWEEP)]
+    return Measured(fmean((it - true) ** 2 for it in runs) / variance,
+                    fmean(it * it for it in gaps) / (motes * part * (1 - part)), correlation(runs[:-1], runs[1:]),
+                    fmean((it.low or 0) <= true <= (it.high or 0) for it in sweeps))
+
+
 class ByChance(unittest.TestCase):
     """The generator of the page, as a program computes it, against what chance would give."""
+    cycle = Cycle(mixing_of('docs/use/EXPERIMENTS.md'))
 
-    def setUp(self) -> None:
-        page = (TOP / 'docs/use/EXPERIMENTS.md').read_text('utf-8')
-        seed = re.search(r'dice = \(\(self \* (\d+)\) \+ \$\{seed\}\);', page)
-        step = re.search(r'dice = \(\(dice \* (\d+)\) \+ (\d+)\);', page)
-        assert seed and step
-        self.by_mote, self.times, self.plus = int(seed[1]), int(step[1]), int(step[2])
-
-    def lost(self, mote: int, seed: int, limit: int, packets: int) -> list[bool]:
-        dice, found = (mote * self.by_mote + seed) % 65_536, []
-        for _ in range(packets):
-            dice = (dice * self.times + self.plus) % 65_536
-            found.append(dice < limit)
-        return found
+    def test_all_programs_mix_their_seeds_in_the_same_way(self) -> None:
+        page = mixing_of('docs/use/EXPERIMENTS.md')
+        self.assertEqual(len(page), 4)
+        self.assertIn('dice = %s;' % STEP, (TOP / 'docs/use/EXPERIMENTS.md').read_text('utf-8'))
+        for file in DRAWING:
+            self.assertEqual(mixing_of(file), page, file)
+        for suggested in WISHES['random'], NO_CHANCE:
+            for it in page:
+                self.assertIn('dice = %s;' % it.replace('${seed}', '1'), suggested)
 
     def test_the_rate_over_all_states_is_exact(self) -> None:
+        self.assertEqual(len(self.cycle.places), WORD)
         for limit in 3_277, 6_554, 32_768:
-            self.assertEqual(sum(self.lost(0, 0, limit, 65_536)), limit)
+            self.assertEqual(sum(self.cycle.lost(limit)[:WORD]), limit)
 
     def test_losses_in_a_row_are_as_likely_as_by_chance(self) -> None:
         for limit in 6_554, 19_661:
-            lost, part = self.lost(0, 0, limit, 65_536), limit / 65_536
+            lost, part = self.cycle.lost(limit), limit / WORD
             for apart in range(1, 9):
-                both = sum(one and other for one, other in zip(lost, lost[apart:])) / 65_536
+                both = sum(one and other for one, other in zip(lost[:WORD], lost[apart:])) / WORD
                 self.assertAlmostEqual(both, part * part, delta=0.02 * part)
 
-    def test_the_spread_of_delivery_is_binomial(self) -> None:
-        part = 0.1
-        rates = [sum(self.lost(mote, seed, 6_554, 200)) / 200 for seed in range(1, 41) for mote in range(20)]
-        mean = sum(rates) / len(rates)
-        spread = sum((it - mean) ** 2 for it in rates) / len(rates)
-        self.assertAlmostEqual(mean, part, delta=4 * math.sqrt(part * (1 - part) / 200 / len(rates)))
-        self.assertAlmostEqual(spread / (part * (1 - part) / 200), 1, delta=0.2)
+    def test_motes_and_runs_lose_as_by_chance(self) -> None:
+        # (250 seeds of true chance have a variance of 1 +- 0.18 in 19 of 20 configurations, and a lag of 0 +- 0.13)
+        found = [measured(self.cycle, *it) for it in CONFIGURATIONS]
+        for it, configuration in zip(found, CONFIGURATIONS):
+            with self.subTest(configuration=configuration):
+                self.assertTrue(0.8 < it.spread < 1.25 and 0.95 < it.within < 1.06, it)
+                self.assertTrue(-0.1 < it.lag < 0.2 and it.covers >= 0.87, it)
+        for name, least, most in (('spread', 0.97, 1.03), ('within', 0.98, 1.03), ('lag', -0.02, 0.02),
+                                  ('covers', 0.94, 0.96)):
+            mean = fmean(getattr(it, name) for it in found)
+            self.assertTrue(least <= mean <= most, (name, mean))
 
-    def test_motes_do_not_lose_together(self) -> None:
-        part, packets = 6_554 / 65_536, 200
-        all_lost = [self.lost(mote, 7, 6_554, packets) for mote in range(30)]
-        pairs = [(one, other) for at, one in enumerate(all_lost) for other in all_lost[:at]]
-        both = sum(sum(map(all, zip(*pair))) for pair in pairs) / len(pairs) / packets
-        self.assertAlmostEqual(both, part * part, delta=0.3 * part * part)
+    def test_without_the_mixing_they_lose_in_step(self) -> None:
+        # (equal steps on the cycle: what the mixing is for)
+        found = measured(Cycle(['((self * 7919) + ${seed})']), 50, 20, 13_107)
+        self.assertLess(found.within, 0.5)
+        self.assertGreater(found.lag, 0.5)
+        self.assertLess(found.covers, 0.7)
+
+    def test_the_program_draws_the_same(self) -> None:
+        need_program(self)
+        page = (TOP / 'docs/use/EXPERIMENTS.md').read_text('utf-8')
+        parts = dict(re.findall(r'```\w+ (chance\.\S+)\n(.*?)```', page, re.S))
+        files = Files(Path(), {'chance.mote': parts['chance.mote'].encode()})
+        text = Plan('chance.plan.toml', parts['chance.plan.toml'], files).scenario({'seed': 7})
+        report = Report.parse(Runner(program_path(), Limits(60)).answer(text.encode()).report)
+        lost = self.cycle.lost(6_554)
+        for mote in range(1, 9):
+            first = self.cycle.first(mote, 7)
+            kept = [packet for packet in range(1, 101) if not lost[first + packet]]
+            self.assertEqual([line.value for line in report.motes[mote].lines if line.kind == 'print'], kept)
 
 
 if __name__ == '__main__':

@@ -44,8 +44,9 @@ WISHES = {
     'printf': 'A program prints numbers: `print x;`.',
     'println': 'A program prints numbers: `print x;`.',
     'random': 'There is no chance in a mote: each run is the same. A generator with a seed serves, as '
-              '`dice = (self * 7919);`, then `dice = ((dice * 25173) + 13849); if (dice < 6554) { .. }` is so 1 time '
-              'in 10.',
+              '`dice = ((dice * 25173) + 13849); if (dice < 6554) { .. }`, which is so 1 time in 10. At the start of '
+              '`body` mix its seed, else motes draw in step: `dice = ((self * 257) + 1); dice = (dice * ((2 * dice) + '
+              '1)); dice = (dice + (dice / 256)); dice = (dice * ((2 * dice) + 1));`.',
     'id': 'A mote\'s number is `self`.',
     'time': 'The current moment is `now` (its low 16 bits).',
     'clock': 'The current moment is `now` (its low 16 bits).',
