@@ -202,6 +202,36 @@ class Page(unittest.TestCase):
         self.wait('document.getElementById("fault").hidden && !document.body.classList.contains("stale")')
         self.assertEqual(self.value('document.querySelectorAll(".fault-mark, .fault-line").length'), 0)
 
+    def test_the_panel_of_a_fault_leaves_the_line_that_is_typed_in_view(self) -> None:
+        for codemirror in (None, CODEMIRROR) if has_editor(CODEMIRROR) else (None,):
+            with self.subTest(codemirror=codemirror):
+                self.file.write_text(NET)
+                self.open(codemirror=codemirror)
+                self.browser.size(1280, 500)
+                self.browser.settle()
+                # (without a key, so that the browser itself doesn't scroll)
+                self.value('''(() => {
+                  const editor = m.editor(), {mirror, area} = editor, lines = text.split("\\n");
+                  const line = lines.findIndex(it => it.includes("print 1")), end = [line, lines[line].length];
+                  editor.goTo(...end);
+                  if (mirror) mirror.scrollTo(0, 0); else area.scrollTop = 0;
+                  editor.apply([{from: end, to: end, text: " prin 2"}]);
+                })()''')
+                self.wait('!document.getElementById("fault").hidden')
+                self.browser.settle()
+                top, bottom, line = self.value('''(() => {
+                  const {mirror, area} = m.editor(), box = document.getElementById("editor").getBoundingClientRect();
+                  const {paddingTop, lineHeight} = getComputedStyle(area);
+                  const lines = area.value.slice(0, area.selectionEnd).split("\\n").length;
+                  const shown = mirror ? mirror.cursorCoords(null, "window").bottom :
+                    box.top + parseFloat(paddingTop) - area.scrollTop + lines * parseFloat(lineHeight);
+                  return [box.top, box.bottom, shown];
+                })()''')
+                # (the panel is above the line's place before)
+                self.assertLess(bottom, 359)
+                self.assertTrue(top < line < bottom, (top, line, bottom))
+                self.stop()
+
     def test_faults_are_searched_shown_and_shrunk(self) -> None:
         self.open()
         before = self.value('text')

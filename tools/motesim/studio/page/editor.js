@@ -3,6 +3,9 @@ import {byId} from '../../timeline/page/dom.js';
 import {defineMode} from './notation.js';
 import {offsetOf, replacements} from './text.js';
 
+// Pixels above and below the line that the reader types.
+const MARGIN = 8;
+
 export class Editor {
   /** `changed` is called after each change by the reader; `words` are those of the notation. */
   constructor(changed, words) {
@@ -14,6 +17,8 @@ export class Editor {
       byId('no-editor').hidden = false;
       this.area.addEventListener('input', changed);
     }
+    // (a panel below the text, such as that of an error, makes it lower)
+    new ResizeObserver(() => this.keepLine()).observe(byId('editor'));
   }
 
   begin(changed, words) {
@@ -104,7 +109,24 @@ export class Editor {
     this.area.setSelectionRange(begin, begin + length);
   }
 
+  /** Keeps the line that the reader types in view. */
+  keepLine() {
+    if (this.mirror) {
+      this.mirror.refresh();
+      if (this.mirror.hasFocus()) this.mirror.scrollIntoView(null, MARGIN);
+    } else if (document.activeElement === this.area) {
+      const {lineHeight, paddingTop} = getComputedStyle(this.area), high = parseFloat(lineHeight);
+      const line = this.area.value.slice(0, this.area.selectionEnd).split('\n').length - 1;
+      this.area.scrollTop = scrolledTo(this.area, parseFloat(paddingTop) + line * high, high);
+    }
+  }
+
   refresh() { if (this.mirror) this.mirror.refresh(); }
 }
 
 const at = ([line, ch]) => ({line, ch});
+
+/** The scroll position, as near as may be to the present one, at which a line is in view. */
+function scrolledTo({scrollTop, clientHeight}, top, high) {
+  return Math.min(Math.max(scrollTop, top + high + MARGIN - clientHeight), top - MARGIN);
+}
