@@ -163,6 +163,10 @@ class Browser:
         self.call('Input.dispatchMouseEvent', type='mouseReleased', x=to_x, y=to_y, button='left', clickCount=1)
         self.settle()
 
+    def move(self, x: float, y: float) -> None:
+        self.call('Input.dispatchMouseEvent', type='mouseMoved', x=x, y=y)
+        self.settle()
+
     def wheel(self, x: float, y: float, by: float, keys: int = 0) -> None:
         self.call('Input.dispatchMouseEvent', type='mouseWheel', x=x, y=y, deltaX=0, deltaY=by, modifiers=keys)
         self.settle()

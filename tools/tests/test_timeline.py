@@ -264,6 +264,30 @@ class Pages(unittest.TestCase):
             self.value('document.querySelector("[data-do=%s]").click()' % button)
             self.assertGreater((self.value('m.time.scale') - scale) * sign, 0)
 
+    def test_keys_and_buttons_zoom_at_the_chosen_moment_else_at_the_mouse(self) -> None:
+        self.open(small_network())
+        left, top = self.value('[pane.canvas.getBoundingClientRect().x, pane.canvas.getBoundingClientRect().y]')
+        self.value('m.setNow(6)')
+        place = self.value('pane.x(6.5)')
+        for zoom in '++-':
+            self.key(zoom)
+            self.assertAlmostEqual(self.value('pane.x(6.5)'), place, places=6)
+        # (no moment is chosen at the beginning of the run, and none that isn't in view counts)
+        for moment in '0', 'm.time.end':
+            self.key('0')
+            self.value('m.setNow(0)')
+            self.browser.move(left + 300, top + 120)
+            self.key('+')
+            self.key('+')
+            self.value('m.setNow(%s)' % moment)
+            under = self.value('pane.moment(300)')
+            self.key('+')
+            self.assertAlmostEqual(self.value('pane.moment(300)'), under, places=6)
+        self.browser.move(left + 300, 2)
+        middle = self.value('m.time.begin + m.time.width / m.time.scale / 2')
+        self.value('document.querySelector("[data-do=zoom-in]").click()')
+        self.assertAlmostEqual(self.value('m.time.begin + m.time.width / m.time.scale / 2'), middle, places=6)
+
     def test_a_click_shows_a_packet_and_its_copies(self) -> None:
         self.open(small_network())
         self.browser.click(*self.place(12))

@@ -1,4 +1,5 @@
 // The page of runs: shows them, and reacts to mouse, keys and buttons.
+import {aim, followMouse} from './aim.js';
 import {arrowNear} from './arrows.js';
 import {lowerBound} from './data.js';
 import {chooseAgain, chooseCopy, chooseLine, chooseMote, chosenInWords, follow, selectNothing, walk, walkLanes
@@ -74,8 +75,8 @@ export function whole() {
 }
 
 const DO = {
-  'zoom-in': () => zoomTime(1.5),
-  'zoom-out': () => zoomTime(1 / 1.5),
+  'zoom-in': () => zoomTime(1.5, aim()),
+  'zoom-out': () => zoomTime(1 / 1.5, aim()),
   left: () => { time.begin -= time.width / time.scale * 0.2; },
   right: () => { time.begin += time.width / time.scale * 0.2; },
   up: () => panes.forEach(pane => { pane.top -= Math.max(40, pane.height * 0.2); }),
@@ -177,6 +178,7 @@ function onClick(pane, x, y) {
 function listenTo(pane) {
   const {canvas} = pane;
   let held = null;
+  followMouse(pane);
   canvas.addEventListener('wheel', event => onWheel(pane, event), {passive: false});
   canvas.addEventListener('pointerdown', event => {
     if (event.button) return;
