@@ -13,6 +13,7 @@ import sys
 from collections.abc import Callable
 from typing import NoReturn
 
+from motesim.terminal import plain_stream
 from motesim.version import KIT, VERSION
 
 FAILED, INTERRUPTED = 2, 130
@@ -38,7 +39,10 @@ def drop_output() -> None:
 
 
 def check_streams() -> None:
-    """Raises a `Fault` if standard output is closed; replaces a closed standard error by one that discards all."""
+    """Raises a `Fault` if standard output is closed; replaces a closed standard error by one that discards all.
+
+    From now on nothing that is printed can command a terminal.
+    """
     if sys.stderr is None:
         sys.stderr = open(os.devnull, 'w', encoding='utf-8')
     if sys.stdout is None:
@@ -46,6 +50,7 @@ def check_streams() -> None:
     if isinstance(sys.stdout, io.TextIOWrapper):
         # (the name of a file may be no UTF-8, and the terminal may have no sign for a letter)
         sys.stdout.reconfigure(errors='backslashreplace')
+    sys.stdout, sys.stderr = plain_stream(sys.stdout), plain_stream(sys.stderr)
 
 
 def status_of(tool: str, work: Callable[[], int]) -> int:

@@ -18,7 +18,7 @@ from pathlib import Path
 from unittest import mock
 
 from here import TOOLS
-from motesim.grading.entries import data_of, entries_of, shown
+from motesim.grading.entries import data_of, entries_of
 from motesim.grading.marking import Mark, Marks, page_name
 from motesim.grading.nets import nets_of, program_of
 from motesim.grading.page import page_of
@@ -144,8 +144,18 @@ class Entries(Folder):
         self.folder.rmdir()
         self.grade(status=2)
 
-    def test_names(self) -> None:
-        self.assertEqual(shown('a\x1b[31m\u202e'), 'a\\x1b[31m\\u202e')
+    def test_no_name_in_a_solution_makes_a_row(self) -> None:
+        for number, sign in enumerate(('\\r\\u001b[2K', '\\n', '\\u2028', '\\u0085')):
+            program = '"%sben.toml   3 of 3" = "process a;"\n' % sign
+            self.hand_in('ben%d.toml' % number, net(PROGRAM % 3, name='mine').replace(
+                '[programs]\n', '[programs]\n' + program))
+        self.hand_in('cem\x1b[2K.toml', 'version = 2\n"\\u001b[2K" = 1\n')
+        for words in [], ['--csv'], ['--why', 'ben0'], ['--why', 'ben1'], ['--why', 'cem\\x1b[2K']:
+            printed = self.grade(*words, '--net', 'task.toml')
+            self.assertNotRegex(printed, r'[\x00-\x08\x0b-\x1f\x7f-\x9f\u2028]')
+            self.assertNotRegex(printed, r'(?m)^ben\.toml')
+        rows = self.grade('--csv', '--net', 'task.toml').split('\n')
+        self.assertIn('it has no program `task`, but: `\\nben.toml   3 of 3`, `mine`', rows[3])
 
 
 class Nets(Folder):

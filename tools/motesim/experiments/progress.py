@@ -4,6 +4,8 @@ from __future__ import annotations
 import sys
 import time
 
+from motesim.terminal import write_over
+
 # (seconds between two lines if standard error is no terminal)
 SHOWN_EVERY = 30
 
@@ -28,9 +30,8 @@ class Progress:
         left = round((now - self.begin) / self.done * (self.runs - self.done))
         text = '%d of %d runs, %d with a fault, %d:%02d left' % (
             self.done, self.runs, self.faults, left // 60, left % 60)
-        print('\r\033[K' + text if self.is_terminal else text, end='' if self.is_terminal else '\n', file=sys.stderr,
-              flush=True)
+        write_over(text) if self.is_terminal else print(text, file=sys.stderr, flush=True)
 
     def end(self) -> None:
         if self.is_terminal and self.done:
-            print('\r\033[K', end='', file=sys.stderr, flush=True)
+            write_over('')

@@ -16,6 +16,7 @@ from motesim.report import Report
 from motesim.runner.run import Answer, answer, is_report, read_file
 from motesim.scenario import Scenario
 from motesim.scenario.faults import Place, ScenarioError
+from motesim.terminal import one_line
 from motesim.toml import NoToml, read_toml
 
 WIDTH = 112
@@ -44,7 +45,7 @@ def shown_place(name: str, text: str, place: Place) -> list[str]:
     """A place of the scenario."""
     lines = text.split('\n')
     line = lines[place.line - 1].rstrip('\r') if place.line <= len(lines) else ''
-    return ['%s, line %d:' % (name, place.line), *marked(line, place.column, place.length)]
+    return ['%s, line %d:' % (one_line(name), place.line), *marked(line, place.column, place.length)]
 
 
 def program_line(text: str, program: str, token: program_faults.Token) -> str:
@@ -103,7 +104,7 @@ def shown_program(name: str, text: str, program: str, token: program_faults.Toke
     """The place of a fault in a program's text, with its line in the scenario if that is found."""
     found = place_of_token(text, program, token)
     row = 'line %d, which is ' % found.line if found else ''
-    where = '%s, %sline %d of program %s:' % (name, row, token.line, program)
+    where = '%s, %sline %d of program %s:' % (one_line(name), row, token.line, one_line(program))
     return [where, *marked(program_line(text, program, token), token.column, len(token.text))]
 
 
@@ -120,7 +121,7 @@ def of_program(name: str, text: str, program: str, its: program_faults.ProgramEr
 def of_program_file(name: str, source: str, its: program_faults.ProgramError) -> list[str]:
     """The words on a fault in a file that has a program, and nothing else."""
     line = source.split('\n')[its.token.line - 1].rstrip('\r')
-    where = '%s, line %d:' % (name, its.token.line)
+    where = '%s, line %d:' % (one_line(name), its.token.line)
     return [where, *marked(line, its.token.column, len(its.token.text)), *rule_and_advice(source, its, 0)]
 
 
@@ -232,7 +233,7 @@ def explain(name: str) -> int:
     got = answer(data)
     line = error_line(got)
     if line is None:
-        print('\n'.join(['%s has a report, and no fault' % name, *all_warnings(name, data, got.report)]))
+        print('\n'.join(['%s has a report, and no fault' % one_line(name), *all_warnings(name, data, got.report)]))
         return 0
     print('\n'.join([line, *explanation(name, data, line)]))
     return 1

@@ -11,7 +11,7 @@ from pathlib import Path
 from motesim.explain.synonyms import nearest
 from motesim.faults import Fault
 from motesim.grading import page, tables
-from motesim.grading.entries import Entry, entries_of, shown
+from motesim.grading.entries import Entry, entries_of
 from motesim.grading.marking import Marks, Task, unmarked
 from motesim.grading.nets import nets_of
 from motesim.grading.pages import keep_names, pages_of, remove_earlier
@@ -19,6 +19,7 @@ from motesim.grading.progress import Progress
 from motesim.judge.expectations import parts_of, read_all, text_of
 from motesim.judge.sentences import Names, names_of
 from motesim.runner import Limits, program_path, run_each
+from motesim.terminal import one_line
 
 MEGABYTE = 1 << 20
 # A run that lasts so many times its limit of processor time is ended without a mark: the machine has other work.
@@ -36,7 +37,7 @@ def grade(entries: Sequence[Entry], task: Task, jobs: int | None = None) -> list
     progress = Progress(len(entries))
     for done in run_each(task.of, enumerate(entries, 1), workers=jobs, seconds=seconds):
         number, entry = done.item
-        found[number] = done.result or unmarked(entry.name, done.fault or 'it can\'t be graded')
+        found[number] = (done.result or unmarked(entry.name, done.fault or 'it can\'t be graded')).in_lines()
         progress.add(entry.name)
     progress.end()
     return [found[number] for number in sorted(found)]
@@ -81,9 +82,9 @@ def write(path: Path, marked: Sequence[Marks], sentences: Sequence[str], task: T
     if path.suffix == '.csv':
         text = tables.csv_of(marked, sentences)
     elif path.suffix == '.toml':
-        text = tables.toml_of(marked, sentences, shown(str(expectations)), [net.name for net in task.nets])
+        text = tables.toml_of(marked, sentences, one_line(str(expectations)), [net.name for net in task.nets])
     else:
-        text = page.page_of(marked, sentences, 'Marks: %s' % shown(expectations.name), pages_of(path).name,
+        text = page.page_of(marked, sentences, 'Marks: %s' % one_line(expectations.name), pages_of(path).name,
                             time.strftime('%Y-%m-%d at %H:%M'), bool(task.nets))
     written(path, text)
     print(path)

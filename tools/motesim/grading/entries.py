@@ -13,6 +13,7 @@ from typing import NamedTuple
 
 from motesim.faults import Fault
 from motesim.scenario.faults import LONGEST_TEXT
+from motesim.terminal import one_line
 
 SUFFIXES = ('.toml', '.mote')
 OF_TEACHER = '.expect.toml'
@@ -27,12 +28,6 @@ class Entry(NamedTuple):
     why: str = ''
 
 
-def shown(name: str) -> str:
-    """A name with nothing in it that a terminal, a table or a page could mistake for something else."""
-    text = os.fsencode(name).decode('utf-8', 'backslashreplace')
-    return ''.join(sign if sign.isprintable() else sign.encode('unicode_escape').decode('ascii') for sign in text)
-
-
 def _kind(mode: int) -> str:
     """The kind of an entry that is neither a plain file nor a folder."""
     for test, what in ((stat.S_ISLNK, 'a link'), (stat.S_ISFIFO, 'a pipe'), (stat.S_ISSOCK, 'a socket'),
@@ -44,7 +39,7 @@ def _kind(mode: int) -> str:
 
 def _entries(folder: Path, top: Path, depth: int) -> Iterator[Entry]:
     """The entries of a folder and of those in it. An empty folder is an entry."""
-    name = shown(str(folder.relative_to(top)))
+    name = one_line(str(folder.relative_to(top)))
     try:
         found = sorted(os.scandir(folder), key=lambda it: os.fsencode(it.name))
     except OSError as fault:
@@ -55,7 +50,7 @@ def _entries(folder: Path, top: Path, depth: int) -> Iterator[Entry]:
         yield Entry(name, folder, 'an empty folder')
     for it in found:
         path = Path(it.path)
-        its = shown(str(path.relative_to(top)))
+        its = one_line(str(path.relative_to(top)))
         try:
             mode = it.stat(follow_symlinks=False).st_mode
         except OSError as fault:

@@ -2,7 +2,7 @@
 from __future__ import annotations
 
 import re
-from collections.abc import Iterator, Sequence
+from collections.abc import Iterable, Iterator, Sequence
 from dataclasses import dataclass, replace
 from pathlib import Path
 from typing import NamedTuple
@@ -22,6 +22,7 @@ from motesim.runner import LimitMet, Limits, Runner
 from motesim.runner.run import Run
 from motesim.scenario import Scenario
 from motesim.scenario.faults import find_fault
+from motesim.terminal import one_line
 from motesim.timeline.html import write_page
 from motesim.timeline.note import note_of
 
@@ -48,6 +49,11 @@ class Mark(NamedTuple):
     shown: tuple[str, ...] = ()
 
 
+def lines_of(rows: Iterable[str]) -> tuple[str, ...]:
+    """Rows of which each is one line, with the tabs of a program."""
+    return tuple('\t'.join(map(one_line, row.split('\t'))) for row in rows)
+
+
 @dataclass(frozen=True)
 class Marks:
     """A solution: its name, a mark for each sentence, or why there are none, and what it lacks.
@@ -63,6 +69,12 @@ class Marks:
     picture: str = ''
     fix: tuple[str, ...] = ()
     is_open: bool = False
+
+    def in_lines(self) -> Marks:
+        """The same, with each text in one line: names in a solution may have signs that would end or change a row."""
+        marks = tuple(it._replace(more=lines_of(it.more), shown=lines_of(it.shown)) for it in self.marks)
+        return replace(self, marks=marks, why=one_line(self.why), lacks=tuple(map(one_line, self.lacks)),
+                       fix=lines_of(self.fix))
 
     @property
     def held(self) -> int:

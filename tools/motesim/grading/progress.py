@@ -4,6 +4,8 @@ from __future__ import annotations
 import sys
 import time
 
+from motesim.terminal import write_over
+
 # (seconds until the first line, and between two lines if standard error is no terminal)
 FIRST, SHOWN_EVERY = 1.0, 5.0
 
@@ -24,10 +26,9 @@ class Progress:
         self.next = now if self.is_terminal else now + SHOWN_EVERY
         text = 'grade: %d of %d solutions are marked; the last one is %s' % (self.done, self.solutions, name)
         self.is_shown = True
-        print('\r\033[K' + text[:100] if self.is_terminal else text, end='' if self.is_terminal else '\n',
-              file=sys.stderr, flush=True)
+        write_over(text[:100]) if self.is_terminal else print(text, file=sys.stderr, flush=True)
 
     def end(self) -> None:
         """Removes the line."""
         if self.is_terminal and self.is_shown:
-            print('\r\033[K', end='', file=sys.stderr, flush=True)
+            write_over('')

@@ -7,6 +7,7 @@ import time
 from typing import TYPE_CHECKING
 
 from motesim.search.sets import count_of
+from motesim.terminal import write_over
 
 if TYPE_CHECKING:
     from motesim.search.search import Search
@@ -40,8 +41,7 @@ class Progress:
         text = '%s: %s of %s, %d runs per second, %d:%02d left, %d found' % (
             'sample' if is_sample else 'sets of %d' % size, '{:,}'.format(tally.done), '{:,}'.format(tally.sets),
             search.runs / max(search.seconds, 0.001), left // 60, left % 60, len(search.known.minimal))
-        print('\r\033[K' + text if self.is_terminal else text, end='' if self.is_terminal else '\n', file=sys.stderr,
-              flush=True)
+        write_over(text) if self.is_terminal else print(text, file=sys.stderr, flush=True)
 
     def say(self, search: Search, size: int) -> None:
         """A line for another program: how many sets there are up to the bound, and how many are done."""
@@ -53,5 +53,5 @@ class Progress:
     def end(self, search: Search) -> None:
         """Removes the line; on a terminal it then says how long the search lasted."""
         if self.is_terminal:
-            print('\r\033[K%.1f seconds, %d runs per second' % (
-                search.seconds, search.runs / max(search.seconds, 0.001)), file=sys.stderr, flush=True)
+            write_over('%.1f seconds, %d runs per second\n' % (
+                search.seconds, search.runs / max(search.seconds, 0.001)))

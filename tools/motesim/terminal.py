@@ -1,0 +1,55 @@
+"""What tools print: names that somebody else chose, as of a file or of a program, can't command a terminal.
+
+Each command prints through a `Plain`, which shows every sign that a terminal obeys by its number. Tables, of which each
+row is one line, use `one_line` for the names in them.
+"""
+from __future__ import annotations
+
+import os
+import re
+import sys
+from typing import Any, TextIO, cast
+
+# The signs that a terminal obeys: all controls but a tab, and the end of a line.
+OBEYED = re.compile(r'[\x00-\x08\x0b\x0c\x0e-\x1f\x7f-\x9f]|\r(?!\n)')
+CLEAR = '\r\033[K'
+
+
+def escaped(sign: str) -> str:
+    return sign.encode('unicode_escape').decode('ascii')
+
+
+def plain(text: str) -> str:
+    """A text without any sign that a terminal obeys."""
+    return OBEYED.sub(lambda found: escaped(found[0]), text)
+
+
+def one_line(text: str) -> str:
+    """A text in one line, with nothing in it that a terminal, a table or a page could mistake for something else."""
+    text = os.fsencode(text).decode('utf-8', 'backslashreplace')
+    return ''.join(sign if sign.isprintable() else escaped(sign) for sign in text)
+
+
+class Plain:
+    """A stream to which only plain text is written."""
+
+    def __init__(self, stream: TextIO):
+        self.stream = stream
+
+    def write(self, text: str) -> int:
+        return self.stream.write(plain(text))
+
+    def __getattr__(self, name: str) -> Any:
+        return getattr(self.stream, name)
+
+
+def plain_stream(stream: TextIO) -> TextIO:
+    """A stream of the command, as one to which only plain text is written."""
+    return stream if isinstance(stream, Plain) else cast(TextIO, Plain(stream))
+
+
+def write_over(text: str) -> None:
+    """Writes a text over the last line of standard error, a terminal."""
+    stream = sys.stderr.stream if isinstance(sys.stderr, Plain) else sys.stderr
+    stream.write(CLEAR + plain(text))
+    stream.flush()

@@ -1,0 +1,43 @@
+"""What tools print never commands a terminal, whatever names somebody else chose."""
+import subprocess
+import sys
+import tempfile
+import unittest
+from pathlib import Path
+
+from here import TOOLS
+from motesim.terminal import one_line, plain
+from skips import need_program
+
+ERASE = '\r\x1b[2K'
+
+
+class Terminal(unittest.TestCase):
+    def setUp(self) -> None:
+        scratch = tempfile.TemporaryDirectory()
+        self.addCleanup(scratch.cleanup)
+        self.top = Path(scratch.name)
+
+    def printed(self, tool: str, *words: str) -> str:
+        """The output and the errors of a tool."""
+        done = subprocess.run([sys.executable, '-B', str(TOOLS / tool), *words], cwd=self.top, capture_output=True,
+                              timeout=120)
+        return (done.stdout + done.stderr).decode()
+
+    def test_signs_that_a_terminal_obeys(self) -> None:
+        self.assertEqual(plain('a\x1b[2K\x9b1m\rb\r\n\tc\n'), 'a\\x1b[2K\\x9b1m\\rb\r\n\tc\n')
+        self.assertEqual(one_line('a\x1b[31m\n\u202e\udcff'), 'a\\x1b[31m\\n\\u202e\\xff')
+
+    def test_each_tool_shows_them_by_their_numbers(self) -> None:
+        need_program(self)
+        name = 'x%sy.toml' % ERASE
+        (self.top / name).write_text('end = 1\n[programs]\n"a%sb" = 1\n' % '\\r\\u001b[2K')
+        for tool, *words in ('explain', name), ('expect', name), ('why', name, 'mote 0 sends'), ('summary', name):
+            with self.subTest(tool):
+                printed = self.printed(tool, *words)
+                self.assertIn('x\\r\\x1b[2Ky', printed)
+                self.assertNotRegex(printed, r'[\x00-\x08\x0b-\x1f\x7f-\x9f]')
+
+
+if __name__ == '__main__':
+    unittest.main()
