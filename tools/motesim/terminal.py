@@ -1,4 +1,4 @@
-"""What tools print: names that somebody else chose, as of a file or of a program, can't command a terminal.
+"""The text that tools print: names that somebody else chose, as of a file or of a program, can't command a terminal.
 
 Each command prints through a `Plain`, which shows every sign that a terminal obeys by its number. Tables, of which each
 row is one line, use `one_line` for the names in them.
