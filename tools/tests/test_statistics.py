@@ -2,6 +2,7 @@
 import csv
 import math
 import os
+import re
 import subprocess
 import sys
 import tempfile
@@ -12,8 +13,9 @@ from pathlib import Path
 from here import TOOLS
 from motesim.analysis import estimates
 from motesim.analysis.crossings import Key, Runs, crossing, place
-from motesim.analysis.paired import Pair, differences, pairs_of
+from motesim.analysis.paired import Pair, Paired, differences, pairs_of
 from motesim.analysis.points import Wish, shown_of
+from motesim.analysis.text import columns_of_crossing, of_crossing, of_pairs
 from motesim.experiments.results import Row
 from motesim.faults import Fault
 from motesim.plan.chance import Chance
@@ -108,6 +110,19 @@ class Crossings(unittest.TestCase):
         self.assertIsNone(place([(0, 1), (4, 2)], 3))
         self.assertIsNone(place([(0, 1), (4, 0)], 0.25, is_rising=True))
 
+    def test_a_curve_that_crosses_more_than_once(self) -> None:
+        found = crossing(curve_of([(x, [y, y + 0.2]) for x, y in ((0, 0.0), (1, 1.0), (2, 0.0), (4, 1.0))]), 0.6, 0.95)
+        assert found
+        self.assertEqual([(round(it.at, 3), it.is_rising, it.gap) for it in found.places],
+                         [(0.5, True, (0, 1)), (1.5, False, (1, 2)), (3, True, (2, 4))])
+        self.assertEqual((found.low, found.high), (None, None))
+        shown = of_crossing(found, Wish('m', 'x', show='mean', threshold='0.6'))
+        self.assertEqual(shown, 'the mean crosses 0.6 3 times, so no crossing has an interval:\n'
+                                '  rises above 0.6 at x 0.5, between the points 0 and 1\n'
+                                '  falls below 0.6 at x 1.5, between the points 1 and 2\n'
+                                '  rises above 0.6 at x 3, between the points 2 and 4')
+        self.assertEqual(columns_of_crossing(found)['crossings'], 3)
+
     def test_on_a_logarithmic_axis_lines_are_straight_in_the_logarithm(self) -> None:
         # (half way up from 10 to 40 is 20, which is where the picture with --log shows it)
         found = place([(10, 0), (40, 1)], 0.5, is_log=True)
@@ -194,12 +209,58 @@ class Pairs(unittest.TestCase):
         one = [row(1, seed, 10 * seed) for seed in (1, 2, 3, 4)]
         other = [row(1, seed, 10 * seed + seed % 2) for seed in (2, 3, 4, 5)]
         pairs = pairs_of(one, other, 'sent', ['period', 'seed'], 'period')
-        self.assertEqual(pairs, [Pair(1, 20, 20), Pair(1, 30, 31), Pair(1, 40, 40)])
+        self.assertEqual(pairs.pairs, [Pair(1, 20, 20), Pair(1, 30, 31), Pair(1, 40, 40)])
         found, = differences(pairs, 0.95, 't')
         self.assertEqual((found.against, found.one, found.greater, found.less), (1, 30, 1, 0))
         self.assertAlmostEqual(found.difference.middle, 1 / 3)
         # (the gaps 0, 1, 0 have the standard deviation 0.5774, and t for 2 degrees is 4.303)
         self.assertAlmostEqual(found.difference.high or 0, 1 / 3 + 4.303 * 0.57735 / math.sqrt(3), delta=0.001)
+
+    def test_pairs_that_lack_a_value_are_counted_with_the_reason(self) -> None:
+        fault: Row = {**row(2, 4, 3), 'fault': 'no answer'}
+        one = [row(1, 1, 3), row(1, 2, None), row(1, 3, 4), row(2, 4, 5), row(2, 5, 5)]
+        other = [row(1, 1, 4), row(1, 2, 4), row(1, 3, None), fault, row(2, 6, 5)]
+        found = pairs_of(one, other, 'sent', ['period', 'seed'], 'period', ('A', 'B'))
+        gaps = differences(found, 0.95, 't')
+        self.assertEqual([(it.against, it.difference.runs, it.left_out) for it in gaps], [(1, 1, 2)])
+        self.assertEqual(of_pairs(found, gaps, 'period'), [
+            'left out: 5 pairs; only those in which both sides have a value are compared: in 1 the run of A has no '
+            'value of sent; in 1 the run of B has no value of sent; in 1 the run of B has a fault; in 1 there is no '
+            'run of B; in 1 there is no run of A', 'no pair is left at period 2'])
+        with self.assertRaisesRegex(Fault, 'no pair of runs has a value of sent on both sides: in 1 the run of A has '
+                                           'no value of sent'):
+            pairs_of([row(1, 1, None)], [row(1, 1, 2)], 'sent', ['period', 'seed'], 'period', ('A', 'B'))
+
+    def test_pairs_of_two_nets_are_counted(self) -> None:
+        for places, count in (('a', 0), ('b', 1), (None, 0)):
+            one: Row = {**row(1, 1, 3), 'places_sha256': 'a'}
+            other: Row = {**row(1, 1, 4), 'places_sha256': places}
+            found = pairs_of([one], [other], 'sent', ['period', 'seed'], 'period')
+            self.assertEqual(found.of_two_nets, count)
+            shown = of_pairs(found, differences(found, 0.95, 't'), 'period')
+            self.assertEqual(any('compares two nets' in it for it in shown), count == 1)
+
+    def test_the_difference_of_two_shares_of_runs_is_by_newcombe(self) -> None:
+        # (the counts of 1 and 1, 1 and 0, 0 and 1, 0 and 0, and the interval, as in Newcombe's paper)
+        for counts, low, high in (((36, 12, 2, 0), 0.0569, 0.3404), ((20, 12, 2, 16), 0.0562, 0.3292),
+                                  ((36, 14, 0, 0), 0.1528, 0.4167)):
+            its = [Pair(1, other, one) for count, (one, other) in zip(counts, ((1, 1), (1, 0), (0, 1), (0, 0)))
+                   for _ in range(count)]
+            found, = differences(Paired(its, {}), 0.95, 't')
+            self.assertEqual(found.difference.method, 'newcombe')
+            self.assertAlmostEqual(found.difference.low or 0, low, delta=0.0001)
+            self.assertAlmostEqual(found.difference.high or 0, high, delta=0.0001)
+            turned, = differences(Paired([Pair(1, it.other, it.one) for it in its], {}), 0.95, 't')
+            self.assertAlmostEqual(turned.difference.low or 0, -high, delta=0.0001)
+        # (Student's t would pass 1 here)
+        few = [Pair(1, 0, 1)] * 4 + [Pair(1, 1, 1)]
+        self.assertGreater(estimates.mean_by_t([it.other - it.one for it in few], 0.95).high or 0, 1)
+        self.assertLessEqual(differences(Paired(few, {}), 0.95, 't')[0].difference.high or 2, 1)
+
+    def test_the_difference_of_shares_ends_at_1(self) -> None:
+        its = [Pair(1, 0.1, 1.0), Pair(1, 0.1, 0.9), Pair(1, 0.6, 0.9)]
+        found, = differences(Paired(its, {}), 0.95, 't')
+        self.assertEqual((found.difference.high, found.difference.method), (1.0, 'within pairs'))
 
     def test_sides_without_a_run_in_common(self) -> None:
         with self.assertRaises(Fault):
@@ -310,13 +371,32 @@ class Command(unittest.TestCase):
 
     def test_pairs_of_two_files_and_of_two_values(self) -> None:
         rows = self.plot('--measure', 'sent', '--against', 'period', '--compare', 'more.csv', '--over', 'seed,density')
-        self.assertEqual(rows[1], ['period', 'pairs', 'net', 'more', 'difference', 'low', 'high', 'interval',
-                                   'greater', 'less'])
+        self.assertEqual(' '.join(rows[1]), 'period pairs left out net more difference low high interval greater less')
         alike = ['none:', 'equal', 'runs']
-        self.assertEqual(rows[2][:2] + rows[2][4:], ['1', '10', '2.000', '-', '-', *alike, '10', '0'])
+        self.assertEqual(rows[2][:3] + rows[2][5:], ['1', '10', '0', '2.000', '-', '-', *alike, '10', '0'])
         rows = self.plot('--measure', 'sent', '--against', 'period', '--pair', 'density=thin,dense')
         self.assertEqual(rows[2][1:2] + rows[2][-8:], ['5', '5.000', '-', '-', *alike, '5', '0'])
         self.plot('--measure', 'sent', '--against', 'period', '--pair', 'density=thin', status=2)
+
+    def test_left_out_pairs_are_below_a_picture(self) -> None:
+        interpreter_with(self, 'matplotlib')
+        text = (self.folder / 'more.csv').read_text().replace('1,thin,2,14,', '1,thin,2,,')
+        (self.folder / 'more.csv').write_text(text)
+        self.plot('--measure', 'sent', '--against', 'period', '--compare', 'more.csv', *ONE, '-o', 'a.svg')
+        picture = ' '.join((self.folder / 'a.svg').read_text().split())
+        self.assertIn('left out: 1 pairs; only those in which both sides have a value are compared', picture)
+        self.assertIn('period,pairs,left out,', (self.folder / 'a.table.csv').read_text())
+
+    def test_each_run_is_at_its_own_place_on_two_measures(self) -> None:
+        rows = self.plot('--measure', 'sent', '--against', 'ratio', *ONE, '--show', 'points')
+        self.assertEqual(rows[1], ['ratio', 'sent'])
+        self.assertEqual(rows[2:5], [['0.101', '11.000'], ['0.102', '12.000'], ['0.103', '13.000']])
+        interpreter_with(self, 'matplotlib')
+        self.plot('--measure', 'sent', '--against', 'ratio', *ONE, '--show', 'points', '-o', 'a.svg')
+        picture = (self.folder / 'a.svg').read_text()
+        uses = re.findall(r'<use xlink:href="#(\w+)" x="([0-9.]+)" y="([0-9.]+)"', picture)
+        marks = [(x, y) for name, x, y in uses if [it[0] for it in uses].count(name) == 15]
+        self.assertEqual((len(marks), len({x for x, _ in marks})), (15, 15))
 
     def test_points_and_parts_of_runs(self) -> None:
         rows = self.plot('--measure', 'sent', '--against', 'period', '--where', 'density=thin', '--show', 'points')

@@ -32,12 +32,20 @@ class Runs(NamedTuple):
     keys: Sequence[Key] = ()
 
 
+class Place(NamedTuple):
+    """A place at which a line crosses, its direction, and the neighbouring points between which it is."""
+    at: float
+    is_rising: bool
+    gap: tuple[float, float]
+
+
 class Crossing(NamedTuple):
-    """The first place at which a curve crosses.
+    """The places at which a curve crosses, and the first of them.
 
     gap        the neighbouring points between which it crosses
     low, high  the interval, which is infinite on a side if too many drawn curves cross beyond that end of the axis;
-               None if each point has one run
+               None if each point has one run, or if the curve crosses more than once: then no drawn curve shows which
+               of its crossings belongs to which
     share      the part of the drawn curves that cross
     draws      how many independent draws the bootstrap has: the seeds, or the runs of a point
     """
@@ -48,18 +56,23 @@ class Crossing(NamedTuple):
     high: float | None
     share: float
     draws: int
+    places: tuple[Place, ...] = ()
 
 
-def place(line: Line, threshold: float, is_rising: bool | None = None,
-          is_log: bool = False) -> tuple[float, bool, tuple[float, float]] | None:
-    """The place at which a line first crosses a threshold, whether it rises there, and the points around it."""
+def places_of(line: Line, threshold: float, is_log: bool = False) -> list[Place]:
+    """All places at which a line crosses a threshold."""
+    found = []
     for (x, y), (next_x, next_y) in zip(line, line[1:]):
-        rises = next_y > y
-        if (y < threshold) != (next_y < threshold) and is_rising in (None, rises):
+        if (y < threshold) != (next_y < threshold):
             part = (threshold - y) / (next_y - y)
             at = x * (next_x / x) ** part if is_log else x + (next_x - x) * part
-            return at, rises, (x, next_x)
-    return None
+            found.append(Place(at, next_y > y, (x, next_x)))
+    return found
+
+
+def place(line: Line, threshold: float, is_rising: bool | None = None, is_log: bool = False) -> Place | None:
+    """The first place at which a line crosses a threshold, in that direction if one is given."""
+    return next((it for it in places_of(line, threshold, is_log) if is_rising in (None, it.is_rising)), None)
 
 
 def gap_of(line: Line, threshold: float, is_rising: bool) -> tuple[float, float]:
@@ -100,17 +113,17 @@ def drawn_lines(curve: Sequence[Runs], middle: Middle, count: int) -> Iterator[L
 
 def crossing(curve: Sequence[Runs], threshold: float, confidence: float, middle: Middle = statistics.fmean,
              is_log: bool = False) -> Crossing | None:
-    """The place at which a curve crosses a threshold; None if it doesn't."""
-    found = place(sorted(point(list(zip(it.xs, it.ys)), middle) for it in curve), threshold, is_log=is_log)
-    if found is None:
+    """The places at which a curve crosses a threshold; None if it doesn't."""
+    places = tuple(places_of(sorted(point(list(zip(it.xs, it.ys)), middle) for it in curve), threshold, is_log))
+    if not places:
         return None
-    at, is_rising, gap = found
+    at, is_rising, gap = places[0]
     draws = len({key for it in curve for key in it.keys}) if by_key(curve) else min(len(it.ys) for it in curve)
-    if draws < 2:
-        return Crossing(at, is_rising, gap, None, None, 1.0, draws)
+    if draws < 2 or len(places) > 1:
+        return Crossing(at, is_rising, gap, None, None, 1.0, draws, places)
     gaps = [gap_of(it, threshold, is_rising) for it in drawn_lines(curve, middle, DRAWS)]
     part = part_of_draws(confidence, draws)
     low, high = between([left for left, _ in gaps], part)[0], between([right for _, right in gaps], part)[1]
     share = sum(math.isfinite(left) for left, _ in gaps) / len(gaps)
     # (the gap of the curve itself is always within)
-    return Crossing(at, is_rising, gap, min(low, gap[0]), max(high, gap[1]), share, draws)
+    return Crossing(at, is_rising, gap, min(low, gap[0]), max(high, gap[1]), share, draws, places)

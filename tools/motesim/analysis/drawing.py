@@ -10,8 +10,7 @@ from typing import Any
 
 from motesim.analysis.paired import Difference
 from motesim.analysis.points import Point, Shown, Wish, order
-from motesim.analysis.text import (by_methods, crossings, crossings_of, heading, left_out, of_intervals, remarks,
-                                   threshold_of)
+from motesim.analysis.text import by_methods, crossings, crossings_of, heading, left_out, remarks, threshold_of
 from motesim.experiments import packages
 from motesim.experiments.measures import Cell
 from motesim.experiments.results import text_of
@@ -107,7 +106,9 @@ def _draw_points(axes: Any, points: list[Point], xs: list[float], wish: Wish, lo
                  label: str | None) -> None:
     """A curve with its intervals, or all the points."""
     if wish.show == 'points':
-        places = [(x, value) for x, point in zip(xs, points) for value in point.values]
+        # (on an axis of a measure each run has a place of its own)
+        places = [it for x, point in zip(xs, points)
+                  for it in zip(point.others or (x,) * len(point.values), point.values)]
         axes.plot([x for x, _ in places], [y for _, y in places], label=label, color=look['color'],
                   marker=look['marker'], linestyle='', alpha=0.55, markersize=4)
         return
@@ -224,11 +225,13 @@ def _draw_threshold(axes: Any, shown: Shown, wish: Wish) -> None:
             ends = [end if math.isfinite(end) else min(max(end, first), last) for end in (found.low, found.high)]
             axes.plot(ends, [threshold, threshold], linewidth=5, alpha=0.4, color=_look(number)['color'],
                       solid_capstyle='butt')
-            axes.plot([found.at], [threshold], color=_look(number)['color'], marker='|', markersize=12, linestyle='')
+        if found and (found.low is not None or len(found.places) > 1):
+            axes.plot([it.at for it in found.places], [threshold] * len(found.places), color=_look(number)['color'],
+                      marker='|', markersize=12, linestyle='')
 
 
-def draw_differences(found: Sequence[Difference], wish: Wish, words: str, path: Path) -> None:
-    """Draws the differences of a paired comparison, with their intervals."""
+def draw_differences(found: Sequence[Difference], wish: Wish, words: str, notes: Sequence[str], path: Path) -> None:
+    """Draws the differences of a paired comparison, with their intervals, and with notes below."""
     pyplot = _pyplot()
     figure, axes = _figure(pyplot, wish)
     places = [it.against for it in found]
@@ -242,7 +245,7 @@ def draw_differences(found: Sequence[Difference], wish: Wish, words: str, path: 
     _scale(axes, places, wish, is_scale)
     axes.set_xlabel(wish.x or wish.against)
     axes.set_ylabel(wish.y or 'difference of %s' % wish.measure)
-    _words_around(figure, axes, wish, words, '; '.join(of_intervals(gaps)))
+    _words_around(figure, axes, wish, words, '\n'.join(notes))
     axes.grid(True, color='#dddddd', linewidth=0.6)
     axes.spines[['top', 'right']].set_visible(False)
     _save(figure, pyplot, path)

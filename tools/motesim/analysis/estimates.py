@@ -184,6 +184,8 @@ METHODS: dict[str, Callable[[Sequence[float], float], Estimate]] = {
 MEANS = ('t', 'bootstrap')
 # Each method in a heading, and in a row.
 NAMES = {'t': 'Student\'s t', 'bootstrap': 'the bootstrap', 'wilson': 'Wilson\'s score',
-         'within': 'Student\'s t cut at 0 and 1'}
+         'within': 'Student\'s t cut at 0 and 1', 'within pairs': 'Student\'s t cut at -1 and 1',
+         'newcombe': 'Newcombe\'s method 10'}
 OF_ROW = {'t': 't', 'bootstrap': 'bootstrap', 'wilson': 'Wilson', 'within': 't, cut at 0 and 1',
+          'within pairs': 't, cut at -1 and 1', 'newcombe': 'Newcombe 10',
           'one': 'none: one run', 'alike': 'none: equal runs', 'quartiles': 'quartiles'}

@@ -1,15 +1,28 @@
-"""Two sweeps compared run by run: the same parameters on both sides, so that what they have in common drops out."""
+"""Two sweeps compared run by run: the same parameters on both sides, so that what they have in common drops out.
+
+Only runs in which both sides have a value are compared; the others are counted, with the reason.
+
+The difference of two shares of runs, of a measure that is 0 or 1 in each, has the interval of method 10 of R. G.
+Newcombe ("Improved confidence intervals for the difference between binomial proportions based on paired data",
+Statistics in Medicine 17, 1998): the Wilson intervals of both shares, joined with the correlation of the pairs. It
+stays between -1 and 1.
+"""
 from __future__ import annotations
 
+import math
+import statistics
+from collections import Counter
 from collections.abc import Mapping, Sequence
 from typing import NamedTuple
 
-from motesim.analysis.estimates import Estimate, mean_of
+from motesim.analysis.estimates import Estimate, Measured, mean_by_wilson, mean_of, measured
 from motesim.experiments.measures import Cell
 from motesim.experiments.results import Row
 from motesim.faults import Fault
 
 Key = tuple[Cell, ...]
+# The column with the digest of a net's places.
+PLACES = 'places_sha256'
 
 
 class Pair(NamedTuple):
@@ -19,32 +32,68 @@ class Pair(NamedTuple):
     other: float
 
 
+class Paired(NamedTuple):
+    """The pairs, those that lack a value by the value to the right and the reason, and how many are of two nets."""
+    pairs: list[Pair]
+    left_out: dict[tuple[Cell, str], int]
+    of_two_nets: int = 0
+
+
 class Difference(NamedTuple):
-    """Of the pairs with one value: the means of both sides, the difference with its interval, and who has more."""
+    """Of the pairs with one value: the means of both sides, the difference with its interval, who has more, and how
+    many pairs are left out."""
     against: Cell
     one: float
     other: float
     difference: Estimate
     greater: int
     less: int
+    left_out: int = 0
 
 
-def _measured(rows: Sequence[Row], measure: str, names: Sequence[str]) -> dict[Key, Row]:
-    """The runs with a value of the measure, by their parameters."""
-    found: dict[Key, Row] = {}
-    for row in rows:
-        if not row.get('fault') and isinstance(row[measure], int | float):
-            found[tuple(row[name] for name in names)] = row
-    return found
+def _by_key(rows: Sequence[Row], names: Sequence[str]) -> dict[Key, Row]:
+    return {tuple(row[name] for name in names): row for row in rows}
 
 
-def pairs_of(one: Sequence[Row], other: Sequence[Row], measure: str, names: Sequence[str], against: str) -> list[Pair]:
+def _lack(row: Row | None, measure: str, side: str) -> str:
+    """Why a side of a pair has no value; an empty text if it has one."""
+    if row is None:
+        return 'there is no run of %s' % side
+    if row.get('fault'):
+        return 'the run of %s has a fault' % side
+    return '' if isinstance(row[measure], int | float) else 'the run of %s has no value of %s' % (side, measure)
+
+
+def pairs_of(one: Sequence[Row], other: Sequence[Row], measure: str, names: Sequence[str], against: str,
+             sides: tuple[str, str] = ('the first side', 'the second side')) -> Paired:
     """The runs that both sides have, by these parameters."""
-    first, second = _measured(one, measure, names), _measured(other, measure, names)
-    both = [key for key in first if key in second]
-    if not both:
+    first, second = _by_key(one, names), _by_key(other, names)
+    if not first.keys() & second.keys():
         raise Fault('the two sides have no run in common: no parameters (%s) are the same' % ', '.join(names))
-    return [Pair(first[key][against], _number(first[key], measure), _number(second[key], measure)) for key in both]
+    pairs, of_two_nets = [], 0
+    left_out: Counter[tuple[Cell, str]] = Counter()
+    for key in first | second:
+        its = first.get(key), second.get(key)
+        lacks = [_lack(row, measure, side) for row, side in zip(its, sides)]
+        if any(lacks):
+            left_out[key[list(names).index(against)], ' and '.join(filter(None, lacks))] += 1
+            continue
+        mine, yours = its[0] or {}, its[1] or {}
+        pairs.append(Pair(mine[against], _number(mine, measure), _number(yours, measure)))
+        places = mine.get(PLACES), yours.get(PLACES)
+        of_two_nets += None not in places and places[0] != places[1]
+    if not pairs:
+        raise Fault('no pair of runs has a value of %s on both sides: %s' % (
+            measure, '; '.join(reasons(left_out))))
+    return Paired(pairs, dict(left_out), of_two_nets)
+
+
+def reasons(left_out: Mapping[tuple[Cell, str], int]) -> list[str]:
+    """How many pairs are left out, for each reason."""
+    counts: Counter[str] = Counter()
+    for (_, why), count in left_out.items():
+        counts[why] += count
+    return ['in %d %s' % (count, why) for why, count in counts.items()]
 
 
 def _number(row: Mapping[str, Cell], measure: str) -> float:
@@ -53,15 +102,56 @@ def _number(row: Mapping[str, Cell], measure: str) -> float:
     return float(value)
 
 
-def differences(pairs: Sequence[Pair], confidence: float, interval: str) -> list[Difference]:
+def differences(paired: Paired, confidence: float, interval: str) -> list[Difference]:
     """The differences, for each value of the parameter to the right."""
     groups: dict[Cell, list[Pair]] = {}
-    for pair in pairs:
+    for pair in paired.pairs:
         groups.setdefault(pair.against, []).append(pair)
+    kind = measured([value for pair in paired.pairs for value in (pair.one, pair.other)])
     found = []
     for against, its in groups.items():
         gaps = [pair.other - pair.one for pair in its]
-        found.append(Difference(against, sum(it.one for it in its) / len(its), sum(it.other for it in its) / len(its),
-                                mean_of(gaps, confidence, interval), sum(it > 0 for it in gaps),
-                                sum(it < 0 for it in gaps)))
+        left = sum(count for (place, _), count in paired.left_out.items() if place == against)
+        found.append(Difference(against, statistics.fmean(it.one for it in its),
+                                statistics.fmean(it.other for it in its),
+                                _difference(its, confidence, interval, kind), sum(it > 0 for it in gaps),
+                                sum(it < 0 for it in gaps), left))
     return found
+
+
+def _difference(pairs: Sequence[Pair], confidence: float, interval: str, kind: Measured) -> Estimate:
+    """The mean difference of some pairs, with an interval by a method that fits them."""
+    gaps = [pair.other - pair.one for pair in pairs]
+    if kind == 'yes or no' and len(pairs) > 1 and interval == 't':
+        return difference_by_newcombe(pairs, confidence)
+    found = mean_of(gaps, confidence, interval)
+    if kind == 'any' or found.low is None or found.high is None or -1 <= found.low and found.high <= 1:
+        return found
+    return Estimate(found.runs, found.middle, max(-1.0, found.low), min(1.0, found.high), 'within pairs')
+
+
+def difference_by_newcombe(pairs: Sequence[Pair], confidence: float) -> Estimate:
+    """The difference of two shares from pairs that are 0 or 1 on both sides, by Newcombe's method 10."""
+    runs = len(pairs)
+    one = mean_by_wilson([it.one for it in pairs], confidence)
+    other = mean_by_wilson([it.other for it in pairs], confidence)
+    related = _correlation(pairs)
+
+    def reach(up: float, down: float) -> float:
+        return math.sqrt(max(0.0, up * up - 2 * related * up * down + down * down))
+
+    gap = other.middle - one.middle
+    low = gap - reach(other.middle - (other.low or 0), (one.high or 0) - one.middle)
+    high = gap + reach((other.high or 0) - other.middle, one.middle - (one.low or 0))
+    return Estimate(runs, gap, max(-1.0, low), min(1.0, high), 'newcombe')
+
+
+def _correlation(pairs: Sequence[Pair]) -> float:
+    """The correlation of pairs that are 0 or 1, which is corrected towards 0 if it is above it."""
+    counts, runs = Counter((it.one, it.other) for it in pairs), len(pairs)
+    both, neither, first, second = counts[1, 1], counts[0, 0], counts[1, 0], counts[0, 1]
+    squared = (both + first) * (second + neither) * (both + second) * (first + neither)
+    above = both * neither - first * second
+    if squared == 0:
+        return 0.0
+    return (max(above - runs / 2, 0.0) if above > 0 else above) / math.sqrt(squared)

@@ -9,7 +9,7 @@ from typing import Any
 
 from motesim.analysis.crossings import Crossing, Middle, Runs, crossing
 from motesim.analysis.estimates import LEAST_RUNS, NAMES, OF_ROW, Estimate
-from motesim.analysis.paired import Difference
+from motesim.analysis.paired import Difference, Paired, reasons
 from motesim.analysis.points import Point, Shown, Wish
 from motesim.experiments.measures import Cell
 from motesim.experiments.results import line_of, text_of
@@ -25,8 +25,8 @@ _crossing = lru_cache(maxsize=64)(crossing)
 def rows_of(shown: Shown, wish: Wish) -> list[Row]:
     """The points as rows of a table."""
     if wish.show == 'points':
-        return [{**_of_by(point, wish), **_of_against(point, wish), wish.measure: value}
-                for point in shown.points for value in point.values]
+        return [{**_of_by(point, wish), **_of_run(x, wish), wish.measure: value} for point in shown.points
+                for x, value in zip(point.others or (point.against,) * len(point.values), point.values)]
     if wish.show == 'cdf':
         return [{**_of_by(point, wish), wish.measure: value, 'part of runs': number / len(point.values)}
                 for point in shown.points for number, value in enumerate(sorted(point.values), 1)]
@@ -53,6 +53,11 @@ def rows_with_crossings(shown: Shown, wish: Wish) -> list[Row]:
 
 def _of_by(point: Point, wish: Wish) -> Row:
     return {wish.by: point.by} if wish.by else {}
+
+
+def _of_run(x: Cell, wish: Wish) -> Row:
+    """Where one run is, from left to right."""
+    return {wish.against: x} if wish.against else {}
 
 
 def _of_against(point: Point, wish: Wish) -> Row:
@@ -168,8 +173,13 @@ def of_crossing(found: Crossing | None, wish: Wish) -> str:
     middle, threshold = middle_of(wish)[0], float(wish.threshold)
     if found is None:
         return 'the %s doesn\'t cross %g' % (middle, threshold)
-    at = 'the %s %s %g at %s %.4g, between the points %.4g and %.4g' % (
-        middle, 'rises above' if found.is_rising else 'falls below', threshold, wish.against, found.at, *found.gap)
+    ways = ['%s %g at %s %.4g, between the points %.4g and %.4g' % (
+        'rises above' if it.is_rising else 'falls below', threshold, wish.against, it.at, *it.gap)
+        for it in found.places]
+    if len(ways) > 1:
+        return '\n  '.join(['the %s crosses %g %d times, so no crossing has an interval:' % (
+            middle, threshold, len(ways)), *ways])
+    at = 'the %s %s' % (middle, ways[0])
     if found.low is None or found.high is None:
         return at + '; one run for each point shows no interval'
     ends = 'before the first point' if math.isinf(found.low) else '%.4g' % found.low, (
@@ -180,14 +190,31 @@ def of_crossing(found: Crossing | None, wish: Wish) -> str:
 
 
 def columns_of_crossing(found: Crossing | None) -> Row:
-    """The crossing of a curve, as columns: an end of the interval beyond the axis is empty."""
+    """A curve's first crossing, and how many it has, as columns: an end of the interval beyond the axis is empty."""
     at, low, high = (found.at, found.low, found.high) if found else (None, None, None)
-    return {'crossing': at, **{'crossing ' + name: None if it is None or math.isinf(it) else it
-                               for name, it in (('low', low), ('high', high))}}
+    ends = {'crossing ' + name: None if it is None or math.isinf(it) else it
+            for name, it in (('low', low), ('high', high))}
+    return {'crossings': len(found.places) if found else 0, 'crossing': at, **ends}
 
 
 def rows_of_differences(found: Sequence[Difference], against: str, one: str, other: str) -> list[Row]:
     """A paired comparison as rows of a table."""
-    return [{against: it.against, 'pairs': it.difference.runs, one: it.one, other: it.other,
+    return [{against: it.against, 'pairs': it.difference.runs, 'left out': it.left_out, one: it.one, other: it.other,
              'difference': it.difference.middle, 'low': it.difference.low, 'high': it.difference.high,
              'interval': OF_ROW[it.difference.method], 'greater': it.greater, 'less': it.less} for it in found]
+
+
+def of_pairs(paired: Paired, found: Sequence[Difference], against: str) -> list[str]:
+    """Which pairs are left out and why, and whether both sides had the same nets."""
+    lines = []
+    if paired.left_out:
+        lines.append('left out: %d pairs; only those in which both sides have a value are compared: %s' % (
+            sum(paired.left_out.values()), '; '.join(reasons(paired.left_out))))
+    empty = [place for place in dict.fromkeys(place for place, _ in paired.left_out)
+             if all(place != it.against for it in found)]
+    if empty:
+        lines.append('no pair is left at %s %s' % (against, ', '.join(map(text_of, empty))))
+    if paired.of_two_nets:
+        lines.append('in %d of %d pairs the motes have other places on one side than on the other: such a pair '
+                     'compares two nets, and doesn\'t remove their effect' % (paired.of_two_nets, len(paired.pairs)))
+    return lines

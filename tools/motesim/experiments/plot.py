@@ -100,18 +100,20 @@ def compare(rows: Sequence[Row], others: Sequence[Row], wish: Wish, names: tuple
     if wish.against not in kept:
         raise Fault('there is no parameter %s on both sides; there are: %s' % (wish.against, ', '.join(kept)))
     check_pairs([*rows, *others], wish, kept)
-    found = differences(pairs_of(rows, others, wish.measure, kept, wish.against), wish.part, wish.interval)
+    paired = pairs_of(rows, others, wish.measure, kept, wish.against, names)
+    found = differences(paired, wish.part, wish.interval)
     found.sort(key=lambda it: order(it.against))
     by = text.by_methods([it.difference.method for it in found])
     words = '%s against %s: %s less %s, run by run' % (wish.measure, wish.against, names[1], names[0])
     words += ', with intervals of %d %% %s' % (wish.confidence, by) if by else ''
     made = text.rows_of_differences(found, wish.against, *names)
+    notes = text.of_pairs(paired, found, wish.against) + text.of_intervals([it.difference for it in found])
     if wish.file and packages.is_here('matplotlib'):
-        drawing.draw_differences(found, wish, words, Path(wish.file))
+        drawing.draw_differences(found, wish, words, notes, Path(wish.file))
         write_table(table_path(Path(wish.file)), made)
-        print(wish.file)
+        print('\n'.join([wish.file, *notes]))
         return True
-    print('\n'.join([words, *table(made, list(made[0])), *text.of_intervals([it.difference for it in found])]))
+    print('\n'.join([words, *table(made, list(made[0])), *notes]))
     return not wish.file
 
 
