@@ -56,7 +56,7 @@ def _by_key(rows: Sequence[Row], names: Sequence[str]) -> dict[Key, Row]:
 
 
 def _lack(row: Row | None, measure: str, side: str) -> str:
-    """Why a side of a pair has no value; an empty text if it has one."""
+    """The reason for which a side of a pair has no value; an empty text if it has one."""
     if row is None:
         return 'there is no run of %s' % side
     if row.get('fault'):
@@ -89,7 +89,7 @@ def pairs_of(one: Sequence[Row], other: Sequence[Row], measure: str, names: Sequ
 
 
 def reasons(left_out: Mapping[tuple[Cell, str], int]) -> list[str]:
-    """How many pairs are left out, for each reason."""
+    """The number of omitted pairs, for each reason."""
     counts: Counter[str] = Counter()
     for (_, why), count in left_out.items():
         counts[why] += count

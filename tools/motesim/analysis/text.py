@@ -56,7 +56,7 @@ def _of_by(point: Point, wish: Wish) -> Row:
 
 
 def _of_run(x: Cell, wish: Wish) -> Row:
-    """Where one run is, from left to right."""
+    """The place of one run, from left to right."""
     return {wish.against: x} if wish.against else {}
 
 
