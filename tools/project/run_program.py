@@ -55,13 +55,23 @@ def is_pipe(number: int) -> bool:
         return False
 
 
+def is_refused(file: str) -> bool:
+    """Returns whether a scenario has an error itself, and not only the pipe of its report, as a closed one."""
+    # (it is needed only after an error)
+    from motesim.scenario.faults import find_fault
+    try:
+        return find_fault(Path(file).read_bytes()) is not None
+    except OSError:
+        return False
+
+
 def say_more(file: str | None) -> None:
     """Says on a terminal how to learn why there is no report."""
     if not (file and os.isatty(2)):
         return
     if not can_be_read(file):
         say('there is no file %s that can be read' % file)
-    elif not is_pipe(1):
+    elif not is_pipe(1) or is_refused(file):
         say('tools/explain %s says more' % file)
 
 
