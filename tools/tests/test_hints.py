@@ -153,6 +153,12 @@ class Hints(unittest.TestCase):
             with self.subTest(parameters):
                 self.assertIn('A thread has no parameters', self.hint(code % (parameters, 'n', '')))
         self.assertIn('thread t { seq = 1; }', self.hint(code % ('(struct pt *pt)', '1', '')))
+        lines = 'process a; autostart a;\ncode a {\n  var seq = 0;\n  %s\n    seq = n;\n  }\n  body { spawn t; }\n}\n'
+        for head in 'thread t(struct pt *pt, uint8_t n) {', 'thread t(n) {', 'static void t(int n) {':
+            with self.subTest(head):
+                self.assertEqual(' '.join(self.hint(lines % head).split()).partition('Write')[2],
+                                 ', as line 4 of the program: thread t { and insert below line 3 of the program: var n = '
+                                 '0;')
         for values in '(seq)', '(seq, 1)':
             self.assertIn('A `spawn` passes nothing', self.hint(code % ('', '1', values)))
 

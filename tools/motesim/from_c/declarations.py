@@ -112,15 +112,29 @@ class Declarations(Lines):
     def of_function(self) -> str:
         """A function: a thread, without parameters."""
         name = allowed(self.token.text)
-        self.at += 2
-        while self.token.kind != 'end' and not self.accept(')'):
-            self.at += 1
+        self.at += 1
+        self.why('There are no functions: a `thread` serves as one, without parameters, and `spawn %s;` runs it. What '
+                 'a callback timer calls is its own block, `ctimer c { .. }`.' % name)
+        self.parameters(self.place.is_head)
         if not self.place.is_head or not self.accept('{') or self.token.kind != 'end':
             raise NoCounterpart(CALLBACK)
-        self.why('There are no functions: a `thread` serves as one, without parameters, and `spawn %s;` runs it. What '
-                 'a '
-                 'callback timer calls is its own block, `ctimer c { .. }`.' % name)
         return 'thread %s {' % name
+
+    def parameters(self, of_thread: bool) -> None:
+        """Leaves out parameters. Those of a thread become variables of its process, if such can be declared above."""
+        self.need('(')
+        words: list[str] = ['']
+        while self.token.kind != 'end' and not self.accept(')'):
+            words = [*words, ''] if self.token.text == ',' else [*words[:-1], self.token.text]
+            self.at += 1
+        names = [it for it in words if it.isidentifier() and it not in TYPES and it != 'pt']
+        if not (of_thread and self.place.head):
+            return
+        for name in names:
+            found = self.new_name(name)
+            if found not in self.place.variables:
+                self.why('A thread uses the variables of its process.')
+                self.declares.append('var %s = 0;' % found)
 
     def beginning(self) -> str:
         """The number with which a variable begins."""
@@ -194,8 +208,7 @@ class Declarations(Lines):
         while self.token.kind != 'end':
             if self.token.text == '(' and words[0] in ('thread', 'code', 'onpoll', 'onexit', 'body'):
                 self.why('`%s` has no parameters.' % words[0])
-                while self.token.kind != 'end' and not self.accept(')'):
-                    self.at += 1
+                self.parameters(words[0] == 'thread')
                 continue
             found.append(self.token.text)
             self.at += 1
