@@ -150,7 +150,8 @@ class Entries(Folder):
             self.hand_in('ben%d.toml' % number, net(PROGRAM % 3, name='mine').replace(
                 '[programs]\n', '[programs]\n' + program))
         self.hand_in('cem\x1b[2K.toml', 'version = 2\n"\\u001b[2K" = 1\n')
-        for words in [], ['--csv'], ['--why', 'ben0'], ['--why', 'ben1'], ['--why', 'cem\\x1b[2K']:
+        tried: list[list[str]] = [[], ['--csv'], ['--why', 'ben0'], ['--why', 'ben1'], ['--why', 'cem\\x1b[2K']]
+        for words in tried:
             printed = self.grade(*words, '--net', 'task.toml')
             self.assertNotRegex(printed, r'[\x00-\x08\x0b-\x1f\x7f-\x9f\u2028]')
             self.assertNotRegex(printed, r'(?m)^ben\.toml')
