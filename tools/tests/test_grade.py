@@ -158,6 +158,23 @@ class Entries(Folder):
         rows = self.grade('--csv', '--net', 'task.toml').split('\n')
         self.assertIn('it has no program `task`, but: `\\nben.toml   3 of 3`, `mine`', rows[3])
 
+    def test_without_a_required_sentence_the_mark_is_0(self) -> None:
+        (self.top / 'task.expect.toml').write_text(
+            'required = ["every mote prints a 3"]\nexpect = ["mote 1 prints a at 6", "no mote halts"]\n')
+        self.hand_in('ben.toml', net(PROGRAM % 4))
+        self.assertEqual(self.grade(), (
+            'anna.toml  3 of 3\nben.toml   0 of 3  broken: 1 (required), 2\n\n'
+            '  1  1 of 2  every mote prints a 3 (required)\n  2  1 of 2  mote 1 prints a at 6\n'
+            '  3  2 of 2  no mote halts\n'))
+        self.assertIn('broken  every mote prints a 3 (required)\n', self.grade('--why', 'ben'))
+        self.assertIn('ben.toml,0,3,,0,0,1', self.grade('--csv'))
+        self.grade('-o', 'marks.toml', '-o', 'marks.html')
+        marks = tomllib.loads((self.top / 'marks.toml').read_text())
+        self.assertEqual((marks['required'], marks['solution'][1]['holds'], marks['solution'][1]['broken']),
+                         ([1], 0, [1, 2]))
+        self.assertIn('<td class="number none">0 of 3</td>', self.page())
+        self.assertIn('<td>every mote prints a 3 (required)</td>', self.page())
+
 
 class Nets(Folder):
     def test_the_net_is_the_teachers(self) -> None:

@@ -1,4 +1,4 @@
-"""The lesson's sentences: the solutions meet them, and no program does that prints the answers at boot or nothing."""
+"""The lesson's sentences: the solutions meet them in all nets, and programs that don't solve a task earn nothing."""
 import unittest
 from pathlib import Path
 from tempfile import TemporaryDirectory
@@ -13,6 +13,7 @@ from skips import need_program
 
 LESSON = TOP / 'examples/lesson'
 NETS = {1: 'start.toml', 2: 'start.toml', 3: 'collisions.toml'}
+HIDDEN = {1: 'hidden.toml', 2: 'hidden.toml', 3: 'hidden_collisions.toml'}
 ANSWERS = '''process wave, hops;
 autostart hops, wave;
 receiver wave;
@@ -30,16 +31,32 @@ AT_BOOT = ANSWERS % ''
 AT_BOOT_BUT_SENDS_LATER = ANSWERS % 'yield_until is(packet); set turn (10 * self); yield_until fired(turn);'
 AFTER_A_WHILE = (ANSWERS % '').replace('if (self == 0)', 'set turn 5; yield_until fired(turn); if (self == 0)')
 IDLE = 'process wave, hops;\ncode wave { body { pause; } }\ncode hops { body { print 0; } }\n'
+# Programs that print the right answers in the nets that students know.
+BY_NUMBER = '''process hops;
+autostart hops;
+receiver hops;
+code hops {
+  body {
+    if (self == 0) { send 1; exit; }
+    yield_until is(packet);
+    %s
+    send 1;
+  }
+}
+'''
+EVE = BY_NUMBER % 'if (self < 3) { print 1; } else { print (self - 1); }'
+BY_CLOCK = BY_NUMBER % 'print (now / 3);'
 
 
 class Lesson(unittest.TestCase):
     def setUp(self) -> None:
         need_program(self)
 
-    def marks(self, task: int, program: str) -> Marks:
+    def marks(self, task: int, program: str, *hidden: str) -> Marks:
         """The marks of a program, or of a solution named by its file."""
         part = parts_of((LESSON / ('task%d.expect.toml' % task)).read_text(), 'task')[0]
-        its = Task(part, tuple(nets_of([LESSON / NETS[task]], [], None)), Limits())
+        nets = [LESSON / NETS[task], *(LESSON / 'solutions' / it for it in hidden)]
+        its = Task(part, tuple(nets_of(nets, [], None)), Limits())
         path = LESSON / 'solutions' / program
         if not program.endswith('.toml'):
             path = Path(self.enterContext(TemporaryDirectory())) / 'a.mote'
@@ -50,17 +67,31 @@ class Lesson(unittest.TestCase):
 
     def test_the_solutions_meet_all_sentences(self) -> None:
         for task in NETS:
-            found = self.marks(task, 'task%d.toml' % task)
+            found = self.marks(task, 'task%d.toml' % task, HIDDEN[task])
             self.assertEqual((task, found.first_failed), (task, None))
 
     def test_the_answers_at_boot_or_by_a_clock_do_not(self) -> None:
         for task in NETS:
             for program in AT_BOOT, AT_BOOT_BUT_SENDS_LATER, AFTER_A_WHILE:
                 with self.subTest(task=task, program=program):
-                    self.assertEqual(self.marks(task, program).first_failed, 0)
+                    self.assertEqual(self.marks(task, program).held, 0)
 
-    def test_doing_nothing_earns_nothing_but_the_bounds_of_task_3(self) -> None:
-        self.assertEqual([self.marks(task, IDLE).held for task in NETS], [0, 0, 2])
+    def test_doing_nothing_earns_nothing(self) -> None:
+        self.assertEqual([self.marks(task, IDLE).held for task in NETS], [0, 0, 0])
+
+    def test_a_solution_of_the_task_before_earns_nothing(self) -> None:
+        solution = (LESSON / 'solutions/task2.toml').read_text().split("'''")[1]
+        self.assertEqual(self.marks(2, 'task1.toml').held, 0)
+        self.assertEqual(self.marks(2, solution.replace('print data', 'print 7')).held, 0)
+        self.assertEqual(self.marks(3, 'task2.toml').held, 0)
+
+    def test_programs_that_know_the_net_earn_nothing_in_a_hidden_one(self) -> None:
+        solution = (LESSON / 'solutions/task2.toml').read_text().split("'''")[1]
+        without_two = solution.replace('send (data + 1);', 'if (self != 2) { send (data + 1); }')
+        for task, program in (2, EVE), (2, BY_CLOCK), (3, without_two):
+            with self.subTest(task=task, program=program):
+                self.assertEqual(self.marks(task, program).first_failed, None)
+                self.assertEqual(self.marks(task, program, HIDDEN[task]).held, 0)
 
 
 if __name__ == '__main__':

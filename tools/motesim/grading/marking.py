@@ -33,6 +33,7 @@ LONGEST_WHY = 300
 UNSAFE = re.compile(r'[^A-Za-z0-9.-]|^\.')
 LONGEST_NAME = 80
 OF_HIDDEN = 'in a hidden net'
+REQUIRED = ' (required)'
 # Of an error so many lines are shown.
 MOST_LINES = 40
 
@@ -40,13 +41,20 @@ MOST_LINES = 40
 class Mark(NamedTuple):
     """A sentence: in which nets it doesn't hold, and why in the first of them.
 
-    shown  the net and the reason as a page may show them to students: nothing of a hidden net
+    shown        the net and the reason as a page may show them to students: nothing of a hidden net
+    is_required  whether a solution that doesn't meet it earns nothing
     """
     sentence: str
     holds: bool
     nets: tuple[str, ...] = ()
     more: tuple[str, ...] = ()
     shown: tuple[str, ...] = ()
+    is_required: bool = False
+
+    @property
+    def words(self) -> str:
+        """The sentence, with a remark if it is required."""
+        return self.sentence + REQUIRED * self.is_required
 
 
 def lines_of(rows: Iterable[str]) -> tuple[str, ...]:
@@ -78,7 +86,9 @@ class Marks:
 
     @property
     def held(self) -> int:
-        return sum(it.holds for it in self.marks)
+        """The mark: how many sentences hold, or 0 if a required one doesn't."""
+        has_all = all(it.holds for it in self.marks if it.is_required)
+        return sum(it.holds for it in self.marks) if has_all else 0
 
     @property
     def fault(self) -> str:
@@ -179,11 +189,11 @@ class Task:
     def together(self, name: str, found: list[InNet]) -> Marks:
         """The marks over all nets: a sentence holds if it holds in each."""
         marks = []
-        for each in zip(*(its.marks for its in found)):
+        for place, each in enumerate(zip(*(its.marks for its in found))):
             failed = [(its, mark) for its, mark in zip(found, each) if not mark.holds]
             first = failed[0][1] if failed else None
             marks.append(Mark(each[0].sentence, not failed, tuple(its.net for its, _ in failed if its.net),
-                              first.more if first else (), shown_of(failed)))
+                              first.more if first else (), shown_of(failed), place < self.part.required))
         why = ' '.join(next((its.why for its in found if its.why), '').split())[:LONGEST_WHY]
         lacks = [next((it for it in each if it), '') for each in zip(*(its.lacks for its in found))]
         return Marks(name, tuple(marks), why, tuple(lacks))

@@ -5,8 +5,8 @@ from collections.abc import Sequence
 from html import escape
 from urllib.parse import quote
 
-from motesim.grading.marking import Marks
-from motesim.grading.tables import count_of
+from motesim.grading.marking import REQUIRED, Marks
+from motesim.grading.tables import count_of, required_of
 
 HEAD = """<!DOCTYPE html>
 <html lang="en">
@@ -41,14 +41,14 @@ def _first_failed(marks: Marks, folder: str) -> str:
     if marks.why or place is None:
         return escape(marks.why) + ('<pre>%s</pre>' % escape('\n'.join(marks.fix)) if marks.fix else '')
     mark = marks.marks[place]
-    words = '%d. %s' % (place + 1, mark.sentence)
+    words = '%d. %s' % (place + 1, mark.words)
     link = '<a href="%s/%s">%s</a>' % (quote(folder), quote(marks.picture), escape(words)) if marks.picture \
         else escape(words)
     return link + ('<pre>%s</pre>' % escape('\n'.join(mark.shown)) if mark.shown else '')
 
 
 def _row(marks: Marks, count: int, folder: str) -> str:
-    dots = ''.join('<span title="%s">%s</span>' % (escape(it.sentence, True), '●' if it.holds else '○')
+    dots = ''.join('<span title="%s">%s</span>' % (escape(it.words, True), '●' if it.holds else '○')
                    for it in marks.marks)
     return '<tr><td>%s</td><td class="number %s">%s</td><td class="marks">%s</td><td>%s</td></tr>' % (
         escape(marks.name), _colour(marks, count), count_of(marks, count), dots, _first_failed(marks, folder))
@@ -58,10 +58,11 @@ def page_of(marked: Sequence[Marks], sentences: Sequence[str], title: str, folde
             has_nets: bool = False) -> str:
     """The page. `folder` has the timelines."""
     rows = [_row(it, len(sentences), folder) for it in marked]
+    required = required_of(marked)
     held = [sum(len(it.marks) > place and it.marks[place].holds for it in marked) for place in range(len(sentences))]
     below = ['<tr><td class="number">%d</td><td class="number">%d of %d</td><td>%s</td></tr>' % (
-        number, count, len(marked), escape(sentence)) for number, (count, sentence) in enumerate(zip(held, sentences),
-                                                                                                 1)]
+        number, count, len(marked), escape(sentence) + REQUIRED * (number in required))
+        for number, (count, sentence) in enumerate(zip(held, sentences), 1)]
     return '\n'.join([
         HEAD % escape(title) + '<h1>%s</h1>' % escape(title),
         '<p>%s ● means that a sentence holds%s, ○ that it doesn\'t.</p>' % (

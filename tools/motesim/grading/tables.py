@@ -5,7 +5,7 @@ import csv
 import io
 from collections.abc import Sequence
 
-from motesim.grading.marking import Marks
+from motesim.grading.marking import REQUIRED, Marks
 
 # A cell that begins so is a formula to some spreadsheets.
 OF_FORMULA = ('=', '+', '-', '@', '\t', '\r', '|', '%')
@@ -18,6 +18,11 @@ def sentences_of(marked: Sequence[Marks]) -> list[str]:
     return max(([it.sentence for it in one.marks] for one in marked), key=len, default=[])
 
 
+def required_of(marked: Sequence[Marks]) -> list[int]:
+    """The numbers of the sentences without which a solution earns nothing."""
+    return sorted({number for one in marked for number, it in enumerate(one.marks, 1) if it.is_required})
+
+
 def count_of(marks: Marks, count: int) -> str:
     """The number of sentences that hold of a solution."""
     return '- of %d' % count if marks.is_open else '%d of %d' % (marks.held, count)
@@ -28,7 +33,8 @@ def table(marked: Sequence[Marks], sentences: Sequence[str]) -> list[str]:
     width = max(len(it.name) for it in marked)
     rows = []
     for it in marked:
-        broken = ', '.join(str(number) for number, one in enumerate(it.marks, 1) if not one.holds)
+        broken = ', '.join('%d%s' % (number, REQUIRED * one.is_required) for number, one in enumerate(it.marks, 1)
+                           if not one.holds)
         count = count_of(it, len(sentences))
         shown = it.why or '; '.join(one for one in (broken and 'broken: %s' % broken, it.fault) if one)
         rows.append(('%s  %s  %s' % (it.name.ljust(width), count, shown)).rstrip())
@@ -37,9 +43,9 @@ def table(marked: Sequence[Marks], sentences: Sequence[str]) -> list[str]:
 
 def below(marked: Sequence[Marks], sentences: Sequence[str]) -> list[str]:
     """The sentences, each with how many solutions meet it."""
-    return ['%3d  %d of %d  %s' % (number,
-                                   sum(holds(it, number) for it in marked),
-                                   len(marked), sentence) for number, sentence in enumerate(sentences, 1)]
+    required = required_of(marked)
+    return ['%3d  %d of %d  %s%s' % (number, sum(holds(it, number) for it in marked), len(marked), sentence,
+                                     REQUIRED * (number in required)) for number, sentence in enumerate(sentences, 1)]
 
 
 def pointer(marked: Sequence[Marks]) -> list[str]:
@@ -82,6 +88,8 @@ def toml_of(marked: Sequence[Marks], sentences: Sequence[str], expectations: str
     lines = ['# Written by tools/grade.', 'expectations = %s' % quoted(expectations),
              'nets = [%s]' % ', '.join(map(quoted, nets)), 'sentences = [',
              *('  %s,' % quoted(it) for it in sentences), ']']
+    required = required_of(marked)
+    lines += ['required = [%s]' % ', '.join(map(str, required))] if required else []
     for it in marked:
         lines += ['', '[[solution]]', 'name = %s' % quoted(it.name)]
         if not it.is_open:
@@ -100,7 +108,7 @@ def why(marks: Marks) -> list[str]:
     """The lines on the sentences of one solution, and what to do if they name what it doesn't have."""
     lines = [*([marks.why] if marks.why else []), *marks.fix]
     for it in marks.marks:
-        lines.append(('holds   ' if it.holds else 'broken  ') + it.sentence)
+        lines.append(('holds   ' if it.holds else 'broken  ') + it.words)
         nets = ['in %s' % ', '.join(it.nets)] if it.nets else []
         lines += ['          ' + row for row in [*nets, *it.more]]
     return lines + [RENAMED] * any(marks.lacks)

@@ -24,10 +24,11 @@ from motesim.toml import NoToml, read_toml
 LONGEST_SHOWN = 150
 REFUSED = 'the scenario is refused'
 WHOLE = 'the report is the expected one'
-KEYS = {'expect': list, 'report': str, 'change': list, 'about': str, 'replace': dict}
+KEYS = {'expect': list, 'required': list, 'report': str, 'change': list, 'about': str, 'replace': dict}
 # What each key contains, and how it is written.
 WRITTEN = {
     'expect': 'an array of sentences, as `expect = ["mote 0 sends twice"]`', 'report': 'a text',
+    'required': 'an array of sentences, as `required = ["every mote prints"]`',
     'change': 'an array of tables: each begins with a line `[[change]]`', 'about': 'a text, as `about = "a late end"`',
     'replace': 'a table, as `replace = { "end = 9" = "end = 99" }`',
 }
@@ -48,11 +49,15 @@ def text_of(path: Path) -> str:
 
 @dataclass(frozen=True)
 class Part:
-    """The expectations for the scenario, or for it with some text replaced by another."""
+    """The expectations for the scenario, or for it with some text replaced by another.
+
+    required  how many of the first sentences a solution has to meet to earn anything
+    """
     name: str
     sentences: list[str]
     report: str | None
     replace: dict[str, str]
+    required: int = 0
 
 
 class Verdict(NamedTuple):
@@ -72,12 +77,13 @@ def part_of(table: dict[str, Any], name: str, keys: set[str]) -> Part:
             raise Fault('%s has a key %s%s; allowed are: %s' % (name, key, more, ', '.join(sorted(keys))))
         if type(value) is not KEYS[key]:
             raise Fault('%s of %s is not %s' % (key, name, WRITTEN[key]))
-    sentences, replace = table.get('expect', []), table.get('replace', {})
+    required, replace = table.get('required', []), table.get('replace', {})
+    sentences = required + table.get('expect', [])
     if not all(type(it) is str for it in [*sentences, *replace.values()]):
         raise Fault('%s must contain only texts' % name)
     if not sentences and 'report' not in table:
         raise Fault('%s expects nothing' % name)
-    return Part(table.get('about', name), sentences, table.get('report'), replace)
+    return Part(table.get('about', name), sentences, table.get('report'), replace, len(required))
 
 
 def parts_of(text: str, name: str) -> list[Part]:
@@ -86,7 +92,7 @@ def parts_of(text: str, name: str) -> list[Part]:
         tables = read_toml(text)
     except NoToml as fault:
         raise Fault('%s is no TOML: %s' % (name, fault)) from None
-    parts = [part_of(tables, name, {'expect', 'report', 'change'})]
+    parts = [part_of(tables, name, {'expect', 'required', 'report', 'change'})]
     for number, table in enumerate(tables.get('change', []), 1):
         if type(table) is not dict or not table.get('replace'):
             raise Fault('change %d of %s has no table replace' % (number, name))
