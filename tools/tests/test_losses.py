@@ -10,7 +10,7 @@ from here import TOP
 from motesim.analysis.estimates import mean_by_t
 from motesim.explain.hints import WISHES
 from motesim.explain.lint import warnings
-from motesim.explain.resonance import hit, resonances
+from motesim.explain.resonance import Together, all_at_once, hit, resonances
 from motesim.from_c.expressions import NO_CHANCE
 from motesim.plan.files import Files
 from motesim.plan.plan import Plan
@@ -97,6 +97,27 @@ class Resonances(unittest.TestCase):
         values = [it for n in range(1, 11) for it in (900, n)]
         found = [it for it in warnings(Scenario.parse(SCENARIO % 2), report(values, 2)) if 'in step' in it.text]
         self.assertEqual([it.loss for it in found], [0])
+
+    def test_one_warning_for_all_losses_of_a_period(self) -> None:
+        values = [it for n in range(1, 11) for it in (900, n)]
+        net = SCENARIO % 2 + ''.join('[[mote]]\nx = %d\ny = 1\nprogram = "p"\n[[loss]]\nfrom = 0\nto = %d\nevery = 2\n'
+                                     % (it, it) for it in (2, 3, 4))
+        found = [it for it in warnings(Scenario.parse(net), report(values, 2)) if it.loss is not None]
+        self.assertEqual([it.cause for it in found], ['step 2', 'together'])
+        self.assertIn('; the same goes for 3 more losses: 1, 2, 3', found[0].text)
+
+    def test_packets_that_are_lost_on_all_links_at_once(self) -> None:
+        # (mote 0 is heard by the motes 1 and 2)
+        net = SCENARIO + '[[mote]]\nx = 0\ny = 5\nprogram = "p"\n[[loss]]\nfrom = 0\nto = 2\nevery = %d\n'
+        for one, other, count in (2, 2, 1), (2, 4, 1), (2, 3, 0), (1, 1, 0), (5, 7, 0):
+            found = list(all_at_once(Scenario.parse(net % (one, other)), report([7] * 20, one)))
+            self.assertEqual(len(found), count, (one, other))
+        self.assertEqual(list(all_at_once(Scenario.parse(net % (2, 2)), report([7] * 20, 2))), [
+            Together(0, 0, 2, 20, 10, 5.0)])
+        # (a link without losses, too few packets)
+        self.assertEqual(list(all_at_once(Scenario.parse(net.partition('[[loss]]\nfrom = 0\nto = 2')[0] % 2),
+                                          report([7] * 20, 2))), [])
+        self.assertEqual(list(all_at_once(Scenario.parse(net % (2, 2)), report([7] * 8, 2))), [])
 
     def test_the_period_that_it_names_is_not_in_step(self) -> None:
         for every in 2, 4, 6:

@@ -51,12 +51,12 @@ FILES = {'flood.mote': MOTE, 'sink.mote': SINK, 'Bad Name.mote': SINK,
 
 # Rules of places, each with the SHA-256 of the scenario that they make: it is the same on any machine.
 RULES = {
-    'rule = "grid"\ncolumns = 3\nrows = 2\nstep = 7\nx = -5\ny = 4': 'a157526d36b3b533',
-    'rule = "line"\ncount = 5\nstep = 9': '7a0b22e847b4909d',
-    'rule = "ring"\ncount = 7\nradius = 100': 'c50cda527b25bca6',
-    'rule = "random"\ncount = 30\nwidth = 50\nheight = 40\nseed = 5\nleast = 3\nconnected = true': 'ee61473e98a220d5',
-    'rule = "clusters"\ncount = 3\nmotes = 4\nspread = 6\nwidth = 90\nheight = 90\nseed = 2': 'a241cd8a46865297',
-    'rule = "list"\nat = [[0, 0], [5, -5]]': '709060ab0cd28a7a',
+    'rule = "grid"\ncolumns = 3\nrows = 2\nstep = 7\nx = -5\ny = 4': '7d6e06b43aac4606',
+    'rule = "line"\ncount = 5\nstep = 9': '86091a5d8970cf9e',
+    'rule = "ring"\ncount = 7\nradius = 100': 'a7733d9db59b322f',
+    'rule = "random"\ncount = 30\nwidth = 50\nheight = 40\nseed = 5\nleast = 3\nconnected = true': '98127555d28fd687',
+    'rule = "clusters"\ncount = 3\nmotes = 4\nspread = 6\nwidth = 90\nheight = 90\nseed = 2': 'd11822d50ff7720b',
+    'rule = "list"\nat = [[0, 0], [5, -5]]': '796cd021ae867087',
 }
 
 
@@ -90,13 +90,13 @@ class PlacesTest(unittest.TestCase):
         self.assertEqual({(-x, -y) for x, y in ring}, set(ring))
 
     def test_the_least_distance_is_kept(self) -> None:
-        found = places.scattered(60, 100, 100, 3, 8, None)
+        found, rejected = places.scattered(60, 100, 100, 3, 8, None)
         self.assertEqual(len(set(found)), 60)
         self.assertGreaterEqual(min(places.squared(a, b) for a in found for b in found if a != b), 64)
 
     def test_a_connected_net_is_connected(self) -> None:
         for seed in range(20):
-            found = places.scattered(20, 60, 60, seed, 0, 20)
+            found, rejected = places.scattered(20, 60, 60, seed, 0, 20)
             reached, front = {found[0]}, [found[0]]
             for point in front:
                 near = [it for it in found if it not in reached and places.squared(point, it) <= 400]

@@ -31,7 +31,7 @@ from motesim.scenario import Scenario
 from motesim.judge.sentences import names_of
 from motesim.experiments.sweep import Sweeper
 from motesim.experiments.asked import sweep_of, values_of
-from skips import interpreter_with
+from skips import interpreter_with, need_program
 from stub import write_stub
 
 PLAN = '''end = 160
@@ -223,12 +223,63 @@ class SweepTest(Bed):
         (self.folder / 'a.mote').write_text(MOTE + '// another\n')
         again = self.sweep(*self.words)
         self.assertEqual(again.returncode, 2)
-        self.assertIn('net.csv has 6 rows that another plan, program or measure made', again.stderr)
+        self.assertIn('net.csv has 6 rows from before a change of the plan or a file next to it. --renew', again.stderr)
         anew = self.sweep(*self.words, '--renew')
         self.assertEqual(anew.stdout, 'net.csv: 6 runs, 6 of them now, 0 with a fault\n')
         other = self.sweep(*self.words, '--measure', 'sent')
         self.assertEqual(other.returncode, 2)
         self.assertIn('other columns', other.stderr)
+
+    def test_pictures_values_and_comments_of_the_plan_do_not_make_other_rows(self) -> None:
+        words = '\n[sweep]\nvary = { period = "%s" }\nmeasure = ["prints"]\n[[plot]]\nfile = "a.svg"\n' \
+                'measure = "prints"\nagainst = "period"\ntitle = "%s"\n'
+        (self.folder / 'net.plan.toml').write_text(PLAN + words % ('1..3', 'One'))
+        self.sweep()
+        before = self.rows()
+        other = PLAN.replace('period = 4', 'period = 5  # moments') + words % ('1..5', 'Another')
+        (self.folder / 'net.plan.toml').write_text(other)
+        done = self.sweep()
+        self.assertEqual(done.stdout, 'net.csv: 5 runs, 2 of them now, 0 with a fault\n', done)
+        self.assertEqual(self.rows()[:3], before)
+        (self.folder / 'net.plan.toml').write_text(other.replace('step = 10', 'step = 9'))
+        self.assertIn('a change of the plan or a file next to it.', self.sweep().stderr)
+
+    def test_what_has_changed_is_named(self) -> None:
+        self.sweep('--vary', 'motes=2,3', '--measure', 'python: mine.py:lines')
+        (self.folder / 'mine.py').write_text(MINE + '# more\n')
+        self.stub.write_text(self.stub.read_text() + '# more\n')
+        again = self.sweep('--vary', 'motes=2,3', '--measure', 'python: mine.py:lines')
+        self.assertIn('2 rows from before a change of motesim, and of the measures.', again.stderr)
+
+    def test_places_and_rejected_nets_are_in_the_rows(self) -> None:
+        (self.folder / 'net.plan.toml').write_text(PLAN.replace('rule = "line"', 'rule = "random"').replace(
+            'step = 10', 'width = 40\nheight = 0\nconnected = "${connected}"\nseed = 7').replace(
+            'period = 4', 'period = 4\nconnected = true'))
+        self.sweep('--vary', 'period=1,2', '--vary', 'connected=true,false', '--measure', 'reachable')
+        found = [(row['connected'], row['rejected'], row['reachable']) for row in self.rows()]
+        self.assertEqual(found, 2 * [('true', '1', '1.0'), ('false', '0', '0.6666666666666666')])
+        places = [row['places_sha256'] for row in self.rows()]
+        self.assertEqual((places[0], places[1]), (places[2], places[3]))
+        self.assertNotEqual(places[0], places[1])
+
+    def test_losses_in_step_are_a_warning_of_a_treatment(self) -> None:
+        need_program(self)
+        (self.folder / 'net.plan.toml').write_text(PLAN.replace('name = "a"', 'name = "a"\nseed = 1\nevery = 2')
+                                                   + '[[loss]]\nrule = "all"\nevery = "${every}"\n')
+        (self.folder / 'a.mote').write_text(
+            'process a; autostart a; code a { etimer t; body { while (self == 1) { set t 4; yield_until fired(t); '
+            'send 7; } } } // ${seed}\n')
+        command = self.command('--vary', 'every=2,1', '--vary', 'seed=1..3', '--measure', 'sent')
+        done = subprocess.run(command, cwd=self.folder, capture_output=True, text=True)
+        self.assertEqual((done.returncode, done.stdout), (0, 'net.csv: 6 runs, 6 of them now, 0 with a fault\n'), done)
+        warned = ('mote 1 loses the same packets on all of its 2 links: 20 of its 40 packets reach nobody (about 10 '
+                  'would, if the links lost independently); give its links different periods, as the rule `primes` of '
+                  'a plan does')
+        self.assertEqual([row['note'] for row in self.rows()], ['warning: ' + warned, '', '', '', '', ''])
+        self.assertEqual(done.stderr, 'sweep: 1 runs have a warning in the column note; the first (every = 2, seed = '
+                                      '1): %s\n' % warned)
+        self.assertIn(' 0 of them now', subprocess.run([*command, '--retry'], cwd=self.folder, capture_output=True,
+                                                       text=True).stdout)
 
     def test_sqlite(self) -> None:
         done = self.sweep(*self.words, '-o', 'net.sqlite')

@@ -9,6 +9,7 @@ what its `plot` describes.
 
 Values are 10,20,40 or 1..30 or 0..100..25 (in steps of 25). Measures are
   sent, ratio, collided, ..     the columns of tools/summary, for the net; `sent of mote 3`
+  reachable                     the share of the motes that packets of mote 0 can reach over others
   flow most: print sink         the columns of tools/summary --flow, for the net
   holds: no mote halts          1 if a sentence of tools/expect holds, otherwise 0
   moment: every mote prints flood 1
@@ -20,7 +21,7 @@ Values are 10,20,40 or 1..30 or 0..100..25 (in steps of 25). Measures are
 and `name = MEASURE` names its column.
 
 docs/use/EXPERIMENTS.md shows a sweep from its beginning to a plot. Ends with status 0, with 1 if a row has an error or
-a note, with 2 if nothing could be done, and with 130 after Ctrl-C.
+lacks a measure, with 2 if nothing could be done, and with 130 after Ctrl-C.
 """
 from __future__ import annotations
 
@@ -47,8 +48,9 @@ def main() -> int:
     words.add_argument('--bytes', type=int, default=MOST_BYTES, metavar='N',
                        help='the limit of a report, in bytes (200,000,000)')
     words.add_argument('--dask', metavar='ADDRESS', help='give the runs to the Dask scheduler there')
-    words.add_argument('--renew', action='store_true', help='repeat the rows of another plan, program or measure')
-    words.add_argument('--retry', action='store_true', help='repeat runs with an error or a note')
+    words.add_argument('--renew', action='store_true',
+                       help='repeat the rows from before a change of the plan, motesim or the measures')
+    words.add_argument('--retry', action='store_true', help='repeat runs with an error or without a measure')
     words.add_argument('--plot', action='store_true', help="draw what the plan's `plot` describes")
     asked = words.parse_args()
     if asked.jobs < 1 or asked.seconds is not None and not 0 < asked.seconds <= MOST_SECONDS:

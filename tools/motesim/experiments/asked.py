@@ -22,8 +22,8 @@ SECONDS, MOST_SECONDS, MOST_BYTES = 60, 86_400, 200_000_000
 RANGE = re.compile(r'(-?[0-9]{1,9})\.\.(-?[0-9]{1,9})(?:\.\.([0-9]{1,9}))?')
 SWEEP = {'vary': optional(dict, {}), 'measure': optional(list, []), 'seconds': optional(int, SECONDS, 1, MOST_SECONDS)}
 # The columns that say what made a row.
-MADE = ('fault', 'note', 'plan', 'plan_sha256', 'scenario_sha256', 'report_sha256', 'program', 'program_sha256',
-        'kit', 'measures_sha256', 'parameters')
+MADE = ('fault', 'note', 'plan', 'plan_sha256', 'scenario_sha256', 'places_sha256', 'rejected', 'report_sha256',
+        'program', 'program_sha256', 'kit', 'measures_sha256', 'parameters')
 
 
 def values_of(words: str) -> list[Value]:

@@ -19,11 +19,13 @@ from motesim.summary.flows import NAMES as FLOW_NAMES
 from motesim.summary.flows import FlowFault, flow_rows, read_flow
 from motesim.judge.judge import Event, Judge
 from motesim.runner.run import Run
+from motesim.scenario import Scenario
 from motesim.judge.sentences import Copies, Does, Names, Packets, Refused, Sentence, read_sentence
 
 Cell = int | float | str | None
 
 SUMMARY = ('sent', 'copies', *summary.BECAME.values(), 'ratio', *summary.COUNTED.values(), 'halt')
+REACHABLE = 'reachable'
 FLOWS = tuple(FLOW_NAMES[1:])
 KINDS = ('holds', 'moment', 'last', 'count', 'motes', 'delay')
 NAMED = re.compile(r'\s*([A-Za-z][A-Za-z0-9_ -]{0,39}?)\s*=(?!=)\s*(.*)', re.S)
@@ -74,6 +76,19 @@ def _of_summary(name: str, mote: str | None) -> Callable[[Bench], Cell]:
         return found
 
     return of
+
+
+def reachable(scenario: Scenario | None) -> float | None:
+    """The part of the motes that packets of mote 0 can reach, over others, if none is lost; mote 0 is one of them."""
+    if scenario is None:
+        return None
+    reached = {0: None}
+    left = [0]
+    while left:
+        near = [it for it in scenario.hearers(left.pop()) if it not in reached]
+        reached.update(dict.fromkeys(near))
+        left += near
+    return len(reached) / scenario.motes
 
 
 def _of_flow(name: str, words: str) -> Callable[[Bench], Cell]:
@@ -256,8 +271,10 @@ def read_measure(words: str, names: Names = Names(), sources: Mapping[str, str] 
             return Measure(name, text, _of_sentence(sentence[1], sentence[2], names))
     except FlowFault as fault:
         raise MeasureFault(str(fault)) from None
+    if text == REACHABLE:
+        return Measure(name, text, lambda bench: reachable(bench.run.scenario))
     plain = OF_SUMMARY.fullmatch(text)
     if plain and plain[1] in SUMMARY:
         return Measure(name, text, _of_summary(plain[1], plain[2]))
     raise MeasureFault('no measure: %r. It is one of %s, or begins with %s, python: or flow NAME:' % (
-        text, ', '.join(SUMMARY), ', '.join(kind + ':' for kind in KINDS)))
+        text, ', '.join((*SUMMARY, REACHABLE)), ', '.join(kind + ':' for kind in KINDS)))

@@ -16,6 +16,7 @@ from pathlib import Path
 from types import FrameType
 from typing import NamedTuple
 
+from motesim.explain.lint import by_cause, of_losses
 from motesim.faults import Fault
 from motesim.runner.batch import fault_of
 from motesim.runner.process import LimitMet, Limits, Runner
@@ -34,6 +35,8 @@ DIGITS = 16
 BUSY = 30
 TOO_BUSY = 'the machine is too busy'
 LONGEST_FAULT = 400
+# A note that begins so is about a run that has all its measures.
+WARNING = 'warning: '
 
 
 class Work(NamedTuple):
@@ -56,17 +59,23 @@ class Work(NamedTuple):
 
 
 class Job(NamedTuple):
-    """A run: its place in the sweep, its parameters, and the files that its scenario is made from."""
+    """A run: its place in the sweep, its parameters, and the files that its scenario is made from.
+
+    is_first  whether it is the first run of its treatment, whose losses are checked
+    """
     place: int
     given: tuple[tuple[str, Value], ...]
     files: tuple[tuple[str, bytes], ...]
     work: Work
+    is_first: bool = False
 
 
 class Result(NamedTuple):
     """The result of a run: the measures by name, digests of scenario and report, and a fault, or an empty text.
 
-    note  which measures failed and why: their cells are empty, and the others are there
+    note      which measures failed and why: their cells are empty, and the others are there; then warnings
+    places    the digest of the motes' places
+    rejected  the number of nets that were drawn before this one, and weren't connected
     """
     place: int
     measures: dict[str, Cell]
@@ -74,6 +83,8 @@ class Result(NamedTuple):
     report: str
     fault: str
     note: str = ''
+    places: str = ''
+    rejected: int | None = None
 
 
 def digest(data: bytes) -> str:
@@ -153,23 +164,37 @@ def measured(work: Work, bench: Bench, known: Scenario) -> tuple[dict[str, Cell]
     return found, '; '.join(notes)
 
 
+def warned(report: Report, known: Scenario, seconds: float) -> list[str]:
+    """The warnings of losses in step, as long as finding them is no longer than a run may be."""
+    try:
+        with limited(seconds):
+            return [WARNING + it.text for it in by_cause(list(of_losses(known, report)))]
+    except TimeoutError:
+        return []
+
+
 def run_job(job: Job) -> Result:
     """Runs a job. What goes wrong is in the result."""
-    scenario = report = fault = note = ''
+    scenario = report = fault = note = places = ''
+    rejected: int | None = None
     measures: dict[str, Cell] = {}
     work = job.work
     try:
         with limited(work.seconds):
             plan = Plan(work.plan, work.text, Files(Path(work.folder), dict(job.files)))
-            text = plan.scenario(dict(job.given))
-            scenario = digest(text.encode())
+            builder = plan.builder(dict(job.given))
+            text = builder.scenario()
+            scenario, rejected = digest(text.encode()), builder.rejected
         limits = Limits(BUSY * work.seconds, report=work.most_bytes, processor=work.seconds)
         got = Runner(program_here(work), limits).answer(text.encode())
         if got.status:
             raise ProgramFault(got.fault.decode('utf-8', 'backslashreplace').strip() or 'status %d' % got.status)
         report = digest(got.report)
-        known = Scenario.parse(text)
-        measures, note = measured(work, Bench(Run(work.plan, Report.parse(got.report), known)), known)
+        known, read = Scenario.parse(text), Report.parse(got.report)
+        places = digest(repr([(it.x, it.y) for it in known.places]).encode())
+        measures, note = measured(work, Bench(Run(work.plan, read, known)), known)
+        if job.is_first:
+            note = '; '.join(filter(None, [note, *map(one_line, warned(read, known, work.seconds))]))
     except BaseException as told:
         fault = reason_of(told)
-    return Result(job.place, measures, scenario, report, fault, note)
+    return Result(job.place, measures, scenario, report, fault, note, places, rejected)

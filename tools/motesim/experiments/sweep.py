@@ -6,13 +6,15 @@ import contextlib
 import hashlib
 import subprocess
 import sys
+from collections import Counter
 from collections.abc import Iterator, Mapping, Sequence
 from pathlib import Path
 from typing import Any
 
+from motesim.analysis.points import REPEATS
 from motesim.experiments import packages
 from motesim.faults import INTERRUPTED, Fault
-from motesim.experiments.one_run import DIGITS, TOO_BUSY, Job, Result, Work, program_digest
+from motesim.experiments.one_run import DIGITS, TOO_BUSY, WARNING, Job, Result, Work, program_digest
 from motesim.output import beside
 from motesim.plan.plan import Plan
 from motesim.plan.tables import Value, text_of_value, value_of_text
@@ -51,27 +53,30 @@ class Sweeper:
     def plan_digest(self, given: Mapping[str, Value]) -> str:
         return self.plan.digest(given)[:DIGITS]
 
-    def is_current(self, row: Row) -> bool:
-        """Returns whether a row was made by the present plan, binary and measures."""
+    def changed(self, row: Row) -> list[str]:
+        """The names of the parts that have changed since a row was made."""
         given = {name: value_of_text(text_of(row[name])) for name in self.plan.parameters}
         try:
-            plan = self.plan_digest(given)
+            is_same = row['plan_sha256'] == self.plan_digest(given)
         except Fault:
-            return False
-        return row['plan_sha256'] == plan and all(
-            row[name] == self.made[name] for name in ('program_sha256', 'measures_sha256'))
+            is_same = False
+        return [words for words, is_changed in (
+            ('the plan or a file next to it', not is_same),
+            ('motesim', row['program_sha256'] != self.made['program_sha256']),
+            ('the measures', row['measures_sha256'] != self.made['measures_sha256'])) if is_changed]
 
     def keep(self, is_renewed: bool, retries: bool) -> None:
         """Looks through the rows that are there. What others made is in the way, or is dropped."""
-        kept = [row for row in self.file.rows if self.is_current(row)]
-        others = len(self.file.rows) - len(kept)
+        changes = [self.changed(row) for row in self.file.rows]
+        kept = [row for row, changed in zip(self.file.rows, changes) if not changed]
+        others = Counter(words for changed in changes for words in changed)
         if others and not is_renewed:
-            raise Fault('%s has %d rows that another plan, program or measure made. --renew runs them again, and -o '
-                        'names another file' % (self.path, others))
+            raise Fault('%s has %d rows from before a change of %s. --renew runs them again, and -o names another '
+                        'file' % (self.path, len(changes) - len(kept), ', and of '.join(others)))
         # (a run for which the machine had no time says nothing)
         kept = [row for row in kept if not str(row['fault'] or '').startswith(TOO_BUSY)]
         if retries:
-            kept = [row for row in kept if not row['fault'] and not row['note']]
+            kept = [row for row in kept if not row['fault'] and not lacks_measure(row)]
         if len(kept) < len(self.file.rows):
             self.file.replace(kept)
         self.rows = {self.key(row): row for row in kept}
@@ -84,7 +89,12 @@ class Sweeper:
         work = Work(self.plan.name, self.plan.text, str(self.plan.files.folder.resolve()), tuple(self.sweep.measures),
                     tuple(self.sources.items()), str(self.program), str(self.made['program_sha256']),
                     self.sweep.seconds, self.sweep.most_bytes)
-        return (Job(place, tuple(given.items()), self.files(given), work) for place, given in enumerate(missing))
+        return (Job(place, tuple(given.items()), self.files(given), work, self.is_first(given))
+                for place, given in enumerate(missing))
+
+    def is_first(self, given: Mapping[str, Value]) -> bool:
+        """Returns whether a run is the first of its treatment: the others differ from it only in seeds."""
+        return all(given[name] == values[0] for name, values in self.sweep.vary.items() if REPEATS in name)
 
     def files(self, given: Mapping[str, Value]) -> tuple[tuple[str, bytes], ...]:
         """The files that a run needs. One that can't be read is an error of the run, which reports it."""
@@ -97,7 +107,8 @@ class Sweeper:
     def row(self, given: Mapping[str, Value], result: Result) -> Row:
         parameters = {name: text_of_value(value) if type(value) is bool else value for name, value in given.items()}
         return {**parameters, **result.measures, **self.made, 'plan_sha256': self.plan_digest(given),
-                'scenario_sha256': result.scenario, 'report_sha256': result.report, 'fault': result.fault or None,
+                'scenario_sha256': result.scenario, 'places_sha256': result.places or None,
+                'rejected': result.rejected, 'report_sha256': result.report, 'fault': result.fault or None,
                 'note': result.note or None}
 
     def run(self, processes: int, address: str | None) -> int:
@@ -130,6 +141,11 @@ class Sweeper:
         return found + list(rows.values())
 
 
+def lacks_measure(row: Row) -> bool:
+    """Returns whether a measure failed in a run."""
+    return bool(row['note']) and not str(row['note']).startswith(WARNING)
+
+
 def default_output(plan: str) -> Path:
     return beside(plan, Path(plan).name.removesuffix('.toml').removesuffix('.plan') + '.csv')
 
@@ -141,7 +157,12 @@ def said(sweeper: Sweeper, ran: int) -> int:
     print('%s: %d runs, %d of them now, %d with a fault' % (sweeper.path, len(rows), ran, len(faults)))
     if faults:
         print('the first fault: %s' % faults[0]['fault'])
-    noted = [row for row in rows if row['note']]
+    warned = [row for row in rows if WARNING in str(row['note'] or '')]
+    if warned:
+        varied = ', '.join('%s = %s' % (name, text_of(warned[0][name])) for name in sweeper.sweep.vary)
+        print('sweep: %d runs have a warning in the column note; the first (%s): %s' % (
+            len(warned), varied, str(warned[0]['note']).partition(WARNING)[2]), file=sys.stderr)
+    noted = [row for row in rows if lacks_measure(row)]
     if noted:
         print('%d runs lack a measure; the first: %s' % (len(noted), noted[0]['note']))
     return 1 if faults or noted else 0

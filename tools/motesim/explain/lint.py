@@ -8,7 +8,7 @@ from __future__ import annotations
 from collections.abc import Iterator
 from typing import NamedTuple
 
-from motesim.explain.resonance import resonances
+from motesim.explain.resonance import all_at_once, resonances
 from motesim.notation.faults import WAITS, Token, tokens_of
 from motesim.report import Report
 from motesim.scenario import Scenario
@@ -117,6 +117,14 @@ def of_program(program: Program) -> Iterator[Warned]:
                     yield Warned('the timer `%s` is never set' % timer.text, name, timer)
 
 
+def of_losses(scenario: Scenario, report: Report) -> Iterator[Warned]:
+    """Yields the warnings of losses that hit one kind of packet, or all links of a mote at once."""
+    for it in resonances(scenario, report):
+        yield Warned(str(it), loss=it.place, cause='step %d' % it.every)
+    for sender in all_at_once(scenario, report):
+        yield Warned(str(sender), mote=sender.sender, loss=sender.place, cause='together')
+
+
 def of_net(scenario: Scenario, programs: dict[str, Program], report: Report | None) -> Iterator[Warned]:
     """Yields the warnings of a net."""
     for name in scenario.programs:
@@ -136,8 +144,7 @@ def of_net(scenario: Scenario, programs: dict[str, Program], report: Report | No
             what = 'a loss from mote %d to mote %d, which doesn\'t hear it, loses nothing' % (s, r)
             yield Warned(what, loss=number, cause='loss')
     if report is not None:
-        for it in resonances(scenario, report):
-            yield Warned(str(it), loss=it.place, cause='step %d %d' % (it.sender, it.every))
+        yield from of_losses(scenario, report)
         for mote in report.motes:
             halted = mote.halted()
             if halted is not None:

@@ -4,6 +4,9 @@ A loss with `every = 2` loses each second packet of its sender. If the sender al
 it loses all of one kind and none of the other, though the summary says 0.500. `resonances(scenario, report)` finds the
 losses of which that is so in a run: one kind of packet is lost far more often than the period says.
 
+`all_at_once(scenario, report)` finds the senders whose links all lose the same packets, since their periods have a
+common multiple that is too small: with `every = 2` on each link, every second packet reaches nobody.
+
 A kind is a flow of packets, which a report doesn't name. So the packets are divided in several ways:
 
     by value            a value that is sent again and again is a kind; the others are kinds by their upper bytes
@@ -15,7 +18,7 @@ from __future__ import annotations
 
 from collections import Counter, defaultdict
 from collections.abc import Iterator, Sequence
-from math import comb
+from math import comb, lcm, prod
 from typing import NamedTuple
 
 from motesim.report import Report
@@ -27,6 +30,8 @@ FREQUENT = 1 / 8
 # A kind of fewer packets says nothing; nor does a loss that chance causes once in so many runs.
 LEAST_PACKETS = 5
 RARE = 1e-3
+# A kind is hit if it loses so many times the part that the period says.
+MORE = 1.8
 PRIMES = (2, 3, 5, 7, 11, 13, 17, 19, 23, 29, 31, 37, 41, 43, 47)
 
 
@@ -61,6 +66,22 @@ class Resonance(NamedTuple):
                 'in '
                 '%d would be %d)%s' % (self.sender, self.to, self.every, self.sender, self.kind, self.every,
                                        round(self.kind.packets / self.every), more))
+
+
+class Together(NamedTuple):
+    """A sender that loses the same packets on all its links: the loss of its first link by its place in the scenario,
+    the links, the packets, how many of them reach nobody, and how many would if the links lost independently."""
+    place: int
+    sender: int
+    links: int
+    packets: int
+    lost: int
+    expected: float
+
+    def __str__(self) -> str:
+        return ('mote %d loses the same packets on all of its %d links: %d of its %d packets reach nobody (about %d '
+                'would, if the links lost independently); give its links different periods, as the rule `primes` of a '
+                'plan does' % (self.sender, self.links, self.lost, self.packets, round(self.expected)))
 
 
 Division = list[tuple[str, int, int]]
@@ -114,12 +135,29 @@ def hits(values: Sequence[int], every: int, division: Division) -> Iterator[tupl
     all_lost = len(values) // every
     for (what, _, _), numbers in groups.items():
         lost = sum((number + 1) % every == 0 for number in numbers)
-        if len(numbers) < LEAST_PACKETS or len(numbers) == len(values) or lost * every < 1.8 * len(numbers):
+        if len(numbers) < LEAST_PACKETS or len(numbers) == len(values) or lost * every < MORE * len(numbers):
             continue
         chance = _chance(len(numbers), lost, len(values), all_lost)
         its = [values[number] for number in numbers]
         if chance < RARE:
             yield chance, Kind(len(numbers), lost, min(its), max(its), what)
+
+
+def all_at_once(scenario: Scenario, report: Report) -> Iterator[Together]:
+    """The senders that lose the same packets on all their links, far more often than by chance."""
+    sent = Counter(packet.sender for packet in report.medium)
+    periods: dict[int, dict[int, int]] = defaultdict(dict)
+    for place, (sender, to) in enumerate(scenario.losses):
+        periods[sender][to] = place
+    every = list(scenario.losses.values())
+    for sender, places in periods.items():
+        hearers = scenario.hearers(sender)
+        if len(hearers) < 2 or not set(hearers) <= places.keys():
+            continue
+        its = [every[places[to]] for to in hearers]
+        lost, expected = sent[sender] // lcm(*its), sent[sender] / prod(its)
+        if lost >= LEAST_PACKETS and lost >= MORE * expected:
+            yield Together(min(places[to] for to in hearers), sender, len(hearers), sent[sender], lost, expected)
 
 
 def resonances(scenario: Scenario, report: Report) -> Iterator[Resonance]:

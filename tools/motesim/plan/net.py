@@ -39,6 +39,7 @@ class Builder:
         self.tables, self.files = tables, files
         self.top = self._top_of_plan()
         self.medium = self.tables.read(self.top['medium'], ('medium',), MEDIUM, 'The medium')
+        self.rejected = 0  # nets that weren't connected
         self.programs: dict[str, str] = {}
         self.sources: dict[str, str] = {}
 
@@ -71,7 +72,7 @@ class Builder:
         return ['Written by tools/scenario from the plan %s: change that, and not this file.' % self.tables.name,
                 'Parameters: %s' % (parameters or 'none'),
                 'Files beside the plan: %s' % (', '.join(files) or 'none'),
-                'SHA-256 of the plan and these files: %s' % self.files.digest(self.tables.text, files)]
+                'SHA-256 of the plan and these files: %s' % self.files.digest(self.tables.of_runs(), files)]
 
     def read_file(self, name: str, path: Path) -> str:
         """The text of a file next to the plan, which is named at a key."""
@@ -185,14 +186,20 @@ class Builder:
         if rule == 'ring':
             return places.ring(values['count'], values['radius'])
         if rule == 'random':
-            return places.scattered(values['count'], values['width'], values['height'], values['seed'],
-                                    values['least'], reach)
+            return self.of_drawn(places.scattered(values['count'], values['width'], values['height'], values['seed'],
+                                                  values['least'], reach))
         if rule == 'clusters':
-            return places.clusters(values['count'], values['motes'], values['spread'], values['width'],
-                                   values['height'], values['seed'], values['least'], reach)
+            return self.of_drawn(places.clusters(
+                values['count'], values['motes'], values['spread'], values['width'], values['height'], values['seed'],
+                values['least'], reach))
         if rule == 'list':
             return self.listed(values['at'], path + ('at',))
         return self.places_of_csv(values, path, names)
+
+    def of_drawn(self, drawn: places.Drawn) -> list[Point]:
+        """The places of a group that was drawn; the rejected nets are counted."""
+        self.rejected += drawn.rejected
+        return drawn.points
 
     def listed(self, rows: list[Any], path: Path) -> list[Point]:
         for index, row in enumerate(rows):

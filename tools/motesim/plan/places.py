@@ -6,6 +6,7 @@ has the rules.
 from __future__ import annotations
 
 from collections.abc import Callable, Iterable
+from typing import NamedTuple
 
 from motesim.plan.chance import Chance
 
@@ -115,17 +116,23 @@ def _net(draw: Callable[[int], Point], count: int, least: int) -> list[Point]:
     return points
 
 
-def _drawn(net: Callable[[], list[Point]], reach: int | None) -> list[Point]:
+class Drawn(NamedTuple):
+    """The places of a net, and the number of nets that were drawn before it and rejected."""
+    points: list[Point]
+    rejected: int
+
+
+def _drawn(net: Callable[[], list[Point]], reach: int | None) -> Drawn:
     """A net; with a reach the first of those drawn that is connected."""
-    for _ in range(TRIES_FOR_A_NET):
+    for rejected in range(TRIES_FOR_A_NET):
         points = net()
         if reach is None or is_connected(points, reach):
-            return points
+            return Drawn(points, rejected)
     raise NoPlace('None of %d nets that were drawn is connected if a packet is heard up to %s away.' % (
         TRIES_FOR_A_NET, reach))
 
 
-def scattered(count: int, width: int, height: int, seed: int, least: int, reach: int | None) -> list[Point]:
+def scattered(count: int, width: int, height: int, seed: int, least: int, reach: int | None) -> Drawn:
     """Anywhere in an area, which includes its edges; with a reach the whole net is connected."""
     chance = Chance(seed)
 
@@ -136,7 +143,7 @@ def scattered(count: int, width: int, height: int, seed: int, least: int, reach:
 
 
 def clusters(count: int, motes: int, spread: int, width: int, height: int, seed: int, least: int,
-             reach: int | None) -> list[Point]:
+             reach: int | None) -> Drawn:
     """So many motes around each of `count` centres, at most `spread` away from it to each side."""
     chance = Chance(seed)
 

@@ -63,14 +63,18 @@ class Plan:
                 raise Fault('%s has no parameter %s; it has: %s' % (self.shown_as, name, known))
         return {**self.parameters, **given}
 
+    def builder(self, given: Mapping[str, Value]) -> Builder:
+        """The builder of the scenario, which counts the nets that it rejects."""
+        return Builder(self.tables.with_parameters(self.with_given(given)), self.files)
+
     def scenario(self, given: Mapping[str, Value]) -> str:
         """The scenario's text."""
-        return Builder(self.tables.with_parameters(self.with_given(given)), self.files).scenario()
+        return self.builder(given).scenario()
 
     def used_files(self, given: Mapping[str, Value]) -> list[str]:
         """The names of the files that the scenario needs, as far as they are known."""
         return files_of(self.tables.with_parameters(self.with_given(given)), self.files)
 
     def digest(self, given: Mapping[str, Value]) -> str:
-        """The SHA-256 of the plan and of the files that it needs."""
-        return self.files.digest(self.text, self.used_files(given))
+        """The SHA-256 of the parts of the plan that decide about a run, and of the files that it needs."""
+        return self.files.digest(self.tables.of_runs(), self.used_files(given))

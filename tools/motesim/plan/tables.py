@@ -5,6 +5,7 @@ mean a number or `true` and `false`.
 """
 from __future__ import annotations
 
+import json
 import re
 from collections.abc import Mapping
 from copy import copy
@@ -115,6 +116,12 @@ class Tables:
         made = copy(self)
         made.parameters = dict(parameters)
         return made
+
+    def of_runs(self) -> str:
+        """A text of all that decides about a run, once the parameters are given: no pictures, sweeps or default values,
+        and no comments."""
+        deciding = {name: value for name, value in self.top.items() if name not in ('parameters', 'plot', 'sweep')}
+        return json.dumps(deciding, sort_keys=True, default=str)
 
     def _no_toml(self, fault: NoToml) -> NoReturn:
         place = Place(fault.line, fault.column, 1)
