@@ -400,7 +400,8 @@ class Forms(Folder):
         self.assertEqual(marks['nets'], ['task.toml'])
         self.assertEqual([(it['name'], it['holds'], it['of'], it['broken']) for it in marks['solution']],
                          [('anna.toml', 3, 3, []), ('b"en\\.toml', 1, 3, [1, 2])])
-        self.assertEqual(marks['solution'][1]['first_failed'], 'mote 0 has 0 such lines; wanted: at least 1')
+        self.assertEqual(marks['solution'][1]['first_failed'],
+                         'mote 0 has 0 such lines; wanted: at least 1; it prints a 4 at moment 4')
 
     def test_a_page_links_the_first_failed_sentence_to_its_timeline(self) -> None:
         self.hand_in('<script>.toml', net(PROGRAM % 4))

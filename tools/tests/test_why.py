@@ -442,6 +442,17 @@ class Runs(unittest.TestCase):
         with self.assertRaisesRegex(Unasked, 'no mote does'):
             asker.about('some mote prints flood 9 after mote 0 sends')
 
+    def test_the_first_mote_that_misses_an_order_has_near_misses(self) -> None:
+        asker = Asker(self.run_of('lesson/start.toml'))
+        for question, mote in (('every mote but 0 prints hops within 0 of receiving', 3),
+                               ('motes 1, 2 and 5 print hops after receiving', 5),
+                               ('motes 1 to 3 print hops 1 at least once within 0 of receiving', 3)):
+            missing = asker.about(question)
+            assert isinstance(missing, Missing)
+            self.assertEqual((missing.motes, missing.remark.split(' has ')[0]), ((mote,), 'mote %d' % mote))
+            words = [it.words for _, its in misses(asker, missing) for it in its]
+            self.assertTrue(any('`print data`' in it and 'was never reached' in it for it in words), words)
+
     def test_the_if_that_led_to_a_statement(self) -> None:
         found = self.run_of('flooding.toml')
         for question, led in (('mote 6 prints flood 1', ', in line 20: `if (is(packet) && (data > newest))`'),

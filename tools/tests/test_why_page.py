@@ -12,7 +12,7 @@ from browser import Browser
 from motesim.judge.judge import Judge
 from motesim.judge.sentences import names_of, read_sentence
 from motesim.report import Report
-from motesim.runner.run import Run, answer
+from motesim.runner.run import Run, answer, read_run
 from motesim.scenario import Scenario
 from motesim.timeline.html import write_page
 from motesim.timeline.note import Line, Note, note_of
@@ -56,6 +56,15 @@ class Notes(unittest.TestCase):
         self.assertEqual(note.why, 'mote 1 has 0 such lines; wanted: at least 1. The nearest:')
         self.assertIn(Line('mote 1: it prints 1 value: 8 at 7', 28), note.lines)
         self.assertEqual(note.mote, 1)
+
+    def test_a_page_on_an_order_opens_at_the_first_mote_that_misses_it(self) -> None:
+        run = read_run(str(TOP / 'examples/lesson/start.toml'))
+        assert run.scenario
+        sentence = 'every mote but 0 prints hops within 0 of receiving'
+        broken = Judge(run.report, run.scenario).broken(read_sentence(sentence, names_of(run.scenario)))
+        note = note_of(run, sentence, broken)
+        self.assertEqual((note.mote, note.at), (3, 40))
+        self.assertTrue(note.lines)
 
     def test_a_sentence_that_no_line_shows(self) -> None:
         self.assertEqual(note_of(small_run(), 'the report', None, ('line 3: x',)).lines, (Line('line 3: x'),))

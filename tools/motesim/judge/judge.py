@@ -13,12 +13,14 @@ from operator import and_
 from typing import NamedTuple
 
 from motesim.judge import relations
+from motesim.judge.numbers import TOGETHER, has, has_lines, there_are, verb
 from motesim.judge.sentences import (
     Copies, Count, Deed, Does, Hears, Lines, MediumLine, Motes, Packets, Pattern, Refused, Sentence, Value, Window,
 )
 from motesim.report import LOST, Line, Report, Rows
 from motesim.scenario import Scenario
 
+DOES = {'print': 'prints', 'send': 'sends', 'recv': 'receives'}
 BECAME = {'collided': 'collide', 'received': 'recv', 'full': 'lost'}
 
 # The first and the last moment of a time; None for no last one.
@@ -61,6 +63,14 @@ def _shown(span: Span) -> str:
 def _first_spare(rows: list[int], count: Count) -> int | None:
     """The first of the rows that is one too many."""
     return rows[max(count.most, 0)] if count.most is not None and len(rows) > max(count.most, 0) else None
+
+
+def _without_value(pattern: Pattern) -> Pattern:
+    """A pattern without the value at its end, and without the words before it that may be any."""
+    words = pattern[:-1]
+    while words[-1] is None:
+        words = words[:-1]
+    return words
 
 
 class Judge:
@@ -175,16 +185,14 @@ class Judge:
         return [event for event in events if any(_within(event.line.at, span) for span in spans)]
 
     def name(self, motes: tuple[int, ...]) -> str:
-        if len(motes) == 1:
-            return 'mote %d' % motes[0]
-        return 'the motes together'
+        return 'mote %d' % motes[0] if len(motes) == 1 else TOGETHER
 
     def counted(self, events: list[Event], count: Count, motes: tuple[int, ...], span: Span) -> Broken | None:
         """Checks the number of events in a span."""
         inside = [event for event in events if _within(event.line.at, span)]
         if count.admits(len(inside)):
             return None
-        why = '%s has %d such lines%s; wanted: %s' % (self.name(motes), len(inside), _shown(span), count)
+        why = '%s%s; wanted: %s' % (has_lines(self.name(motes), len(inside)), _shown(span), count)
         spare = _first_spare([event.row for event in inside], count)
         if spare is not None:
             return Broken(why, spare)
@@ -195,12 +203,13 @@ class Judge:
         """Checks that the values of all lines are those of a list, in its order."""
         for event, wanted in zip(events, deed.values):
             if event.line.value != wanted:
-                why = '%s prints %s instead of %d' % (self.name(motes), event.line.value, wanted)
+                why = '%s %s instead of %d' % (verb(self.name(motes), 'print'), event.line.value, wanted)
                 return Broken(why, event.row)
         if len(events) > len(deed.values):
-            return Broken('%s prints one value more' % self.name(motes), events[len(deed.values)].row)
+            return Broken('%s one value more' % verb(self.name(motes), 'print'), events[len(deed.values)].row)
         if len(events) < len(deed.values):
-            return Broken('%s prints %d of these %d values' % (self.name(motes), len(events), len(deed.values)))
+            return Broken('%s %d of these %d values' % (verb(self.name(motes), 'print'), len(events),
+                                                        len(deed.values)))
         return None
 
     def in_any_order(self, deed: Deed, events: list[Event], motes: tuple[int, ...]) -> Broken | None:
@@ -208,15 +217,16 @@ class Judge:
         left = list(deed.values)
         for event in events:
             if event.line.value not in left:
-                return Broken('%s prints a value that is no more in the list' % self.name(motes), event.row)
+                return Broken('%s a value that is no more in the list' % verb(self.name(motes), 'print'), event.row)
             left.remove(event.line.value)
-        return Broken('%s never prints %s' % (self.name(motes), ', '.join(map(str, left)))) if left else None
+        never = verb(self.name(motes), 'print', 'never ')
+        return Broken('%s %s' % (never, ', '.join(map(str, left)))) if left else None
 
     def last(self, deed: Deed, events: list[Event], motes: tuple[int, ...]) -> Broken | None:
         """Checks the value of the last line."""
         allowed = self.values(deed.value, motes[0]) if deed.value else set()
         if not events:
-            return Broken('%s has no such line' % self.name(motes))
+            return Broken('%s no such line' % has(self.name(motes)))
         if events[-1].line.value in allowed:
             return None
         shown = ' or '.join(map(str, sorted(allowed))) or 'any value'
@@ -250,25 +260,46 @@ class Judge:
             if self.is_plainly_kept(it, motes):
                 return None
             events = self.done(it.deed, motes)
-            if it.than:
-                return self.than(it, events, motes)
-            if it.relation:
-                return self.related(it, events, motes)
-            for span in self.spans(it.window, motes):
-                inside = [event for event in events if _within(event.line.at, span)]
-                if it.deed.way == 'finally':
-                    broken = self.last(it.deed, inside, motes)
-                elif it.deed.way == 'just':
-                    broken = self.ordered(it.deed, inside, motes)
-                elif it.deed.way == 'set':
-                    broken = self.in_any_order(it.deed, inside, motes)
-                else:
-                    broken = self.counted(events, it.count, motes, span)
-                if broken:
-                    return broken
+            broken = self.of_events(it, events, motes)
+            if broken is None or broken.row is not None or events or it.than:
+                return broken
+            return Broken(broken.why + self.other_value(it, motes))
         except _Apart as apart:
             return Broken(str(apart))
+
+    def of_events(self, it: Does, events: list[Event], motes: tuple[int, ...]) -> Broken | None:
+        """Checks a sentence for the lines that show its deed."""
+        if it.than:
+            return self.than(it, events, motes)
+        if it.relation:
+            return self.related(it, events, motes)
+        for span in self.spans(it.window, motes):
+            inside = [event for event in events if _within(event.line.at, span)]
+            if it.deed.way == 'finally':
+                broken = self.last(it.deed, inside, motes)
+            elif it.deed.way == 'just':
+                broken = self.ordered(it.deed, inside, motes)
+            elif it.deed.way == 'set':
+                broken = self.in_any_order(it.deed, inside, motes)
+            else:
+                broken = self.counted(events, it.count, motes, span)
+            if broken:
+                return broken
         return None
+
+    def other_value(self, it: Does, motes: tuple[int, ...]) -> str:
+        """The value that a line has which is missing with the wanted one, in words; empty if there is none."""
+        found = [event for mote in motes for pattern in it.deed.patterns if isinstance(pattern[-1], Value)
+                 for event in self.matches(_without_value(pattern), mote)]
+        found.sort(key=lambda event: (event.line.at, event.row))
+        inside = self.within(found, it.window, motes) or found
+        if it.deed.way != 'any' or not inside:
+            return ''
+        line = inside[0].line
+        who = 'it' if len(motes) == 1 else 'mote %d' % line.mote
+        what = DOES[line.kind] + (' %s' % line.process if line.process else '')
+        more = ', and %d other%s' % (len(inside) - 1, '' if len(inside) == 2 else 's') if len(inside) > 1 else ''
+        return '; %s %s %s at moment %d%s' % (who, what, line.value, line.at, more)
 
     def chosen(self, motes: Motes) -> tuple[int, ...]:
         numbers = range(len(self.report.motes)) if motes.numbers is None else sorted(motes.numbers)
@@ -355,18 +386,18 @@ class Judge:
             return Broken(str(apart))
         for rows in parts.values():
             if not count.admits(len(rows)):
-                return Broken('there are %d %s; wanted: %s' % (len(rows), what, count), _first_spare(rows, count))
+                return Broken('%s; wanted: %s' % (there_are(len(rows), what), count), _first_spare(rows, count))
         return None
 
     def lines(self, count: Count) -> Broken | None:
         if count.admits(len(self.rows)):
             return None
-        return Broken('there are %d lines; wanted: %s' % (len(self.rows), count))
+        return Broken('%s; wanted: %s' % (there_are(len(self.rows), 'lines'), count))
 
     def left(self, count: Count) -> Broken | None:
         if count.admits(self.report.left):
             return None
-        return Broken('there are %d such copies; wanted: %s' % (self.report.left, count), len(self.rows))
+        return Broken('%s; wanted: %s' % (there_are(self.report.left, 'such copies'), count), len(self.rows))
 
     def broken(self, it: Sentence) -> Broken | None:
         """The reason why a sentence doesn't hold, or None."""

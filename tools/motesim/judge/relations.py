@@ -13,6 +13,7 @@ import bisect
 from collections.abc import Callable, Sequence
 from typing import Protocol
 
+from motesim.judge.numbers import has, has_lines
 from motesim.judge.sentences import Count, Does, Relation
 
 
@@ -112,8 +113,8 @@ def _counted(it: Does, relation: Relation, name: str, lines: Sequence[Found], or
     fit = [line for line in lines if _holds(relation, line, order)]
     if it.count.admits(len(fit)):
         return None
-    why = '%s has %d such lines %s `%s`; wanted: %s' % (
-        name, len(fit), _kind_in_words(relation), relation.words, it.count)
+    why = '%s %s `%s`; wanted: %s' % (
+        has_lines(name, len(fit)), _kind_in_words(relation), relation.words, it.count)
     most = it.count.most
     return why, fit[max(most, 0)].row if most is not None and len(fit) > max(most, 0) else None
 
@@ -130,8 +131,8 @@ def _answered(relation: Relation, name: str, lines: Sequence[Found], order: Orde
         until = event.line.at + relation.moments
         if (found is None and until <= end) or (found is not None and found.line.at > until):
             more = ': the next is at %d (line %d)' % (found.line.at, found.row) if found else ''
-            return '`%s` at %d is this line, and %s has no such line up to %d%s' % (
-                relation.words, event.line.at, name, until, more), event.row
+            return '`%s` at %d is this line, and %s no such line up to %d%s' % (
+                relation.words, event.line.at, has(name), until, more), event.row
     return None if order.events else ('no line is `%s`' % relation.words, None)
 
 
@@ -144,6 +145,6 @@ def broken(it: Does, name: str, lines: Sequence[Found], events: Sequence[Found],
     if it.is_counted:
         return _counted(it, relation, name, lines, order)
     if not lines:
-        return '%s has 0 such lines; wanted: %s' % (name, Count('at least', 1)), None
+        return '%s; wanted: %s' % (has_lines(name, 0), Count('at least', 1)), None
     line = next((line for line in sorted(lines, key=in_time) if not _holds(relation, line, order)), None)
     return (_why_not(relation, line, order), line.row) if line else None

@@ -11,6 +11,7 @@ from dataclasses import dataclass, replace
 
 from motesim.faults import Fault
 from motesim.judge.judge import Judge, Span, _Apart
+from motesim.judge.numbers import has, has_lines, there_are, verb
 from motesim.report import FIELDS, Report
 from motesim.judge.sentences import (
     Copies, Count, Does, Hears, Packets, Pattern, Sentence, Value, names_of, read_sentence,
@@ -227,11 +228,12 @@ class Asker:
     @staticmethod
     def of_number(inside: list[Found], count: Count, whole: int, what: str) -> Answer:
         """The line by which so many lines are there, or one too many. A part is one of the `whole`."""
-        has = len(inside)
-        why = 'there are %d %s%s; wanted: %s' % (has, what, ' of %d' % whole if count.is_part else '', count)
-        admitted = [number for number in range(has + 1) if count.admits(number, whole)]
-        if has in admitted:
-            first = next((number for number in admitted if number), 0)
+        number = len(inside)
+        there = 'there are %d %s of %d' % (number, what, whole) if count.is_part else there_are(number, what)
+        why = '%s; wanted: %s' % (there, count)
+        admitted = [it for it in range(number + 1) if count.admits(it, whole)]
+        if number in admitted:
+            first = next((it for it in admitted if it), 0)
             return Asked(inside[first - 1].where, True) if first else Lineless(True, 'there are no %s' % what)
         if inside and (admitted or count.compare in ('at most', 'fewer than')):
             spare = admitted[-1] if admitted else 0
@@ -258,22 +260,26 @@ class Asker:
     def of_two(self, it: Does) -> Answer:
         """The line of a sentence that compares two counts, or orders two events."""
         chosen = self.judge.chosen(it.motes)
-        broken = Judge(Report.parse(self.traces.data), self.source.scenario).broken(it)
+        judge = Judge(Report.parse(self.traces.data), self.source.scenario)
+        broken = judge.broken(it)
         try:
             inside = {mote: self.inside(it, mote) for mote in chosen}
         except _Apart as apart:
             return Lineless(False, str(apart))
-        lines = sorted(line for its in inside.values() for line in its)
         if broken is None:
             return self.of_kept(it, inside)
         where = self.traces.at_row(broken.row) if broken.row is not None else None
         why = broken.why.split('\n', 1)[0]
         if where:
             return Asked(where, False, why)
-        if lines or it.motes.kind not in ('each', 'together'):
+        if it.motes.kind == 'each':
+            chosen = next((mote,) for mote in chosen if judge.of_unit(it, (mote,)))
+        is_compared = it.than and any(inside[mote] for mote in chosen)
+        if is_compared or it.motes.kind not in ('each', 'together'):
             return Lineless(False, why)
         span = self.judge.spans(it.window, chosen)[0]
-        return Missing(replace(it, than=None, relation=None), chosen, span, (), why)
+        found = tuple(sorted(line for mote in chosen for line in inside[mote]))
+        return Missing(replace(it, than=None, relation=None), chosen, span, found, why)
 
     def inside(self, it: Does, mote: int) -> list[Found]:
         """The lines of a mote in the time of a sentence."""
@@ -335,7 +341,7 @@ class Asker:
         try:
             spans = self.judge.spans(it.window, motes)
             lines = self.lines(it, motes)
-            name = 'mote %d' % motes[0] if len(motes) == 1 else 'the motes together'
+            name = self.judge.name(motes)
             answers = [self.of_span(it, motes, lines, span, name) for span in spans]
         except _Apart as apart:
             return Lineless(False, str(apart))
@@ -354,14 +360,12 @@ class Asker:
                 name, ' or '.join(map(str, sorted(allowed))) or 'any value')
             return Asked(inside[-1].where, not remark, remark)
         if count.most is not None and len(inside) > max(count.most, 0):
-            return Asked(inside[max(count.most, 0)].where, False, '%s has %d such lines; wanted: %s; this is the '
-                                                                  'first '
-                         'that is one too many' % (name, len(inside), count))
+            return Asked(inside[max(count.most, 0)].where, False,
+                         '%s; wanted: %s; this is the first that is one too many' % (has_lines(name, len(inside)), count))
         if not count.admits(len(inside)) or it.deed.way == 'finally':
-            return Missing(it, motes, span, tuple(lines), '%s has %d such lines; wanted: %s' % (
-                name, len(inside), count))
+            return Missing(it, motes, span, tuple(lines), '%s; wanted: %s' % (has_lines(name, len(inside)), count))
         if not inside:
-            return Lineless(True, '%s has no such line' % name)
+            return Lineless(True, '%s no such line' % has(name))
         return Asked(inside[min(max(count.least, 1), len(inside)) - 1].where, True)
 
     def value(self, found: Found) -> int:
@@ -377,11 +381,11 @@ class Asker:
         for found in sorted(inside, key=lambda found: found.where):
             value = self.value(found)
             if not left or value not in (left if it.deed.way == 'set' else left[:1]):
-                remark = '%s prints %d here' % (name, value)
+                remark = '%s %d here' % (verb(name, 'print'), value)
                 return Asked(found.where, False, remark + (', and the list wants %d' % left[0] if left else
                                                          ', and the list is over'))
             left.remove(value)
         if left:
-            return Missing(it, motes, span, tuple(inside), '%s never prints %d, the next of the list' % (name,
-                                                                                                         left[0]))
+            return Missing(it, motes, span, tuple(inside), '%s %d, the next of the list' % (
+                verb(name, 'print', 'never '), left[0]))
         return Asked(inside[-1].where, True)

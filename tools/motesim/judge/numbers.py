@@ -1,0 +1,24 @@
+"""Subjects and their verbs in messages: one mote has a line, the motes together have 2 lines."""
+from __future__ import annotations
+
+TOGETHER = 'the motes together'
+ONE_OF = {'such copies': 'such copy', 'packets': 'packet', 'lines': 'line'}
+
+
+def verb(name: str, many: str, before: str = '') -> str:
+    """A subject with its verb, as `mote 3 prints`; `many` is the verb of several."""
+    return '%s %s%s' % (name, before, many if name == TOGETHER else many + 's')
+
+
+def has(name: str) -> str:
+    return '%s %s' % (name, 'have' if name == TOGETHER else 'has')
+
+
+def has_lines(name: str, number: int) -> str:
+    """The number of lines that a mote has, or several have together."""
+    return '%s %d such %s' % (has(name), number, 'line' if number == 1 else 'lines')
+
+
+def there_are(number: int, what: str) -> str:
+    """The number of things that there are, which are named in the plural."""
+    return 'there is 1 %s' % ONE_OF[what] if number == 1 else 'there are %d %s' % (number, what)
