@@ -30,6 +30,14 @@ def one_line(text: str) -> str:
     return ''.join(sign if sign.isprintable() else escaped(sign) for sign in text)
 
 
+def cut(text: str, most: int) -> str:
+    """A text of at most so many signs: a longer one without its middle."""
+    if len(text) <= most:
+        return text
+    begin = (most - 1) // 2
+    return text[:begin] + '..' + text[begin + 2 - most:]
+
+
 class Plain:
     """A stream to which only plain text is written."""
 

@@ -155,6 +155,28 @@ class Corpus(unittest.TestCase):
         self.assertEqual(words(text), words(OURS))
 
 
+class Timers(unittest.TestCase):
+    SOURCE = 'process a;\nautostart a;\ncode a {\n  body {\n    %s\n    yield;\n  }\n}\n'
+
+    def test_a_timer_that_is_set_without_a_declaration_gets_one(self) -> None:
+        source = self.SOURCE % 'etimer_set(&t, 5);'
+        fault = find_fault(source)
+        assert fault
+        found = correction(source, fault)
+        assert found
+        self.assertEqual(((found.line or '').strip(), found.above), ('set t 5;', (3, 'etimer t;')))
+        self.assertIn('No timer is named `t`', ' '.join(found.reasons))
+        self.assertIsNone(find_fault(found.applied(source)))
+
+    def test_a_callback_timer_is_declared_with_its_callback(self) -> None:
+        source = self.SOURCE % 'ctimer_set(&t, 5, f, 0);'
+        fault = find_fault(source)
+        assert fault
+        found = advice(source, fault)
+        assert found
+        self.assertIn('`ctimer t { .. }`', found.hint)
+
+
 class Packets(unittest.TestCase):
     def test_a_value_that_leaves_no_room_for_an_address_has_no_line(self) -> None:
         for value, line in ('(512 + from)', None), ('300', None), ('(x + 255)', 'send ((from * 256) + (x + 255));'):

@@ -158,6 +158,20 @@ class Entries(Folder):
         rows = self.grade('--csv', '--net', 'task.toml').split('\n')
         self.assertIn('it has no program `task`, but: `\\nben.toml   3 of 3`, `mine`', rows[3])
 
+    def test_long_names_and_many_names_spoil_no_table(self) -> None:
+        name = 'b%sn.toml' % ('e' * 238)
+        self.hand_in(name, net(PROGRAM % 4))
+        programs = ''.join('p%d = ""\n' % number for number in range(1_000))
+        self.hand_in('cem.toml', net(PROGRAM % 3, name='mine').replace('[programs]\n', '[programs]\n' + programs))
+        self.hand_in('dora.toml', '[programs]\n%s = ""\nb = ""\n' % ('a' * 900))
+        rows = self.rows('--net', 'task.toml')
+        self.assertEqual(rows['b' + 'e' * 18 + '..' + 'e' * 13 + 'n.toml'], '1 of 3  broken: 1, 2')
+        self.assertEqual(rows['cem.toml'].split('  ')[1],
+                         'it has no program `task`, but: `p0`, `p1`, `p2`, `p3`, `p4` and 996 more')
+        self.assertLess(len(rows['dora.toml']), 110)
+        self.grade('--net', 'task.toml', '-o', 'marks.html')
+        self.assertIn('<td title="%s">be' % name, self.page())
+
     def test_without_a_required_sentence_the_mark_is_0(self) -> None:
         (self.top / 'task.expect.toml').write_text(
             'required = ["every mote prints a 3"]\nexpect = ["mote 1 prints a at 6", "no mote halts"]\n')

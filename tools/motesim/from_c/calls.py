@@ -161,6 +161,22 @@ class Calls(Lines):
             if found[1] == 'seconds':
                 self.why(TICKS)
                 return '(%d * %s)' % (MOMENTS_OF_SECOND, self.writer.text(part))
-            return self.writer.event(part) if found[1] == 'event' else self.writer.of_kind(part, found[1])
+            if found[1] == 'event':
+                return self.writer.event(part)
+            named = self.writer.of_kind(part, found[1])
+            if found[1] == 'timer':
+                self.declare_timer(named, call.text)
+            return named
 
         return ARGUMENT.sub(argument, form)
+
+    def declare_timer(self, name: str, call: str) -> None:
+        """Declares a timer that a call sets or restarts, if nothing has its name."""
+        if name in self.scope.kinds or not self.place.head:
+            return
+        if call.lower().startswith('ctimer'):
+            raise NoCounterpart('`%s` is `set %s n;` here. No timer has this name: the head of `code %s` declares it '
+                                'with its callback, `ctimer %s { .. }`.' % (call, name, self.place.code, name))
+        self.why('No timer is named `%s`: declare it at the head of `code %s`.' % (name, self.place.code))
+        self.declares.append('etimer %s;' % name)
+        self.scope.kinds[name] = 'timer'

@@ -22,13 +22,15 @@ from motesim.runner import LimitMet, Limits, Runner
 from motesim.runner.run import Run
 from motesim.scenario import Scenario
 from motesim.scenario.faults import find_fault
-from motesim.terminal import one_line
+from motesim.terminal import cut, one_line
 from motesim.timeline.html import write_page
 from motesim.timeline.note import note_of
 
 # Reports longer than this have no timeline.
 MOST_SHOWN = 4_000_000
 LONGEST_WHY = 300
+# The names of solutions in a table have at most so many signs.
+WIDEST_NAME = 40
 # Signs that no name of a page has: all but letters, digits and two more, and a dot in front.
 UNSAFE = re.compile(r'[^A-Za-z0-9.-]|^\.')
 LONGEST_NAME = 80
@@ -81,8 +83,14 @@ class Marks:
     def in_lines(self) -> Marks:
         """The same, with each text in one line: names in a solution may have signs that would end or change a row."""
         marks = tuple(it._replace(more=lines_of(it.more), shown=lines_of(it.shown)) for it in self.marks)
-        return replace(self, marks=marks, why=one_line(self.why), lacks=tuple(map(one_line, self.lacks)),
+        lacks = tuple(cut(one_line(it), LONGEST_WHY) for it in self.lacks)
+        return replace(self, marks=marks, why=cut(one_line(self.why), LONGEST_WHY), lacks=lacks,
                        fix=lines_of(self.fix))
+
+    @property
+    def short_name(self) -> str:
+        """The name, as a table has it."""
+        return cut(self.name, WIDEST_NAME)
 
     @property
     def held(self) -> int:

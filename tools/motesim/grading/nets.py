@@ -16,9 +16,12 @@ from motesim.plan.text import scenario_text
 from motesim.runner.run import read_file
 from motesim.scenario import Scenario
 from motesim.scenario.faults import LONGEST_TEXT, find_fault
+from motesim.terminal import cut
 from motesim.toml import NoToml, read_toml
 
 MOST_NETS = 1_000
+# How many names of programs a message has, and how long each may be.
+MOST_NAMES, LONGEST_NAME = 5, 40
 
 
 @dataclass(frozen=True)
@@ -81,7 +84,10 @@ class NoProgram(Fault):
     """A solution has several programs, and none of the wanted name; and what to do."""
 
     def __init__(self, wanted: str, names: Iterable[str]):
-        super().__init__('it has no program `%s`, but: %s' % (wanted, ', '.join('`%s`' % it for it in names)))
+        known = list(names)
+        more = ' and {:,} more'.format(len(known) - MOST_NAMES) if len(known) > MOST_NAMES else ''
+        shown = ', '.join('`%s`' % cut(it, LONGEST_NAME) for it in known[:MOST_NAMES])
+        super().__init__('it has no program `%s`, but: %s%s' % (wanted, shown, more))
         self.hint = 'Hint: rename the program that solves the task to `%s`, and grade again' % wanted
 
 

@@ -50,8 +50,10 @@ def _first_failed(marks: Marks, folder: str) -> str:
 def _row(marks: Marks, count: int, folder: str) -> str:
     dots = ''.join('<span title="%s">%s</span>' % (escape(it.words, True), '●' if it.holds else '○')
                    for it in marks.marks)
-    return '<tr><td>%s</td><td class="number %s">%s</td><td class="marks">%s</td><td>%s</td></tr>' % (
-        escape(marks.name), _colour(marks, count), count_of(marks, count), dots, _first_failed(marks, folder))
+    title = ' title="%s"' % escape(marks.name, True) if marks.short_name != marks.name else ''
+    return '<tr><td%s>%s</td><td class="number %s">%s</td><td class="marks">%s</td><td>%s</td></tr>' % (
+        title, escape(marks.short_name), _colour(marks, count), count_of(marks, count), dots,
+        _first_failed(marks, folder))
 
 
 def page_of(marked: Sequence[Marks], sentences: Sequence[str], title: str, folder: str, date: str = '',

@@ -30,14 +30,14 @@ def count_of(marks: Marks, count: int) -> str:
 
 def table(marked: Sequence[Marks], sentences: Sequence[str]) -> list[str]:
     """A row for each solution."""
-    width = max(len(it.name) for it in marked)
+    width = max(len(it.short_name) for it in marked)
     rows = []
     for it in marked:
         broken = ', '.join('%d%s' % (number, REQUIRED * one.is_required) for number, one in enumerate(it.marks, 1)
                            if not one.holds)
         count = count_of(it, len(sentences))
         shown = it.why or '; '.join(one for one in (broken and 'broken: %s' % broken, it.fault) if one)
-        rows.append(('%s  %s  %s' % (it.name.ljust(width), count, shown)).rstrip())
+        rows.append(('%s  %s  %s' % (it.short_name.ljust(width), count, shown)).rstrip())
     return rows
 
 
