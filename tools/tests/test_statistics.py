@@ -87,7 +87,8 @@ class Estimates(unittest.TestCase):
             ([1, 1, 3], 't')]
         for values, method in methods:
             kind = estimates.measured(values)
-            self.assertEqual(estimates.method_of(values, 0.95, 't', kind), method)
+            self.assertEqual(estimates.method_of(values, 0.95, 'auto', kind), method)
+            self.assertEqual(estimates.method_of(values, 0.95, 't', kind), 't')
             found = Wish('m', show='mean').estimate(values, kind)
             if kind != 'any':
                 self.assertTrue(0 <= (found.low or 0) and (found.high or 2) <= 1)
@@ -210,7 +211,7 @@ class Pairs(unittest.TestCase):
         other = [row(1, seed, 10 * seed + seed % 2) for seed in (2, 3, 4, 5)]
         pairs = pairs_of(one, other, 'sent', ['period', 'seed'], 'period')
         self.assertEqual(pairs.pairs, [Pair(1, 20, 20), Pair(1, 30, 31), Pair(1, 40, 40)])
-        found, = differences(pairs, 0.95, 't')
+        found, = differences(pairs, 0.95, 'auto')
         self.assertEqual((found.against, found.one, found.greater, found.less), (1, 30, 1, 0))
         self.assertAlmostEqual(found.difference.middle, 1 / 3)
         # (the gaps 0, 1, 0 have the standard deviation 0.5774, and t for 2 degrees is 4.303)
@@ -221,7 +222,7 @@ class Pairs(unittest.TestCase):
         one = [row(1, 1, 3), row(1, 2, None), row(1, 3, 4), row(2, 4, 5), row(2, 5, 5)]
         other = [row(1, 1, 4), row(1, 2, 4), row(1, 3, None), fault, row(2, 6, 5)]
         found = pairs_of(one, other, 'sent', ['period', 'seed'], 'period', ('A', 'B'))
-        gaps = differences(found, 0.95, 't')
+        gaps = differences(found, 0.95, 'auto')
         self.assertEqual([(it.against, it.difference.runs, it.left_out) for it in gaps], [(1, 1, 2)])
         self.assertEqual(of_pairs(found, gaps, 'period'), [
             'left out: 5 pairs; only those in which both sides have a value are compared: in 1 the run of A has no '
@@ -237,7 +238,7 @@ class Pairs(unittest.TestCase):
             other: Row = {**row(1, 1, 4), 'places_sha256': places}
             found = pairs_of([one], [other], 'sent', ['period', 'seed'], 'period')
             self.assertEqual(found.of_two_nets, count)
-            shown = of_pairs(found, differences(found, 0.95, 't'), 'period')
+            shown = of_pairs(found, differences(found, 0.95, 'auto'), 'period')
             self.assertEqual(any('compares two nets' in it for it in shown), count == 1)
 
     def test_the_difference_of_two_shares_of_runs_is_by_newcombe(self) -> None:
@@ -246,20 +247,20 @@ class Pairs(unittest.TestCase):
                                   ((36, 14, 0, 0), 0.1528, 0.4167)):
             its = [Pair(1, other, one) for count, (one, other) in zip(counts, ((1, 1), (1, 0), (0, 1), (0, 0)))
                    for _ in range(count)]
-            found, = differences(Paired(its, {}), 0.95, 't')
+            found, = differences(Paired(its, {}), 0.95, 'auto')
             self.assertEqual(found.difference.method, 'newcombe')
             self.assertAlmostEqual(found.difference.low or 0, low, delta=0.0001)
             self.assertAlmostEqual(found.difference.high or 0, high, delta=0.0001)
-            turned, = differences(Paired([Pair(1, it.other, it.one) for it in its], {}), 0.95, 't')
+            turned, = differences(Paired([Pair(1, it.other, it.one) for it in its], {}), 0.95, 'auto')
             self.assertAlmostEqual(turned.difference.low or 0, -high, delta=0.0001)
         # (Student's t would pass 1 here)
         few = [Pair(1, 0, 1)] * 4 + [Pair(1, 1, 1)]
         self.assertGreater(estimates.mean_by_t([it.other - it.one for it in few], 0.95).high or 0, 1)
-        self.assertLessEqual(differences(Paired(few, {}), 0.95, 't')[0].difference.high or 2, 1)
+        self.assertLessEqual(differences(Paired(few, {}), 0.95, 'auto')[0].difference.high or 2, 1)
 
     def test_the_difference_of_shares_ends_at_1(self) -> None:
         its = [Pair(1, 0.1, 1.0), Pair(1, 0.1, 0.9), Pair(1, 0.6, 0.9)]
-        found, = differences(Paired(its, {}), 0.95, 't')
+        found, = differences(Paired(its, {}), 0.95, 'auto')
         self.assertEqual((found.difference.high, found.difference.method), (1.0, 'within pairs'))
 
     def test_sides_without_a_run_in_common(self) -> None:
@@ -397,6 +398,17 @@ class Command(unittest.TestCase):
         uses = re.findall(r'<use xlink:href="#(\w+)" x="([0-9.]+)" y="([0-9.]+)"', picture)
         marks = [(x, y) for name, x, y in uses if [it[0] for it in uses].count(name) == 15]
         self.assertEqual((len(marks), len({x for x, _ in marks})), (15, 15))
+
+    def test_a_comparison_shows_nothing_else(self) -> None:
+        for words in ('--show', 'median'), ('--threshold', '3'):
+            self.plot('--measure', 'sent', '--against', 'period', '--pair', 'density=thin,dense', *words, status=2)
+            self.assertIn('leave out %s' % words[0], self.told)
+
+    def test_runs_of_several_values_are_selected(self) -> None:
+        for values, count in ('1..4', 10), ('4,8', 10), ('0..8..4', 10), ('8', 5), ('', None):
+            rows = self.plot('--measure', 'sent', '--against', 'density', '--over', 'seed,period', '--where',
+                             'period=' + values, status=0 if count else 2)
+            self.assertEqual(rows[2][1] if rows else None, str(count) if count else None, values)
 
     def test_points_and_parts_of_runs(self) -> None:
         rows = self.plot('--measure', 'sent', '--against', 'period', '--where', 'density=thin', '--show', 'points')

@@ -25,6 +25,8 @@ STEPS = 200
 TINY = 1e-300
 # With fewer runs the bootstrap's intervals are too narrow.
 LEAST_RUNS = 10
+# The wish for a method that fits.
+AUTO = 'auto'
 Value = TypeVar('Value')
 Measured = Literal['any', 'share', 'yes or no']
 
@@ -152,20 +154,22 @@ def mean_by_wilson(values: Sequence[float], confidence: float) -> Estimate:
 
 
 def method_of(values: Sequence[float], confidence: float, interval: str, measure: Measured) -> str:
-    """The method for the interval of a mean: the wish, unless it doesn't fit these runs."""
-    if measure == 'yes or no' and len(values) > 1 and (interval == 't' or len(set(values)) == 1):
+    """The method for the interval of a mean: the wish, or with `auto` one that fits these runs."""
+    if measure == 'yes or no' and len(values) > 1 and (interval == AUTO or len(set(values)) == 1):
         return 'wilson'
     if len(set(values)) == 1:
         return 'alike'
-    if interval != 't' or measure != 'share':
+    if interval != AUTO:
         return interval
+    if measure != 'share':
+        return 't'
     low, high = mean_by_t(values, confidence)[2:4]
     if low is None or high is None or 0 <= low and high <= 1:
         return 't'
     return 'bootstrap' if len(values) >= LEAST_RUNS else 'within'
 
 
-def mean_of(values: Sequence[float], confidence: float, interval: str = 't', measure: Measured = 'any') -> Estimate:
+def mean_of(values: Sequence[float], confidence: float, interval: str = AUTO, measure: Measured = 'any') -> Estimate:
     """The mean of runs, with an interval by a method that fits them."""
     return METHODS[method_of(values, confidence, interval, measure)](values, confidence)
 
@@ -181,7 +185,7 @@ METHODS: dict[str, Callable[[Sequence[float], float], Estimate]] = {
     't': mean_by_t, 'bootstrap': mean_by_bootstrap, 'within': mean_by_t_within, 'wilson': mean_by_wilson,
     'alike': mean_without_interval}
 # The methods that can be wished for.
-MEANS = ('t', 'bootstrap')
+MEANS = (AUTO, 't', 'bootstrap')
 # Each method in a heading, and in a row.
 NAMES = {'t': 'Student\'s t', 'bootstrap': 'the bootstrap', 'wilson': 'Wilson\'s score',
          'within': 'Student\'s t cut at 0 and 1', 'within pairs': 'Student\'s t cut at -1 and 1',

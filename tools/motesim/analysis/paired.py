@@ -15,7 +15,7 @@ from collections import Counter
 from collections.abc import Mapping, Sequence
 from typing import NamedTuple
 
-from motesim.analysis.estimates import Estimate, Measured, mean_by_wilson, mean_of, measured
+from motesim.analysis.estimates import AUTO, Estimate, Measured, mean_by_wilson, mean_of, measured
 from motesim.experiments.measures import Cell
 from motesim.experiments.results import Row
 from motesim.faults import Fault
@@ -122,10 +122,12 @@ def differences(paired: Paired, confidence: float, interval: str) -> list[Differ
 def _difference(pairs: Sequence[Pair], confidence: float, interval: str, kind: Measured) -> Estimate:
     """The mean difference of some pairs, with an interval by a method that fits them."""
     gaps = [pair.other - pair.one for pair in pairs]
-    if kind == 'yes or no' and len(pairs) > 1 and interval == 't':
+    if kind == 'yes or no' and len(pairs) > 1 and interval == AUTO:
         return difference_by_newcombe(pairs, confidence)
     found = mean_of(gaps, confidence, interval)
-    if kind == 'any' or found.low is None or found.high is None or -1 <= found.low and found.high <= 1:
+    if interval != AUTO or kind == 'any' or found.low is None or found.high is None:
+        return found
+    if -1 <= found.low and found.high <= 1:
         return found
     return Estimate(found.runs, found.middle, max(-1.0, found.low), min(1.0, found.high), 'within pairs')
 

@@ -4,12 +4,13 @@ from __future__ import annotations
 from collections.abc import Sequence
 from typing import NamedTuple
 
-from motesim.analysis.estimates import NAMES, Estimate, Measured, mean_of, measured, median_with_quartiles
+from motesim.analysis.estimates import AUTO, NAMES, Estimate, Measured, mean_of, measured, median_with_quartiles
 from motesim.experiments.measures import Cell
 from motesim.experiments.results import Row, text_of
 from motesim.faults import Fault
 
-SHOWS = ('median', 'mean', 'points', 'cdf', 'heat')
+MEDIAN = 'median'
+SHOWS = (MEDIAN, 'mean', 'points', 'cdf', 'heat')
 # A parameter whose name contains this makes runs that are repetitions of one another.
 REPEATS = 'seed'
 MOST_VALUES = 4
@@ -29,8 +30,8 @@ class Wish(NamedTuple):
     x: str = ''
     y: str = ''
     log: bool = False
-    show: str = 'median'
-    interval: str = 't'
+    show: str = MEDIAN
+    interval: str = AUTO
     confidence: int = 95
     threshold: str = ''
     over: str = ''

@@ -10,11 +10,11 @@
 
 RESULTS is a file that tools/sweep wrote. Each point represents the runs that differ only in the seed, or in what
 --over names; runs that differ in more aren't mixed. --show selects the statistic: median (with quartiles), mean (with
-an interval by --interval t or bootstrap), points (all runs), cdf (the share of the runs with at most this value) or
-heat (a map of --against and --by). --where seed=3 selects some of the runs. A picture is SVG, PDF or PNG, by its name,
-and the table behind it is written next to it, as NAME.table.csv. Pictures need matplotlib (on Debian: apt-get install
-python3-matplotlib); without it there is a table, and a line that says so. docs/use/EXPERIMENTS.md shows all of it at
-work.
+an interval by --interval auto, t or bootstrap), points (all runs), cdf (the share of the runs with at most this value)
+or heat (a map of --against and --by). --where seed=3 selects some of the runs. A picture is SVG, PDF or PNG, by its
+name, and the table behind it is written next to it, as NAME.table.csv. Pictures need matplotlib (on Debian: apt-get
+install python3-matplotlib); without it there is a table, and a line that says so. docs/use/EXPERIMENTS.md shows all of
+it at work.
 
 Ends with status 0, with 1 if there is a table instead of a picture, or with 2 if there is nothing to show.
 """
@@ -26,7 +26,7 @@ from motesim.faults import command
 from motesim.words import words_of
 
 # What can be shown of the runs, and how intervals are found, as motesim.analysis names them.
-SHOWS, MEANS = ('median', 'mean', 'points', 'cdf', 'heat'), ('t', 'bootstrap')
+SHOWS, MEANS = ('median', 'mean', 'points', 'cdf', 'heat'), ('auto', 't', 'bootstrap')
 
 
 def arguments() -> argparse.Namespace:
@@ -35,9 +35,10 @@ def arguments() -> argparse.Namespace:
     words.add_argument('--measure', metavar='NAME', help='the measure')
     words.add_argument('--against', metavar='NAME', help='the parameter, or the measure, from left to right')
     words.add_argument('--by', metavar='NAME', help='a parameter with a line for each value')
-    words.add_argument('--show', choices=SHOWS, default='median',
+    words.add_argument('--show', choices=SHOWS,
                        help='the statistic of the runs at each point (median)')
-    words.add_argument('--interval', choices=MEANS, default='t', help='how intervals of means are found (t)')
+    words.add_argument('--interval', choices=MEANS, default='auto',
+                       help='how intervals of means are found (auto: by t, or what fits a share)')
     words.add_argument('--confidence', type=int, default=95, metavar='PERCENT',
                        help='the confidence of the intervals (95)')
     words.add_argument('--threshold', metavar='VALUE', help='report where each curve crosses this value')
@@ -45,7 +46,8 @@ def arguments() -> argparse.Namespace:
                        help='the parameters in which runs of a point may differ (those with `seed` in their names)')
     words.add_argument('--compare', metavar='RESULTS', help='the other side of a comparison, run by run')
     words.add_argument('--pair', metavar='NAME=ONE,OTHER', help='compare two values of a parameter, run by run')
-    words.add_argument('--where', action='append', default=[], metavar='NAME=VALUE', help='only runs with this value')
+    words.add_argument('--where', action='append', default=[], metavar='NAME=VALUES',
+                       help='only runs with these values: 20, or 10,20, or 10..30')
     words.add_argument('--title', metavar='TEXT', help="the title of the picture; '' is none")
     words.add_argument('--footer', metavar='TEXT', help="the text below the picture; '' is none")
     words.add_argument('--x', metavar='TEXT', default='', help='the text at the axis from left to right')

@@ -8,20 +8,21 @@ from pathlib import Path
 
 from motesim.analysis import drawing, text
 from motesim.analysis.drawing import FORMATS
-from motesim.analysis.estimates import MEANS
+from motesim.analysis.estimates import AUTO, MEANS
 from motesim.analysis.estimates import quartiles as quartiles
 from motesim.analysis.paired import differences, pairs_of
-from motesim.analysis.points import SHOWS, Wish, check_pairs, measures_of, order, parameters_of, shown_of
+from motesim.analysis.points import MEDIAN, SHOWS, Wish, check_pairs, measures_of, order, parameters_of, shown_of
 from motesim.experiments import packages
-from motesim.experiments.results import Row, cell, read_results
+from motesim.experiments.asked import values_of
+from motesim.experiments.results import Row, cell, read_results, text_of
 from motesim.faults import Fault
 from motesim.plan.plan import Plan
-from motesim.plan.tables import Tables, any_kind, needed, optional
+from motesim.plan.tables import Tables, any_kind, needed, optional, text_of_value
 from motesim.summary.counts import table
 
 PLOT = {'file': needed(str), 'measure': needed(str), 'against': optional(str, ''), 'by': optional(str, ''),
         'title': optional(str, None), 'x': optional(str, ''), 'y': optional(str, ''), 'log': optional(bool, False),
-        'show': optional(str, 'median'), 'interval': optional(str, 't'), 'confidence': optional(int, 95, 50, 99),
+        'show': optional(str, 'median'), 'interval': optional(str, AUTO), 'confidence': optional(int, 95, 50, 99),
         'threshold': any_kind('a number', False), 'over': optional(str, ''),
         'footer': optional(str, None), 'size': optional(str, '')}
 
@@ -124,22 +125,26 @@ def wishes(asked: argparse.Namespace) -> list[Wish]:
         raise Fault('no measure is named: add --measure NAME --against NAME, or --plan PLAN')
     if asked.output and Path(asked.output).suffix not in FORMATS:
         raise Fault('%s: a picture is SVG, PDF or PNG: its name ends in .svg, .pdf or .png' % asked.output)
+    if (asked.pair or asked.compare) and (asked.show or asked.threshold):
+        raise Fault('a comparison run by run shows the mean of the differences: leave out %s' % (
+            '--show' if asked.show else '--threshold'))
     if asked.show == 'heat' and not asked.by:
         raise Fault('--show heat needs --by: the parameter from below upwards')
     drawing.size_of(asked.size)
     return [Wish(asked.measure, asked.against or '', asked.by or '', asked.output or '', asked.title, asked.x, asked.y,
-                 log=asked.log, show=asked.show, interval=asked.interval, confidence=asked.confidence,
+                 log=asked.log, show=asked.show or MEDIAN, interval=asked.interval, confidence=asked.confidence,
                  threshold=asked.threshold or '', over=asked.over or '', footer=asked.footer, size=asked.size)]
 
 
 def chosen(rows: Sequence[Row], where: Sequence[str]) -> list[Row]:
-    """The rows with these values."""
+    """The rows with these values: `20`, `10,20` or `10..30`."""
     found = list(rows)
     for words in where:
         name, sign, value = words.partition('=')
         if not sign or rows and name not in rows[0]:
             raise Fault('--where needs NAME=VALUE, not %r' % words)
-        found = [row for row in found if row[name] == cell(value)]
+        values = {text_of_value(it) for it in values_of(value)} if value else {''}
+        found = [row for row in found if text_of(row[name]) in values]
     return found
 
 
