@@ -263,6 +263,10 @@ class Pairs(unittest.TestCase):
         found, = differences(Paired(its, {}), 0.95, 'auto')
         self.assertEqual((found.difference.high, found.difference.method), (1.0, 'within pairs'))
 
+    def test_a_side_with_two_runs_of_the_same_parameters_is_refused(self) -> None:
+        with self.assertRaisesRegex(Fault, 'B has several runs with the same period, seed: --where NAME=VALUE'):
+            pairs_of([row(1, 1, 1)], [row(1, 1, 1), row(1, 1, 2)], 'sent', ['period', 'seed'], 'period', ('A', 'B'))
+
     def test_sides_without_a_run_in_common(self) -> None:
         with self.assertRaises(Fault):
             pairs_of([row(1, 1, 1)], [row(1, 2, 1)], 'sent', ['period', 'seed'], 'period')

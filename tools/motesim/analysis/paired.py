@@ -51,8 +51,13 @@ class Difference(NamedTuple):
     left_out: int = 0
 
 
-def _by_key(rows: Sequence[Row], names: Sequence[str]) -> dict[Key, Row]:
-    return {tuple(row[name] for name in names): row for row in rows}
+def _by_key(rows: Sequence[Row], names: Sequence[str], side: str) -> dict[Key, Row]:
+    """The runs of a side by these parameters, in which no two may be the same."""
+    found = {tuple(row[name] for name in names): row for row in rows}
+    if len(found) < len(rows):
+        raise Fault('%s has several runs with the same %s: --where NAME=VALUE selects one of them' % (
+            side, ', '.join(names)))
+    return found
 
 
 def _lack(row: Row | None, measure: str, side: str) -> str:
@@ -67,7 +72,7 @@ def _lack(row: Row | None, measure: str, side: str) -> str:
 def pairs_of(one: Sequence[Row], other: Sequence[Row], measure: str, names: Sequence[str], against: str,
              sides: tuple[str, str] = ('the first side', 'the second side')) -> Paired:
     """The runs that both sides have, by these parameters."""
-    first, second = _by_key(one, names), _by_key(other, names)
+    first, second = _by_key(one, names, sides[0]), _by_key(other, names, sides[1])
     if not first.keys() & second.keys():
         raise Fault('the two sides have no run in common: no parameters (%s) are the same' % ', '.join(names))
     pairs, of_two_nets = [], 0
