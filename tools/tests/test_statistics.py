@@ -264,7 +264,7 @@ class Pairs(unittest.TestCase):
         self.assertEqual((found.difference.high, found.difference.method), (1.0, 'within pairs'))
 
     def test_a_side_with_two_runs_of_the_same_parameters_is_refused(self) -> None:
-        with self.assertRaisesRegex(Fault, 'B has several runs with the same period, seed: --where NAME=VALUE'):
+        with self.assertRaisesRegex(Fault, 'B has several runs with the same period, seed: select one'):
             pairs_of([row(1, 1, 1)], [row(1, 1, 1), row(1, 1, 2)], 'sent', ['period', 'seed'], 'period', ('A', 'B'))
 
     def test_sides_without_a_run_in_common(self) -> None:

@@ -55,7 +55,7 @@ def _by_key(rows: Sequence[Row], names: Sequence[str], side: str) -> dict[Key, R
     """The runs of a side by these parameters, in which no two may be the same."""
     found = {tuple(row[name] for name in names): row for row in rows}
     if len(found) < len(rows):
-        raise Fault('%s has several runs with the same %s: --where NAME=VALUE selects one of them' % (
+        raise Fault('%s has several runs with the same %s: select one of each by another parameter' % (
             side, ', '.join(names)))
     return found
 
