@@ -158,6 +158,19 @@ class Entries(Folder):
         rows = self.grade('--csv', '--net', 'task.toml').split('\n')
         self.assertIn('it has no program `task`, but: `\\nben.toml   3 of 3`, `mine`', rows[3])
 
+    def test_names_that_are_not_meant_so_are_remarked_on(self) -> None:
+        for name in '.ben.mote', 'x.expect.toml':
+            self.hand_in(name, '')
+        self.hand_in('GOOD.TOML', '')
+        self.hand_in('cem.toml', '// Task 1.\n' + PROGRAM % 3)
+        rows = self.rows('--net', 'task.toml', '--hidden', str(self.top / 'task.toml'))
+        self.assertTrue(rows['GOOD.TOML'].endswith(': write the ending in small letters'))
+        self.assertTrue(rows['cem.toml'].endswith('it is the text of a program, and no scenario: a file of such a text '
+                                                  'is NAME.mote'))
+        self.assertEqual(self.told.splitlines(), [
+            'grade: %s is named by --net too, so a page of marks shows it' % (self.top / 'task.toml'),
+            'grade: hidden files and expectations have no row: .ben.mote, x.expect.toml'])
+
     def test_long_names_and_many_names_spoil_no_table(self) -> None:
         name = 'b%sn.toml' % ('e' * 238)
         self.hand_in(name, net(PROGRAM % 4))
@@ -403,7 +416,7 @@ class Forms(Folder):
         rows = list(csv.reader(io.StringIO(self.grade('--csv', '--net', 'task.toml'))))
         self.assertEqual(rows[1:], [["'=HYPERLINK(1).toml", '3', '3', '', '1', '1', '1'],
                                     ['anna.toml', '3', '3', '', '1', '1', '1']])
-        for text in '=1', '+1', '-1', '@x', '\t=1', '\r=1':
+        for text in '=1', '+1', '-1', '@x', '\t=1', '\r=1', ' =1', '\u3000\uff1d1', '\uff0b1', '\uff20x':
             self.assertEqual(cell(text), "'" + text)
         self.assertEqual(cell('anna'), 'anna')
 
@@ -440,6 +453,12 @@ class Forms(Folder):
         self.assertIn('--why ben.mote shows the place of its error', self.grade(*words))
         self.assertIn('Did you mean `print`?', self.grade(*words, '--why', 'ben'))
         self.assertIn('Write, as line 2:\n  end = ', self.grade(*words, '--why', 'cem'))
+        # (the reason is there once, and of a scenario only its program matters)
+        self.hand_in('dora.toml', net((PROGRAM % 3).replace('print', 'prnt', 1)).replace('version = 2\n', ''))
+        why = self.grade(*words, '--why', 'dora')
+        self.assertIn('Did you mean `print`?', why)
+        self.assertNotIn('broken', why)
+        self.assertNotIn('version', why)
         self.grade(*words, '-o', 'marks.html')
         self.assertIn('Write, as line 2:', (self.top / 'marks.html').read_text())
 

@@ -11,7 +11,7 @@ from pathlib import Path
 from motesim.explain.synonyms import nearest
 from motesim.faults import Fault
 from motesim.grading import page, tables
-from motesim.grading.entries import Entry, entries_of
+from motesim.grading.entries import Entry, entries_of, skipped_of
 from motesim.grading.marking import Marks, Task, unmarked
 from motesim.grading.nets import nets_of
 from motesim.grading.pages import keep_names, pages_of, remove_earlier
@@ -26,6 +26,7 @@ MEGABYTE = 1 << 20
 PATIENCE = 10
 # How many names of solutions an error lists.
 MOST_NAMES = 20
+MOST_SKIPPED = 5
 # Seconds of a net for what isn't the run: reading and judging its report.
 SPARE = 60
 
@@ -103,6 +104,18 @@ def entry_of(name: str, entries: Sequence[Entry], folder: Path) -> Entry:
         folder, name, ' (did you mean %s?)' % like if like else '', ', '.join([*names[:MOST_NAMES], *more])))
 
 
+def remarks(asked: argparse.Namespace) -> list[str]:
+    """Lines on things that a teacher may not have meant: files that have no row, and a net that is hidden and shown."""
+    skipped = skipped_of(asked.folder)
+    shown = {path.resolve() for path in asked.net}
+    lines = ['%s is named by --net too, so a page of marks shows it' % path for path in asked.hidden
+             if path.resolve() in shown]
+    if skipped:
+        more = ' and {:,} more'.format(len(skipped) - MOST_SKIPPED) if len(skipped) > MOST_SKIPPED else ''
+        lines.append('hidden files and expectations have no row: %s%s' % (', '.join(skipped[:MOST_SKIPPED]), more))
+    return lines
+
+
 def status_of(asked: argparse.Namespace) -> int:
     """The work of tools/grade; returns the status."""
     program_path()
@@ -116,6 +129,8 @@ def status_of(asked: argparse.Namespace) -> int:
         remove_earlier(pictures)
         # (all that it may make: it can be ended at any time)
         keep_names(pictures, task.possible_pictures(entries))
+    for line in remarks(asked) if asked.why is None else ():
+        print('grade: %s' % line, file=sys.stderr)
     marked = grade(entries, task, asked.jobs)
     if pictures:
         keep_names(pictures, [it.picture for it in marked if it.picture])

@@ -6,6 +6,7 @@ and of these no more is read than a scenario may have.
 from __future__ import annotations
 
 import os
+import re
 import stat
 from collections.abc import Iterator
 from pathlib import Path
@@ -18,6 +19,8 @@ from motesim.terminal import one_line
 SUFFIXES = ('.toml', '.mote')
 OF_TEACHER = '.expect.toml'
 MOST_ENTRIES = 10_000
+# The beginning of a program, which may have comments first.
+PROGRAM = re.compile(rb'(?:\s|//[^\n]*+\n)*+(?:process|event|semaphore)[ \t]++[a-z]')
 DEEPEST = 8
 
 
@@ -63,7 +66,9 @@ def _entries(folder: Path, top: Path, depth: int) -> Iterator[Entry]:
         elif not stat.S_ISREG(mode):
             yield Entry(its, path, _kind(mode))
         elif not it.name.endswith(SUFFIXES):
-            yield Entry(its, path, 'its name ends neither in .toml nor in .mote')
+            small = it.name.lower().endswith(SUFFIXES)
+            yield Entry(its, path, 'its name ends neither in .toml nor in .mote%s' % (
+                ': write the ending in small letters' if small else ''))
         elif not it.name.endswith(OF_TEACHER):
             yield Entry(its, path)
 
@@ -80,6 +85,17 @@ def entries_of(folder: Path) -> list[Entry]:
     if not found:
         raise Fault('%s has no solution: a scenario NAME.toml, or a program NAME.mote' % folder)
     return found
+
+
+def skipped_of(folder: Path) -> list[str]:
+    """The names of the files of a folder that are no entries."""
+    names = sorted(it.name for it in os.scandir(folder))
+    return [one_line(it) for it in names if it.startswith('.') or it.endswith(OF_TEACHER)]
+
+
+def is_program(data: bytes) -> bool:
+    """True if a text begins as a program does, and no TOML."""
+    return PROGRAM.match(data) is not None
 
 
 def data_of(entry: Entry) -> bytes:

@@ -7,9 +7,9 @@ from dataclasses import dataclass, replace
 from pathlib import Path
 from typing import NamedTuple
 
-from motesim.explain.explanation import explanation, of_program_file
+from motesim.explain.explanation import explanation, of_program, of_program_file, tables_or_none
 from motesim.faults import Fault
-from motesim.grading.entries import Entry, data_of
+from motesim.grading.entries import Entry, data_of, is_program
 from motesim.grading.nets import Net, NoProgram, program_of
 from motesim.judge.expectations import (
     REFUSED, Part, UnknownSentence, known_of, more_of, read_all, refused, same_report,
@@ -139,6 +139,9 @@ class Task:
         data = b''
         try:
             data = data_of(entry)
+            if entry.path.suffix == '.toml' and is_program(data):
+                return Marks(entry.name, why='it is the text of a program, and no scenario: a file of such a text is '
+                                             'NAME.mote')
             if not self.nets:
                 found = [self.in_net(data.decode('utf-8'))]
             else:
@@ -154,13 +157,28 @@ class Task:
         except NoProgram as fault:
             return Marks(entry.name, why=str(fault), fix=(fault.hint,))
         except UnknownSentence as fault:
-            return Marks(entry.name, why=fault.which, fix=fix_of(entry, data))
+            return Marks(entry.name, why=fault.which, fix=self.fix(entry, data))
         except Fault as fault:
-            return Marks(entry.name, why=str(fault), fix=fix_of(entry, data))
+            return Marks(entry.name, why=str(fault), fix=self.fix(entry, data))
         marks = self.together(entry.name, found)
         if any(its.is_refused for its in found):
-            return replace(marks, fix=fix_of(entry, data))
+            return replace(marks, fix=self.fix(entry, data))
         return replace(marks, picture=self.picture(number, marks, found))
+
+    def fix(self, entry: Entry, data: bytes) -> tuple[str, ...]:
+        """The place of the error of a solution, and how it is put right, as tools/explain shows them."""
+        if entry.path.suffix == '.mote':
+            source = data.decode('utf-8', 'replace')
+            error = find_program_fault(source) if source else None
+            lines = of_program_file(entry.name, source, error) if error else []
+        else:
+            fault = find_fault(data) if data else None
+            if self.nets and fault and not fault.line and not fault.program:
+                # (nothing but the program is taken from it, so no other key matters)
+                lines = fix_of_program(entry.name, data.decode('utf-8', 'replace'), self.nets[0].program)
+            else:
+                lines = explanation(entry.name, data, 'motesim: ' + fault.message) if fault else []
+        return tuple(line[:LONGEST_WHY] for line in lines[:MOST_LINES])
 
     def in_net(self, text: str) -> InNet:
         """The marks of a scenario."""
@@ -254,13 +272,11 @@ def page_name(number: int, solution: str, net: str) -> str:
                             '_in_' + UNSAFE.sub('_', net)[:LONGEST_NAME] if net else '')
 
 
-def fix_of(entry: Entry, data: bytes) -> tuple[str, ...]:
-    """The place of the error of a solution, and how it is put right, as tools/explain shows them."""
-    if entry.path.suffix == '.mote':
-        source = data.decode('utf-8', 'replace')
-        error = find_program_fault(source) if source else None
-        lines = of_program_file(entry.name, source, error) if error else []
-    else:
-        fault = find_fault(data) if data else None
-        lines = explanation(entry.name, data, 'motesim: ' + fault.message) if fault else []
-    return tuple(line[:LONGEST_WHY] for line in lines[:MOST_LINES])
+def fix_of_program(name: str, text: str, wanted: str) -> list[str]:
+    """The place of the error in the program that is taken from a scenario, whatever else that lacks."""
+    programs = (tables_or_none(text) or {}).get('programs')
+    if type(programs) is not dict or not programs:
+        return []
+    its = wanted if wanted in programs else next(iter(programs))
+    error = find_program_fault(programs[its]) if type(programs[its]) is str else None
+    return of_program(name, text, its, error) if error else []

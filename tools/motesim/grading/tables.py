@@ -3,6 +3,7 @@ from __future__ import annotations
 
 import csv
 import io
+import unicodedata
 from collections.abc import Sequence
 
 from motesim.grading.marking import REQUIRED, Marks
@@ -55,8 +56,12 @@ def pointer(marked: Sequence[Marks]) -> list[str]:
 
 
 def cell(text: str) -> str:
-    """A text that no spreadsheet runs: one that begins as a formula has an apostrophe in front."""
-    return "'" + text if text.startswith(OF_FORMULA) else text
+    """A text that no spreadsheet runs: one that begins as a formula has an apostrophe in front.
+
+    A sign counts in each of its widths, and behind blanks too.
+    """
+    begin = unicodedata.normalize('NFKC', text.lstrip(' \u3000'))
+    return "'" + text if begin.startswith(OF_FORMULA) else text
 
 
 def csv_of(marked: Sequence[Marks], sentences: Sequence[str]) -> str:
@@ -107,7 +112,8 @@ def toml_of(marked: Sequence[Marks], sentences: Sequence[str], expectations: str
 def why(marks: Marks) -> list[str]:
     """The lines on the sentences of one solution, and what to do if they name what it doesn't have."""
     lines = [*([marks.why] if marks.why else []), *marks.fix]
-    for it in marks.marks:
+    # (without a report no sentence holds, and none has another reason)
+    for it in marks.marks if not marks.why else ():
         lines.append(('holds   ' if it.holds else 'broken  ') + it.words)
         nets = ['in %s' % ', '.join(it.nets)] if it.nets else []
         lines += ['          ' + row for row in [*nets, *it.more]]
