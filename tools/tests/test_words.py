@@ -125,7 +125,8 @@ def public_items() -> Iterator[tuple[str, list[str], str]]:
         lines = text_of(path).splitlines()
         for at, doc, line in docs_of_rattle(path):
             if PUBLIC.match(line):
-                head = ' '.join(lines[at - 1:at + 15]).partition('{')[0]
+                rest = [] if line.endswith(';') else lines[at:at + 15]
+                head = ' '.join([line, *rest]).partition('{')[0]
                 yield '%s:%d' % (name_of(path), at), doc, head
 
 
