@@ -483,6 +483,17 @@ class Forms(Folder):
         self.grade('--why', 'x', status=2)
         self.assertRegex(self.told, r'^grade: class has no solution x: .*: anna.toml, (\S+, ){19}\.\.\n$')
 
+    def test_an_anonymous_page_has_no_name_of_a_file(self) -> None:
+        for name in 'ben.toml', 'cem.toml':
+            self.hand_in(name, net(PROGRAM % 4))
+        self.hand_in('dora.toml', net((PROGRAM % 4).replace('print', 'prnt', 1)).replace('version = 2', 'x ='))
+        self.grade('--anonymous', '-o', 'marks.html', '--net', 'task.toml')
+        pages = [self.page(), *(path.read_text() for path in (self.top / 'marks_runs').iterdir())]
+        self.assertEqual(len(pages), 4)
+        for name in 'anna', 'ben', 'cem', 'dora':
+            self.assertFalse(any(name + '.toml' in page for page in pages), name)
+        self.assertEqual(re.findall('<td>(solution-.)</td>', pages[0]), ['solution-%d' % it for it in range(1, 5)])
+
     def test_a_page_is_escaped(self) -> None:
         marks = Marks('<b>', (Mark('"a" & <i>', False, ('<net>',), ('<why>',)),))
         page = page_of([marks], ['"a" & <i>'], '<title>', 'x"y')

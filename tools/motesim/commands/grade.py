@@ -53,6 +53,8 @@ def arguments() -> argparse.Namespace:
                        help='how many runs at a time (one for each processor)')
     words.add_argument('-o', dest='output', action='append', default=[], metavar='FILE', type=Path,
                        help='write the marks: NAME.csv, NAME.toml or NAME.html')
+    words.add_argument('--anonymous', action='store_true',
+                       help='show numbers instead of the names of solutions, in a mixed order')
     words.add_argument('--csv', action='store_true', help='print the marks for a spreadsheet')
     words.add_argument('--why', metavar='NAME', help='show what breaks the sentences in one solution')
     asked = words.parse_args()

@@ -11,7 +11,7 @@ from pathlib import Path
 from motesim.explain.synonyms import nearest
 from motesim.faults import Fault
 from motesim.grading import page, tables
-from motesim.grading.entries import Entry, entries_of, skipped_of
+from motesim.grading.entries import Entry, anonymous, entries_of, skipped_of
 from motesim.grading.marking import Marks, Task, unmarked
 from motesim.grading.nets import nets_of
 from motesim.grading.pages import keep_names, pages_of, remove_earlier
@@ -105,7 +105,7 @@ def entry_of(name: str, entries: Sequence[Entry], folder: Path) -> Entry:
 
 
 def remarks(asked: argparse.Namespace) -> list[str]:
-    """Lines on things that a teacher may not have meant: files that have no row, and a net that is hidden and shown."""
+    """Lines on things that a teacher may not have meant: files without a row, and a net that is hidden and shown."""
     skipped = skipped_of(asked.folder)
     shown = {path.resolve() for path in asked.net}
     lines = ['%s is named by --net too, so a page of marks shows it' % path for path in asked.hidden
@@ -125,6 +125,8 @@ def status_of(asked: argparse.Namespace) -> int:
     entries = entries_of(asked.folder)
     if asked.why is not None:
         entries = [entry_of(asked.why, entries, asked.folder)]
+    elif asked.anonymous:
+        entries = anonymous(entries)
     if pictures:
         remove_earlier(pictures)
         # (all that it may make: it can be ended at any time)

@@ -5,10 +5,11 @@ and of these no more is read than a scenario may have.
 """
 from __future__ import annotations
 
+import hashlib
 import os
 import re
 import stat
-from collections.abc import Iterator
+from collections.abc import Iterator, Sequence
 from pathlib import Path
 from typing import NamedTuple
 
@@ -85,6 +86,12 @@ def entries_of(folder: Path) -> list[Entry]:
     if not found:
         raise Fault('%s has no solution: a scenario NAME.toml, or a program NAME.mote' % folder)
     return found
+
+
+def anonymous(entries: Sequence[Entry]) -> list[Entry]:
+    """The entries with numbers for names, in an order that doesn't follow from their names."""
+    mixed = sorted(entries, key=lambda it: hashlib.sha256(os.fsencode(it.path)).digest())
+    return [it._replace(name='solution-%d' % number) for number, it in enumerate(mixed, 1)]
 
 
 def skipped_of(folder: Path) -> list[str]:
