@@ -3,7 +3,7 @@ from __future__ import annotations
 
 from typing import NamedTuple
 
-from motesim.explain import hints, names
+from motesim.explain import forms, hints, names
 from motesim.from_c.correction import correction
 from motesim.notation.faults import ProgramError
 
@@ -58,7 +58,10 @@ def _indented(source: str, number: int, line: str) -> str:
 def advice(source: str, fault: ProgramError) -> Advice | None:
     """Advice on the first fault of a program's text; None if nothing better is known than the rule."""
     found = correction(source, fault)
-    hint = hints.of_program(source, fault) or names.of_name(source, fault)
+    hint = hints.of_program(source, fault) or names.of_name(source, fault) or forms.of_statement(source, fault)
+    small = forms.of_capitals(source, fault)
+    if found and found.line and small and small[1] in found.line:
+        return Advice(small[0], found.line, found.first, found.last, found.above)
     if found is None:
         return Advice(hint) if hint else _declared(source, fault)
     reasons = ' '.join(found.reasons) or hint or OF_PARENTHESES
