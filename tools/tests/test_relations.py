@@ -115,6 +115,10 @@ SENTENCES: list[tuple[str, str | None, int | None]] = [
     ('mote 1 sends exactly 100 % as often as receiving', None, None),
     ('mote 2 receives at least 2 times as often as mote 1 prints a', None, None),
     ('mote 2 receives at least 100 % as often as mote 0 sends 1 by 60', None, None),
+    # One, and several.
+    ('exactly 2 copies are left', 'there is 1 such copy; wanted: exactly 2', 26),
+    ('at least 2 packets are sent by 10', 'there is 1 packet; wanted: at least 2', None),
+    ('all motes together send exactly 1', 'the motes together have 5 such lines; wanted: exactly 1', 4),
     # Another value than the wanted one.
     ('mote 1 prints a 2', 'mote 1 has 0 such lines; wanted: at least 1; it prints a 1 at moment 13', None),
     ('mote 1 prints a 2 within 0 of receiving',
