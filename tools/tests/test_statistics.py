@@ -13,6 +13,7 @@ from pathlib import Path
 from here import TOOLS
 from motesim.analysis import estimates
 from motesim.analysis.crossings import Key, Runs, crossing, place
+from motesim.analysis.drawing import ticks_between
 from motesim.analysis.paired import Pair, Paired, differences, pairs_of
 from motesim.analysis.points import Wish, shown_of
 from motesim.analysis.text import columns_of_crossing, of_crossing, of_pairs
@@ -402,6 +403,35 @@ class Command(unittest.TestCase):
         uses = re.findall(r'<use xlink:href="#(\w+)" x="([0-9.]+)" y="([0-9.]+)"', picture)
         marks = [(x, y) for name, x, y in uses if [it[0] for it in uses].count(name) == 15]
         self.assertEqual((len(marks), len({x for x, _ in marks})), (15, 15))
+
+    def test_a_logarithmic_axis_of_a_measure_has_labels_and_counts_what_it_has_no_place_for(self) -> None:
+        text = results().replace(',11,', ',0,').replace(',12,', ',-3,')
+        (self.folder / 'net.csv').write_text(text)
+        out = 'left out: 2 runs whose sent isn\'t above 0'
+        words = '--measure', 'ratio', '--against', 'sent', *ONE, '--log'
+        for more in ('--show', 'points'), ('--show', 'mean', '--threshold', '0.3'), ('--show', 'mean'):
+            with self.subTest(more=more):
+                self.assertIn(out, [' '.join(row) for row in self.plot(*words, *more)])
+        self.assertEqual(len(self.plot(*words, '--show', 'points')), 2 + 13 + 1)
+        (self.folder / 'net.csv').write_text(re.sub(r',\d+(,[0-9.]+,,)', r',0\1', text))
+        self.plot(*words, status=2)
+        self.assertIn('there is no value of ratio to show; left out: ', self.told)
+        interpreter_with(self, 'matplotlib')
+        (self.folder / 'net.csv').write_text(text)
+        for more in ('--show', 'points'), ('--show', 'mean', '--threshold', '0.3'), ('--show', 'median'):
+            self.plot(*words, *more, '-o', 'a.svg')
+            picture = (self.folder / 'a.svg').read_text()
+            labels = re.findall(r'text-anchor: middle[^>]*>([0-9.]+)</text>', picture)
+            self.assertGreaterEqual(len(labels), 2, more)
+            self.assertIn(out, ' '.join(picture.split()))
+
+    def test_the_labels_of_a_logarithmic_axis(self) -> None:
+        self.assertEqual(ticks_between(0.9, 120), [1, 2, 5, 10, 20, 50, 100])
+        self.assertEqual(ticks_between(0.5, 2e6), [1, 10, 100, 1_000, 10_000, 100_000, 1_000_000])
+        self.assertEqual(ticks_between(5.5, 9), [5.5, 6, 6.5, 7, 7.5, 8, 8.5, 9])
+        for low, high in (1e-9, 1e30), (13.1, 14.9), (900, 1_100), (0.031, 0.049), (10.6, 11.9):
+            found = ticks_between(low, high)
+            self.assertTrue(2 <= len(found) <= 20 and low <= found[0] and found[-1] <= high, found)
 
     def test_a_comparison_shows_nothing_else(self) -> None:
         for words in ('--show', 'median'), ('--threshold', '3'):

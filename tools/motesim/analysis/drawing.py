@@ -150,6 +150,34 @@ def _draw_heat(figure: Any, axes: Any, shown: Shown, wish: Wish) -> None:
     axes.set_ylabel(wish.y or wish.by)
 
 
+def ticks_between(low: float, high: float) -> list[float]:
+    """The labelled places of a logarithmic axis: 1, 2 and 5 times the powers of ten, or others if these are too few."""
+    powers = [10.0 ** it for it in range(math.floor(math.log10(low)), math.ceil(math.log10(high)) + 1)]
+    found = _within(low, high, powers)
+    if len(found) > MOST_TICKS // 3:
+        return found[::-(-len(found) // MOST_TICKS)]
+    found = _within(low, high, [digit * power for power in powers for digit in (1, 2, 5)])
+    if len(found) < 2 and low < high:
+        step = 10.0 ** math.floor(math.log10(high - low)) / 2
+        begin = math.ceil(low / step)
+        found = _within(low, high, [number * step for number in range(begin, begin + 21)])
+    return found
+
+
+def _within(low: float, high: float, places: Sequence[float]) -> list[float]:
+    return [it for it in places if low <= it <= high]
+
+
+def _scale_of_measure(axes: Any) -> None:
+    """A logarithmic axis of a measure from left to right."""
+    axes.set_xscale('log')
+    low, high = axes.get_xlim()
+    ticks = ticks_between(low, high)
+    axes.set_xticks(ticks, ['%g' % it for it in ticks])
+    axes.minorticks_off()
+    axes.set_xlim(low, high)
+
+
 def _scale(axes: Any, places: list[Cell], wish: Wish, is_scale: bool) -> None:
     """The axis from left to right."""
     if wish.log and not all(isinstance(it, int | float) and it > 0 for it in places):
@@ -197,8 +225,10 @@ def _draw_curves(axes: Any, shown: Shown, wish: Wish) -> None:
             _draw_points(axes, points, xs, wish, _look(number), label)
     _draw_threshold(axes, shown, wish)
     if wish.show != 'cdf':
-        is_measure = shown.points[0].across is not None
-        _scale(axes, [] if is_measure else places, wish, is_scale) if not is_measure or wish.log else None
+        if shown.points[0].across is None:
+            _scale(axes, places, wish, is_scale)
+        elif wish.log:
+            _scale_of_measure(axes)
         # (from 0 on, unless all values would lie in the upper half)
         lows = [it.estimate.middle if it.estimate.low is None else it.estimate.low for it in shown.points]
         highs = [it.estimate.middle if it.estimate.high is None else it.estimate.high for it in shown.points]

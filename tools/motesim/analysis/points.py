@@ -71,11 +71,15 @@ class Point(NamedTuple):
 
 
 class Shown(NamedTuple):
-    """The shown points, the parameters in which their runs differ, and the number of omitted runs."""
+    """The shown points, the parameters in which their runs differ, and the number of omitted runs.
+
+    not_above_0  how many runs a logarithmic axis has no place for
+    """
     points: list[Point]
     over: list[str]
     faults: int
     empty: int
+    not_above_0: int = 0
 
     def methods(self) -> list[str]:
         """The methods by which intervals of means were found."""
@@ -182,12 +186,15 @@ def _of_two_measures(rows: Sequence[Row], good: Sequence[Row], varying: Sequence
         check_mixture(good, along, over, wish.by, 'one line')
     groups: dict[tuple[Cell, ...], list[tuple[float, float, tuple[Cell, ...]]]] = {}
     bys: dict[tuple[Cell, ...], Cell] = {}
-    empty = 0
+    empty = not_above_0 = 0
     for row in good:
         x, y = number_of(row, wish.against), number_of(row, wish.measure)
         key = tuple(row[name] for name in kept)
         if x is None or y is None:
             empty += 1
+            continue
+        if wish.log and x <= 0:
+            not_above_0 += 1
             continue
         groups.setdefault(key, []).append((x, y, tuple(row[name] for name in over)))
         bys[key] = row[wish.by] if wish.by else None
@@ -199,4 +206,4 @@ def _of_two_measures(rows: Sequence[Row], good: Sequence[Row], varying: Sequence
         across = wish.estimate(xs, of_x)
         points.append(Point(bys[key], across.middle, values, wish.estimate(values, of_y), across, keys, xs))
     points.sort(key=lambda it: (order(it.by), order(it.against)))
-    return Shown(points, over, len(rows) - len(good), empty)
+    return Shown(points, over, len(rows) - len(good), empty, not_above_0)

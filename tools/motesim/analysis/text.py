@@ -108,6 +108,9 @@ def left_out(shown: Shown, wish: Wish) -> list[str]:
         lines.append('left out: %d runs with a fault' % shown.faults)
     if shown.empty:
         lines.append('left out: %d runs without a value of %s' % (shown.empty, wish.measure))
+    if shown.not_above_0:
+        lines.append('left out: %d run%s whose %s isn\'t above 0' % (
+            shown.not_above_0, 's' if shown.not_above_0 > 1 else '', wish.against))
     return lines
 
 

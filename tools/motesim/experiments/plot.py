@@ -80,7 +80,7 @@ def show(rows: Sequence[Row], wish: Wish, folder: Path) -> bool:
     """Draws a picture or prints a table; returns whether it has the wanted form."""
     shown = shown_of(rows, wish)
     if not shown.points:
-        raise Fault('there is no value of %s to show' % wish.measure)
+        raise Fault('; '.join(['there is no value of %s to show' % wish.measure, *text.left_out(shown, wish)]))
     if wish.file and packages.is_here('matplotlib'):
         drawing.draw(shown, wish, folder / wish.file)
         write_table(table_path(folder / wish.file), text.rows_with_crossings(shown, wish))
