@@ -438,6 +438,32 @@ class Command(unittest.TestCase):
             self.plot('--measure', 'sent', '--against', 'period', '--pair', 'density=thin,dense', *words, status=2)
             self.assertIn('leave out %s' % words[0], self.told)
 
+    def test_words_without_an_effect_are_refused(self) -> None:
+        for words, told in (
+                (('--interval', 'bootstrap', *ONE), '--interval bootstrap is for intervals of means: add --show mean'),
+                (('--interval', 't', '--show', 'points', *ONE), 'add --show mean'),
+                (('--by', 'density', '--pair', 'density=thin,dense'), 'leave out --by density'),
+                (('--by', 'density', '--compare', 'more.csv'), 'leave out --by')):
+            self.plot('--measure', 'sent', '--against', 'period', *words, status=2)
+            self.assertIn(told, self.told)
+        self.plot('--measure', 'sent', '--against', 'period', '--pair', 'density=thin,dense', '--interval', 't')
+
+    def test_the_confidence_may_be_a_decimal(self) -> None:
+        words = '--measure', 'sent', '--against', 'period', '--show', 'mean', *ONE, '--confidence'
+        rows = self.plot(*words, '97.5')
+        self.assertIn('intervals of 97.5 %', ' '.join(rows[0]))
+        # (3.495 * 0.7071 = 2.472)
+        self.assertEqual(rows[2][3:5], ['10.528', '15.472'])
+        for wrong in '100', 'nan', '20':
+            self.plot(*words, wrong, status=2)
+            self.assertIn('--confidence is 50 to 99.9', self.told)
+
+    def test_rejected_nets_are_shown_like_a_measure(self) -> None:
+        (self.folder / 'net.csv').write_text('period,seed,sent,fault,rejected,parameters\n' + ''.join(
+            '%d,%d,9,,%d,period seed\n' % (period, seed, seed * period) for period in (1, 2) for seed in (1, 2, 3)))
+        rows = self.plot('--measure', 'rejected', '--against', 'period', '--show', 'mean')
+        self.assertEqual([row[2] for row in rows[2:]], ['2.000', '4.000'])
+
     def test_runs_of_several_values_are_selected(self) -> None:
         for values, count in ('1..4', 10), ('4,8', 10), ('0..8..4', 10), ('8', 5), ('', None):
             rows = self.plot('--measure', 'sent', '--against', 'density', '--over', 'seed,period', '--where',

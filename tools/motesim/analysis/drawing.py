@@ -151,7 +151,7 @@ def _draw_heat(figure: Any, axes: Any, shown: Shown, wish: Wish) -> None:
 
 
 def ticks_between(low: float, high: float) -> list[float]:
-    """The labelled places of a logarithmic axis: 1, 2 and 5 times the powers of ten, or others if these are too few."""
+    """The labelled places of a logarithmic axis: 1, 2 and 5 times powers of ten, or others if these are few."""
     powers = [10.0 ** it for it in range(math.floor(math.log10(low)), math.ceil(math.log10(high)) + 1)]
     found = _within(low, high, powers)
     if len(found) > MOST_TICKS // 3:
@@ -193,7 +193,7 @@ def _scale(axes: Any, places: list[Cell], wish: Wish, is_scale: bool) -> None:
 def _note(shown: Shown, wish: Wish) -> str:
     """The words below a picture."""
     runs = max(point.estimate.runs for point in shown.points)
-    of_mean = 'mean, and intervals of %d %% %s' % (wish.confidence, by_methods(shown.methods()))
+    of_mean = 'mean, and intervals of %g %% %s' % (wish.confidence, by_methods(shown.methods()))
     what = {'median': 'median, and quartiles', 'points': 'all runs', 'cdf': 'part of the runs', 'heat': 'mean'}.get(
         wish.show, of_mean if shown.methods() else 'mean')
     note = '%s over %s (%d runs)' % (what, ', '.join(shown.over), runs) if shown.over else ''

@@ -14,6 +14,8 @@ SHOWS = (MEDIAN, 'mean', 'points', 'cdf', 'heat')
 # A parameter whose name contains this makes runs that are repetitions of one another.
 REPEATS = 'seed'
 MOST_VALUES = 4
+# A column about a run's net that can be shown like a measure.
+REJECTED = 'rejected'
 
 
 class Wish(NamedTuple):
@@ -32,7 +34,7 @@ class Wish(NamedTuple):
     log: bool = False
     show: str = MEDIAN
     interval: str = AUTO
-    confidence: int = 95
+    confidence: float = 95
     threshold: str = ''
     over: str = ''
     footer: str | None = None
@@ -92,7 +94,8 @@ def parameters_of(rows: Sequence[Row]) -> list[str]:
 
 def measures_of(rows: Sequence[Row]) -> list[str]:
     parameters = parameters_of(rows)
-    return [name for name in list(rows[0])[:list(rows[0]).index('fault')] if name not in parameters]
+    measures = [name for name in list(rows[0])[:list(rows[0]).index('fault')] if name not in parameters]
+    return measures + [REJECTED] * (REJECTED in rows[0] and REJECTED not in measures)
 
 
 def order(value: Cell) -> tuple[bool, float, str]:

@@ -92,7 +92,7 @@ def how(shown: Shown, wish: Wish) -> str:
     found = by_methods(shown.methods())
     if wish.show != 'mean' or not found:
         return ''
-    return ': means with intervals of %d %% %s' % (wish.confidence, found)
+    return ': means with intervals of %g %% %s' % (wish.confidence, found)
 
 
 def by_methods(methods: Sequence[str]) -> str:
@@ -188,7 +188,7 @@ def of_crossing(found: Crossing | None, wish: Wish) -> str:
     ends = 'before the first point' if math.isinf(found.low) else '%.4g' % found.low, (
         'behind the last point' if math.isinf(found.high) else '%.4g' % found.high)
     share = '' if found.share > 0.995 else '; %d %% of the drawn curves cross' % round(100 * found.share)
-    return '%s\n  with %d %%, by the bootstrap of %d runs: %s to %s%s' % (at, wish.confidence, found.draws, *ends,
+    return '%s\n  with %g %%, by the bootstrap of %d runs: %s to %s%s' % (at, wish.confidence, found.draws, *ends,
                                                                           share)
 
 

@@ -39,7 +39,7 @@ def arguments() -> argparse.Namespace:
                        help='the statistic of the runs at each point (median)')
     words.add_argument('--interval', choices=MEANS, default='auto',
                        help='how intervals of means are found (auto: by t, or what fits a share)')
-    words.add_argument('--confidence', type=int, default=95, metavar='PERCENT',
+    words.add_argument('--confidence', type=float, default=95, metavar='PERCENT',
                        help='the confidence of the intervals (95)')
     words.add_argument('--threshold', metavar='VALUE', help='report where each curve crosses this value')
     words.add_argument('--over', metavar='NAMES',
@@ -58,8 +58,8 @@ def arguments() -> argparse.Namespace:
     words.add_argument('--plan', metavar='PLAN', help="show what this plan's `plot` describes")
     words.add_argument('-o', dest='output', metavar='FILE', help='the picture, NAME.svg, NAME.pdf or NAME.png')
     asked = words.parse_args()
-    if not 50 <= asked.confidence <= 99:
-        words.error('--confidence is 50 to 99')
+    if not 50 <= asked.confidence <= 99.9:
+        words.error('--confidence is 50 to 99.9')
     return asked
 
 

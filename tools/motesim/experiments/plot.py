@@ -22,7 +22,7 @@ from motesim.summary.counts import table
 
 PLOT = {'file': needed(str), 'measure': needed(str), 'against': optional(str, ''), 'by': optional(str, ''),
         'title': optional(str, None), 'x': optional(str, ''), 'y': optional(str, ''), 'log': optional(bool, False),
-        'show': optional(str, 'median'), 'interval': optional(str, AUTO), 'confidence': optional(int, 95, 50, 99),
+        'show': optional(str, 'median'), 'interval': optional(str, AUTO), 'confidence': any_kind('a number', False),
         'threshold': any_kind('a number', False), 'over': optional(str, ''),
         'footer': optional(str, None), 'size': optional(str, '')}
 
@@ -49,7 +49,13 @@ def wishes_of(plan: Plan) -> list[Wish]:
             if values[key] not in known:
                 raise tables.fault(path + (key,), 'A plot has no such `%s`.' % key, ', '.join('`"%s"`' %
                                                                                               it for it in known))
+        if values['interval'] != AUTO and values['show'] != 'mean':
+            raise tables.fault(path + ('interval',), 'An interval is one of means, and this plot shows none.',
+                               '`show = "mean"` as well')
         values['threshold'] = '' if values['threshold'] is None else str(values['threshold'])
+        values['confidence'] = 95 if values['confidence'] is None else values['confidence']
+        if type(values['confidence']) not in (int, float) or not 50 <= values['confidence'] <= 99.9:
+            raise tables.fault(path + ('confidence',), 'A plot has no such `confidence`.', 'a number of 50 to 99.9')
         wish = Wish(**values)
         try:
             drawing.size_of(wish.size)
@@ -106,7 +112,7 @@ def compare(rows: Sequence[Row], others: Sequence[Row], wish: Wish, names: tuple
     found.sort(key=lambda it: order(it.against))
     by = text.by_methods([it.difference.method for it in found])
     words = '%s against %s: %s less %s, run by run' % (wish.measure, wish.against, names[1], names[0])
-    words += ', with intervals of %d %% %s' % (wish.confidence, by) if by else ''
+    words += ', with intervals of %g %% %s' % (wish.confidence, by) if by else ''
     made = text.rows_of_differences(found, wish.against, *names)
     notes = text.of_pairs(paired, found, wish.against) + text.of_intervals([it.difference for it in found])
     if wish.file and packages.is_here('matplotlib'):
@@ -128,6 +134,10 @@ def wishes(asked: argparse.Namespace) -> list[Wish]:
     if (asked.pair or asked.compare) and (asked.show or asked.threshold):
         raise Fault('a comparison run by run shows the mean of the differences: leave out %s' % (
             '--show' if asked.show else '--threshold'))
+    if (asked.pair or asked.compare) and asked.by:
+        raise Fault('a comparison run by run has one line: leave out --by %s' % asked.by)
+    if asked.interval != AUTO and asked.show != 'mean' and not (asked.pair or asked.compare):
+        raise Fault('--interval %s is for intervals of means: add --show mean, or leave it out' % asked.interval)
     if asked.show == 'heat' and not asked.by:
         raise Fault('--show heat needs --by: the parameter from below upwards')
     drawing.size_of(asked.size)
