@@ -10,6 +10,7 @@ import os
 import signal
 import subprocess
 import sys
+import time
 from collections.abc import Sequence
 from pathlib import Path
 
@@ -64,13 +65,19 @@ def processes_of(session: int) -> list[int]:
 
 def run_whole(words: Sequence[str], folder: Path, seconds: float = 60,
               **environment: str) -> subprocess.CompletedProcess[str]:
-    """Runs a command in a session of its own, and ends all that it leaves running, also after its time."""
+    """Runs a command in a session of its own, and ends all that it leaves running, also after its time.
+
+    It returns once all of it has ended: a process that is killed needs a moment, and longer on a busy machine.
+    """
     with subprocess.Popen(words, cwd=folder, env={**os.environ, **environment}, stdin=subprocess.DEVNULL,
                           stdout=subprocess.PIPE, stderr=subprocess.PIPE, text=True, start_new_session=True) as ran:
         try:
             out, err = ran.communicate(timeout=seconds)
         finally:
-            for process in processes_of(ran.pid):
-                with contextlib.suppress(OSError):
-                    os.kill(process, signal.SIGKILL)
+            end = time.monotonic() + 10
+            while (left := processes_of(ran.pid)) and time.monotonic() < end:
+                for process in left:
+                    with contextlib.suppress(OSError):
+                        os.kill(process, signal.SIGKILL)
+                time.sleep(0.01)
     return subprocess.CompletedProcess(words, ran.returncode, out, err)
