@@ -477,6 +477,23 @@ class Command(unittest.TestCase):
         self.assertEqual([row for row in rows[2:4]], [['11.000', '0.200'], ['12.000', '0.400']])
         self.plot('--measure', 'sent', '--against', 'period', '--show', 'heat', status=2)
 
+    def test_the_part_of_the_runs_ends_at_the_part_that_has_a_value(self) -> None:
+        # (of 5 runs each, 2 have no value in the thin net, and none has one in the dense net)
+        text = re.sub(r',(dense,.|thin,[45]),[0-9]+,', r',\1,,', results())
+        (self.folder / 'net.csv').write_text(text)
+        words = '--measure', 'sent', '--where', 'period=1', '--show', 'cdf', '--by', 'density'
+        rows = self.plot(*words)
+        self.assertEqual(rows[2:6], [['dense', '-', '0.000'], ['thin', '11.000', '0.200'], ['thin', '12.000', '0.400'],
+                                     ['thin', '13.000', '0.600']])
+        out = 'no value of sent in 5 of 5 runs (density dense), 2 of 5 runs (density thin)'
+        self.assertIn(out, ' '.join(rows[-1]))
+        interpreter_with(self, 'matplotlib')
+        self.plot(*words, '-o', 'a.svg')
+        picture = ' '.join((self.folder / 'a.svg').read_text().split())
+        for shown in out, 'density dense: no run has a value', '>density thin<', '(5 runs)':
+            self.assertIn(shown, picture)
+        self.assertIn('dense,,0.0\n', (self.folder / 'a.table.csv').read_text().replace('\r', ''))
+
     def test_title_footer_axes_and_size_of_a_picture(self) -> None:
         interpreter_with(self, 'matplotlib')
         words = '--measure', 'sent', '--against', 'period', '--show', 'mean', '-o', 'a.svg', *ONE

@@ -123,11 +123,16 @@ def _draw_points(axes: Any, points: list[Point], xs: list[float], wish: Wish, lo
                   elinewidth=1, **look)
 
 
-def _draw_steps(axes: Any, points: list[Point], look: dict[str, str], label: str | None) -> None:
-    """The part of the runs whose value is at most x."""
-    values = sorted(value for point in points for value in point.values)
-    axes.step([values[0], *values], [0, *((number + 1) / len(values) for number in range(len(values)))], where='post',
-              label=label, color=look['color'], linestyle=look['linestyle'])
+def _draw_steps(axes: Any, shown: Shown, wish: Wish) -> None:
+    """For each curve the part of its runs whose value is at most x, up to the greatest value of all curves."""
+    curves = shown.curves()
+    every = [value for it in curves for value in it.values]
+    for number, it in enumerate(curves):
+        look, values = _look(number), it.values or [min(every)]
+        parts = [at / it.runs for at in range(len(it.values) + 1)]
+        label = '%s %s%s' % (wish.by, text_of(it.by), '' if it.values else ': no run has a value') if wish.by else None
+        axes.step([values[0], *it.values, max(every)], [*parts, parts[-1]], where='post', label=label,
+                  color=look['color'], linestyle=look['linestyle'])
 
 
 def _draw_heat(figure: Any, axes: Any, shown: Shown, wish: Wish) -> None:
@@ -192,7 +197,8 @@ def _scale(axes: Any, places: list[Cell], wish: Wish, is_scale: bool) -> None:
 
 def _note(shown: Shown, wish: Wish) -> str:
     """The words below a picture."""
-    runs = max(point.estimate.runs for point in shown.points)
+    of_points = [point.estimate.runs for point in shown.points]
+    runs = max([curve.runs for curve in shown.curves()] if wish.show == 'cdf' else of_points)
     of_mean = 'mean, and intervals of %g %% %s' % (wish.confidence, by_methods(shown.methods()))
     what = {'median': 'median, and quartiles', 'points': 'all runs', 'cdf': 'part of the runs', 'heat': 'mean'}.get(
         wish.show, of_mean if shown.methods() else 'mean')
@@ -216,13 +222,12 @@ def draw(shown: Shown, wish: Wish, path: Path) -> None:
 def _draw_curves(axes: Any, shown: Shown, wish: Wish) -> None:
     places = sorted({point.against for point in shown.points}, key=order)
     is_scale = all(type(it) in (int, float) for it in places)
-    for number, (by, points) in enumerate(_groups(shown).items()):
+    if wish.show == 'cdf':
+        _draw_steps(axes, shown, wish)
+    for number, (by, points) in enumerate(_groups(shown).items() if wish.show != 'cdf' else ()):
         label = '%s %s' % (wish.by, text_of(by)) if wish.by else None
-        if wish.show == 'cdf':
-            _draw_steps(axes, points, _look(number), label)
-        else:
-            xs = [it.x if is_scale else float(places.index(it.against)) for it in points]
-            _draw_points(axes, points, xs, wish, _look(number), label)
+        xs = [it.x if is_scale else float(places.index(it.against)) for it in points]
+        _draw_points(axes, points, xs, wish, _look(number), label)
     _draw_threshold(axes, shown, wish)
     if wish.show != 'cdf':
         if shown.points[0].across is None:

@@ -1,7 +1,8 @@
 """The points of a plot: the runs of a sweep in groups, each with its estimate."""
 from __future__ import annotations
 
-from collections.abc import Sequence
+from collections import Counter
+from collections.abc import Mapping, Sequence
 from typing import NamedTuple
 
 from motesim.analysis.estimates import AUTO, NAMES, Estimate, Measured, mean_of, measured, median_with_quartiles
@@ -72,16 +73,33 @@ class Point(NamedTuple):
         return [self.estimate, self.across] if self.across else [self.estimate]
 
 
+class Curve(NamedTuple):
+    """The runs with one value of `by`: the values of those that have one, in their order, and how many runs it has."""
+    by: Cell
+    values: list[float]
+    runs: int
+
+
 class Shown(NamedTuple):
     """The shown points, the parameters in which their runs differ, and the number of omitted runs.
 
     not_above_0  how many runs a logarithmic axis has no place for
+    lacking      how many runs have no value, for each value of `by` that has such runs
     """
     points: list[Point]
     over: list[str]
     faults: int
     empty: int
     not_above_0: int = 0
+    lacking: Mapping[Cell, int] = {}
+
+    def curves(self) -> list[Curve]:
+        """The runs of each value of `by`, also of one whose runs have no value."""
+        found: dict[Cell, list[float]] = {by: [] for by in self.lacking}
+        for point in self.points:
+            found.setdefault(point.by, []).extend(point.values)
+        return [Curve(by, sorted(found[by]), len(found[by]) + self.lacking.get(by, 0))
+                for by in sorted(found, key=order)]
 
     def methods(self) -> list[str]:
         """The methods by which intervals of means were found."""
@@ -163,12 +181,12 @@ def shown_of(rows: Sequence[Row], wish: Wish) -> Shown:
     check_mixture(good, [it for it in over if it not in repeats], repeats, wish.by,
                   'each point' if wish.against else 'a line')
     groups: dict[tuple[Cell, Cell], list[tuple[float, tuple[Cell, ...]]]] = {}
-    empty = 0
+    lacking: Counter[Cell] = Counter()
     for row in good:
         value = number_of(row, wish.measure)
         group = groups.setdefault((row[wish.by] if wish.by else None, row[wish.against] if wish.against else None), [])
         if value is None:
-            empty += 1
+            lacking[row[wish.by] if wish.by else None] += 1
         else:
             group.append((value, tuple(row[name] for name in over)))
     keys = sorted(groups, key=lambda key: (order(key[0]), order(key[1])))
@@ -177,7 +195,7 @@ def shown_of(rows: Sequence[Row], wish: Wish) -> Shown:
     for key in (it for it in keys if groups[it]):
         values = [value for value, _ in groups[key]]
         points.append(Point(*key, tuple(values), wish.estimate(values, kind), keys=tuple(it for _, it in groups[key])))
-    return Shown(points, over, len(rows) - len(good), empty)
+    return Shown(points, over, len(rows) - len(good), lacking.total(), lacking=lacking)
 
 
 def _of_two_measures(rows: Sequence[Row], good: Sequence[Row], varying: Sequence[str], wish: Wish) -> Shown:

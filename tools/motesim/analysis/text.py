@@ -10,7 +10,7 @@ from typing import Any
 from motesim.analysis.crossings import Crossing, Middle, Runs, crossing
 from motesim.analysis.estimates import LEAST_RUNS, NAMES, OF_ROW, Estimate
 from motesim.analysis.paired import Difference, Paired, reasons
-from motesim.analysis.points import Point, Shown, Wish
+from motesim.analysis.points import Curve, Point, Shown, Wish
 from motesim.experiments.measures import Cell
 from motesim.experiments.results import line_of, text_of
 from motesim.faults import Fault
@@ -28,8 +28,8 @@ def rows_of(shown: Shown, wish: Wish) -> list[Row]:
         return [{**_of_by(point, wish), **_of_run(x, wish), wish.measure: value} for point in shown.points
                 for x, value in zip(point.others or (point.against,) * len(point.values), point.values)]
     if wish.show == 'cdf':
-        return [{**_of_by(point, wish), wish.measure: value, 'part of runs': number / len(point.values)}
-                for point in shown.points for number, value in enumerate(sorted(point.values), 1)]
+        return [{**({wish.by: it.by} if wish.by else {}), wish.measure: value, 'part of runs': number / it.runs}
+                for it in shown.curves() for number, value in _steps(it)]
     rows: list[Row] = []
     for point in shown.points:
         row: Row = {**_of_by(point, wish), **_of_against(point, wish), 'runs': point.estimate.runs}
@@ -49,6 +49,11 @@ def rows_with_crossings(shown: Shown, wish: Wish) -> list[Row]:
         return rows
     return [{**row, 'threshold': float(wish.threshold), **columns_of_crossing(found[row.get(wish.by)])}
             for row in rows]
+
+
+def _steps(curve: Curve) -> list[tuple[int, float | None]]:
+    """The number of runs with at most each value, and the value; a curve without values has one row, of 0 runs."""
+    return [*enumerate(curve.values, 1)] if curve.values else [(0, None)]
 
 
 def _of_by(point: Point, wish: Wish) -> Row:
@@ -106,7 +111,13 @@ def left_out(shown: Shown, wish: Wish) -> list[str]:
     lines = []
     if shown.faults:
         lines.append('left out: %d runs with a fault' % shown.faults)
-    if shown.empty:
+    if shown.lacking and wish.show == 'cdf':
+        curves = [it for it in shown.curves() if len(it.values) < it.runs]
+        counts = ['%d of %d runs' % (it.runs - len(it.values), it.runs) for it in curves]
+        names = [' (%s %s)' % (wish.by, text_of(it.by)) if wish.by else '' for it in curves]
+        lines.append('no value of %s in %s: so much of a curve is missing at its end' % (
+            wish.measure, ', '.join(map(''.join, zip(counts, names)))))
+    elif shown.empty:
         lines.append('left out: %d runs without a value of %s' % (shown.empty, wish.measure))
     if shown.not_above_0:
         lines.append('left out: %d run%s whose %s isn\'t above 0' % (
