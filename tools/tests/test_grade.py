@@ -4,6 +4,7 @@ import csv
 import io
 import json
 import os
+import random
 import re
 import signal
 import socket
@@ -18,7 +19,7 @@ from pathlib import Path
 from unittest import mock
 
 from here import TOOLS
-from motesim.grading.entries import data_of, entries_of
+from motesim.grading.entries import anonymous, data_of, entries_of
 from motesim.grading.marking import Mark, Marks, page_name
 from motesim.grading.nets import nets_of, program_of
 from motesim.grading.page import page_of
@@ -194,7 +195,7 @@ class Entries(Folder):
             '  1  1 of 2  every mote prints a 3 (required)\n  2  1 of 2  mote 1 prints a at 6\n'
             '  3  2 of 2  no mote halts\n'))
         self.assertIn('broken  every mote prints a 3 (required)\n', self.grade('--why', 'ben'))
-        self.assertIn('ben.toml,0,3,,0,0,1', self.grade('--csv'))
+        self.assertIn('"ben.toml",0,3,"",0,0,1', self.grade('--csv'))
         self.grade('-o', 'marks.toml', '-o', 'marks.html')
         marks = tomllib.loads((self.top / 'marks.toml').read_text())
         self.assertEqual((marks['required'], marks['solution'][1]['holds'], marks['solution'][1]['broken']),
@@ -365,7 +366,7 @@ class LimitsOfRuns(Folder):
         self.assertEqual(marks[1], {'name': 'wait.toml', 'of': 3, 'fault': why})
         self.assertIn('>- of 3<', (self.top / 'marks.html').read_text())
         waiting = Marks('wait.toml', why=why, is_open=True)
-        self.assertEqual(csv_of([waiting], ['a', 'b']).split('\n')[1], 'wait.toml,,2,"%s",,' % why)
+        self.assertEqual(csv_of([waiting], ['a', 'b']).split('\n')[1], '"wait.toml","",2,"%s","",""' % why)
         self.assertEqual(table_of([waiting], ['a', 'b']), ['wait.toml  - of 2  %s' % why])
 
     def test_all_its_processes_end_with_it(self) -> None:
@@ -419,6 +420,17 @@ class Forms(Folder):
         for text in '=1', '+1', '-1', '@x', '\t=1', '\r=1', ' =1', '\u3000\uff1d1', '\uff0b1', '\uff20x':
             self.assertEqual(cell(text), "'" + text)
         self.assertEqual(cell('anna'), 'anna')
+
+    def test_csv_has_the_same_cells_where_semicolons_or_tabs_separate(self) -> None:
+        self.hand_in('kim;7;7;.toml', net(PROGRAM % 3))
+        self.hand_in('lee;=1+1;.toml', net(PROGRAM % 3))
+        self.hand_in('mia.toml', net(PROGRAM % 3, name='x;=1+1').replace('x;=1+1 =', '"x;=1+1" =').replace(
+            '[programs]\n', '[programs]\nb = ""\n'))
+        text = self.grade('--csv', '--net', 'task.toml')
+        self.assertFalse(set(';\t') & set(text), text)
+        rows = list(csv.reader(io.StringIO(text)))
+        self.assertEqual([row[0] for row in rows[2:4]], ['kim\\x3b7\\x3b7\\x3b.toml', 'lee\\x3b=1+1\\x3b.toml'])
+        self.assertIn('`x\\x3b=1+1`', rows[4][3])
 
     def test_toml(self) -> None:
         self.hand_in('b"en\\.toml', net(PROGRAM % 4))
@@ -482,6 +494,15 @@ class Forms(Folder):
             self.hand_in('s%d.toml' % number, '')
         self.grade('--why', 'x', status=2)
         self.assertRegex(self.told, r'^grade: class has no solution x: .*: anna.toml, (\S+, ){19}\.\.\n$')
+
+    def test_anonymous_numbers_change_with_each_marking(self) -> None:
+        for number in range(8):
+            self.hand_in('s%d.toml' % number, net(PROGRAM % 3))
+        entries = entries_of(self.folder)
+        drawn = {tuple(it.path for it in anonymous(entries)) for _ in range(20)}
+        self.assertGreater(len(drawn), 1)
+        self.assertEqual({frozenset(it) for it in drawn}, {frozenset(it.path for it in entries)})
+        self.assertEqual(anonymous(entries, random.Random(1)), anonymous(entries, random.Random(1)))
 
     def test_an_anonymous_page_has_no_name_of_a_file(self) -> None:
         for name in 'ben.toml', 'cem.toml':

@@ -5,8 +5,8 @@ and of these no more is read than a scenario may have.
 """
 from __future__ import annotations
 
-import hashlib
 import os
+import random
 import re
 import stat
 from collections.abc import Iterator, Sequence
@@ -88,9 +88,11 @@ def entries_of(folder: Path) -> list[Entry]:
     return found
 
 
-def anonymous(entries: Sequence[Entry]) -> list[Entry]:
-    """The entries with numbers for names, in an order that doesn't follow from their names."""
-    mixed = sorted(entries, key=lambda it: hashlib.sha256(os.fsencode(it.path)).digest())
+def anonymous(entries: Sequence[Entry], chance: random.Random | None = None) -> list[Entry]:
+    """The entries with numbers for names, in an order by chance: another one for each marking, unless `chance` has a
+    seed."""
+    mixed = list(entries)
+    (chance or random.SystemRandom()).shuffle(mixed)
     return [it._replace(name='solution-%d' % number) for number, it in enumerate(mixed, 1)]
 
 

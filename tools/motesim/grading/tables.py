@@ -64,16 +64,24 @@ def cell(text: str) -> str:
     return "'" + text if begin.startswith(OF_FORMULA) else text
 
 
+def without_separators(text: str) -> str:
+    """A text of a solution that is one cell too where `;` or a tab separates cells: these signs are escaped."""
+    return text.replace(';', '\\x3b').replace('\t', '\\x09')
+
+
 def csv_of(marked: Sequence[Marks], sentences: Sequence[str]) -> str:
-    """A row for each solution, with 1 for a sentence that holds and otherwise 0; nothing if it isn't marked."""
+    """A row for each solution, with 1 for a sentence that holds and otherwise 0; nothing if it isn't marked.
+
+    All texts are in quotes.
+    """
     out = io.StringIO(newline='')
-    rows = csv.writer(out, lineterminator='\n')
+    rows = csv.writer(out, lineterminator='\n', quoting=csv.QUOTE_NONNUMERIC)
     rows.writerow(['scenario', 'holds', 'of', 'fault', *map(cell, sentences)])
     for it in marked:
         holds: list[object] = [int(one.holds) for one in it.marks]
         missing = '' if it.is_open else 0
-        rows.writerow([cell(it.name), missing if it.is_open else it.held, len(sentences), cell(it.fault),
-                       *(holds or [missing] * len(sentences))])
+        rows.writerow([cell(without_separators(it.name)), missing if it.is_open else it.held, len(sentences),
+                       cell(without_separators(it.fault)), *(holds or [missing] * len(sentences))])
     return out.getvalue()
 
 
