@@ -39,8 +39,18 @@ def write_whole(path: str | Path, parts: Iterable[bytes]) -> None:
         raise NotWritten(path, fault.strerror or str(fault)) from None
 
 
+def replace_whole(path: str | Path, parts: Iterable[bytes]) -> None:
+    """The same, but a link at this place is replaced, and not followed. For folders that somebody else filled."""
+    path = Path(path)
+    try:
+        _replace(path, parts)
+    except OSError as fault:
+        raise NotWritten(path, fault.strerror or str(fault)) from None
+
+
 def _replace(target: Path, parts: Iterable[bytes]) -> None:
-    mode = target.stat().st_mode & 0o777 if target.exists() else 0o666 & ~_mask()
+    is_file = target.is_file() and not target.is_symlink()
+    mode = target.stat().st_mode & 0o777 if is_file else 0o666 & ~_mask()
     number, scratch = tempfile.mkstemp(prefix='.%s.' % target.name[:100], dir=target.parent)
     try:
         with open(number, 'wb') as file:

@@ -6,6 +6,7 @@ import json
 import os
 import random
 import re
+import shutil
 import signal
 import socket
 import subprocess
@@ -323,6 +324,25 @@ class Pages(Folder):
             (self.folder / name).unlink()
         self.grade('-o', 'marks.html')
         self.assertEqual(sorted(os.listdir(folder)), ['mine.html', 'pages.txt'])
+
+    def test_no_link_of_a_student_is_followed(self) -> None:
+        precious = self.top / 'precious.txt'
+        precious.write_text('precious')
+        runs = self.folder / 'marks_runs'
+        runs.mkdir()
+        self.hand_in('mallory.toml', net(PROGRAM % 4))
+        for name in ('marks_runs/mallory.toml_in_task.toml.html', 'marks_runs/pages.txt', 'marks.html', 'marks.csv',
+                     'marks.html.new', 'marks.csv.new'):
+            (self.folder / name).symlink_to(precious)
+        words = '--net', 'task.toml', '-o', 'class/marks.html', '-o', 'class/marks.csv'
+        self.grade(*words)
+        self.assertEqual(precious.read_text(), 'precious')
+        self.assertIn('mallory.toml', (runs / 'mallory.toml_in_task.toml.html').read_text())
+        self.assertFalse((self.folder / 'marks.csv').is_symlink())
+        shutil.rmtree(runs)
+        runs.symlink_to(self.top)
+        self.grade(*words, status=2)
+        self.assertIn('class/marks_runs is a link, and not a folder: remove it', self.told)
 
     def test_no_two_pages_have_one_name(self) -> None:
         names = [page_name(number, name, 'n 1') for number, name in enumerate(('a/b.toml', 'a_b.toml', 'a b.toml', '.a',

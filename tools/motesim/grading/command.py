@@ -2,7 +2,6 @@
 from __future__ import annotations
 
 import argparse
-import os
 import sys
 import time
 from collections.abc import Sequence
@@ -10,6 +9,7 @@ from pathlib import Path
 
 from motesim.explain.synonyms import nearest
 from motesim.faults import Fault
+from motesim.files import replace_whole
 from motesim.grading import page, tables
 from motesim.grading.entries import Entry, anonymous, entries_of, skipped_of
 from motesim.grading.marking import Marks, Task, unmarked
@@ -72,10 +72,8 @@ def spoken_of_by_none(marked: Sequence[Marks], sentences: Sequence[str]) -> list
 
 
 def written(path: Path, text: str) -> None:
-    """Writes a file whole, or not at all."""
-    beside = path.with_name(path.name + '.new')
-    beside.write_text(text, encoding='utf-8', newline='\n')
-    os.replace(beside, path)
+    """Writes a file whole, or not at all. A link is replaced."""
+    replace_whole(path, [text.encode('utf-8')])
 
 
 def write(path: Path, marked: Sequence[Marks], sentences: Sequence[str], task: Task, expectations: Path) -> None:

@@ -9,6 +9,7 @@ from typing import NamedTuple
 
 from motesim.explain.explanation import explanation, of_program, of_program_file, tables_or_none
 from motesim.faults import Fault
+from motesim.files import replace_whole
 from motesim.grading.entries import Entry, data_of, is_program
 from motesim.grading.nets import Net, NoProgram, program_of
 from motesim.judge.expectations import (
@@ -244,7 +245,7 @@ class Task:
         note = note_of(its.run, mark.sentence, its.broken[place] if place < len(its.broken) else None, mark.more)
         name = page_name(number, marks.name, its.net)
         write_page(self.pictures / name, '%s: %s' % (marks.name, mark.sentence), [its.run._replace(name=marks.name)],
-                   note=note)
+                   note=note, write=replace_whole)
         return name
 
 

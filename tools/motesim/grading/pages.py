@@ -8,7 +8,8 @@ from __future__ import annotations
 from collections.abc import Iterable
 from pathlib import Path
 
-from motesim.files import write_whole
+from motesim.faults import Fault
+from motesim.files import replace_whole
 
 NAMES = 'pages.txt'
 HEAD = '# The pages that tools/grade made here. The next marking removes them.'
@@ -19,14 +20,24 @@ def pages_of(path: Path) -> Path:
     return path.with_name(path.stem + '_runs')
 
 
+def names_in(folder: Path) -> list[str]:
+    """The names of the pages that an earlier marking made in a folder."""
+    names = folder / NAMES
+    if folder.is_symlink() or names.is_symlink() or not names.is_file():
+        return []
+    lines = names.read_text('utf-8', 'replace').split('\n')
+    return [it for it in lines[1:] if it] if lines[0] == HEAD else []
+
+
 def remove_earlier(folder: Path) -> None:
-    """Removes the pages that an earlier marking made in a folder, which is made if it isn't there."""
+    """Removes the pages that an earlier marking made in a folder, which is made if it isn't there.
+
+    Raises a `Fault` if the folder is a link: somebody else may have set it to a folder of other files.
+    """
+    if folder.is_symlink():
+        raise Fault('%s is a link, and not a folder: remove it, or write the page elsewhere' % folder)
     folder.mkdir(parents=True, exist_ok=True)
-    try:
-        lines = (folder / NAMES).read_text('utf-8').split('\n')
-    except (FileNotFoundError, UnicodeDecodeError):
-        return
-    for name in lines if lines[0] == HEAD else ():
+    for name in names_in(folder):
         page = folder / name
         if page.parent == folder and page.suffix == '.html' and page.is_file() and not page.is_symlink():
             page.unlink()
@@ -34,4 +45,4 @@ def remove_earlier(folder: Path) -> None:
 
 def keep_names(folder: Path, names: Iterable[str]) -> None:
     """Writes down which pages this marking made."""
-    write_whole(folder / NAMES, (('%s\n' % it).encode() for it in (HEAD, *names)))
+    replace_whole(folder / NAMES, (('%s\n' % it).encode() for it in (HEAD, *names)))

@@ -15,7 +15,7 @@ import base64
 import functools
 import json
 import re
-from collections.abc import Iterable, Sequence
+from collections.abc import Callable, Iterable, Sequence
 from pathlib import Path
 from typing import Any
 
@@ -26,6 +26,7 @@ from motesim.timeline.columns import data_of
 from motesim.timeline.note import Note
 from motesim.why.pages import causes_of
 
+Writer = Callable[[str | Path, Iterable[bytes]], None]
 PAGE = Path(__file__).resolve().parent / 'page'
 # A place of the template that is filled.
 MARK = re.compile('@([A-Z]+)@')
@@ -67,12 +68,12 @@ def page_of(title: str, runs: Sequence[Run], start: int | None = None, mote: int
 
 
 def write_page(path: str | Path, title: str, runs: Sequence[Run], start: int | None = None,
-               mote: int | None = None, note: Note | None = None) -> None:
+               mote: int | None = None, note: Note | None = None, write: Writer = write_whole) -> None:
     """Writes the page of one run or of several above one another, which share their time axis.
 
     With `start` the page opens around that moment, which is marked, and with `mote` that mote's lane is in view. With
     `note` it shows a sentence that doesn't hold, and opens at the line that the note is about.
     """
     # (of a name that isn't UTF-8, other bytes are escaped)
-    write_whole(path, (part.encode('utf-8', 'backslashreplace')
-                       for part in page_of(title, runs, start, mote, note)))
+    write(path, (part.encode('utf-8', 'backslashreplace')
+                 for part in page_of(title, runs, start, mote, note)))
