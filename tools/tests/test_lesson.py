@@ -76,6 +76,14 @@ class Lesson(unittest.TestCase):
                 with self.subTest(task=task, program=program):
                     self.assertEqual(self.marks(task, program).held, 0)
 
+    def test_a_solution_whose_motes_halt_lacks_one_sentence(self) -> None:
+        for task in NETS:
+            solution = (LESSON / ('solutions/task%d.toml' % task)).read_text().split("'''")[1]
+            halting = solution.replace('yield_until is(packet)', 'wait_until is(packet)').replace(
+                '        send distance;', '        send distance; while 1 { wait_until 1; }')
+            broken = [it.sentence for it in self.marks(task, halting).marks if not it.holds]
+            self.assertEqual((task, broken), (task, ['no mote halts']))
+
     def test_doing_nothing_earns_nothing(self) -> None:
         self.assertEqual([self.marks(task, IDLE).held for task in NETS], [0, 0, 0])
 
