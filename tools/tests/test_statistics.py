@@ -494,6 +494,34 @@ class Command(unittest.TestCase):
             self.assertIn(shown, picture)
         self.assertIn('dense,,0.0\n', (self.folder / 'a.table.csv').read_text().replace('\r', ''))
 
+    def test_runs_that_share_a_net_are_not_independent(self) -> None:
+        head = 'period,seed,chance_seed,sent,fault,places_sha256,parameters\n'
+
+        def written(nets: str) -> None:
+            (self.folder / 'net.csv').write_text(head + ''.join('%d,%d,%d,%d,,%s,period seed chance_seed\n' % (
+                period, seed, chance, 9 * period + seed + chance, nets % seed) for period in (1, 2)
+                for seed in (1, 2, 3) for chance in (1, 2)))
+
+        words = '--measure', 'sent', '--against', 'period', '--show', 'mean'
+        warned = '6 runs in 3 nets: intervals count runs as independent'
+        written('net%d')
+        rows = self.plot(*words)
+        self.assertTrue(self.told.startswith('plot: ' + warned), self.told)
+        self.assertIn(warned, ' '.join(rows[-1]))
+        self.plot(*words, '--where', 'chance_seed=1')
+        self.assertEqual(self.told, '')
+        self.plot('--measure', 'sent', '--against', 'period')
+        self.assertEqual(self.told, '')
+        # (one net that is the same for all is meant so)
+        written('net%.0s')
+        self.plot(*words)
+        self.assertEqual(self.told, '')
+        interpreter_with(self, 'matplotlib')
+        written('net%d')
+        self.plot(*words, '-o', 'a.svg')
+        self.assertIn(warned, self.told)
+        self.assertIn('6 runs in 3 nets: ', (self.folder / 'a.svg').read_text())
+
     def test_title_footer_axes_and_size_of_a_picture(self) -> None:
         interpreter_with(self, 'matplotlib')
         words = '--measure', 'sent', '--against', 'period', '--show', 'mean', '-o', 'a.svg', *ONE

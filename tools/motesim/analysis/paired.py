@@ -16,13 +16,12 @@ from collections.abc import Mapping, Sequence
 from typing import NamedTuple
 
 from motesim.analysis.estimates import AUTO, Estimate, Measured, mean_by_wilson, mean_of, measured
+from motesim.analysis.points import PLACES
 from motesim.experiments.measures import Cell
 from motesim.experiments.results import Row
 from motesim.faults import Fault
 
 Key = tuple[Cell, ...]
-# The column with the digest of a net's places.
-PLACES = 'places_sha256'
 
 
 class Pair(NamedTuple):

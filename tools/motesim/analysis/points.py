@@ -17,6 +17,8 @@ REPEATS = 'seed'
 MOST_VALUES = 4
 # A column about a run's net that can be shown like a measure.
 REJECTED = 'rejected'
+# The column with the digest of a net's places.
+PLACES = 'places_sha256'
 
 
 class Wish(NamedTuple):
@@ -85,6 +87,7 @@ class Shown(NamedTuple):
 
     not_above_0  how many runs a logarithmic axis has no place for
     lacking      how many runs have no value, for each value of `by` that has such runs
+    shared       the runs and the nets of a point of which several runs are in one net, if there is such a point
     """
     points: list[Point]
     over: list[str]
@@ -92,6 +95,7 @@ class Shown(NamedTuple):
     empty: int
     not_above_0: int = 0
     lacking: Mapping[Cell, int] = {}
+    shared: tuple[int, int] | None = None
 
     def curves(self) -> list[Curve]:
         """The runs of each value of `by`, also of one whose runs have no value."""
@@ -169,6 +173,16 @@ def check_pairs(rows: Sequence[Row], wish: Wish, kept: Sequence[str]) -> None:
     check_mixture(good, [it for it in varying if it not in repeats], repeats, 'none', 'each point')
 
 
+def shared_nets(rows: Sequence[Row], names: Sequence[str], measure: str) -> tuple[int, int] | None:
+    """The runs and the nets of the first point, by these parameters, that has fewer nets than runs, and several."""
+    groups: dict[tuple[Cell, ...], list[Cell]] = {}
+    for row in rows:
+        if row.get(PLACES) is not None and number_of(row, measure) is not None:
+            groups.setdefault(tuple(row[name] for name in names), []).append(row[PLACES])
+    counts = ((len(nets), len(set(nets))) for nets in groups.values())
+    return next(((runs, nets) for runs, nets in counts if 1 < nets < runs), None)
+
+
 def shown_of(rows: Sequence[Row], wish: Wish) -> Shown:
     """The points that are to be shown."""
     _check(rows, wish)
@@ -195,7 +209,8 @@ def shown_of(rows: Sequence[Row], wish: Wish) -> Shown:
     for key in (it for it in keys if groups[it]):
         values = [value for value, _ in groups[key]]
         points.append(Point(*key, tuple(values), wish.estimate(values, kind), keys=tuple(it for _, it in groups[key])))
-    return Shown(points, over, len(rows) - len(good), lacking.total(), lacking=lacking)
+    return Shown(points, over, len(rows) - len(good), lacking.total(), lacking=lacking,
+                 shared=shared_nets(good, [it for it in (wish.by, wish.against) if it], wish.measure))
 
 
 def _of_two_measures(rows: Sequence[Row], good: Sequence[Row], varying: Sequence[str], wish: Wish) -> Shown:
@@ -227,4 +242,5 @@ def _of_two_measures(rows: Sequence[Row], good: Sequence[Row], varying: Sequence
         across = wish.estimate(xs, of_x)
         points.append(Point(bys[key], across.middle, values, wish.estimate(values, of_y), across, keys, xs))
     points.sort(key=lambda it: (order(it.by), order(it.against)))
-    return Shown(points, over, len(rows) - len(good), empty, not_above_0)
+    return Shown(points, over, len(rows) - len(good), empty, not_above_0,
+                 shared=shared_nets(good, kept, wish.measure))

@@ -127,7 +127,18 @@ def left_out(shown: Shown, wish: Wish) -> list[str]:
 
 def remarks(shown: Shown, wish: Wish) -> list[str]:
     """The limits of the intervals' meaning."""
-    return of_intervals([it for point in shown.points for it in point.estimates]) if wish.show == 'mean' else []
+    found = of_nets(shown.shared) if wish.show == 'mean' or wish.threshold and wish.show != 'cdf' else []
+    if wish.show != 'mean':
+        return found
+    return found + of_intervals([it for point in shown.points for it in point.estimates])
+
+
+def of_nets(shared: tuple[int, int] | None) -> list[str]:
+    """That the runs of a point are in fewer nets."""
+    if shared is None:
+        return []
+    return ['%d runs in %d nets: intervals count runs as independent, and are too narrow if nets differ; use one seed '
+            'for places and chance, or average by net first' % shared]
 
 
 def of_intervals(estimates: Sequence[Estimate]) -> list[str]:

@@ -11,7 +11,8 @@ from motesim.analysis.drawing import FORMATS
 from motesim.analysis.estimates import AUTO, MEANS
 from motesim.analysis.estimates import quartiles as quartiles
 from motesim.analysis.paired import differences, pairs_of
-from motesim.analysis.points import MEDIAN, SHOWS, Wish, check_pairs, measures_of, order, parameters_of, shown_of
+from motesim.analysis.points import MEDIAN, SHOWS, Wish, check_pairs, measures_of, order, parameters_of
+from motesim.analysis.points import shared_nets, shown_of
 from motesim.experiments import packages
 from motesim.experiments.asked import values_of
 from motesim.experiments.results import Row, cell, read_results, text_of
@@ -82,6 +83,13 @@ def write_table(path: Path, rows: Sequence[text.Row]) -> None:
         raise Fault('%s: %s' % (path, fault.strerror)) from None
 
 
+def warn(lines: Sequence[str], shared: tuple[int, int] | None) -> None:
+    """Prints the line about runs that share a net, if it is one of these, on standard error too."""
+    for line in text.of_nets(shared):
+        if line in lines:
+            print('plot: %s' % line, file=sys.stderr)
+
+
 def show(rows: Sequence[Row], wish: Wish, folder: Path) -> bool:
     """Draws a picture or prints a table; returns whether it has the wanted form."""
     shown = shown_of(rows, wish)
@@ -93,8 +101,10 @@ def show(rows: Sequence[Row], wish: Wish, folder: Path) -> bool:
         print(folder / wish.file)
         for line in text.crossings(shown, wish) + text.remarks(shown, wish):
             print(line)
+        warn(text.remarks(shown, wish), shown.shared)
         return True
     print('\n'.join(text.table_of(shown, wish)))
+    warn(text.remarks(shown, wish), shown.shared)
     return not wish.file
 
 
@@ -114,7 +124,10 @@ def compare(rows: Sequence[Row], others: Sequence[Row], wish: Wish, names: tuple
     words = '%s against %s: %s less %s, run by run' % (wish.measure, wish.against, names[1], names[0])
     words += ', with intervals of %g %% %s' % (wish.confidence, by) if by else ''
     made = text.rows_of_differences(found, wish.against, *names)
-    notes = text.of_pairs(paired, found, wish.against) + text.of_intervals([it.difference for it in found])
+    shared = shared_nets([row for row in rows if not row['fault']], [wish.against], wish.measure)
+    notes = text.of_pairs(paired, found, wish.against) + text.of_nets(shared)
+    notes += text.of_intervals([it.difference for it in found])
+    warn(notes, shared)
     if wish.file and packages.is_here('matplotlib'):
         drawing.draw_differences(found, wish, words, notes, Path(wish.file))
         write_table(table_path(Path(wish.file)), made)
