@@ -9,7 +9,8 @@ from typing import NamedTuple
 from here import TOP
 from motesim.analysis.estimates import mean_by_t
 from motesim.explain.hints import WISHES
-from motesim.explain.lint import warnings
+from motesim.experiments.one_run import warned
+from motesim.explain.lint import SAME_DRAWS, warnings
 from motesim.explain.resonance import Together, all_at_once, hit, resonances
 from motesim.from_c.expressions import NO_CHANCE
 from motesim.plan.files import Files
@@ -235,6 +236,19 @@ class ByChance(unittest.TestCase):
         for suggested in WISHES['random'], NO_CHANCE:
             for it in page:
                 self.assertIn('dice = %s;' % it.replace('${seed}', '1'), suggested)
+
+    def test_more_than_255_motes_draw_as_others_do_with_the_seed_before(self) -> None:
+        for mote, seed in (0, 1), (7, 30):
+            self.assertEqual(self.cycle.first(mote + 255, seed + 1), self.cycle.first(mote, seed))
+        keys = {(mote * 257 + seed) % WORD for mote in range(255) for seed in range(1, 258)}
+        self.assertEqual(len(keys), 255 * 257)
+        head = SCENARIO.partition('[[mote]]')[0].replace('{ send 1; }', '{ print ((self * 257) + 1); send 1; }')
+        for motes, count in (255, 0), (256, 1):
+            places = ''.join('[[mote]]\nx = %d\ny = 0\nprogram = "p"\n' % it for it in range(motes))
+            net = Scenario.parse(head + places)
+            found = [it.token.text if it.token else '' for it in warnings(net) if it.text == SAME_DRAWS]
+            self.assertEqual(found, ['self'] * count)
+            self.assertEqual(warned(report([7] * 9, 2), net, 60), ['warning: ' + SAME_DRAWS] * count)
 
     def test_the_rate_over_all_states_is_exact(self) -> None:
         self.assertEqual(len(self.cycle.places), WORD)

@@ -16,7 +16,7 @@ from pathlib import Path
 from types import FrameType
 from typing import NamedTuple
 
-from motesim.explain.lint import by_cause, of_losses
+from motesim.explain.lint import by_cause, of_losses, of_seeds, programs_of
 from motesim.faults import Fault
 from motesim.runner.batch import fault_of
 from motesim.runner.process import LimitMet, Limits, Runner
@@ -165,10 +165,11 @@ def measured(work: Work, bench: Bench, known: Scenario) -> tuple[dict[str, Cell]
 
 
 def warned(report: Report, known: Scenario, seconds: float) -> list[str]:
-    """The warnings of losses in step, as long as finding them is no longer than a run may be."""
+    """The warnings of losses in step and of seeds, as long as finding them is no longer than a run may be."""
     try:
         with limited(seconds):
-            return [WARNING + it.text for it in by_cause(list(of_losses(known, report)))]
+            found = [*of_losses(known, report), *of_seeds(known, programs_of(known))]
+            return [WARNING + it.text for it in by_cause(found)]
     except TimeoutError:
         return []
 

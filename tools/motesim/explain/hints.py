@@ -46,7 +46,7 @@ WISHES = {
     'random': 'There is no chance in a mote: each run is the same. A generator with a seed serves, as '
               '`dice = ((dice * 25173) + 13849); if (dice < 6554) { .. }`, which is so 1 time in 10. At the start of '
               '`body` mix its seed, else motes draw in step: `dice = ((self * 257) + 1); dice = (dice * ((2 * dice) + '
-              '1)); dice = (dice + (dice / 256)); dice = (dice * ((2 * dice) + 1));`.',
+              '1)); dice = (dice + (dice / 256)); dice = (dice * ((2 * dice) + 1));`. This is for at most 255 motes.',
     'id': 'A mote\'s number is `self`.',
     'time': 'The current moment is `now` (its low 16 bits).',
     'clock': 'The current moment is `now` (its low 16 bits).',

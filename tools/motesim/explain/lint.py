@@ -21,6 +21,11 @@ STILL_TRUE = ('a loop without an end, in which only `%s` waits: its test is abou
               'true until the next call, so the loop turns until the mote\'s work is used up, and the mote halts; `%s` '
               'waits for the next call first' % (AT_ONCE, LATER))
 LOOPS = ENDLESS, STILL_TRUE
+# The factor of the pattern for chance, by which so many motes and seeds draw different numbers, and its warning.
+FACTOR, MOST_DRAWING = '257', 255
+SAME_DRAWS = ('in a net of more than 255 motes, mote k + 255 draws with one seed as mote k does with the seed before '
+              '(255 * 257 is -1 in 16 bits), so that runs of neighbouring seeds are not independent: use at most 255 '
+              'motes')
 # How many other places are named.
 MOST_PLACES = 8
 
@@ -125,6 +130,19 @@ def of_losses(scenario: Scenario, report: Report) -> Iterator[Warned]:
         yield Warned(str(sender), mote=sender.sender, loss=sender.place, cause='together')
 
 
+def of_seeds(scenario: Scenario, programs: dict[str, Program]) -> Iterator[Warned]:
+    """Yields the warnings of programs that draw by chance, in more motes than have numbers of their own."""
+    for name, program in programs.items():
+        token = program.first('self', '*', FACTOR)
+        motes = [number for number, place in enumerate(scenario.places) if place.program == name]
+        if token and motes and motes[-1] - motes[0] >= MOST_DRAWING:
+            yield Warned(SAME_DRAWS, name, token, cause='seeds')
+
+
+def programs_of(scenario: Scenario) -> dict[str, Program]:
+    return {name: Program(name, text) for name, text in scenario.programs.items()}
+
+
 def of_net(scenario: Scenario, programs: dict[str, Program], report: Report | None) -> Iterator[Warned]:
     """Yields the warnings of a net."""
     for name in scenario.programs:
@@ -154,9 +172,9 @@ def of_net(scenario: Scenario, programs: dict[str, Program], report: Report | No
 
 def warnings(scenario: Scenario, report: Report | None = None) -> list[Warned]:
     """Returns the warnings of a scenario; with its report, also those that it shows."""
-    programs = {name: Program(name, text) for name, text in scenario.programs.items()}
+    programs = programs_of(scenario)
     found = [it for program in programs.values() for it in of_program(program)]
-    return by_cause(found + list(of_net(scenario, programs, report)))
+    return by_cause(found + list(of_seeds(scenario, programs)) + list(of_net(scenario, programs, report)))
 
 
 def by_cause(found: list[Warned]) -> list[Warned]:

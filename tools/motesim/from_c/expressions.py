@@ -57,7 +57,8 @@ DICE, STEP, DRAWN = 'dice', 'dice = ((dice * 25173) + 13849);', '(dice / 256)'
 NO_CHANCE = ('There is no chance in a mote: each run is the same. A generator of its own serves, as below, with a '
              'seed that differs by mote, mixed so that motes don\'t draw in step. At the start of `body`: `dice = ((self '
              '* 257) + 1); dice = (dice * ((2 * dice) + 1)); dice = (dice + (dice / 256)); dice = (dice * ((2 * dice) + '
-             '1));`. Then `((dice / 256) % 10)` is one of 0 to 9, and `(dice < 6554)` is so 1 time in 10.')
+             '1));`, for at most 255 motes. Then `((dice / 256) % 10)` is one of 0 to 9, and `(dice < 6554)` is so 1 '
+             'time in 10.')
 TOO_LARGE = ('Numbers have 16 bits, 0 to 65,535: a timer is set to 65535 moments at most. Count larger ones in parts, '
              'such as '
              'thousands in a second variable.')
