@@ -215,6 +215,12 @@ class Nets(Folder):
         self.assertEqual(self.rows('--net', 'task.toml')['ben.mote'], '1 of 3  broken: 1, 2')
         self.assertEqual(self.rows()['ben.mote'], '0 of 3  a program without a net: --net names one to run it in')
 
+    def test_a_byte_order_mark_costs_no_mark(self) -> None:
+        for name, text in ('ben.mote', PROGRAM % 3), ('cem.toml', net(PROGRAM % 3)):
+            (self.folder / name).write_text(text, 'utf-8-sig')
+        self.assertEqual(program_of((self.folder / 'ben.mote').read_bytes(), 'ben.mote', 'task'), PROGRAM % 3)
+        self.assertEqual(set(self.rows('--net', 'task.toml').values()), {'3 of 3'})
+
     def test_several_nets_and_those_of_a_plan(self) -> None:
         (self.top / 'hidden.toml').write_text(net(PROGRAM % 9, motes=5))
         (self.top / 'task.mote').write_text(PROGRAM % 9)

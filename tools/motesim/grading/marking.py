@@ -26,6 +26,7 @@ from motesim.scenario.faults import find_fault
 from motesim.terminal import cut, one_line
 from motesim.timeline.html import write_page
 from motesim.timeline.note import note_of
+from motesim.toml import MARK
 
 # Reports longer than this have no timeline.
 MOST_SHOWN = 4_000_000
@@ -169,7 +170,7 @@ class Task:
     def fix(self, entry: Entry, data: bytes) -> tuple[str, ...]:
         """The place of the error of a solution, and how it is put right, as tools/explain shows them."""
         if entry.path.suffix == '.mote':
-            source = data.decode('utf-8', 'replace')
+            source = data.decode('utf-8', 'replace').removeprefix(MARK)
             error = find_program_fault(source) if source else None
             lines = of_program_file(entry.name, source, error) if error else []
         else:

@@ -17,7 +17,7 @@ from motesim.runner.run import read_file
 from motesim.scenario import Scenario
 from motesim.scenario.faults import LONGEST_TEXT, find_fault
 from motesim.terminal import cut
-from motesim.toml import NoToml, read_toml
+from motesim.toml import MARK, NoToml, read_toml
 
 MOST_NETS = 1_000
 # How many names of programs a message has, and how long each may be.
@@ -106,7 +106,7 @@ def program_of(data: bytes, name: str, wanted: str) -> str:
     except UnicodeDecodeError:
         raise Fault('the file is not UTF-8 text') from None
     if name.endswith('.mote'):
-        return text
+        return text.removeprefix(MARK)
     try:
         programs = read_toml(text).get('programs')
     except NoToml as fault:
