@@ -24,6 +24,7 @@ from motesim.grading.entries import anonymous, data_of, entries_of
 from motesim.grading.marking import Mark, Marks, page_name
 from motesim.grading.nets import nets_of, program_of
 from motesim.grading.page import page_of
+from motesim.grading.pages import HEAD
 from motesim.grading.progress import Progress
 from motesim.grading.tables import cell, csv_of
 from motesim.grading.tables import table as table_of
@@ -171,7 +172,7 @@ class Entries(Folder):
                                                   'is NAME.mote'))
         self.assertEqual(self.told.splitlines(), [
             'grade: %s is named by --net too, so a page of marks shows it' % (self.top / 'task.toml'),
-            'grade: hidden files and expectations have no row: .ben.mote, x.expect.toml'])
+            'grade: hidden files, expectations and marks have no row: .ben.mote, x.expect.toml'])
 
     def test_long_names_and_many_names_spoil_no_table(self) -> None:
         name = 'b%sn.toml' % ('e' * 238)
@@ -349,6 +350,23 @@ class Pages(Folder):
         runs.symlink_to(self.top)
         self.grade(*words, status=2)
         self.assertIn('class/marks_runs is a link, and not a folder: remove it', self.told)
+
+    def test_marks_in_the_folder_of_solutions_are_no_solutions(self) -> None:
+        self.hand_in('ben.toml', net(PROGRAM % 4))
+        before = self.rows('--net', 'task.toml')
+        self.grade('--net', 'task.toml', *(word for end in ('html', 'csv', 'toml')
+                                           for word in ('-o', 'class/marks.%s' % end)))
+        self.assertEqual(sorted(os.listdir(self.folder / 'marks_runs')), ['ben.toml_in_task.toml.html', 'pages.txt'])
+        self.assertEqual(self.rows('--net', 'task.toml'), before)
+        self.assertIn('have no row: marks.csv, marks.html, marks.toml\n', self.told)
+
+    def test_a_list_of_pages_from_a_student_hides_no_solution(self) -> None:
+        runs = self.folder / 'a_runs'
+        runs.mkdir()
+        shutil.copy(self.folder / 'anna.toml', runs / 'ben.toml')
+        for folder in self.folder, runs:
+            (folder / 'pages.txt').write_text('%s\nanna.toml\nben.toml\n' % HEAD)
+        self.assertEqual(list(self.rows('--net', 'task.toml')), ['a_runs/ben.toml', 'anna.toml', 'pages.txt'])
 
     def test_no_two_pages_have_one_name(self) -> None:
         names = [page_name(number, name, 'n 1') for number, name in enumerate(('a/b.toml', 'a_b.toml', 'a b.toml', '.a',

@@ -110,7 +110,8 @@ def remarks(asked: argparse.Namespace) -> list[str]:
              if path.resolve() in shown]
     if skipped:
         more = ' and {:,} more'.format(len(skipped) - MOST_SKIPPED) if len(skipped) > MOST_SKIPPED else ''
-        lines.append('hidden files and expectations have no row: %s%s' % (', '.join(skipped[:MOST_SKIPPED]), more))
+        names = ', '.join(skipped[:MOST_SKIPPED])
+        lines.append('hidden files, expectations and marks have no row: %s%s' % (names, more))
     return lines
 
 

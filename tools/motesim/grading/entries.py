@@ -14,6 +14,7 @@ from pathlib import Path
 from typing import NamedTuple
 
 from motesim.faults import Fault
+from motesim.grading.own import own_of
 from motesim.scenario.faults import LONGEST_TEXT
 from motesim.terminal import one_line
 
@@ -46,6 +47,7 @@ def _entries(folder: Path, top: Path, depth: int) -> Iterator[Entry]:
     name = one_line(str(folder.relative_to(top)))
     try:
         found = sorted(os.scandir(folder), key=lambda it: os.fsencode(it.name))
+        own = own_of(folder)
     except OSError as fault:
         yield Entry(name, folder, 'the folder can\'t be read: %s' % fault.strerror)
         return
@@ -53,6 +55,8 @@ def _entries(folder: Path, top: Path, depth: int) -> Iterator[Entry]:
     if not found and depth:
         yield Entry(name, folder, 'an empty folder')
     for it in found:
+        if it.name in own:
+            continue
         path = Path(it.path)
         its = one_line(str(path.relative_to(top)))
         try:
@@ -75,7 +79,7 @@ def _entries(folder: Path, top: Path, depth: int) -> Iterator[Entry]:
 
 
 def entries_of(folder: Path) -> list[Entry]:
-    """All entries of a folder, by name. Hidden ones and files of expectations are none."""
+    """All entries of a folder, by name. Hidden ones, files of expectations and marks are none."""
     if not folder.is_dir():
         raise Fault('%s is not a folder' % folder)
     found: list[Entry] = []
@@ -99,7 +103,8 @@ def anonymous(entries: Sequence[Entry], chance: random.Random | None = None) -> 
 def skipped_of(folder: Path) -> list[str]:
     """The names of the files of a folder that are no entries."""
     names = sorted(it.name for it in os.scandir(folder))
-    return [one_line(it) for it in names if it.startswith('.') or it.endswith(OF_TEACHER)]
+    own = own_of(folder)
+    return [one_line(it) for it in names if it.startswith('.') or it.endswith(OF_TEACHER) or it in own]
 
 
 def is_program(data: bytes) -> bool:

@@ -6,12 +6,10 @@ from html import escape
 from urllib.parse import quote
 
 from motesim.grading.marking import REQUIRED, Marks
+from motesim.grading.own import OF_PAGE
 from motesim.grading.tables import count_of, required_of
 
-HEAD = """<!DOCTYPE html>
-<html lang="en">
-<head>
-<meta charset="utf-8">
+HEAD = OF_PAGE + """<meta charset="utf-8">
 <meta name="viewport" content="width=device-width">
 <meta http-equiv="Content-Security-Policy" content="default-src 'none'; style-src 'unsafe-inline'">
 <title>%s</title>

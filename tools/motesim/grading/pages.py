@@ -12,12 +12,14 @@ from motesim.faults import Fault
 from motesim.files import replace_whole
 
 NAMES = 'pages.txt'
+# The end of the name of each folder of pages.
+OF_PAGES = '_runs'
 HEAD = '# The pages that tools/grade made here. The next marking removes them.'
 
 
 def pages_of(path: Path) -> Path:
     """The folder with the pages of a page of marks."""
-    return path.with_name(path.stem + '_runs')
+    return path.with_name(path.stem + OF_PAGES)
 
 
 def names_in(folder: Path) -> list[str]:

@@ -7,6 +7,7 @@ import unicodedata
 from collections.abc import Sequence
 
 from motesim.grading.marking import REQUIRED, Marks
+from motesim.grading.own import COLUMNS, OF_TOML
 
 # A cell that begins so is a formula to some spreadsheets.
 OF_FORMULA = ('=', '+', '-', '@', '\t', '\r', '|', '%')
@@ -76,7 +77,7 @@ def csv_of(marked: Sequence[Marks], sentences: Sequence[str]) -> str:
     """
     out = io.StringIO(newline='')
     rows = csv.writer(out, lineterminator='\n', quoting=csv.QUOTE_NONNUMERIC)
-    rows.writerow(['scenario', 'holds', 'of', 'fault', *map(cell, sentences)])
+    rows.writerow([*COLUMNS, *map(cell, sentences)])
     for it in marked:
         holds: list[object] = [int(one.holds) for one in it.marks]
         missing = '' if it.is_open else 0
@@ -98,7 +99,7 @@ def holds(marks: Marks, number: int) -> bool:
 
 def toml_of(marked: Sequence[Marks], sentences: Sequence[str], expectations: str, nets: Sequence[str]) -> str:
     """The marks as a TOML document."""
-    lines = ['# Written by tools/grade.', 'expectations = %s' % quoted(expectations),
+    lines = [OF_TOML, 'expectations = %s' % quoted(expectations),
              'nets = [%s]' % ', '.join(map(quoted, nets)), 'sentences = [',
              *('  %s,' % quoted(it) for it in sentences), ']']
     required = required_of(marked)
