@@ -66,7 +66,7 @@ def cell(text: str) -> str:
 
 
 def without_separators(text: str) -> str:
-    """A text of a solution that is one cell too where `;` or a tab separates cells: these signs are escaped."""
+    """A text of a solution that is one cell too if `;` or a tab separates cells: these signs are escaped."""
     return text.replace(';', '\\x3b').replace('\t', '\\x09')
 
 
