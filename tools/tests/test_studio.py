@@ -212,6 +212,28 @@ class Files(unittest.TestCase):
         desk.save(document._asdict())
         self.assertEqual((self.room / 'new.toml').read_text(), document.text)
 
+    def test_names_in_any_alphabet_with_usual_signs_are_opened_and_saved(self) -> None:
+        for stem in 'zoë', 'zoe\u0308', 'start (2)', "a'b", '(1) a+b, c', '波', 'नी':
+            name = stem + '.toml'
+            path = self.room / name
+            path.write_text(NET)
+            document = Desk(path).first()
+            self.assertEqual((document.name, document.text), (name, NET))
+            self.assertIn(name, self.desk.names('folder'))
+            self.assertIsNone(self.desk.expectations('folder', name))
+            self.desk.save_new(self.document(), 'new ' + name)
+            self.assertEqual((self.room / ('new ' + name)).read_text(), NET)
+
+    def test_names_with_other_signs_are_refused_with_the_signs_that_are_allowed(self) -> None:
+        for stem in ('a\nb', 'a\u202eb', 'a\u200bb', '<b>', 'a;b', 'a"b', 'a\\b', '-a', ' a', '.a', 'é' * 101,
+                     '\udcff', '..', '\u0308'):
+            with self.assertRaises(Fault, msg=ascii(stem)) as opened:
+                Desk(self.room / (stem + '.toml'))
+            with self.assertRaises(Fault, msg=ascii(stem)) as read:
+                self.desk.read('folder', stem + '.toml')
+            for raised in opened, read:
+                self.assertIn('NAME has letters, digits, spaces and', str(raised.exception))
+
     def test_names_that_the_studio_does_not_open(self) -> None:
         for name in (self.room, self.room / 'a.txt', self.room / 'none' / 'a.toml'):
             with self.assertRaises(Fault):

@@ -8,7 +8,7 @@ from __future__ import annotations
 
 import hashlib
 import os
-import re
+import unicodedata
 from pathlib import Path
 from typing import Any, NamedTuple
 
@@ -19,7 +19,11 @@ from motesim.runner.programs import TOP
 LONGEST = 1_048_576
 # Endings of TOML files that are not scenarios.
 OTHERS = ('.expect.toml', '.plan.toml')
-NAME = re.compile(r'[A-Za-z0-9_][A-Za-z0-9_. -]{0,80}\.toml')
+# The signs of a name besides letters and digits of any alphabet, and the first ones of them that may begin it.
+SIGNS, FIRST_SIGNS = '_(\'’+,.- )', '_(\'’+'
+LONGEST_NAME = 200
+ALLOWED = ('NAME has letters, digits, spaces and _ ( ) \' + , . - only, at most %d bytes, and begins with none of '
+           ') , . - or a space' % LONGEST_NAME)
 MARK = '\ufeff'
 FIRST = '''# A scenario: which motes there are, their places, what they run, and how packets travel.
 version = 1
@@ -61,6 +65,15 @@ x = 8
 y = 0
 program = "hello"
 '''
+
+
+def is_name(name: str) -> bool:
+    """True if a file of this name may be a scenario or its expectations: no path, and no sign that could command."""
+    stem = name.removesuffix('.toml')
+    # (accents may be signs of their own, of the kinds Mn and Mc)
+    plain = all(it.isalnum() or it in SIGNS or unicodedata.category(it) in ('Mn', 'Mc') for it in stem)
+    return plain and stem != name and stem[:1] != '' and (stem[0].isalnum() or stem[0] in FIRST_SIGNS) and (
+        len(stem.removesuffix('.expect').encode()) <= LONGEST_NAME)
 
 
 class Changed(Fault):
@@ -113,8 +126,8 @@ class Desk:
             raise Fault('%s: there is no folder %s' % (named, self.folder))
         if path and path.name.endswith('.plan.toml'):
             raise Fault('%s is a plan, which the studio doesn\'t run: tools/scenario makes a scenario of it' % named)
-        if path and not NAME.fullmatch(path.name):
-            raise Fault('%s: the studio opens scenarios, NAME.toml' % named)
+        if path and not is_name(path.name):
+            raise Fault('%s: the studio opens scenarios, NAME.toml: %s' % (named, ALLOWED))
 
     def folder_of(self, where: str) -> Path:
         if where not in ('folder', 'example'):
@@ -127,13 +140,15 @@ class Desk:
             names = os.listdir(self.folder_of(where))
         except OSError:
             return []
-        return sorted(name for name in names if NAME.fullmatch(name) and not name.endswith(OTHERS))
+        return sorted(name for name in names if is_name(name) and not name.endswith(OTHERS))
 
     def path(self, where: str, name: str) -> Path:
         """The path of a file that may be read: one in its folder itself, and no link to elsewhere."""
         folder = self.folder_of(where)
         path = folder / name
-        if not NAME.fullmatch(name) or path.resolve() != path:
+        if not is_name(name):
+            raise Fault('%s is not a name of a scenario, NAME.toml: %s' % (name, ALLOWED))
+        if path.resolve() != path:
             raise Fault('%s is not a scenario in this folder' % name)
         return path
 
