@@ -139,12 +139,12 @@ def one_line(text: str) -> str:
     return line if len(line) <= LONGEST_FAULT else line[:LONGEST_FAULT] + '..'
 
 
-def reason_of(told: BaseException) -> str:
+def reason_of(failure: BaseException) -> str:
     """The reason of a failure, in one line."""
-    if isinstance(told, LimitMet) and told.limit == 'seconds':
+    if isinstance(failure, LimitMet) and failure.limit == 'seconds':
         return '%s: %s, though it used less processor time than it may; the same command runs it again' % (
-            TOO_BUSY, told)
-    return one_line(str(told) if isinstance(told, Fault | TimeoutError) else fault_of(told))
+            TOO_BUSY, failure)
+    return one_line(str(failure) if isinstance(failure, Fault | TimeoutError) else fault_of(failure))
 
 
 def measured(work: Work, bench: Bench, known: Scenario) -> tuple[dict[str, Cell], str]:
@@ -157,10 +157,10 @@ def measured(work: Work, bench: Bench, known: Scenario) -> tuple[dict[str, Cell]
         try:
             with limited(work.seconds):
                 found[name] = read_measure(words, names, sources).of(bench)
-        except BaseException as told:
+        except BaseException as failure:
             # (a measure of the user's may raise anything, and ask Python to exit)
             found[name] = None
-            notes.append('%s: %s' % (name, reason_of(told)))
+            notes.append('%s: %s' % (name, reason_of(failure)))
     return found, '; '.join(notes)
 
 
@@ -196,6 +196,6 @@ def run_job(job: Job) -> Result:
         measures, note = measured(work, Bench(Run(work.plan, read, known)), known)
         if job.is_first:
             note = '; '.join(filter(None, [note, *map(one_line, warned(read, known, work.seconds))]))
-    except BaseException as told:
-        fault = reason_of(told)
+    except BaseException as failure:
+        fault = reason_of(failure)
     return Result(job.place, measures, scenario, report, fault, note, places, rejected)
