@@ -29,8 +29,8 @@ def pytest_configure(config: pytest.Config) -> None:
 
 def reason_of(report: pytest.TestReport) -> str:
     """The reason why a test is skipped."""
-    told = report.longrepr
-    return str(told[2] if isinstance(told, tuple) else told).removeprefix('Skipped: ')
+    seen = report.longrepr
+    return str(seen[2] if isinstance(seen, tuple) else seen).removeprefix('Skipped: ')
 
 
 @pytest.hookimpl(hookwrapper=True)  # type: ignore[misc]

@@ -240,28 +240,28 @@ to = 1
 every = 2
 """
 
-    def told(self, *changes: tuple[str, str]) -> list[str]:
+    def seen(self, *changes: tuple[str, str]) -> list[str]:
         text = self.A
         for change in changes:
             text = text.replace(*change)
         return scenario_differences.differences(Scenario.parse(self.A), Scenario.parse(text))
 
     def test_each_part_is_told(self) -> None:
-        self.assertEqual(self.told(), [])
-        self.assertEqual(self.told(('end = 20', 'end = 30'), ('collide = true', 'collide = false')), [
+        self.assertEqual(self.seen(), [])
+        self.assertEqual(self.seen(('end = 20', 'end = 30'), ('collide = true', 'collide = false')), [
             'end is 20 in A and 30 in B', 'collide of medium is true in A and false in B'])
-        self.assertEqual(self.told(('x = 3', 'x = 4')), ['the place of mote 1 is (3, 4) in A and (4, 4) in B'])
-        self.assertEqual(self.told(('every = 2', 'every = 3')),
+        self.assertEqual(self.seen(('x = 3', 'x = 4')), ['the place of mote 1 is (3, 4) in A and (4, 4) in B'])
+        self.assertEqual(self.seen(('every = 2', 'every = 3')),
                          ['the loss from 0 to 1 is every 2 in A and every 3 in B'])
-        self.assertEqual(self.told(('from = 0\nto = 1', 'from = 1\nto = 0')), [
+        self.assertEqual(self.seen(('from = 0\nto = 1', 'from = 1\nto = 0')), [
             'the loss from 0 to 1 is every 2 in A and none in B',
             'the loss from 1 to 0 is none in A and every 2 in B'])
-        self.assertEqual(self.told(('print 1;', 'print 2;')), [
+        self.assertEqual(self.seen(('print 1;', 'print 2;')), [
             'program p differs in its line 2', '  A: code a { body { print 1; } }',
             '  B: code a { body { print 2; } }'])
-        self.assertEqual(self.told(('[[loss]]', '[queue]\np = 3\n[[loss]]')),
+        self.assertEqual(self.seen(('[[loss]]', '[queue]\np = 3\n[[loss]]')),
                          ['queue of program p is none in A and 3 in B'])
-        self.assertEqual(self.told(('[[loss]]', '[[mote]]\nx = 1\ny = 1\nprogram = "p"\n[[loss]]')), [
+        self.assertEqual(self.seen(('[[loss]]', '[[mote]]\nx = 1\ny = 1\nprogram = "p"\n[[loss]]')), [
             'there are 2 motes in A and 3 in B'])
 
     def test_only_so_many_are_shown(self) -> None:

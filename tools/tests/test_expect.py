@@ -317,13 +317,13 @@ class Files(unittest.TestCase):
 
     def test_a_file_of_expectations_that_is_not_there_is_told(self) -> None:
         self.scenario = self.scenario.rename(self.scenario.with_name('other.toml'))
-        told = 'expect: there is no file %s next to %s: name another one, tools/expect SCENARIO EXPECTATIONS\n' % (
+        seen = 'expect: there is no file %s next to %s: name another one, tools/expect SCENARIO EXPECTATIONS\n' % (
             self.scenario.with_name('other.expect.toml'), self.scenario)
-        self.assertEqual(self.said('expect = ["mote 0 sends"]'), ('', told, 2))
+        self.assertEqual(self.said('expect = ["mote 0 sends"]'), ('', seen, 2))
 
     def test_faults_have_status_2(self) -> None:
         change = 'expect = ["mote 0 sends"]\n[[change]]\nexpect = ["mote 0 sends"]\n'
-        for text, told in [
+        for text, seen in [
             ('expect = ["mote 9 halts"]', 'sentence 1 is not known'),
             ('expect = ["mote 0 prnts x 1"]', 'Did you mean: prints\n'),
             ('expect = ["evry mote halts"]', 'Did you mean: every\n'),
@@ -335,7 +335,7 @@ class Files(unittest.TestCase):
             (change, 'has no table replace'), (change + 'replace = { "no such text" = "" }', 'has no text'),
         ]:
             out, err, code = self.said(text)
-            self.assertIn(told, err)
+            self.assertIn(seen, err)
             self.assertEqual(code, 2)
 
     def test_a_sentence_that_cannot_be_read_is_marked(self) -> None:

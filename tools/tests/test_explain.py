@@ -162,12 +162,12 @@ class Scenarios(unittest.TestCase):
         self.assertIsNone(scenario_faults.find_fault(SCENARIO.encode()))
 
     def test_the_place_of_a_fault(self) -> None:
-        for changes, told, line, marked in SCENARIOS:
+        for changes, seen, line, marked in SCENARIOS:
             with self.subTest(str(changes)):
                 text = changed(changes)
                 fault = scenario_faults.find_fault(text.encode())
-                self.assertEqual(fault and fault.message, told)
-                lines = explain.explanation('s.toml', text.encode(), 'motesim: ' + told)
+                self.assertEqual(fault and fault.message, seen)
+                lines = explain.explanation('s.toml', text.encode(), 'motesim: ' + seen)
                 found = mark_of(lines)
                 self.assertEqual((found[0], found[1].strip()), (line, marked))
                 self.assertTrue(any(it.startswith('Allowed here: ') for it in lines))

@@ -219,7 +219,7 @@ class ExportTest(unittest.TestCase):
 
     def test_what_is_wrong_is_told(self) -> None:
         (self.folder / 'late.report').write_text(REPORT.replace('1@21', '1@4000000000000000000'))
-        for words, told in [
+        for words, seen in [
             (('no.report', '--to', 'vcd'), 'no.report: No such file'),
             (('a.report', '--to', 'vcd', '-o', 'no/a.vcd'), 'no/a.vcd: No such file'),
             (('a.report', '--to', 'gif'), 'invalid choice'),
@@ -227,7 +227,7 @@ class ExportTest(unittest.TestCase):
         ]:
             done = self.run_it(sys.executable, '-B', str(TOOLS / 'export'), *words)
             self.assertEqual((done.returncode, done.stdout), (2, ''))
-            self.assertIn(told, done.stderr)
+            self.assertIn(seen, done.stderr)
         self.assertEqual(sorted(it.name for it in self.folder.iterdir()), ['a.report', 'late.report'])
 
 

@@ -36,11 +36,11 @@ class Ends(unittest.TestCase):
         return done
 
     def test_what_goes_wrong_is_one_line(self) -> None:
-        for work, told in [("raise Fault('no such thing')", 'thing: no such thing\n'), ('raise MemoryError',
+        for work, seen in [("raise Fault('no such thing')", 'thing: no such thing\n'), ('raise MemoryError',
                                                                                         'thing: out of memory\n'),
                            ("open('/nowhere/a')", 'thing: /nowhere/a: No such file or directory\n')]:
             done = self.ended(work)
-            self.assertEqual((done.returncode, done.stdout, done.stderr), (2, '', told))
+            self.assertEqual((done.returncode, done.stdout, done.stderr), (2, '', seen))
 
     def test_a_status_is_handed_on(self) -> None:
         self.assertEqual(self.ended('return 1').returncode, 1)
@@ -62,13 +62,13 @@ class Ends(unittest.TestCase):
 
     def test_a_stream_that_is_closed_from_the_start_is_told(self) -> None:
         report = TOP / 'tests/cases/nets/two_senders.expected'
-        for words, status, told in [
+        for words, status, seen in [
                 ('%s %s >&-' % (TOOLS / 'summary', report), 2, 'summary: standard output is closed\n'),
                 ('%s - <&-' % (TOOLS / 'summary'), 2, 'summary: standard input is closed\n'),
                 ('%s %s >/dev/null 2>&-' % (TOOLS / 'summary', report), 0, ''),
                 ('%s none.toml 2>&-' % (TOOLS / 'summary'), 2, '')]:
             done = subprocess.run(['sh', '-c', words], capture_output=True, text=True)
-            self.assertEqual((done.returncode, done.stdout, done.stderr), (status, '', told), words)
+            self.assertEqual((done.returncode, done.stdout, done.stderr), (status, '', seen), words)
 
     def test_an_interrupt_ends_with_130(self) -> None:
         words = [sys.executable, '-B', '-c', COMMAND % (str(TOOLS), "print('begun', flush=True); time.sleep(60)")]
@@ -81,11 +81,11 @@ class Ends(unittest.TestCase):
 
 class Tools(unittest.TestCase):
     def test_the_version_is_told(self) -> None:
-        told = 'motesim %s, proved with %s\n' % (VERSION, KIT)
+        seen = 'motesim %s, proved with %s\n' % (VERSION, KIT)
         for command in TOOLS / 'compare', TOOLS / 'dev/check_format', TOP / 'run':
             done = subprocess.run([str(command), '--version'], stdin=subprocess.DEVNULL, capture_output=True,
                                   text=True)
-            self.assertEqual((done.returncode, done.stdout, done.stderr), (0, told, ''))
+            self.assertEqual((done.returncode, done.stdout, done.stderr), (0, seen, ''))
         changes = (TOP / 'CHANGES.md').read_text('utf-8')
         self.assertEqual(re.findall(r'^## (\S+),', changes, re.M)[0], VERSION)
 

@@ -76,7 +76,7 @@ class Folder(unittest.TestCase):
                               text=True, timeout=120)
         self.assertEqual(done.returncode, status, done.stderr)
         self.assertNotIn('Traceback', done.stderr)
-        self.told = done.stderr
+        self.seen = done.stderr
         return done.stdout
 
     def page(self, name: str = 'marks.html') -> str:
@@ -143,7 +143,7 @@ class Entries(Folder):
     def test_an_empty_folder_and_none(self) -> None:
         (self.folder / 'anna.toml').unlink()
         self.grade(status=2)
-        self.assertIn('has no solution', self.told)
+        self.assertIn('has no solution', self.seen)
         self.folder.rmdir()
         self.grade(status=2)
 
@@ -170,7 +170,7 @@ class Entries(Folder):
         self.assertTrue(rows['GOOD.TOML'].endswith(': write the ending in small letters'))
         self.assertTrue(rows['cem.toml'].endswith('it is the text of a program, and no scenario: a file of such a text '
                                                   'is NAME.mote'))
-        self.assertEqual(self.told.splitlines(), [
+        self.assertEqual(self.seen.splitlines(), [
             'grade: %s is named by --net too, so a page of marks shows it' % (self.top / 'task.toml'),
             'grade: hidden files, expectations and marks have no row: .ben.mote, x.expect.toml'])
 
@@ -240,11 +240,11 @@ class Nets(Folder):
         self.assertEqual(program_of(net('x').encode(), 'a.toml', 'task'), 'x')
         self.assertEqual(program_of(net('x', name='other').encode(), 'a.toml', 'task'), 'x')
         self.assertEqual(program_of(b'[programs]\na = "1"\ntask = "2"\n', 'a.toml', 'task'), '2')
-        for text, told in (b'[programs]\na = "1"\nb = "2"\n', 'no program `task`, but: `a`, `b`'), (
+        for text, seen in (b'[programs]\na = "1"\nb = "2"\n', 'no program `task`, but: `a`, `b`'), (
                 b'programs = 3\n', 'no table'), (b'[programs]\ntask = 3\n', 'not a text'):
-            with self.subTest(told), self.assertRaises(Fault) as raised:
+            with self.subTest(seen), self.assertRaises(Fault) as raised:
                 program_of(text, 'a.toml', 'task')
-            self.assertIn(told, str(raised.exception))
+            self.assertIn(seen, str(raised.exception))
 
     def test_the_net_stays_as_it_is(self) -> None:
         path = TOOLS.parent / 'examples/small_network.toml'
@@ -255,13 +255,13 @@ class Nets(Folder):
         self.assertEqual(after.programs, {**before.programs, 'sender': 'process other;'})
 
     def test_faults_of_the_teacher_end_it(self) -> None:
-        for words, told in ((('--net', 'no.toml'), 'no.toml: No such file'),
+        for words, seen in ((('--net', 'no.toml'), 'no.toml: No such file'),
                             (('--net', 'task.toml', '--program', 'x'), 'has no program x; it has: task')):
             self.grade(*words, status=2)
-            self.assertIn(told, self.told)
+            self.assertIn(seen, self.seen)
         (self.top / 'task.expect.toml').write_text('expect = ["mote 7 halts"]\n')
         self.grade('--net', 'task.toml', status=2)
-        self.assertIn('sentence 1 is not known', self.told)
+        self.assertIn('sentence 1 is not known', self.seen)
         (self.top / 'task.expect.toml').write_text('expect = ["mote 0 prunts"]\n')
         self.grade(status=2)
 
@@ -269,7 +269,7 @@ class Nets(Folder):
         (self.top / 'task.expect.toml').write_text('expect = ["no mote halts", "mote 0 prints c"]\n')
         self.assertEqual(self.rows(), {'anna.toml': '1 of 2  broken: 2; no process `c` (it has `a`)'})
         self.assertIn('no solution has what sentence 2 is about (mote 0 prints c): anna.toml has no process `c`',
-                      self.told)
+                      self.seen)
 
 
     def test_a_page_shows_nothing_of_a_hidden_net(self) -> None:
@@ -349,7 +349,7 @@ class Pages(Folder):
         shutil.rmtree(runs)
         runs.symlink_to(self.top)
         self.grade(*words, status=2)
-        self.assertIn('class/marks_runs is a link, and not a folder: remove it', self.told)
+        self.assertIn('class/marks_runs is a link, and not a folder: remove it', self.seen)
 
     def test_marks_in_the_folder_of_solutions_are_no_solutions(self) -> None:
         self.hand_in('ben.toml', net(PROGRAM % 4))
@@ -358,7 +358,7 @@ class Pages(Folder):
                                            for word in ('-o', 'class/marks.%s' % end)))
         self.assertEqual(sorted(os.listdir(self.folder / 'marks_runs')), ['ben.toml_in_task.toml.html', 'pages.txt'])
         self.assertEqual(self.rows('--net', 'task.toml'), before)
-        self.assertIn('have no row: marks.csv, marks.html, marks.toml\n', self.told)
+        self.assertIn('have no row: marks.csv, marks.html, marks.toml\n', self.seen)
 
     def test_a_list_of_pages_from_a_student_hides_no_solution(self) -> None:
         runs = self.folder / 'a_runs'
@@ -374,11 +374,11 @@ class Pages(Folder):
         self.assertEqual(len(set(names)), len(names), names)
 
     def test_progress(self) -> None:
-        with mock.patch('motesim.grading.progress.SHOWN_EVERY', 0), contextlib.redirect_stderr(io.StringIO()) as told:
+        with mock.patch('motesim.grading.progress.SHOWN_EVERY', 0), contextlib.redirect_stderr(io.StringIO()) as seen:
             progress = Progress(2)
             progress.add('anna.toml')
             progress.end()
-        self.assertEqual(told.getvalue(), 'grade: 1 of 2 solutions are marked; the last one is anna.toml\n')
+        self.assertEqual(seen.getvalue(), 'grade: 1 of 2 solutions are marked; the last one is anna.toml\n')
 
 
 def commands_of(session: int) -> list[str]:
@@ -526,18 +526,18 @@ class Forms(Folder):
         self.assertIn('          the scenario has no process `a` (it has `b`)', rows)
         self.assertIn('if a process was renamed, rename it back, and grade again', rows[-2])
         # (that no other solution has it isn't known here)
-        self.assertEqual(self.told, '')
+        self.assertEqual(self.seen, '')
         self.assertEqual(self.grade('--why', 'cem', '--net', 'task.toml').split('\n'), [
             'it has no program `task`, but: `other`, `mine`',
             'Hint: rename the program that solves the task to `task`, and grade again', ''])
         self.assertNotIn('Hint', self.grade('--why', 'anna'))
         self.grade('--why', 'cemm', status=2)
-        self.assertEqual(self.told, 'grade: class has no solution cemm (did you mean cem?): --why needs the name of '
+        self.assertEqual(self.seen, 'grade: class has no solution cemm (did you mean cem?): --why needs the name of '
                                     'one of its files: anna.toml, ben.toml, cem.toml\n')
         for number in range(20):
             self.hand_in('s%d.toml' % number, '')
         self.grade('--why', 'x', status=2)
-        self.assertRegex(self.told, r'^grade: class has no solution x: .*: anna.toml, (\S+, ){19}\.\.\n$')
+        self.assertRegex(self.seen, r'^grade: class has no solution x: .*: anna.toml, (\S+, ){19}\.\.\n$')
 
     def test_anonymous_numbers_change_with_each_marking(self) -> None:
         for number in range(8):

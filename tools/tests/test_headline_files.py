@@ -76,12 +76,12 @@ class Lists(unittest.TestCase):
 
     def run_with(self, *words: str) -> tuple[str, str]:
         """The output of the command, and its messages if it fails, otherwise an empty text."""
-        said, told = io.StringIO(), io.StringIO()
+        said, seen = io.StringIO(), io.StringIO()
         with mock.patch.object(headline, 'TOP', self.top), mock.patch.object(sys, 'argv', ['headline_files', *words]):
-            with contextlib.redirect_stdout(said), contextlib.redirect_stderr(told):
+            with contextlib.redirect_stdout(said), contextlib.redirect_stderr(seen):
                 with self.assertRaises(SystemExit) as end:
                     headline.main()
-        return said.getvalue(), (told.getvalue() or said.getvalue()) if end.exception.code else ''
+        return said.getvalue(), (seen.getvalue() or said.getvalue()) if end.exception.code else ''
 
     def test_what_is_imported_is_listed_from_the_top_down(self) -> None:
         self.assertEqual(headline.listed(self.top), LIST)

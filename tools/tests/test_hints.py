@@ -192,7 +192,7 @@ class Hints(unittest.TestCase):
             'Hint: The text that begins on line 9 has no end: the three quotes that close it are missing.'])
 
     def test_python_says_only_what_it_says(self) -> None:
-        for text, told in [
+        for text, seen in [
             ('.'.join(['a'] * 81) + ' = 1', 'TOML (A key has more than 80 parts: write fewer dots)'),
             ('x = ' + '[' * 81 + ']' * 81, 'TOML (Arrays or tables are nested too deeply: at most 80 are allowed in '
                                            'each other)'),
@@ -200,10 +200,10 @@ class Hints(unittest.TestCase):
             ('x = ', 'TOML (Python says: Invalid value)'),
         ]:
             fault = scenario_faults.find_fault(text.encode())
-            self.assertEqual(fault and fault.may, told)
+            self.assertEqual(fault and fault.may, seen)
             with self.assertRaises(Fault) as raised:
                 Tables('a.plan.toml', text, 'a.plan.toml')
-            self.assertIn('Allowed here: ' + told, ' '.join(str(raised.exception).split()))
+            self.assertIn('Allowed here: ' + seen, ' '.join(str(raised.exception).split()))
 
     def test_none_where_nothing_is_known(self) -> None:
         text = CODE % 'print 1; }'
@@ -211,11 +211,11 @@ class Hints(unittest.TestCase):
 
 
 class Warnings(unittest.TestCase):
-    def told(self, program: str = CODE % 'set t 1; print 1;', x: int = 5) -> list[str]:
+    def seen(self, program: str = CODE % 'set t 1; print 1;', x: int = 5) -> list[str]:
         return [it.text for it in warnings(Scenario.parse(scenario(program=program, x=x)))]
 
     def test_none_of_a_program_in_order(self) -> None:
-        self.assertEqual(self.told(), [])
+        self.assertEqual(self.seen(), [])
 
     def test_each(self) -> None:
         for program, x, wanted in [
@@ -227,10 +227,10 @@ class Warnings(unittest.TestCase):
             (CODE % 'send 1;', 50, 'nobody hears it'),
         ]:
             with self.subTest(wanted):
-                self.assertTrue(any(wanted in it for it in self.told(program, x)))
+                self.assertTrue(any(wanted in it for it in self.seen(program, x)))
 
     def test_a_loop_that_waits_is_in_order(self) -> None:
-        self.assertEqual(self.told(program=CODE % 'set t 1; while 1 { yield_until fired(t); reset t; }'), [])
+        self.assertEqual(self.seen(program=CODE % 'set t 1; while 1 { yield_until fired(t); reset t; }'), [])
 
     def test_a_loop_that_waits_for_an_event_that_it_has_is_shown_with_its_line(self) -> None:
         for test in 'is(packet)', 'fired(t)', 'gone(a)':
@@ -242,8 +242,8 @@ class Warnings(unittest.TestCase):
             self.assertRegex(shown[-2], 'Write, as line [0-9]+')
             self.assertIn('while 1 { yield_until %s; print 1; }' % test, shown[-1])
         for body in 'wait_until expired(t); reset t;', 'wait_until is(packet); yield;', 'yield_until is(packet);':
-            told = self.told((CODE % ('set t 1; while 1 { %s }' % body)).replace('autostart', 'receiver a; autostart'))
-            self.assertEqual([it for it in told if 'without an end' in it], [])
+            seen = self.seen((CODE % ('set t 1; while 1 { %s }' % body)).replace('autostart', 'receiver a; autostart'))
+            self.assertEqual([it for it in seen if 'without an end' in it], [])
 
     def test_the_examples_have_none(self) -> None:
         for path in sorted((TOP / 'examples').glob('*.toml')):

@@ -42,10 +42,10 @@ class AtHand(unittest.TestCase):
 class Others(unittest.TestCase):
     def test_another_kit_is_told(self) -> None:
         said = 'the kit here is another kit, and this tree was proved with %s' % KIT
-        for at_hand, told in (KIT, None), ('rattle-kit-x %s' % LOGIC, None), ('another kit', said):
+        for at_hand, seen in (KIT, None), ('rattle-kit-x %s' % LOGIC, None), ('another kit', said):
             with mock.patch.object(kit, 'version', lambda: at_hand):
-                self.assertEqual(bool(kit.another()), bool(told))
-                self.assertIn(told or 'None', str(kit.another()))
+                self.assertEqual(bool(kit.another()), bool(seen))
+                self.assertIn(seen or 'None', str(kit.another()))
 
     def test_a_kit_that_lacks_a_part_is_told(self) -> None:
         self.assertIn('rtlib.lock', kit.lacking_in(types.SimpleNamespace(rtlib=types.SimpleNamespace(PARTS=()))))

@@ -85,10 +85,10 @@ class Pack(unittest.TestCase):
     def test_without_one_the_fast_program_is_made_and_packed(self) -> None:
         found = [TOP / 'compiled-x/first', TOP / 'compiled-x/fast']
         with mock.patch.object(pack, 'program_of_sources', lambda: found.pop(0)), mock.patch.object(
-                compiling, 'make_fast') as made, contextlib.redirect_stderr(io.StringIO()) as told:
+                compiling, 'make_fast') as made, contextlib.redirect_stderr(io.StringIO()) as seen:
             self.assertEqual(pack.program().name, 'fast')
             made.assert_called_once()
-            self.assertIn('is being compiled first', told.getvalue())
+            self.assertIn('is being compiled first', seen.getvalue())
         with mock.patch.object(pack, 'program_of_sources', lambda: None), mock.patch.object(compiling, 'make_fast'):
             with self.assertRaisesRegex(Fault, 'in the background'):
                 pack.program()

@@ -235,28 +235,28 @@ UnknownName'''),
 
 
 class FaultsTest(unittest.TestCase):
-    def told(self, text: str) -> str:
+    def seen(self, text: str) -> str:
         with self.assertRaises(Fault) as caught:
             plan(text).scenario({})
         return str(caught.exception)
 
     def test_each_fault_has_its_place(self) -> None:
         for old, new, line, marked, words in FAULTS:
-            told = self.told(PLAN.replace(old, new, 1))
-            where, shown, mark, *rest = told.split('\n')
-            self.assertEqual(where, 'a.plan.toml, line %d:' % line, told)
-            self.assertEqual(shown[mark.find('^'):mark.rfind('^') + 1].strip(), marked, told)
-            self.assertIn(words, ' '.join(it.strip() for it in rest), told)
+            seen = self.seen(PLAN.replace(old, new, 1))
+            where, shown, mark, *rest = seen.split('\n')
+            self.assertEqual(where, 'a.plan.toml, line %d:' % line, seen)
+            self.assertEqual(shown[mark.find('^'):mark.rfind('^') + 1].strip(), marked, seen)
+            self.assertIn(words, ' '.join(it.strip() for it in rest), seen)
 
     def test_faults_of_files_beside(self) -> None:
         for old, new, begin in FAULTS_BESIDE:
-            told = self.told(PLAN.replace(old, new, 1))
-            self.assertTrue(told.startswith(begin), told)
-        self.assertIn('null byte', self.told(with_places('rule = "csv"\nfile = "\\u0000"')))
+            seen = self.seen(PLAN.replace(old, new, 1))
+            self.assertTrue(seen.startswith(begin), seen)
+        self.assertIn('null byte', self.seen(with_places('rule = "csv"\nfile = "\\u0000"')))
         for file, line, words in ('few.csv', 3, 'another number of values'), ('far.csv', 2, '-30,000 to 30,000'):
-            told = self.told(with_places('rule = "csv"\nfile = "%s"' % file))
-            self.assertIn('%s, line %d:' % (file, line), told)
-            self.assertIn(words, told)
+            seen = self.seen(with_places('rule = "csv"\nfile = "%s"' % file))
+            self.assertIn('%s, line %d:' % (file, line), seen)
+            self.assertIn(words, seen)
 
     def test_whatever_stands_there_is_a_fault_or_a_scenario(self) -> None:
         text = PLAN.replace('[places]', '[[places]]') + '''[[other]]

@@ -103,7 +103,7 @@ class PlotTest(unittest.TestCase):
         self.assertFalse((self.folder / 'a.svg').exists())
 
     def test_what_cannot_be_shown_is_told(self) -> None:
-        for words, told in [
+        for words, seen in [
             (('--measure', 'speed', '--against', 'period'), 'there is no measure speed; there are: sent, late'),
             (('--measure', 'sent', '--against', 'none'), 'there is no parameter none; there are: period, density,'),
             (('--measure', 'sent'), '--against NAME'),
@@ -113,7 +113,7 @@ class PlotTest(unittest.TestCase):
         ]:
             done = self.plot(*words)
             self.assertEqual((done.returncode, done.stdout), (2, ''), words)
-            self.assertIn(told, done.stderr)
+            self.assertIn(seen, done.stderr)
 
     def test_texts_are_no_measure(self) -> None:
         rows: list[Row] = [{'a': 1, 'said': 'so', 'fault': None, 'parameters': 'a'}]
@@ -130,13 +130,13 @@ class PlotTest(unittest.TestCase):
 
     def test_the_confidence_and_the_interval_of_a_plan_are_checked(self) -> None:
         plot = 'end = 9\n[[plot]]\nfile = "a.svg"\nmeasure = "sent"\nagainst = "period"\n'
-        for words, told in (('confidence = 30', '50 to 99.9'), ('confidence = "much"', '50 to 99.9'),
+        for words, seen in (('confidence = 30', '50 to 99.9'), ('confidence = "much"', '50 to 99.9'),
                             ('interval = "t"', 'this plot shows none')):
             (self.folder / 'a.plan.toml').write_text(plot + words + '\n')
             done = self.plot('--plan', 'a.plan.toml')
             self.assertEqual(done.returncode, 2, done)
             self.assertIn('a.plan.toml, line 6:', done.stderr)
-            self.assertIn(told, done.stderr)
+            self.assertIn(seen, done.stderr)
         interpreter_with(self, 'matplotlib')
         (self.folder / 'a.plan.toml').write_text(plot + 'by = "density"\nshow = "mean"\nconfidence = 97.5\n')
         self.assertEqual(self.plot('--plan', 'a.plan.toml').returncode, 0)
@@ -159,9 +159,9 @@ threshold = 1.5
 ''')
         done = subprocess.run([sys.executable, '-B', str(TOOLS / 'sweep'), 'a.plan.toml', '--plot'], cwd=self.folder,
                               env={**os.environ, 'MOTESIM': str(stub)}, capture_output=True, text=True)
-        told = ('a.csv: 4 runs, 4 of them now, 0 with a fault\nprints.svg\n'
+        seen = ('a.csv: 4 runs, 4 of them now, 0 with a fault\nprints.svg\n'
                 'the median doesn\'t cross 1.5\n')
-        self.assertEqual((done.returncode, done.stdout), (0, told), done)
+        self.assertEqual((done.returncode, done.stdout), (0, seen), done)
         self.assertTrue((self.folder / 'prints.svg').exists())
 
 

@@ -164,10 +164,10 @@ class Sentences(unittest.TestCase):
                 self.assertEqual((broken.why, broken.row) if broken else (None, None), (why, row))
 
     def test_what_is_refused(self) -> None:
-        for sentence, told in REFUSED:
+        for sentence, seen in REFUSED:
             with self.subTest(sentence), self.assertRaises(SentenceFault) as raised:
                 read_sentence(sentence, names_of(self.scenario))
-            self.assertIn(told, str(raised.exception))
+            self.assertIn(seen, str(raised.exception))
 
 
 class Forms(unittest.TestCase):

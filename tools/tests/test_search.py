@@ -121,9 +121,9 @@ def search(folder: str | Path, *words: str, scenario: str = 'diamond.toml') -> t
 
 def minimal_sets(folder: str | Path, *words: str) -> tuple[dict[str, Any], Any, str]:
     """The minimal sets that a search finds, by expectation."""
-    status, said, told = search(folder, *words, '--json', 'found.json')
+    status, said, seen = search(folder, *words, '--json', 'found.json')
     if status not in (0, 1):
-        raise AssertionError(told)
+        raise AssertionError(seen)
     found = json.loads(Path(folder, 'found.json').read_text())
     sets: dict[str, Any] = {}
     for it in found['found']:
@@ -377,8 +377,8 @@ class Searches(unittest.TestCase):
         for text in DIAMOND.replace('\n', '\r\n'), '\ufeff' + DIAMOND, DIAMOND[:-1]:
             with folder_with() as folder:
                 (folder / 'diamond.toml').write_text(text, newline='')
-                status, said, told = search(folder, '--faults', 'motes,deaths,collisions', '--moments', '5')
-                self.assertIn('all 9 single faults: 9 run', said, told)
+                status, said, seen = search(folder, '--faults', 'motes,deaths,collisions', '--moments', '5')
+                self.assertIn('all 9 single faults: 9 run', said, seen)
                 for name in 'diamond_silent_0', 'diamond_fails_0_5':
                     found = answer((folder / 'diamond.search' / (name + '.toml')).read_bytes())
                     self.assertEqual((found.status, found.fault), (0, b''))
@@ -403,8 +403,8 @@ class Searches(unittest.TestCase):
         text = text.replace('process flood;', 'process flood, other;').replace(
             "'''\n[[mote]]", "code other { onexit { send 3; } body { yield; } }\n'''\n[[mote]]", 1)
         with folder_with(text) as folder:
-            status, said, told = search(folder, '--faults', 'late', '--moments', '5')
-            self.assertIn(status, (0, 1), told)
+            status, said, seen = search(folder, '--faults', 'late', '--moments', '5')
+            self.assertIn(status, (0, 1), seen)
 
     def test_expectation_that_the_added_process_breaks(self) -> None:
         with folder_with(sentences=[REACHED, 'the report has exactly 46 lines']) as folder:
@@ -466,8 +466,8 @@ program = "flood.mote"
             words = ['--expect', 'some mote prints flood 7', '--expect', 'exactly 4 packets are sent', '--json',
                      'f.json',
                      '--faults', 'parameters,motes', '--set', 'motes=2,4', '--set', 'value=7,8', '--at-most', '2']
-            status, said, told = search(folder, *words, scenario='net.plan.toml')
-            self.assertEqual(status, 1, told)
+            status, said, seen = search(folder, *words, scenario='net.plan.toml')
+            self.assertEqual(status, 1, seen)
             found = json.loads((folder / 'f.json').read_text())
             sets = {tuple(it['faults']): it['expectations'] for it in found['found']}
             # (with two motes the message comes to mote 1; motes 2 and 3 aren't there, so that they can't be silent)
@@ -524,8 +524,8 @@ code flood {
             'y = 0\nprogram = "loud"\n', 'y = 0\nprogram = "p"\n', 1)
         with folder_with(text) as folder:
             begin = time.monotonic()
-            status, said, told = search(folder, '--faults', 'motes', '--bytes', '1000000', '--seconds', '2')
-            self.assertIn('4 single faults: 3 run, 1 STOPPED at a limit, of which nothing is known', said, told)
+            status, said, seen = search(folder, '--faults', 'motes', '--bytes', '1000000', '--seconds', '2')
+            self.assertIn('4 single faults: 3 run, 1 STOPPED at a limit, of which nothing is known', said, seen)
             self.assertNotIn('all 4', said)
             self.assertNotIn('in every run;', said)
             self.assertLess(time.monotonic() - begin, 30)
@@ -543,14 +543,14 @@ code flood {
             while time.monotonic() < end and not (tried.exists() and tried.stat().st_size > 40):
                 time.sleep(0.05)
             begun.send_signal(signal.SIGINT)
-            said, told = begun.communicate(timeout=60)
-            self.assertEqual(begun.returncode, 130, told)
+            said, seen = begun.communicate(timeout=60)
+            self.assertEqual(begun.returncode, 130, seen)
             self.assertIn('NOT ALL WAS TRIED: it was stopped', said)
             again = minimal_sets(folder, *words, '-o', 'part', '--resume')
             self.assertEqual(again[0], whole)
-            status, _, told = search(folder, '--faults', 'links', '-o', 'part', '--resume')
+            status, _, seen = search(folder, '--faults', 'links', '-o', 'part', '--resume')
             self.assertEqual(status, 2)
-            self.assertIn('belongs to another search', told)
+            self.assertIn('belongs to another search', seen)
 
     def test_values_that_are_set_need_no_kind(self) -> None:
         with folder_with() as folder:
@@ -567,12 +567,12 @@ code flood {
                                    '--set range is for the kind `values`: --faults links,values'),
                                   (('--every', '1', '--faults', 'every'), 'whole numbers from 2 on'),
                                   (('--expect', 'mote 9 sends'), 'sentence 1 is not known')):
-                status, said, told = search(folder, *words)
-                self.assertEqual((status, said), (2, ''), told)
-                self.assertIn(wanted, told)
-            status, _, told = search(folder, scenario='absent.toml')
+                status, said, seen = search(folder, *words)
+                self.assertEqual((status, said), (2, ''), seen)
+                self.assertIn(wanted, seen)
+            status, _, seen = search(folder, scenario='absent.toml')
             self.assertEqual(status, 2)
-            self.assertIn('absent.toml', told)
+            self.assertIn('absent.toml', seen)
 
 
 class Clusters(unittest.TestCase):
@@ -595,9 +595,9 @@ class Clusters(unittest.TestCase):
                 cluster.stdout.close()
             self.assertEqual(there[0], here[0])
             self.assertEqual(there[1]['covered'], here[1]['covered'])
-            status, _, told = search(folder, *words, '--dask', address)
+            status, _, seen = search(folder, *words, '--dask', address)
             self.assertEqual(status, 2)
-            self.assertIn('no Dask scheduler answers at', told)
+            self.assertIn('no Dask scheduler answers at', seen)
 
 
 class Programs(unittest.TestCase):

@@ -308,7 +308,7 @@ class Command(unittest.TestCase):
         done = subprocess.run([sys.executable, '-B', str(TOOLS / 'plot'), 'net.csv', *words], cwd=self.folder,
                               env=dict(os.environ), capture_output=True, text=True)
         self.assertEqual(done.returncode, status, done)
-        self.told = done.stderr
+        self.seen = done.stderr
         return [line.split() for line in done.stdout.split('\n') if line]
 
     def test_means_with_intervals(self) -> None:
@@ -336,7 +336,7 @@ class Command(unittest.TestCase):
 
     def test_treatments_are_not_mixed(self) -> None:
         self.plot('--measure', 'sent', '--against', 'period', status=2)
-        self.assertEqual(self.told, (
+        self.assertEqual(self.seen, (
             'plot: each point would mix runs that differ in density (dense, thin): --by density separates '
             'them, --where density=dense selects some, --over seed,density mixes them\n'))
         rows = self.plot('--measure', 'sent', '--against', 'period', '--over', 'seed,density')
@@ -344,7 +344,7 @@ class Command(unittest.TestCase):
         for words in ('--show', 'cdf', '--by', 'period'), ('--against', 'ratio', '--show', 'mean'), (
                 '--against', 'period', '--compare', 'more.csv'):
             self.plot('--measure', 'sent', *words, status=2)
-            self.assertIn('density', self.told)
+            self.assertIn('density', self.seen)
         self.plot('--measure', 'sent', '--against', 'ratio', '--show', 'points')
 
     def test_a_crossing(self) -> None:
@@ -415,7 +415,7 @@ class Command(unittest.TestCase):
         self.assertEqual(len(self.plot(*words, '--show', 'points')), 2 + 13 + 1)
         (self.folder / 'net.csv').write_text(re.sub(r',\d+(,[0-9.]+,,)', r',0\1', text))
         self.plot(*words, status=2)
-        self.assertIn('there is no value of ratio to show; left out: ', self.told)
+        self.assertIn('there is no value of ratio to show; left out: ', self.seen)
         interpreter_with(self, 'matplotlib')
         (self.folder / 'net.csv').write_text(text)
         for more in ('--show', 'points'), ('--show', 'mean', '--threshold', '0.3'), ('--show', 'median'):
@@ -436,16 +436,16 @@ class Command(unittest.TestCase):
     def test_a_comparison_shows_nothing_else(self) -> None:
         for words in ('--show', 'median'), ('--threshold', '3'):
             self.plot('--measure', 'sent', '--against', 'period', '--pair', 'density=thin,dense', *words, status=2)
-            self.assertIn('leave out %s' % words[0], self.told)
+            self.assertIn('leave out %s' % words[0], self.seen)
 
     def test_words_without_an_effect_are_refused(self) -> None:
-        for words, told in (
+        for words, seen in (
                 (('--interval', 'bootstrap', *ONE), '--interval bootstrap is for intervals of means: add --show mean'),
                 (('--interval', 't', '--show', 'points', *ONE), 'add --show mean'),
                 (('--by', 'density', '--pair', 'density=thin,dense'), 'leave out --by density'),
                 (('--by', 'density', '--compare', 'more.csv'), 'leave out --by')):
             self.plot('--measure', 'sent', '--against', 'period', *words, status=2)
-            self.assertIn(told, self.told)
+            self.assertIn(seen, self.seen)
         self.plot('--measure', 'sent', '--against', 'period', '--pair', 'density=thin,dense', '--interval', 't')
 
     def test_the_confidence_may_be_a_decimal(self) -> None:
@@ -456,7 +456,7 @@ class Command(unittest.TestCase):
         self.assertEqual(rows[2][3:5], ['10.528', '15.472'])
         for wrong in '100', 'nan', '20':
             self.plot(*words, wrong, status=2)
-            self.assertIn('--confidence is 50 to 99.9', self.told)
+            self.assertIn('--confidence is 50 to 99.9', self.seen)
 
     def test_rejected_nets_are_shown_like_a_measure(self) -> None:
         (self.folder / 'net.csv').write_text('period,seed,sent,fault,rejected,parameters\n' + ''.join(
@@ -506,20 +506,20 @@ class Command(unittest.TestCase):
         warned = '6 runs in 3 nets: intervals count runs as independent'
         written('net%d')
         rows = self.plot(*words)
-        self.assertTrue(self.told.startswith('plot: ' + warned), self.told)
+        self.assertTrue(self.seen.startswith('plot: ' + warned), self.seen)
         self.assertIn(warned, ' '.join(rows[-1]))
         self.plot(*words, '--where', 'chance_seed=1')
-        self.assertEqual(self.told, '')
+        self.assertEqual(self.seen, '')
         self.plot('--measure', 'sent', '--against', 'period')
-        self.assertEqual(self.told, '')
+        self.assertEqual(self.seen, '')
         # (one net that is the same for all is meant so)
         written('net%.0s')
         self.plot(*words)
-        self.assertEqual(self.told, '')
+        self.assertEqual(self.seen, '')
         interpreter_with(self, 'matplotlib')
         written('net%d')
         self.plot(*words, '-o', 'a.svg')
-        self.assertIn(warned, self.told)
+        self.assertIn(warned, self.seen)
         self.assertIn('6 runs in 3 nets: ', (self.folder / 'a.svg').read_text())
 
     def test_title_footer_axes_and_size_of_a_picture(self) -> None:

@@ -167,13 +167,13 @@ from to copies received lost ring collided halted late ratio delay
         self.assertEqual(json.loads(self.say('--json', '--links')), {'links': LINKS})
 
     def test_a_flow_that_shows_nothing_says_why(self) -> None:
-        for words, told in [
+        for words, seen in [
                 ('print hearr', '`print hearr V`, so nothing was delivered; did you mean hearer?'),
                 ('print Hearer', '`print Hearer V`, so nothing was delivered; did you mean hearer?'),
                 ('print x -> print hearer', '`print x V`, so no message began; it has: hearer, talker'),
                 ('print talker', '`print talker V`, so nothing was delivered')]:
             done = self.run_it('--flow', words)
-            self.assertEqual((done.returncode, done.stderr), (0, 'summary: the report has no line %s\n' % told))
+            self.assertEqual((done.returncode, done.stderr), (0, 'summary: the report has no line %s\n' % seen))
             self.assertTrue(done.stdout.startswith('origin sent'))
         self.say('--flow', 'recv')
 
@@ -192,9 +192,9 @@ from to copies received lost ring collided halted late ratio delay
     def test_a_flow_of_a_process_that_the_scenario_lacks_is_refused(self) -> None:
         programs = 'talker = "process a, b; code a"', 'hearer = "process hearer; // process no;"'
         scenario = Scenario.parse(SCENARIO.replace('talker = ""', programs[0]).replace('hearer = ""', programs[1]))
-        for words, told in [('print haerer', '; did you mean hearer?'), ('print xyz', '; it has: a, b, hearer'),
+        for words, seen in [('print haerer', '; did you mean hearer?'), ('print xyz', '; it has: a, b, hearer'),
                             ('print a -> print no', '; it has: a, b, hearer')]:
-            with self.assertRaisesRegex(Fault, 'no flow: the scenario has no process .*' + re.escape(told)):
+            with self.assertRaisesRegex(Fault, 'no flow: the scenario has no process .*' + re.escape(seen)):
                 flow_rows(Report.parse(REPORT), scenario, words)
         for words in ('print hearer', 'print b', 'print a -> print hearer', 'print radio', 'send -> recv',
                       'print talker'):

@@ -356,7 +356,7 @@ class SweepTest(Bed):
         self.assertIn('2 of them now', self.sweep(*words, '--retry').stdout)
 
     def test_what_is_told_before_anything_is_run(self) -> None:
-        for words, told in [
+        for words, seen in [
             (('--measure', 'speed'), "no measure: 'speed'"),
             ((), 'there is nothing to measure'),
             (('--measure', 'moment: mote 0 prints b'), 'a process (etimer, ctimer, radio, a)'),
@@ -369,7 +369,7 @@ class SweepTest(Bed):
         ]:
             done = self.sweep(*words)
             self.assertEqual((done.returncode, done.stdout), (2, ''), words)
-            self.assertIn(told, done.stderr)
+            self.assertIn(seen, done.stderr)
             self.assertFalse((self.folder / 'net.csv').exists())
 
     def test_runs_that_make_no_scenario_are_rows_wherever_they_are(self) -> None:
@@ -398,9 +398,9 @@ class SweepTest(Bed):
         while time.monotonic() < end and (not (self.folder / 'net.csv').exists() or len(self.rows()) < 4):
             time.sleep(0.05)
         os.killpg(run.pid, signal.SIGINT)
-        out, told = run.communicate(timeout=60)
-        self.assertEqual((run.returncode, out), (130, ''), told)
-        self.assertRegex(told, r'^sweep: stopped with [1-4] runs missing; the same command continues\n$')
+        out, seen = run.communicate(timeout=60)
+        self.assertEqual((run.returncode, out), (130, ''), seen)
+        self.assertRegex(seen, r'^sweep: stopped with [1-4] runs missing; the same command continues\n$')
         rows = self.rows()
         self.assertGreaterEqual(len(rows), 4)
         self.assertEqual(sorted(row['prints'] for row in rows if row['name'] == 'a'), ['1', '2', '3', '4'])

@@ -454,7 +454,7 @@ class Pages(unittest.TestCase):
         """Later drawings don't cover a name, and moment 0 has its number on the axis."""
         self.open(Run('many', Report.parse(many(60, 4)), None))
         for lane in 40, 11, 7, 3:
-            told = self.value('''(() => {
+            seen = self.value('''(() => {
               const c = pane.context, {fillText, fillRect} = c, drawn = [];
               c.fillText = (text, x, y, wide) => { drawn.push({text, x, y}); fillText.call(c, text, x, y, wide); };
               c.fillRect = (x, y, w, h) => { drawn.push({x, y, w, h}); fillRect.call(c, x, y, w, h); };
@@ -468,7 +468,7 @@ class Pages(unittest.TestCase):
                 it.y + it.h > name.y - 5);
               return [place >= 0 && !covered, drawn.some(it => it.text === '0' && it.x > pane.gutter)];
             })()''' % lane)
-            self.assertEqual(told, [True, True], lane)
+            self.assertEqual(seen, [True, True], lane)
 
     def test_many_lanes_are_drawn_as_colours_and_what_is_not_drawn_is_said(self) -> None:
         self.open(Run('many', Report.parse(many(900, 40)), None))

@@ -217,9 +217,9 @@ class Words(unittest.TestCase):
         found, most = counted(), table()
         self.assertEqual(sorted(found), sorted(most))
         grown = {name: places for name, places in found.items() if len(places) > most[name]}
-        told = ['%s: %d, and at most %d are allowed (docs/dev/STYLE.md); the last are %s' % (
+        seen = ['%s: %d, and at most %d are allowed (docs/dev/STYLE.md); the last are %s' % (
             name, len(places), most[name], '; '.join(places[-5:])) for name, places in grown.items()]
-        self.assertEqual(told, [])
+        self.assertEqual(seen, [])
 
     def test_what_is_counted(self) -> None:
         for word, line in [('stand', 'it stands below'), ('where', 'Where it is'), ('goes on', 'it goes on'),
