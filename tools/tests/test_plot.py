@@ -128,6 +128,32 @@ class PlotTest(unittest.TestCase):
         self.assertIn('a.plan.toml, line 7:', done.stderr)
         self.assertIn('both would write a.table.csv', done.stderr)
 
+    def test_a_plan_has_what_the_options_have(self) -> None:
+        interpreter_with(self, 'matplotlib')
+        plot = '[[plot]]\nfile = "%s"\nmeasure = "sent"\nagainst = "period"\n'
+        text = results()
+        (self.folder / 'net.csv').write_text(text)
+        (self.folder / 'other.csv').write_text(text.replace(',5,', ',6,'))
+        (self.folder / 'a.plan.toml').write_text('end = 9\n' + ''.join((
+            plot % 'a.svg' + 'where = { density = "thin", seed = "1..3" }\nshow = "mean"\nlog_y = true\n',
+            plot % 'b.svg' + 'pair = "density=thin,dense"\nwhere = { seed = [1, 2] }\n',
+            plot % 'c.svg' + 'compare = "other.csv"\nwhere = { density = "thin" }\n')))
+        done = self.plot('--plan', 'a.plan.toml')
+        self.assertEqual((done.returncode, done.stdout.split('\n')[0]), (0, 'a.svg'), done)
+        found = [[line.split(',') for line in (self.folder / name).read_text().splitlines()]
+                 for name in ('a.table.csv', 'b.table.csv', 'c.table.csv')]
+        self.assertEqual(found[0][1][:3], ['1', '3', '12.0'])
+        self.assertEqual((found[1][0][1], found[1][1][1]), ('pairs', '2'))
+        self.assertIn('sent against period: other less net, run by run', (self.folder / 'c.svg').read_text())
+        for words, seen in (('pair = "a=1,2"\ncompare = "b.csv"\n', 'A plot has one comparison.'),
+                            ('pair = "a=1,2"\nshow = "mean"\n', 'a plot without `show`'),
+                            ('where = { seed = 1.5 }\n', 'These are no values.'),
+                            ('show = "cdf"\nlog_y = true\n', 'no measure upwards')):
+            (self.folder / 'a.plan.toml').write_text('end = 9\n' + plot % 'a.svg' + words)
+            done = self.plot('--plan', 'a.plan.toml')
+            self.assertEqual(done.returncode, 2, done)
+            self.assertIn(seen, ' '.join(done.stderr.split()))
+
     def test_the_confidence_and_the_interval_of_a_plan_are_checked(self) -> None:
         plot = 'end = 9\n[[plot]]\nfile = "a.svg"\nmeasure = "sent"\nagainst = "period"\n'
         for words, seen in (('confidence = 30', '50 to 99.9'), ('confidence = "much"', '50 to 99.9'),

@@ -1,5 +1,6 @@
 """Statistics of sweeps: estimates against tables and by hand, crossings, pairs, and what is shown of them."""
 import csv
+import hashlib
 import math
 import os
 import re
@@ -15,8 +16,9 @@ from motesim.analysis import estimates
 from motesim.analysis.crossings import Key, Runs, crossing, place
 from motesim.analysis.drawing import ticks_between
 from motesim.analysis.paired import Pair, Paired, differences, pairs_of
-from motesim.analysis.points import Wish, shown_of
-from motesim.analysis.text import columns_of_crossing, of_crossing, of_pairs
+from motesim.analysis.points import Wish, is_seed, shown_of
+from motesim.analysis.rows import by_net, once
+from motesim.analysis.text import columns_of_crossing, of_crossing, of_pairs, remarks
 from motesim.experiments.results import Row
 from motesim.faults import Fault
 from motesim.plan.chance import Chance
@@ -72,6 +74,33 @@ class Estimates(unittest.TestCase):
         # (by hand: t for 9 degrees is 2.262, times the root of 10 / 9 is 2.384; a normal has 0.86 % beyond that)
         self.assertAlmostEqual(estimates.part_of_draws(0.95, 10), 1 - 2 * 0.00856, delta=0.0002)
         self.assertAlmostEqual(estimates.part_of_draws(0.95, 100_000), 0.95, delta=0.0001)
+
+    def test_the_bootstrap_of_t_holds_a_mean_near_1_more_often(self) -> None:
+        # (runs that lose an exponential share of 2 % on average: bench/coverage.py measures more of them)
+        held = dict.fromkeys(('auto', 'bootstrap-t'), 0)
+        for sweep in range(150):
+            chance = Chance(sweep, 10)
+            values = [1 + 0.02 * math.log((chance.below(1_000_000) + 0.5) / 1_000_000) for _ in range(10)]
+            for how in held:
+                found = estimates.mean_of(values, 0.95, how, 'share')
+                held[how] += (found.low or 0) <= 0.98 <= (found.high or 0)
+        self.assertGreater(held['bootstrap-t'], held['auto'] + 3)
+        self.assertGreaterEqual(held['bootstrap-t'], 0.91 * 150)
+
+    def test_the_bootstrap_of_t_has_no_end_for_runs_that_are_nearly_equal(self) -> None:
+        values = [1.0] * 9 + [0.9]
+        self.assertEqual(estimates.mean_of(values, 0.95, 'bootstrap-t').method, 'too alike')
+        found = estimates.mean_of(values, 0.95, 'bootstrap-t', 'share')
+        self.assertEqual((found.low, found.method), (0.0, 'bootstrap-t'))
+
+    def test_means_of_few_skewed_runs_near_1_have_a_line(self) -> None:
+        skewed = [1.0, 1.0, 0.99, 1.0, 1.0, 0.98, 1.0, 0.8, 1.0, 1.0]
+        for values, is_said in (skewed, True), (skewed * 3, False), ([0.5, 0.6, 0.2, 0.1], False), (
+                [0.97, 0.98, 0.99, 1.0], False), ([1.0, 1.0, 0.0, 1.0] * 4, False):
+            rows = [{**row(1, seed, value), 'ratio': value} for seed, value in enumerate(values)]
+            shown = shown_of(rows, Wish('ratio', 'period', show='mean'))
+            line = '1 mean near 0 or 1 of fewer than 30 skewed runs'
+            self.assertEqual(any(line in it for it in remarks(shown, Wish('ratio', 'period', show='mean'))), is_said)
 
     def test_wilsons_score_is_that_of_the_books(self) -> None:
         # (of 10 runs 8 and 10 are 1: 0.490 to 0.943, and 0.722 to 1; Wilson, JASA 22, 1927, by his formula)
@@ -273,7 +302,43 @@ class Pairs(unittest.TestCase):
             pairs_of([row(1, 1, 1)], [row(1, 2, 1)], 'sent', ['period', 'seed'], 'period')
 
 
+class Rows(unittest.TestCase):
+    def test_a_run_that_is_there_twice_counts_once(self) -> None:
+        rows = [row(1, 1, 5), row(1, 2, 6), row(1, 1, 5)]
+        kept, lines = once(rows, 'net.csv')
+        self.assertEqual(kept, rows[:2])
+        self.assertEqual(lines, ['net.csv: 1 row of the same run as another row (the first: period = 1, seed = 1) '
+                                 'left out, so that each run counts once'])
+        self.assertEqual(once(rows[:2], 'net.csv'), (rows[:2], []))
+        # (a run that failed once and was run again)
+        kept, lines = once([{**row(1, 1, None), 'fault': 'too busy'}, row(1, 1, 5)], 'net.csv')
+        self.assertEqual((kept, len(lines)), ([row(1, 1, 5)], 1))
+
+    def test_two_results_of_one_run_are_refused(self) -> None:
+        with self.assertRaisesRegex(Fault, 'net.csv has two rows with period = 1, seed = 1, and they differ in sent: '
+                                           'keep the rows of one plan'):
+            once([row(1, 1, 5), row(1, 1, 6)], 'net.csv')
+
+    def test_a_mean_of_each_net(self) -> None:
+        rows: list[Row] = [{**row(period, seed, 10 * seed + chance, chance_seed=chance),
+                            'places_sha256': 'net%d' % seed}
+                           for period in (1, 2) for seed in (1, 2) for chance in (0, 4)]
+        found, = by_net([rows], Wish('sent', 'period', nets=True))
+        self.assertEqual([(it['period'], it['seed'], it['chance_seed'], it['sent']) for it in found],
+                         [(1, 1, None, 12), (1, 2, None, 22), (2, 1, None, 12), (2, 2, None, 22)])
+        with self.assertRaisesRegex(Fault, 'no column places_sha256'):
+            by_net([[row(1, 1, 1)]], Wish('sent', 'period'))
+
+
 class Shown(unittest.TestCase):
+    def test_only_seeds_by_their_names_are_repetitions(self) -> None:
+        self.assertEqual([is_seed(it) for it in ('seed', 'net_seed', 'seeders', 'seed_rate', 'seeds')],
+                         [True, True, False, False, False])
+        rows: list[Row] = [{**row(1, seed, 3), 'seeders': seed, 'parameters': 'period seed seeders'}
+                           for seed in (1, 2)]
+        with self.assertRaisesRegex(Fault, r'differ in seeders \(1, 2\) \(repetitions are: seed\)'):
+            shown_of(rows, Wish('sent', 'period'))
+
     def test_a_measure_on_either_axis(self) -> None:
         rows = [row(period, seed, 10 * period + seed) for period in (1, 2) for seed in (1, 2, 3)]
         found = shown_of(rows, Wish('ratio', 'sent', show='mean'))
@@ -334,11 +399,66 @@ class Command(unittest.TestCase):
         rows = self.plot('--measure', 'ratio', '--against', 'period', '--where', 'seed=2', '--show', 'mean')
         self.assertEqual(rows[2][-3:], ['none:', 'one', 'run'])
 
+    def test_rows_that_are_there_twice_are_named(self) -> None:
+        path = self.folder / 'net.csv'
+        path.write_text(results() + results())
+        rows = self.plot('--measure', 'sent', '--against', 'period', *ONE)
+        self.assertEqual(rows[2][1], '5')
+        self.assertIn('plot: net.csv: 15 rows of the same run as another row (the first: period = 1, density = thin, '
+                      'seed = 1) left out', self.seen)
+        path.write_text(results() + results(1))
+        self.plot('--measure', 'sent', '--against', 'period', *ONE, status=2)
+        self.assertIn('net.csv has two rows with period = 1, density = thin, seed = 1, and they differ in sent',
+                      self.seen)
+
+    def test_a_logarithmic_axis_upwards(self) -> None:
+        words = '--measure', 'ratio', '--against', 'period', '--by', 'density', '--log-y'
+        rows = self.plot(*words, '--show', 'mean', '--threshold', '0.6')
+        # (from 0.403 at 4 to 0.803 at 8: 4 + 4 * ln(0.6 / 0.403) / ln(0.803 / 0.403))
+        self.assertIn('the mean rises above 0.6 at period 6.309', ' '.join(rows[-3]))
+        for more, seen in ((('--show', 'cdf'), '--log-y is for'), (('--threshold', '0'), 'a threshold above 0')):
+            self.plot(*words, *more, status=2)
+            self.assertIn(seen, self.seen)
+        (self.folder / 'net.csv').write_text(re.sub(r'^1,(.*),0[.]10', r'1,\1,-0.10', results(), flags=re.M))
+        self.plot(*words, status=2)
+        self.assertIn('--log-y needs values above 0, and the median of ratio at period 1 is -0.103', self.seen)
+        self.assertIn('left out: 5 runs whose ratio isn\'t above 0',
+                      [' '.join(row) for row in self.plot(*words[:4], '--log-y', '--show', 'points', *ONE)])
+        interpreter_with(self, 'matplotlib')
+        (self.folder / 'net.csv').write_text(results())
+        self.plot(*words, '--show', 'mean', '-o', 'a.svg')
+        labels = re.findall(r'>([0-9.]+)</text>', (self.folder / 'a.svg').read_text())
+        self.assertTrue({'0.1', '0.2', '0.5'} <= set(labels), labels)
+
+    def test_the_legend_is_beyond_the_axes(self) -> None:
+        interpreter_with(self, 'matplotlib')
+        self.plot('--measure', 'sent', '--against', 'period', '--by', 'density', '--show', 'mean', '-o', 'a.svg')
+        picture = (self.folder / 'a.svg').read_text()
+        right = max(float(it) for it in re.findall(r'<use xlink:href="#\w+" x="([0-9.]+)" y="[0-9.]+" style="stroke',
+                                                   picture.partition('legend_1')[0]))
+        legend = re.search(r'translate\(([0-9.]+) [0-9.]+\)">density thin<|x="([0-9.]+)"[^>]*>density thin<', picture)
+        assert legend
+        self.assertGreater(float(legend[1] or legend[2]), right)
+
+    def test_the_origin_of_a_picture(self) -> None:
+        interpreter_with(self, 'matplotlib')
+        words = '--measure', 'sent', '--against', 'period', *ONE, '--title', 'A title', '-o', 'a.svg'
+        self.plot(*words)
+        with open(self.folder / 'a.origin.csv', newline='') as file:
+            found = dict(list(csv.reader(file)))
+        self.assertEqual((found['what'], found['command']), (
+            'value', "tools/plot net.csv --measure sent --against period --where density=thin --title 'A title' -o "
+            'a.svg'))
+        self.assertEqual(found['SHA-256 of the results'],
+                         hashlib.sha256((self.folder / 'net.csv').read_bytes()).hexdigest())
+        self.assertEqual((found['rows'], found['bootstrap']),
+                         ('15', '2,000 draws with replacement, by SplitMix64 with the seed 1'))
+
     def test_treatments_are_not_mixed(self) -> None:
         self.plot('--measure', 'sent', '--against', 'period', status=2)
         self.assertEqual(self.seen, (
-            'plot: each point would mix runs that differ in density (dense, thin): --by density separates '
-            'them, --where density=dense selects some, --over seed,density mixes them\n'))
+            'plot: each point would mix runs that differ in density (dense, thin) (repetitions are: seed): --by '
+            'density separates them, --where density=dense selects some, --over seed,density mixes them\n'))
         rows = self.plot('--measure', 'sent', '--against', 'period', '--over', 'seed,density')
         self.assertEqual(rows[2][:2], ['1', '10'])
         for words in ('--show', 'cdf', '--by', 'period'), ('--against', 'ratio', '--show', 'mean'), (
@@ -350,18 +470,19 @@ class Command(unittest.TestCase):
     def test_a_crossing(self) -> None:
         rows = self.plot('--measure', 'ratio', '--against', 'period', '--by', 'density', '--show', 'mean',
                          '--threshold', '0.6')
-        self.assertEqual(' '.join(rows[-2]), 'density thin: the mean rises above 0.6 at period 5.97, between the '
+        self.assertEqual(' '.join(rows[-3]), 'density thin: the mean rises above 0.6 at period 5.97, between the '
                                              'points 4 and 8')
-        self.assertEqual(' '.join(rows[-1]), 'with 95 %, by the bootstrap of 5 runs: 4 to 8')
+        self.assertEqual(' '.join(rows[-2]), 'with 95 %, by the bootstrap of 5 runs: 4 to 8')
+        self.assertEqual(' '.join(rows[-1]), 'bootstrap: 2,000 draws with replacement, by SplitMix64 with the seed 1')
         rows = self.plot('--measure', 'ratio', '--against', 'period', '--by', 'density', '--threshold', '0.6', '--log')
-        self.assertIn('the median rises above 0.6 at period 5.628', ' '.join(rows[-2]))
+        self.assertIn('the median rises above 0.6 at period 5.628', ' '.join(rows[-3]))
         self.plot('--measure', 'ratio', '--against', 'density', '--by', 'period', '--threshold', '0.6', status=2)
 
     def test_a_crossing_along_a_measure_draws_both_axes(self) -> None:
         rows = self.plot('--measure', 'ratio', '--against', 'sent', '--by', 'density', '--show', 'mean', '--threshold',
                          '0.6')
-        self.assertRegex(' '.join(rows[-2]), r'density thin: the mean rises above 0.6 at sent [0-9.]+, between')
-        self.assertIn('by the bootstrap of 5 runs', ' '.join(rows[-1]))
+        self.assertRegex(' '.join(rows[-3]), r'density thin: the mean rises above 0.6 at sent [0-9.]+, between')
+        self.assertIn('by the bootstrap of 5 runs', ' '.join(rows[-2]))
 
     def test_a_crossing_is_in_the_table_behind_a_picture_and_the_method_below_it(self) -> None:
         interpreter_with(self, 'matplotlib')
@@ -508,6 +629,16 @@ class Command(unittest.TestCase):
         rows = self.plot(*words)
         self.assertTrue(self.seen.startswith('plot: ' + warned), self.seen)
         self.assertIn(warned, ' '.join(rows[-1]))
+        # (the means of the nets: seeds 1 to 3 and 1.5)
+        rows = self.plot(*words, '--nets')
+        self.assertEqual((self.seen, ' '.join(rows[0])), (
+            '', "sent against period, over seed, averaged by net first: means with intervals of 95 % by Student's t"))
+        self.assertEqual(rows[1:3], [['period', 'nets', 'mean', 'low', 'high', 'interval'],
+                                     ['1', '3', '12.500', '10.016', '14.984', 't']])
+        rows = self.plot('--measure', 'sent', '--against', 'seed', '--over', 'chance_seed', '--pair', 'period=1,2',
+                         '--nets')
+        self.assertIn('net by net', ' '.join(rows[0]))
+        self.assertEqual(rows[2][1], '1')
         self.plot(*words, '--where', 'chance_seed=1')
         self.assertEqual(self.seen, '')
         self.plot('--measure', 'sent', '--against', 'period')

@@ -9,6 +9,7 @@ from pathlib import Path
 
 from here import TOOLS, TOP
 from motesim.experiments import packages
+from motesim.analysis.origin import origin_path
 from motesim.plan.plan import Plan
 from motesim.experiments.plot import table_path, wishes_of
 from skips import need_program
@@ -32,8 +33,8 @@ class StudiesTest(unittest.TestCase):
         self.assertEqual(done.returncode, 0 if has_pictures else 1, done)
         pictures = {wish.file for wish in wishes_of(Plan.read(plan))}
         made = {it.name for it in self.folder.iterdir()} - {name + '.csv'}
-        tables = {str(table_path(Path(it))) for it in pictures}
-        self.assertEqual(made, pictures | tables if has_pictures else set())
+        more = {str(path(Path(it))) for it in pictures for path in (table_path, origin_path)}
+        self.assertEqual(made, pictures | more if has_pictures else set())
         with open(self.folder / (name + '.csv'), newline='') as file:
             return list(csv.DictReader(file))
 

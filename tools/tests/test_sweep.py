@@ -203,6 +203,14 @@ class SweepTest(Bed):
         self.assertTrue(all(len(row[name]) == 16 for row in rows for name in row if name.endswith('sha256')))
         self.assertEqual(len({row['scenario_sha256'] for row in rows}), 6)
 
+    def test_more_seeds_than_draw_apart(self) -> None:
+        source = 'process a;\ncode a { var dice = 0; body { dice = ((self * 257) + ${period}); print 3; } }\n'
+        (self.folder / 'a.mote').write_text(source)
+        warned = 'sweep: warning: period = 0 to 257: in a.mote, mote k draws with one seed as mote k + 1 does'
+        for values, is_warned in ('0,257', True), ('1,257', False):
+            done = self.sweep('--vary', 'period=' + values, '--measure', 'sent', '-o', '%s.csv' % values[0])
+            self.assertEqual((done.returncode, warned in done.stderr), (0, is_warned), done)
+
     def test_only_what_is_missing_is_run(self) -> None:
         self.sweep(*self.words)
         before = (self.folder / 'net.csv').read_bytes()

@@ -1,7 +1,7 @@
 """The place at which a curve crosses a threshold, with the interval of that place.
 
 The curve has the middle (the mean or the median) of the runs at each value of the axis, and straight lines between
-them, as in the picture: on a logarithmic axis they are straight in the logarithm. For the interval the runs are drawn
+them, as in the picture: on logarithmic axes they are straight in the logarithm. For the interval the runs are drawn
 again with replacement (the bootstrap): each time the curve crosses somewhere else. If points have runs with the same
 seeds, the seeds are drawn, the same ones for the whole curve, since runs of one seed have much in common; otherwise
 the runs of each point are drawn by themselves.
@@ -59,12 +59,12 @@ class Crossing(NamedTuple):
     places: tuple[Place, ...] = ()
 
 
-def places_of(line: Line, threshold: float, is_log: bool = False) -> list[Place]:
+def places_of(line: Line, threshold: float, is_log: bool = False, is_log_y: bool = False) -> list[Place]:
     """All places at which a line crosses a threshold."""
     found = []
     for (x, y), (next_x, next_y) in zip(line, line[1:]):
         if (y < threshold) != (next_y < threshold):
-            part = (threshold - y) / (next_y - y)
+            part = math.log(threshold / y) / math.log(next_y / y) if is_log_y else (threshold - y) / (next_y - y)
             at = x * (next_x / x) ** part if is_log else x + (next_x - x) * part
             found.append(Place(at, next_y > y, (x, next_x)))
     return found
@@ -112,9 +112,10 @@ def drawn_lines(curve: Sequence[Runs], middle: Middle, count: int) -> Iterator[L
 
 
 def crossing(curve: Sequence[Runs], threshold: float, confidence: float, middle: Middle = statistics.fmean,
-             is_log: bool = False) -> Crossing | None:
+             is_log: bool = False, is_log_y: bool = False) -> Crossing | None:
     """The places at which a curve crosses a threshold; None if it doesn't."""
-    places = tuple(places_of(sorted(point(list(zip(it.xs, it.ys)), middle) for it in curve), threshold, is_log))
+    line = sorted(point(list(zip(it.xs, it.ys)), middle) for it in curve)
+    places = tuple(places_of(line, threshold, is_log, is_log_y))
     if not places:
         return None
     at, is_rising, gap = places[0]

@@ -183,6 +183,21 @@ def _scale_of_measure(axes: Any) -> None:
     axes.set_xlim(low, high)
 
 
+def _scale_upwards(axes: Any, shown: Shown, wish: Wish) -> None:
+    """A logarithmic axis upwards, from the least to the greatest value or end of an interval above 0."""
+    values = [it for point in shown.points for it in (
+        point.values if wish.show == 'points' else (point.estimate.low, point.estimate.middle, point.estimate.high))]
+    values.append(threshold_of(wish))
+    above = [it for it in values if it is not None and it > 0]
+    low, high = min(above), max(above)
+    axes.set_yscale('log')
+    room = (high / low) ** 0.05 if low < high else 1.5
+    ticks = ticks_between(low / room, high * room)
+    axes.set_yticks(ticks, ['%g' % it for it in ticks])
+    axes.minorticks_off()
+    axes.set_ylim(low / room, high * room)
+
+
 def _scale(axes: Any, places: list[Cell], wish: Wish, is_scale: bool) -> None:
     """The axis from left to right."""
     if wish.log and not all(isinstance(it, int | float) and it > 0 for it in places):
@@ -199,10 +214,11 @@ def _note(shown: Shown, wish: Wish) -> str:
     """The words below a picture."""
     of_points = [point.estimate.runs for point in shown.points]
     runs = max([curve.runs for curve in shown.curves()] if wish.show == 'cdf' else of_points)
+    counted = 'nets' if wish.nets else 'runs'
     of_mean = 'mean, and intervals of %g %% %s' % (wish.confidence, by_methods(shown.methods()))
     what = {'median': 'median, and quartiles', 'points': 'all runs', 'cdf': 'part of the runs', 'heat': 'mean'}.get(
         wish.show, of_mean if shown.methods() else 'mean')
-    note = '%s over %s (%d runs)' % (what, ', '.join(shown.over), runs) if shown.over else ''
+    note = '%s over %s (%d %s)' % (what, ', '.join(shown.over), runs, counted) if shown.over else ''
     first = '; '.join(it for it in [note, *left_out(shown, wish), *remarks(shown, wish)] if it)
     return '\n'.join(it for it in [first, *crossings(shown, wish)] if it)
 
@@ -237,14 +253,17 @@ def _draw_curves(axes: Any, shown: Shown, wish: Wish) -> None:
         # (from 0 on, unless all values would lie in the upper half)
         lows = [it.estimate.middle if it.estimate.low is None else it.estimate.low for it in shown.points]
         highs = [it.estimate.middle if it.estimate.high is None else it.estimate.high for it in shown.points]
-        if 0 <= 2 * min(lows) < max(highs):
+        if wish.log_y:
+            _scale_upwards(axes, shown, wish)
+        elif 0 <= 2 * min(lows) < max(highs):
             axes.set_ylim(bottom=0)
     axes.set_xlabel(wish.x or (wish.measure if wish.show == 'cdf' else wish.against))
     axes.set_ylabel(wish.y or ('part of runs' if wish.show == 'cdf' else wish.measure))
     axes.grid(True, color='#dddddd', linewidth=0.6)
     axes.spines[['top', 'right']].set_visible(False)
     if wish.by:
-        axes.legend(frameon=False)
+        # (outside, since inside it would hide bars)
+        axes.legend(frameon=False, loc='upper left', bbox_to_anchor=(1.01, 1.0), borderaxespad=0.0)
 
 
 def _draw_threshold(axes: Any, shown: Shown, wish: Wish) -> None:

@@ -1,8 +1,9 @@
 """Estimates from a few runs: means with confidence intervals, medians with quartiles.
 
 An interval by Student's t treats the runs as independent draws of something near to normal. One by the bootstrap takes
-no form for granted: the runs are drawn again with replacement, and the interval has the middle part of the means. Its
-draws come from a fixed seed, so the same runs give the same interval anywhere. The middle part is a little larger than
+no form for granted: the runs are drawn again with replacement, and the interval has the middle part of the means. The
+bootstrap of Student's t (Efron, 1981) draws in the same way, and counts each mean in its standard errors. The draws
+come from a fixed seed, so the same runs give the same interval anywhere. The middle part is a little larger than
 the confidence (`part_of_draws`), since few runs spread less than what they are drawn from.
 
 The interval of a share stays between 0 and 1: by Wilson's score if the runs are 0 or 1 each. Otherwise, if Student's t
@@ -12,6 +13,7 @@ have no interval: they don't show how far others would spread.
 from __future__ import annotations
 
 import math
+import operator
 import statistics
 from collections.abc import Callable, Sequence
 from functools import lru_cache
@@ -21,10 +23,15 @@ from motesim.plan.chance import Chance
 
 DRAWS = 2_000
 SEED = 1
+# The draws of the bootstrap, in words.
+DRAWN = '{:,} draws with replacement, by SplitMix64 with the seed {}'.format(DRAWS, SEED)
 STEPS = 200
 TINY = 1e-300
 # With fewer runs the bootstrap's intervals are too narrow.
 LEAST_RUNS = 10
+# With fewer runs than this, means of skewed runs near 0 or 1 are in their intervals less often than these say.
+ENOUGH_RUNS = 30
+NEAR, SKEWED = 0.1, 1.0
 # The wish for a method that fits.
 AUTO = 'auto'
 Value = TypeVar('Value')
@@ -106,7 +113,7 @@ def mean_without_interval(values: Sequence[float], confidence: float) -> Estimat
 
 def resampled(values: Sequence[Value], chance: Chance) -> list[Value]:
     """As many of the values, drawn with replacement."""
-    return [values[chance.below(len(values))] for _ in values]
+    return [values[at] for at in chance.some_below(len(values), len(values))]
 
 
 def between(found: list[float], confidence: float) -> tuple[float, float]:
@@ -136,6 +143,36 @@ def mean_by_bootstrap(values: Sequence[float], confidence: float) -> Estimate:
     mean, runs, chance = statistics.fmean(values), len(values), Chance(SEED)
     drawn = [statistics.fmean(resampled(values, chance)) for _ in range(DRAWS)]
     return Estimate(runs, mean, *between(drawn, part_of_draws(confidence, runs)), 'bootstrap')
+
+
+def mean_by_bootstrap_t(values: Sequence[float], confidence: float) -> Estimate:
+    """The mean with its interval by the bootstrap of Student's t: the draws show how (mean - true) / error spreads.
+
+    Draws that are all the same have no error, and count as infinitely far. If there are too many of these, the
+    interval has no end on this side.
+    """
+    mean, runs, chance = statistics.fmean(values), len(values), Chance(SEED)
+    error, gaps = statistics.stdev(values) / math.sqrt(runs), [it - mean for it in values]
+    found = []
+    for _ in range(DRAWS):
+        drawn = resampled(gaps, chance)
+        gap = sum(drawn) / runs
+        if min(drawn) == max(drawn):
+            found.append(math.copysign(math.inf, gap) if gap else 0.0)
+        else:
+            squares = sum(map(operator.mul, drawn, drawn)) / runs - gap * gap
+            found.append(gap / math.sqrt(squares / (runs - 1)))
+    low, high = between(found, confidence)
+    return Estimate(runs, mean, mean - high * error, mean - low * error, 'bootstrap-t')
+
+
+def is_skewed_near_an_end(values: Sequence[float]) -> bool:
+    """Returns whether shares are near 0 or 1 and so skewed that intervals of few runs are too narrow."""
+    mean, runs = statistics.fmean(values), len(values)
+    if NEAR < mean < 1 - NEAR or runs < 3 or len(set(values)) == 1:
+        return False
+    skewness = sum((it - mean) ** 3 for it in values) / runs / statistics.pstdev(values) ** 3
+    return abs(skewness) > SKEWED
 
 
 def median_with_quartiles(values: Sequence[float], confidence: float) -> Estimate:
@@ -171,7 +208,13 @@ def method_of(values: Sequence[float], confidence: float, interval: str, measure
 
 def mean_of(values: Sequence[float], confidence: float, interval: str = AUTO, measure: Measured = 'any') -> Estimate:
     """The mean of runs, with an interval by a method that fits them."""
-    return METHODS[method_of(values, confidence, interval, measure)](values, confidence)
+    found = METHODS[method_of(values, confidence, interval, measure)](values, confidence)
+    if found.method != 'bootstrap-t' or found.low is None or found.high is None:
+        return found
+    low, high = (max(0.0, found.low), min(1.0, found.high)) if measure == 'share' else (found.low, found.high)
+    if math.isfinite(low) and math.isfinite(high):
+        return found._replace(low=low, high=high)
+    return found._replace(low=None, high=None, method='too alike')
 
 
 def measured(values: Sequence[float]) -> Measured:
@@ -182,14 +225,16 @@ def measured(values: Sequence[float]) -> Measured:
 
 
 METHODS: dict[str, Callable[[Sequence[float], float], Estimate]] = {
-    't': mean_by_t, 'bootstrap': mean_by_bootstrap, 'within': mean_by_t_within, 'wilson': mean_by_wilson,
-    'alike': mean_without_interval}
+    't': mean_by_t, 'bootstrap': mean_by_bootstrap, 'bootstrap-t': mean_by_bootstrap_t, 'within': mean_by_t_within,
+    'wilson': mean_by_wilson, 'alike': mean_without_interval}
 # The methods that can be wished for.
-MEANS = (AUTO, 't', 'bootstrap')
+MEANS = (AUTO, 't', 'bootstrap', 'bootstrap-t')
 # Each method in a heading, and in a row.
-NAMES = {'t': 'Student\'s t', 'bootstrap': 'the bootstrap', 'wilson': 'Wilson\'s score',
+NAMES = {'t': 'Student\'s t', 'bootstrap': 'the bootstrap', 'bootstrap-t': 'the bootstrap of Student\'s t',
+         'wilson': 'Wilson\'s score',
          'within': 'Student\'s t cut at 0 and 1', 'within pairs': 'Student\'s t cut at -1 and 1',
          'newcombe': 'Newcombe\'s method 10'}
-OF_ROW = {'t': 't', 'bootstrap': 'bootstrap', 'wilson': 'Wilson', 'within': 't, cut at 0 and 1',
-          'within pairs': 't, cut at -1 and 1', 'newcombe': 'Newcombe 10',
-          'one': 'none: one run', 'alike': 'none: equal runs', 'quartiles': 'quartiles'}
+OF_ROW = {'t': 't', 'bootstrap': 'bootstrap', 'bootstrap-t': 'bootstrap-t', 'wilson': 'Wilson',
+          'within': 't, cut at 0 and 1', 'within pairs': 't, cut at -1 and 1', 'newcombe': 'Newcombe 10',
+          'one': 'none: one run', 'alike': 'none: equal runs',
+          'too alike': 'none: nearly equal runs', 'quartiles': 'quartiles'}

@@ -12,8 +12,8 @@ from motesim.faults import Fault
 
 MEDIAN = 'median'
 SHOWS = (MEDIAN, 'mean', 'points', 'cdf', 'heat')
-# A parameter whose name contains this makes runs that are repetitions of one another.
-REPEATS = 'seed'
+# A parameter of this name, or one that ends in `_seed`, makes runs that are repetitions of one another.
+SEED, SEEDS = 'seed', '_seed'
 MOST_VALUES = 4
 # A column about a run's net that can be shown like a measure.
 REJECTED = 'rejected'
@@ -26,6 +26,7 @@ class Wish(NamedTuple):
 
     title, footer  the words above and below a picture; None: what it shows, and of which runs; '': none
     size           the width and the height of a picture in centimetres, `16x10`, or nothing
+    nets           whether the runs of a net are averaged first, so that each net counts once
     """
     measure: str
     against: str = ''
@@ -42,6 +43,11 @@ class Wish(NamedTuple):
     over: str = ''
     footer: str | None = None
     size: str = ''
+    log_y: bool = False
+    nets: bool = False
+    pair: str = ''
+    compare: str = ''
+    where: tuple[str, ...] = ()
 
     @property
     def part(self) -> float:
@@ -145,9 +151,14 @@ def number_of(row: Row, measure: str) -> float | None:
     return None if value is None else float(value)
 
 
+def is_seed(name: str) -> bool:
+    """Returns whether a parameter only repeats runs, unless somebody names others: `seed`, `net_seed`."""
+    return name == SEED or name.endswith(SEEDS)
+
+
 def repeats_of(varying: Sequence[str], over: str) -> list[str]:
-    """The parameters that only repeat a run: those that are named, or else those with `seed` in their names."""
-    return [it for it in over.split(',') if it] or [it for it in varying if REPEATS in it]
+    """The parameters that only repeat a run: those that are named, or else `seed` and those that end in `_seed`."""
+    return [it for it in over.split(',') if it] or [it for it in varying if is_seed(it)]
 
 
 def check_mixture(rows: Sequence[Row], mixed: Sequence[str], repeats: Sequence[str], by: str, what: str) -> None:
@@ -161,7 +172,8 @@ def check_mixture(rows: Sequence[Row], mixed: Sequence[str], repeats: Sequence[s
     ways += ['--where %s=%s selects some' % (first, text_of(values[0])),
              '--over %s mixes them' % ','.join(dict.fromkeys([*repeats, *mixed]))]
     names = ' and '.join(['%s (%s)' % (first, shown), *mixed[1:]])
-    raise Fault('%s would mix runs that differ in %s: %s' % (what, names, ', '.join(ways)))
+    counted = ' (repetitions are: %s)' % (', '.join(repeats) or 'none')
+    raise Fault('%s would mix runs that differ in %s%s: %s' % (what, names, counted, ', '.join(ways)))
 
 
 def check_pairs(rows: Sequence[Row], wish: Wish, kept: Sequence[str]) -> None:

@@ -8,7 +8,8 @@ from functools import lru_cache
 from typing import Any
 
 from motesim.analysis.crossings import Crossing, Middle, Runs, crossing
-from motesim.analysis.estimates import LEAST_RUNS, NAMES, OF_ROW, Estimate
+from motesim.analysis.estimates import DRAWN, ENOUGH_RUNS, LEAST_RUNS, NAMES, OF_ROW, Estimate
+from motesim.analysis.estimates import is_skewed_near_an_end, measured
 from motesim.analysis.paired import Difference, Paired, reasons
 from motesim.analysis.points import Curve, Point, Shown, Wish
 from motesim.experiments.measures import Cell
@@ -18,6 +19,10 @@ from motesim.summary.counts import table
 
 Row = dict[str, Any]
 
+# The methods that draw runs again.
+DRAWING = ('bootstrap', 'bootstrap-t')
+# The methods whose intervals of few skewed runs are too narrow.
+NARROW = ('t', 'within', 'bootstrap')
 # (a picture, its table and the lines on the terminal need the same crossings)
 _crossing = lru_cache(maxsize=64)(crossing)
 
@@ -32,7 +37,8 @@ def rows_of(shown: Shown, wish: Wish) -> list[Row]:
                 for it in shown.curves() for number, value in _steps(it)]
     rows: list[Row] = []
     for point in shown.points:
-        row: Row = {**_of_by(point, wish), **_of_against(point, wish), 'runs': point.estimate.runs}
+        counted = 'nets' if wish.nets else 'runs'
+        row: Row = {**_of_by(point, wish), **_of_against(point, wish), counted: point.estimate.runs}
         low, middle, high = point.estimate.low, point.estimate.middle, point.estimate.high
         if wish.show == 'median':
             rows.append({**row, 'first quartile': low, 'median': middle, 'third quartile': high})
@@ -89,7 +95,8 @@ def csv_of(rows: Sequence[Row]) -> str:
 def heading(shown: Shown, wish: Wish) -> str:
     over = ', over ' + ', '.join(shown.over) if shown.over else ''
     against = ' against %s' % wish.against if wish.against else ''
-    return '%s%s%s%s' % (wish.measure, against, over, how(shown, wish))
+    nets = ', averaged by net first' if wish.nets else ''
+    return '%s%s%s%s%s' % (wish.measure, against, over, nets, how(shown, wish))
 
 
 def how(shown: Shown, wish: Wish) -> str:
@@ -119,18 +126,60 @@ def left_out(shown: Shown, wish: Wish) -> list[str]:
             wish.measure, ', '.join(map(''.join, zip(counts, names)))))
     elif shown.empty:
         lines.append('left out: %d runs without a value of %s' % (shown.empty, wish.measure))
-    if shown.not_above_0:
-        lines.append('left out: %d run%s whose %s isn\'t above 0' % (
-            shown.not_above_0, 's' if shown.not_above_0 > 1 else '', wish.against))
+    for count, name in (shown.not_above_0, wish.against), (_not_above_0(shown, wish), wish.measure):
+        if count:
+            lines.append('left out: %d run%s whose %s isn\'t above 0' % (count, 's' if count > 1 else '', name))
     return lines
+
+
+def _not_above_0(shown: Shown, wish: Wish) -> int:
+    """The number of runs, if each is a point, that have no place on a logarithmic axis upwards."""
+    if not wish.log_y or wish.show != 'points':
+        return 0
+    return sum(value <= 0 for point in shown.points for value in point.values)
+
+
+def check_log_y(shown: Shown, wish: Wish) -> None:
+    """Refuses a logarithmic axis upwards if a middle that it would show isn't above 0."""
+    if not wish.log_y or wish.show == 'points':
+        return
+    low = next((it for it in shown.points if it.estimate.middle <= 0), None)
+    if low:
+        raise Fault('--log-y needs values above 0, and the %s of %s at %s %s is %.4g' % (
+            middle_of(wish)[0], wish.measure, wish.against, text_of(low.against), low.estimate.middle))
+    threshold = threshold_of(wish)
+    if threshold is not None and threshold <= 0:
+        raise Fault('--log-y needs a threshold above 0')
 
 
 def remarks(shown: Shown, wish: Wish) -> list[str]:
     """The limits of the intervals' meaning."""
+    has_crossing = any(it and it.low is not None for it in crossings_of(shown, wish).values())
     found = of_nets(shown.shared) if wish.show == 'mean' or wish.threshold and wish.show != 'cdf' else []
+    found += of_bars(shown, wish)
     if wish.show != 'mean':
-        return found
-    return found + of_intervals([it for point in shown.points for it in point.estimates])
+        return [*(['bootstrap: %s' % DRAWN] if has_crossing else []), *found]
+    found += of_intervals([it for point in shown.points for it in point.estimates], has_crossing)
+    return found + of_skewed(shown)
+
+
+def of_skewed(shown: Shown) -> list[str]:
+    """That intervals of few skewed runs near 0 or 1 are too narrow."""
+    kind = measured([value for point in shown.points for value in point.values])
+    its = [it for it in shown.points if it.estimate.method in NARROW and it.estimate.runs < ENOUGH_RUNS and
+           is_skewed_near_an_end(it.values)] if kind == 'share' else []
+    return ['%d mean%s near 0 or 1 of fewer than %d skewed runs: such an interval contains the true mean less often '
+            'than it says; make more runs, or use --interval bootstrap-t' % (
+                len(its), 's' if len(its) > 1 else '', ENOUGH_RUNS)] if its else []
+
+
+def of_bars(shown: Shown, wish: Wish) -> list[str]:
+    """That bars reach 0, which a logarithmic axis doesn't have."""
+    if not wish.log_y or wish.show not in ('mean', 'median'):
+        return []
+    count = sum(it.estimate.low is not None and it.estimate.low <= 0 for it in shown.points)
+    return ['%d interval%s to 0 or below, and %s cut at the lower edge of a picture with --log-y' % (
+        count, *(('s reach', 'are') if count > 1 else (' reaches', 'is')))] if count else []
 
 
 def of_nets(shared: tuple[int, int] | None) -> list[str]:
@@ -138,13 +187,15 @@ def of_nets(shared: tuple[int, int] | None) -> list[str]:
     if shared is None:
         return []
     return ['%d runs in %d nets: intervals count runs as independent, and are too narrow if nets differ; use one seed '
-            'for places and chance, or average by net first' % shared]
+            'for places and chance, or average by net first: --nets' % shared]
 
 
-def of_intervals(estimates: Sequence[Estimate]) -> list[str]:
-    """Which intervals there aren't, and which are too narrow."""
+def of_intervals(estimates: Sequence[Estimate], is_drawn: bool = False) -> list[str]:
+    """The draws of the bootstrap, if one is used; which intervals there aren't, and which are too narrow."""
     lines = []
-    few = [it.runs for it in estimates if it.method == 'bootstrap' and it.runs < LEAST_RUNS]
+    if is_drawn or any(it.method in DRAWING for it in estimates):
+        lines.append('bootstrap: %s' % DRAWN)
+    few = [it.runs for it in estimates if it.method in DRAWING and it.runs < LEAST_RUNS]
     if few:
         lines.append('the bootstrap of %d runs is too narrow: use --interval t, or %d runs or more' % (
             min(few), LEAST_RUNS))
@@ -183,7 +234,7 @@ def crossings_of(shown: Shown, wish: Wish) -> dict[Cell, Crossing | None]:
         if wish.log and any(x <= 0 for point in its for x in point.others or (point.x,)):
             raise Fault('--log needs values above 0, and some of %s are not' % wish.against)
         curve = tuple(Runs(it.others or (it.x,) * len(it.values), it.values, it.keys) for it in its)
-        found[by] = _crossing(curve, threshold, wish.part, middle_of(wish)[1], wish.log)
+        found[by] = _crossing(curve, threshold, wish.part, middle_of(wish)[1], wish.log, wish.log_y)
     return found
 
 
@@ -222,9 +273,10 @@ def columns_of_crossing(found: Crossing | None) -> Row:
     return {'crossings': len(found.places) if found else 0, 'crossing': at, **ends}
 
 
-def rows_of_differences(found: Sequence[Difference], against: str, one: str, other: str) -> list[Row]:
+def rows_of_differences(found: Sequence[Difference], against: str, one: str, other: str,
+                        counted: str = 'pairs') -> list[Row]:
     """A paired comparison as rows of a table."""
-    return [{against: it.against, 'pairs': it.difference.runs, 'left out': it.left_out, one: it.one, other: it.other,
+    return [{against: it.against, counted: it.difference.runs, 'left out': it.left_out, one: it.one, other: it.other,
              'difference': it.difference.middle, 'low': it.difference.low, 'high': it.difference.high,
              'interval': OF_ROW[it.difference.method], 'greater': it.greater, 'less': it.less} for it in found]
 

@@ -8,13 +8,14 @@
   tools/plot a.csv --compare b.csv --measure ratio --against period          run by run, both with the same parameters
   tools/plot net.csv --plan net.plan.toml                                    what the plan's `plot` describes
 
-RESULTS is a file that tools/sweep wrote. Each point represents the runs that differ only in the seed, or in what
---over names; runs that differ in more aren't mixed. --show selects the statistic: median (with quartiles), mean (with
-an interval by --interval auto, t or bootstrap), points (all runs), cdf (the share of the runs with at most this value)
-or heat (a map of --against and --by). --where seed=3 selects some of the runs. A picture is SVG, PDF or PNG, by its
-name, and the table behind it is written next to it, as NAME.table.csv. Pictures need matplotlib (on Debian: apt-get
-install python3-matplotlib); without it there is a table, and a line that says so. docs/use/EXPERIMENTS.md shows all of
-it at work.
+RESULTS is a file that tools/sweep wrote. Each point represents the runs that differ only in `seed` (or in parameters
+that end in `_seed`), or in what --over names; runs that differ in more aren't mixed. --show selects the statistic:
+median (with quartiles), mean (with an interval by --interval auto, t, bootstrap or bootstrap-t), points (all runs),
+cdf (the share of the runs with at most this value) or heat (a map of --against and --by). --where seed=3 selects some
+of the runs. A picture is SVG, PDF or PNG, by its name. Next to it are written the table behind it, NAME.table.csv, and
+its origin, NAME.origin.csv: the command and the digests of what made the results. Pictures need matplotlib (on Debian:
+apt-get install python3-matplotlib); without it there is a table, and a line that says so. docs/use/EXPERIMENTS.md
+shows all of it at work.
 
 Ends with status 0, with 1 if there is a table instead of a picture, or with 2 if there is nothing to show.
 """
@@ -26,7 +27,7 @@ from motesim.faults import command
 from motesim.words import words_of
 
 # What can be shown of the runs, and how intervals are found, as motesim.analysis names them.
-SHOWS, MEANS = ('median', 'mean', 'points', 'cdf', 'heat'), ('auto', 't', 'bootstrap')
+SHOWS, MEANS = ('median', 'mean', 'points', 'cdf', 'heat'), ('auto', 't', 'bootstrap', 'bootstrap-t')
 
 
 def arguments() -> argparse.Namespace:
@@ -43,7 +44,8 @@ def arguments() -> argparse.Namespace:
                        help='the confidence of the intervals (95)')
     words.add_argument('--threshold', metavar='VALUE', help='report where each curve crosses this value')
     words.add_argument('--over', metavar='NAMES',
-                       help='the parameters in which runs of a point may differ (those with `seed` in their names)')
+                       help='the parameters in which runs of a point may differ (`seed` and those in `_seed`)')
+    words.add_argument('--nets', action='store_true', help='average the runs of each net first: each net counts once')
     words.add_argument('--compare', metavar='RESULTS', help='the other side of a comparison, run by run')
     words.add_argument('--pair', metavar='NAME=ONE,OTHER', help='compare two values of a parameter, run by run')
     words.add_argument('--where', action='append', default=[], metavar='NAME=VALUES',
@@ -55,6 +57,7 @@ def arguments() -> argparse.Namespace:
     words.add_argument('--size', metavar='WxH', default='', help='the size of the picture in centimetres (16.3x10.7)')
     words.add_argument('--log', action='store_true',
                        help='a logarithmic axis: each step to the right doubles the parameter')
+    words.add_argument('--log-y', action='store_true', help='a logarithmic axis upwards')
     words.add_argument('--plan', metavar='PLAN', help="show what this plan's `plot` describes")
     words.add_argument('-o', dest='output', metavar='FILE', help='the picture, NAME.svg, NAME.pdf or NAME.png')
     asked = words.parse_args()

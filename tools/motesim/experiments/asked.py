@@ -1,6 +1,7 @@
 """The request for a sweep: the values of the parameters, and the measures."""
 from __future__ import annotations
 
+import contextlib
 import itertools
 import re
 from collections import Counter
@@ -21,6 +22,9 @@ MOST_TRIED = 40
 SECONDS, MOST_SECONDS, MOST_BYTES = 60, 86_400, 200_000_000
 RANGE = re.compile(r'(-?[0-9]{1,9})\.\.(-?[0-9]{1,9})(?:\.\.([0-9]{1,9}))?')
 SWEEP = {'vary': optional(dict, {}), 'measure': optional(list, []), 'seconds': optional(int, SECONDS, 1, MOST_SECONDS)}
+# The pattern for chance of docs/use/EXPERIMENTS.md, with its seed: so many seeds in a row draw different numbers.
+DRAWS = re.compile(r'self\s*\*\s*257\s*\)?\s*\+\s*\$\{(\w+)\}')
+MOST_SEEDS = 257
 # The columns that say what made a row.
 MADE = ('fault', 'note', 'plan', 'plan_sha256', 'scenario_sha256', 'places_sha256', 'rejected', 'report_sha256',
         'program', 'program_sha256', 'kit', 'measures_sha256', 'parameters')
@@ -118,6 +122,22 @@ def sources_of(plan: Plan, measures: Sequence[str]) -> dict[str, str]:
         return {name: read_file(plan.files.folder / name).decode('utf-8') for name in names}
     except UnicodeDecodeError as fault:
         raise Fault('a file of measures is not UTF-8: %s' % fault) from None
+
+
+def alike_seeds(sweep: Sweep) -> list[str]:
+    """A line for each parameter that is the seed of the pattern for chance, and has more values than draw apart."""
+    names: dict[str, str] = {}
+    for file in sweep.plan.used_files(sweep.run_at(0)):
+        with contextlib.suppress(Fault, ValueError):
+            names.update(dict.fromkeys(DRAWS.findall(sweep.plan.files.read(file).decode('utf-8', 'replace')), file))
+    found = []
+    for name, file in names.items():
+        values = [it for it in sweep.vary.get(name, []) if type(it) is int]
+        if values and max(values) - min(values) >= MOST_SEEDS:
+            found.append('%s = %d to %d: in %s, mote k draws with one seed as mote k + 1 does with the seed %d less, '
+                         'so these runs are not independent: use at most %d seeds in a row' % (
+                             name, min(values), max(values), file, MOST_SEEDS, MOST_SEEDS))
+    return found
 
 
 def some_runs(sweep: Sweep) -> Iterator[dict[str, Value]]:

@@ -2,17 +2,21 @@
 from __future__ import annotations
 
 import argparse
+import shlex
 import sys
 from collections.abc import Sequence
 from pathlib import Path
+from typing import NamedTuple
 
 from motesim.analysis import drawing, text
 from motesim.analysis.drawing import FORMATS
 from motesim.analysis.estimates import AUTO, MEANS
 from motesim.analysis.estimates import quartiles as quartiles
+from motesim.analysis.origin import origin_of, origin_path
 from motesim.analysis.paired import differences, pairs_of
 from motesim.analysis.points import MEDIAN, SHOWS, Wish, check_pairs, measures_of, order, parameters_of
 from motesim.analysis.points import shared_nets, shown_of
+from motesim.analysis.rows import by_net, once
 from motesim.experiments import packages
 from motesim.experiments.asked import values_of
 from motesim.experiments.results import Row, cell, read_results, text_of
@@ -21,11 +25,19 @@ from motesim.plan.plan import Plan
 from motesim.plan.tables import Tables, any_kind, needed, optional, text_of_value
 from motesim.summary.counts import table
 
+# The key of a plot that selects runs.
+WHERE = 'where'
 PLOT = {'file': needed(str), 'measure': needed(str), 'against': optional(str, ''), 'by': optional(str, ''),
         'title': optional(str, None), 'x': optional(str, ''), 'y': optional(str, ''), 'log': optional(bool, False),
         'show': optional(str, 'median'), 'interval': optional(str, AUTO), 'confidence': any_kind('a number', False),
         'threshold': any_kind('a number', False), 'over': optional(str, ''),
-        'footer': optional(str, None), 'size': optional(str, '')}
+        'footer': optional(str, None), 'size': optional(str, ''), 'log_y': optional(bool, False),
+        'nets': optional(bool, False), 'pair': optional(str, ''), 'compare': optional(str, ''),
+        WHERE: optional(dict, {})}
+# The views without a measure upwards.
+NOT_UPWARDS = ('cdf', 'heat')
+# What has no effect in a comparison run by run, and is refused.
+NOT_IN_PAIRS = ('show', 'threshold', 'by', 'log_y')
 
 
 def table_path(picture: Path) -> Path:
@@ -50,13 +62,25 @@ def wishes_of(plan: Plan) -> list[Wish]:
             if values[key] not in known:
                 raise tables.fault(path + (key,), 'A plot has no such `%s`.' % key, ', '.join('`"%s"`' %
                                                                                               it for it in known))
-        if values['interval'] != AUTO and values['show'] != 'mean':
+        is_paired = bool(values['pair'] or values['compare'])
+        if values['pair'] and values['compare']:
+            raise tables.fault(path + ('pair',), 'A plot has one comparison.', '`pair` or `compare`, not both', False)
+        for key in NOT_IN_PAIRS if is_paired else ():
+            if key in given:
+                raise tables.fault(path + (key,), 'A comparison run by run shows the mean of the differences, as one '
+                                                  'line.', 'a plot without `%s`' % key, False)
+        if values['log_y'] and values['show'] in NOT_UPWARDS:
+            raise tables.fault(path + ('log_y',), 'A plot with this `show` has no measure upwards.',
+                               '`log_y` for medians, means and points', False)
+        if values['interval'] != AUTO and values['show'] != 'mean' and not is_paired:
             raise tables.fault(path + ('interval',), 'An interval is one of means, and this plot shows none.',
                                '`show = "mean"` as well')
         values['threshold'] = '' if values['threshold'] is None else str(values['threshold'])
         values['confidence'] = 95 if values['confidence'] is None else values['confidence']
         if type(values['confidence']) not in (int, float) or not 50 <= values['confidence'] <= 99.9:
             raise tables.fault(path + ('confidence',), 'A plot has no such `confidence`.', 'a number of 50 to 99.9')
+        values[WHERE] = tuple('%s=%s' % (name, _text_of_where(tables, path + (WHERE, name), value))
+                                for name, value in values[WHERE].items())
         wish = Wish(**values)
         try:
             drawing.size_of(wish.size)
@@ -75,12 +99,30 @@ def wishes_of(plan: Plan) -> list[Wish]:
     return found
 
 
-def write_table(path: Path, rows: Sequence[text.Row]) -> None:
-    """Writes the table behind a picture."""
-    try:
-        path.write_text(text.csv_of(rows), encoding='utf-8', newline='')
-    except OSError as fault:
-        raise Fault('%s: %s' % (path, fault.strerror)) from None
+def _text_of_where(tables: Tables, path: tuple[str | int, ...], value: object) -> str:
+    """The selected values of a parameter in a plot, as on the command line."""
+    found = value if type(value) is list else [value]
+    if not found or not all(type(it) in (int, str, bool) for it in found):
+        raise tables.fault(path, 'These are no values.', '`20`, `"10,20"`, `"1..30"` or an array')
+    return ','.join(text_of_value(it) for it in found)
+
+
+class Source(NamedTuple):
+    """The source of the rows: the folder for pictures, the files, and the command for the origin of a picture."""
+    folder: Path
+    files: tuple[Path, ...]
+    command: str
+
+
+def write_tables(picture: Path, made: Sequence[text.Row], source: Source, rows: Sequence[Row],
+                 notes: Sequence[str]) -> None:
+    """Writes the table behind a picture, and its origin."""
+    for path, words in ((table_path(picture), text.csv_of(made)),
+                        (origin_path(picture), origin_of(source.command, source.files, rows, notes))):
+        try:
+            path.write_text(words, encoding='utf-8', newline='')
+        except OSError as fault:
+            raise Fault('%s: %s' % (path, fault.strerror)) from None
 
 
 def warn(lines: Sequence[str], shared: tuple[int, int] | None) -> None:
@@ -90,17 +132,19 @@ def warn(lines: Sequence[str], shared: tuple[int, int] | None) -> None:
             print('plot: %s' % line, file=sys.stderr)
 
 
-def show(rows: Sequence[Row], wish: Wish, folder: Path) -> bool:
+def show(rows: Sequence[Row], wish: Wish, source: Source) -> bool:
     """Draws a picture or prints a table; returns whether it has the wanted form."""
-    shown = shown_of(rows, wish)
+    shown = shown_of(by_net([rows], wish)[0] if wish.nets else rows, wish)
     if not shown.points:
         raise Fault('; '.join(['there is no value of %s to show' % wish.measure, *text.left_out(shown, wish)]))
+    text.check_log_y(shown, wish)
     if wish.file and packages.is_here('matplotlib'):
-        drawing.draw(shown, wish, folder / wish.file)
-        write_table(table_path(folder / wish.file), text.rows_with_crossings(shown, wish))
-        print(folder / wish.file)
-        for line in text.crossings(shown, wish) + text.remarks(shown, wish):
-            print(line)
+        picture = source.folder / wish.file
+        drawing.draw(shown, wish, picture)
+        notes = text.crossings(shown, wish) + text.remarks(shown, wish)
+        write_tables(picture, text.rows_with_crossings(shown, wish), source, rows, [
+            text.heading(shown, wish), *text.left_out(shown, wish), *notes])
+        print('\n'.join(map(str, [picture, *notes])))
         warn(text.remarks(shown, wish), shown.shared)
         return True
     print('\n'.join(text.table_of(shown, wish)))
@@ -108,20 +152,23 @@ def show(rows: Sequence[Row], wish: Wish, folder: Path) -> bool:
     return not wish.file
 
 
-def compare(rows: Sequence[Row], others: Sequence[Row], wish: Wish, names: tuple[str, str],
-            kept: Sequence[str]) -> bool:
+def compare(sides: Sides, wish: Wish, source: Source) -> bool:
     """Compares two sides run by run; returns whether there is a picture if one was wanted."""
+    rows, others, names, kept = sides
     if wish.measure not in measures_of(rows) or wish.measure not in measures_of(others):
         raise Fault('there is no measure %s on both sides; there are: %s' % (
             wish.measure, ', '.join(it for it in measures_of(rows) if it in measures_of(others))))
     if wish.against not in kept:
         raise Fault('there is no parameter %s on both sides; there are: %s' % (wish.against, ', '.join(kept)))
     check_pairs([*rows, *others], wish, kept)
+    if wish.nets:
+        rows, others = by_net([rows, others], wish)
     paired = pairs_of(rows, others, wish.measure, kept, wish.against, names)
     found = differences(paired, wish.part, wish.interval)
     found.sort(key=lambda it: order(it.against))
     by = text.by_methods([it.difference.method for it in found])
-    words = '%s against %s: %s less %s, run by run' % (wish.measure, wish.against, names[1], names[0])
+    words = '%s against %s: %s less %s, %s' % (wish.measure, wish.against, names[1], names[0],
+                                               'net by net' if wish.nets else 'run by run')
     words += ', with intervals of %g %% %s' % (wish.confidence, by) if by else ''
     made = text.rows_of_differences(found, wish.against, *names)
     shared = shared_nets([row for row in rows if not row['fault']], [wish.against], wish.measure)
@@ -129,9 +176,10 @@ def compare(rows: Sequence[Row], others: Sequence[Row], wish: Wish, names: tuple
     notes += text.of_intervals([it.difference for it in found])
     warn(notes, shared)
     if wish.file and packages.is_here('matplotlib'):
-        drawing.draw_differences(found, wish, words, notes, Path(wish.file))
-        write_table(table_path(Path(wish.file)), made)
-        print('\n'.join([wish.file, *notes]))
+        picture = source.folder / wish.file
+        drawing.draw_differences(found, wish, words, notes, picture)
+        write_tables(picture, made, source, [*sides.one, *sides.other], [words, *notes])
+        print('\n'.join([str(picture), *notes]))
         return True
     print('\n'.join([words, *table(made, list(made[0])), *notes]))
     return not wish.file
@@ -151,12 +199,17 @@ def wishes(asked: argparse.Namespace) -> list[Wish]:
         raise Fault('a comparison run by run has one line: leave out --by %s' % asked.by)
     if asked.interval != AUTO and asked.show != 'mean' and not (asked.pair or asked.compare):
         raise Fault('--interval %s is for intervals of means: add --show mean, or leave it out' % asked.interval)
+    if asked.log_y and (asked.pair or asked.compare or asked.show in NOT_UPWARDS):
+        raise Fault('--log-y is for medians, means and points: leave it out')
+    if asked.pair and asked.compare:
+        raise Fault('--pair and --compare are two comparisons: leave out one')
     if asked.show == 'heat' and not asked.by:
         raise Fault('--show heat needs --by: the parameter from below upwards')
     drawing.size_of(asked.size)
     return [Wish(asked.measure, asked.against or '', asked.by or '', asked.output or '', asked.title, asked.x, asked.y,
                  log=asked.log, show=asked.show or MEDIAN, interval=asked.interval, confidence=asked.confidence,
-                 threshold=asked.threshold or '', over=asked.over or '', footer=asked.footer, size=asked.size)]
+                 threshold=asked.threshold or '', over=asked.over or '', footer=asked.footer, size=asked.size,
+                 log_y=asked.log_y, nets=asked.nets, pair=asked.pair or '', compare=asked.compare or '')]
 
 
 def chosen(rows: Sequence[Row], where: Sequence[str]) -> list[Row]:
@@ -171,33 +224,58 @@ def chosen(rows: Sequence[Row], where: Sequence[str]) -> list[Row]:
     return found
 
 
-def runs_of(path: str, where: Sequence[str]) -> list[Row]:
-    """The runs of a file of results."""
-    columns, rows = read_results(Path(path))
+def runs_of(path: Path, where: Sequence[str]) -> list[Row]:
+    """The runs of a file of results, each once."""
+    columns, rows = read_results(path)
     rows = chosen(rows, where)
     if not rows or not {'fault', 'parameters'} <= set(columns):
         raise Fault('%s has no runs of a sweep%s' % (path, ' with these values' if where else ''))
+    rows, lines = once(rows, str(path))
+    for line in lines:
+        print('plot: %s' % line, file=sys.stderr)
     return rows
 
 
-def sides_of(asked: argparse.Namespace, rows: list[Row]) -> tuple[list[Row], list[Row], tuple[str, str], list[str]]:
+class Sides(NamedTuple):
+    """The two sides of a comparison, their names, and the parameters that say which runs are a pair."""
+    one: list[Row]
+    other: list[Row]
+    names: tuple[str, str]
+    kept: list[str]
+
+
+def sides_of(wish: Wish, rows: list[Row], results: Path, other: Path, where: Sequence[str]) -> Sides:
     """The two sides of a comparison: two files, or two values of a parameter."""
     parameters = parameters_of(rows)
-    if asked.compare:
-        others = runs_of(asked.compare, asked.where)
-        names = Path(asked.results).stem, Path(asked.compare).stem
+    if wish.compare:
+        others = runs_of(other, where)
+        names = results.stem, other.stem
         if names[0] == names[1]:
-            names = asked.results, asked.compare
-        return rows, others, names, [it for it in parameters if it in parameters_of(others)]
-    name, _, values = asked.pair.partition('=')
+            names = str(results), str(other)
+        return Sides(rows, others, names, [it for it in parameters if it in parameters_of(others)])
+    name, _, values = wish.pair.partition('=')
     sides = values.split(',')
     if name not in parameters or len(sides) != 2:
-        raise Fault('--pair needs NAME=ONE,OTHER with a parameter (%s), not %r' % (', '.join(parameters), asked.pair))
-    one, other = ([row for row in rows if row[name] == cell(side)] for side in sides)
-    if not one or not other:
+        raise Fault('--pair needs NAME=ONE,OTHER with a parameter (%s), not %r' % (', '.join(parameters), wish.pair))
+    one, two = ([row for row in rows if row[name] == cell(side)] for side in sides)
+    if not one or not two:
         raise Fault('no run has %s = %s' % (name, sides[0] if not one else sides[1]))
-    return one, other, ('%s %s' % (name, sides[0]), '%s %s' % (name,
-                                                               sides[1])), [it for it in parameters if it != name]
+    shown = '%s %s' % (name, sides[0]), '%s %s' % (name, sides[1])
+    return Sides(one, two, shown, [it for it in parameters if it != name])
+
+
+def drawn(wish: Wish, asked: argparse.Namespace, read: dict[tuple[str, ...], list[Row]]) -> bool:
+    """Shows a wish; returns whether it has the wanted form. `read` keeps the rows that were read."""
+    results, where = Path(asked.results), (*asked.where, *wish.where)
+    folder = results.parent if asked.plan else Path()
+    if where not in read:
+        read[where] = runs_of(results, where)
+    other = folder / wish.compare
+    files = (results, other) if wish.compare else (results,)
+    source = Source(folder, files, shlex.join(['tools/plot', *sys.argv[1:]]))
+    if wish.pair or wish.compare:
+        return compare(sides_of(wish, read[where], results, other, where), wish, source)
+    return show(read[where], wish, source)
 
 
 def status_of(asked: argparse.Namespace) -> int:
@@ -205,15 +283,9 @@ def status_of(asked: argparse.Namespace) -> int:
     wanted = wishes(asked)
     if any(wish.file for wish in wanted):
         packages.hand_on('plot', 'matplotlib', sys.argv)
-    rows = runs_of(asked.results, asked.where)
-    folder = Path(asked.results).parent if asked.plan else Path()
-    if asked.compare or asked.pair:
-        one, other, names, kept = sides_of(asked, rows)
-        are_drawn = compare(one, other, wanted[0], names, kept)
-    else:
-        # (a list, so that each is shown)
-        are_drawn = all([show(rows, wish, folder) for wish in wanted])
-    if are_drawn:
+    read: dict[tuple[str, ...], list[Row]] = {}
+    # (a list, so that each is shown)
+    if all([drawn(wish, asked, read) for wish in wanted]):
         return 0
     print('plot: tables instead of pictures, since %s' % packages.how_to_install('matplotlib'), file=sys.stderr)
     return 1

@@ -175,6 +175,9 @@ def read_csv(path: Path) -> tuple[list[str], list[Row]]:
             columns: list[str] = next(reader, [])
             rows: list[Row] = []
             for values in reader:
+                if values == columns:
+                    # (the first line of another file that was added to this one)
+                    continue
                 if len(values) != len(columns):
                     raise Fault('%s, line %d: %d values instead of %d' % (
                         path, reader.line_num, len(values), len(columns)))

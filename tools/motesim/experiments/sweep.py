@@ -11,7 +11,7 @@ from collections.abc import Iterator, Mapping, Sequence
 from pathlib import Path
 from typing import Any
 
-from motesim.analysis.points import REPEATS
+from motesim.analysis.points import is_seed
 from motesim.experiments import packages
 from motesim.faults import INTERRUPTED, Fault
 from motesim.experiments.one_run import DIGITS, TOO_BUSY, WARNING, Job, Result, Work, program_digest
@@ -20,7 +20,7 @@ from motesim.plan.plan import Plan
 from motesim.plan.tables import Value, text_of_value, value_of_text
 from motesim.experiments.results import CsvFile, Row, SqliteFile, open_results, text_of
 from motesim.runner.run import TOP, program_path
-from motesim.experiments.asked import Sweep, columns_of, known_names, sources_of, sweep_of
+from motesim.experiments.asked import Sweep, alike_seeds, columns_of, known_names, sources_of, sweep_of
 from motesim.experiments.progress import Progress
 from motesim.experiments.runs import Stopped, longest, run_by_dask, run_here
 from motesim.runner.versions import kit_version, program_version
@@ -94,7 +94,7 @@ class Sweeper:
 
     def is_first(self, given: Mapping[str, Value]) -> bool:
         """Returns whether a run is the first of its treatment: the others differ from it only in seeds."""
-        return all(given[name] == values[0] for name, values in self.sweep.vary.items() if REPEATS in name)
+        return all(given[name] == values[0] for name, values in self.sweep.vary.items() if is_seed(name))
 
     def files(self, given: Mapping[str, Value]) -> tuple[tuple[str, bytes], ...]:
         """The files that a run needs. One that can't be read is an error of the run, which reports it."""
@@ -178,6 +178,8 @@ def status_of(asked: argparse.Namespace) -> int:
     sweep.most_bytes = asked.bytes
     sweeper = Sweeper(sweep, Path(asked.output) if asked.output else default_output(asked.plan))
     sweeper.keep(asked.renew, asked.retry)
+    for line in alike_seeds(sweep):
+        print('sweep: warning: %s' % line, file=sys.stderr)
     try:
         status = said(sweeper, sweeper.run(asked.jobs, asked.dask))
     except Stopped:

@@ -14,7 +14,7 @@ TOP = {'end': needed(int, 0, 1_000_000), 'medium': needed(dict),
 MEDIUM = {'range': needed(int, 0, 100_000), 'base': needed(int, 1, 1_000_000), 'per': needed(int, 1, 1_000_000),
           'collide': optional(bool, False)}
 AREA = {'width': needed(int, 0, 60_000), 'height': needed(int, 0, 60_000), 'seed': needed(int, 0, MOST_SEED),
-        'least': optional(int, 0, 0, 60_000), 'connected': optional(bool, False)}
+        'least': optional(int, 0, 0, 60_000), 'connected': optional(bool, False), 'by_count': optional(bool, False)}
 COUNT, STEP = needed(int, 1, MOST_MOTES), needed(int, 0, 60_000)
 PLACES: dict[str, dict[str, Key]] = {
     'grid': {'columns': COUNT, 'rows': COUNT, 'step': STEP},
@@ -36,6 +36,8 @@ LOSSES: dict[str, dict[str, Key]] = {
     'link': {'from': NUMBER, 'to': NUMBER, 'every': EVERY},
     'csv': {'file': needed(str)},
 }
-LOSS_STREAM = 1
+# The streams of random numbers of a seed: 0 has the places, this one the losses, and with `by_count` each number of
+# motes has one for its places, this one or a later one.
+LOSS_STREAM, FIRST_OF_COUNTS = 1, 2
 # How many primes the rule `primes` has to choose from.
 PRIMES = 6

@@ -13,7 +13,8 @@ from motesim.faults import Fault
 from motesim.plan.places import Crowd, NoPlace, Point
 from motesim.plan.files import CsvTable, Files
 from motesim.plan.keys import (
-    CORNER, LOSS_STREAM, LOSSES, MEDIUM, MOST_BYTES, MOST_LOSSES, MOST_MOTES, MOST_PLACE, OTHER, PLACES, TOP,
+    CORNER, FIRST_OF_COUNTS, LOSS_STREAM, LOSSES, MEDIUM, MOST_BYTES, MOST_LOSSES, MOST_MOTES, MOST_PLACE, OTHER,
+    PLACES, TOP,
 )
 from motesim.plan.tables import Key, NoParameter, PlanFault, Tables, filled, needed, optional, shown, text_of_value
 from motesim.plan.text import Mote, Net, scenario_text
@@ -185,13 +186,14 @@ class Builder:
             return places.line(values['count'], values['step'])
         if rule == 'ring':
             return places.ring(values['count'], values['radius'])
+        stream = FIRST_OF_COUNTS + count if values.get('by_count') else 0
         if rule == 'random':
             return self.of_drawn(places.scattered(values['count'], values['width'], values['height'], values['seed'],
-                                                  values['least'], reach))
+                                                  values['least'], reach, stream))
         if rule == 'clusters':
             return self.of_drawn(places.clusters(
                 values['count'], values['motes'], values['spread'], values['width'], values['height'], values['seed'],
-                values['least'], reach))
+                values['least'], reach, stream))
         if rule == 'list':
             return self.listed(values['at'], path + ('at',))
         return self.places_of_csv(values, path, names)

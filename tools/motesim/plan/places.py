@@ -132,9 +132,9 @@ def _drawn(net: Callable[[], list[Point]], reach: int | None) -> Drawn:
         TRIES_FOR_A_NET, reach))
 
 
-def scattered(count: int, width: int, height: int, seed: int, least: int, reach: int | None) -> Drawn:
+def scattered(count: int, width: int, height: int, seed: int, least: int, reach: int | None, stream: int = 0) -> Drawn:
     """Anywhere in an area, which includes its edges; with a reach the whole net is connected."""
-    chance = Chance(seed)
+    chance = Chance(seed, stream)
 
     def anywhere(number: int) -> Point:
         return chance.below(width + 1), chance.below(height + 1)
@@ -143,9 +143,9 @@ def scattered(count: int, width: int, height: int, seed: int, least: int, reach:
 
 
 def clusters(count: int, motes: int, spread: int, width: int, height: int, seed: int, least: int,
-             reach: int | None) -> Drawn:
+             reach: int | None, stream: int = 0) -> Drawn:
     """So many motes around each of `count` centres, at most `spread` away from it to each side."""
-    chance = Chance(seed)
+    chance = Chance(seed, stream)
 
     def net() -> list[Point]:
         centres = [(chance.below(width + 1), chance.below(height + 1)) for _ in range(count)]

@@ -48,7 +48,7 @@ def diverged(one: Source, other: Source, where: At) -> Diverged | None:
 
 
 def instead(one: Source, other: Source, hop: Hop, there: At) -> str:
-    """The lines of the other run at the point where a hop would follow."""
+    """The lines of the other run at the point at which a hop would follow."""
     words = one.traces.text(hop.where).split(' ')
     if hop.how == 'medium':
         packet = other.traces.packet(int(words[2]), int(words[3]))

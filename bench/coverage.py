@@ -1,0 +1,77 @@
+#!/usr/bin/env python3
+"""Measures how often intervals of means near 1 contain the true mean: bench/coverage.py [SWEEPS]
+
+Each sweep has 10, 20 or 30 runs, whose shares are drawn from a skewed distribution near 1 with a known mean. The draws
+have fixed seeds, so the same count of sweeps (400 unless given) prints the same table. docs/use/EXPERIMENTS.md has it.
+"""
+from __future__ import annotations
+
+import math
+import statistics
+import sys
+from collections.abc import Callable
+from pathlib import Path
+
+sys.path.insert(0, str(Path(__file__).resolve().parents[1] / 'tools'))
+
+from motesim.analysis.estimates import mean_of
+from motesim.plan.chance import Chance
+
+SWEEPS, RUNS, METHODS = 400, (10, 20, 30), ('auto', 't', 'bootstrap', 'bootstrap-t')
+NORMAL = statistics.NormalDist()
+
+
+def part(chance: Chance) -> float:
+    """A number between 0 and 1, without these."""
+    return (chance.below(1_000_000) + 0.5) / 1_000_000
+
+
+def exponential(chance: Chance) -> float:
+    """Runs that lose an exponential share, 2 % on average."""
+    return max(0.0, 1 + 0.02 * math.log(part(chance)))
+
+
+def lognormal(chance: Chance) -> float:
+    """Runs that lose a lognormal share with a standard deviation of 1 in the logarithm, 3 % on average."""
+    return max(0.0, 1 - 0.03 * math.exp(NORMAL.inv_cdf(part(chance)) - 0.5))
+
+
+def packets(chance: Chance) -> float:
+    """Runs of 40 packets, of which each is lost with the same chance: an exponential one, 5 % on average."""
+    loss = -0.05 * math.log(part(chance))
+    return sum(part(chance) >= loss for _ in range(40)) / 40
+
+
+def partition(chance: Chance) -> float:
+    """Runs that lose 0.5 % on average, but one of five loses 0 to 50 %."""
+    return 1 - part(chance) / 2 if chance.below(5) == 0 else 1 - part(chance) / 100
+
+
+SHARES: list[tuple[str, Callable[[Chance], float], float]] = [
+    ('exponential', exponential, 0.98), ('lognormal', lognormal, 0.97), ('40 packets', packets, 0.95),
+    ('one of five', partition, 1 - 0.2 * 0.25 - 0.8 * 0.005)]
+
+
+def covered(draw: Callable[[Chance], float], true: float, runs: int, sweeps: int) -> dict[str, float]:
+    """The share of the sweeps whose interval of 95 % contains the true mean, by each method."""
+    held = dict.fromkeys(METHODS, 0)
+    for sweep in range(sweeps):
+        chance = Chance(sweep, runs)
+        values = [draw(chance) for _ in range(runs)]
+        for method in METHODS:
+            found = mean_of(values, 0.95, method, 'share')
+            held[method] += found.low is not None and found.high is not None and found.low <= true <= found.high
+    return {method: count / sweeps for method, count in held.items()}
+
+
+def main() -> None:
+    sweeps = int(sys.argv[1]) if len(sys.argv) > 1 else SWEEPS
+    print('losses       runs  ' + '  '.join('%11s' % it for it in METHODS))
+    for name, draw, true in SHARES:
+        for runs in RUNS:
+            found = covered(draw, true, runs, sweeps)
+            print('%-12s %4d  %s' % (name, runs, '  '.join('%11.2f' % it for it in found.values())), flush=True)
+
+
+if __name__ == '__main__':
+    main()

@@ -1,0 +1,45 @@
+"""The origin of a picture, as a table next to it: the command, the results, and what made them.
+
+It has no date, so that the same command on the same results writes the same bytes.
+"""
+from __future__ import annotations
+
+import hashlib
+from collections.abc import Sequence
+from pathlib import Path
+
+from motesim.analysis.estimates import DRAWN
+from motesim.analysis.points import parameters_of
+from motesim.experiments.measures import Cell
+from motesim.experiments.results import Row, line_of, text_of
+from motesim.version import VERSION
+
+# The columns of results that say what made a row, each with its name here.
+OF_ROWS = {'plan': 'plan', 'plan_sha256': 'SHA-256 of the plan', 'program': 'motesim',
+           'program_sha256': 'SHA-256 of motesim', 'kit': 'proved with', 'measures_sha256': 'SHA-256 of the measures'}
+# How many values of a column are listed.
+MOST = 8
+
+
+def origin_path(picture: Path) -> Path:
+    """The file for the origin of a picture."""
+    return picture.with_suffix('.origin.csv')
+
+
+def digest_of_file(path: Path) -> str:
+    """The SHA-256 of a file of results."""
+    return hashlib.sha256(path.read_bytes()).hexdigest()
+
+
+def origin_of(command: str, files: Sequence[Path], rows: Sequence[Row], notes: Sequence[str]) -> str:
+    """The origin as CSV with the columns `what` and `value`."""
+    lines: list[tuple[str, Cell]] = [('command', command), ('tools', 'motesim %s' % VERSION)]
+    for path in files:
+        lines += [('results', path.name), ('SHA-256 of the results', digest_of_file(path))]
+    lines += [('rows', len(rows)), ('parameters', ' '.join(parameters_of(rows)))]
+    for column, name in OF_ROWS.items():
+        values = list(dict.fromkeys(text_of(row.get(column)) for row in rows if row.get(column) is not None))
+        more = [] if len(values) <= MOST else ['and %d more' % (len(values) - MOST)]
+        lines += [(name, value) for value in values[:MOST] + more]
+    lines += [('bootstrap', DRAWN), *(('note', it) for it in notes)]
+    return line_of(['what', 'value']) + ''.join(map(line_of, lines))
