@@ -186,6 +186,17 @@ class Sentences(unittest.TestCase):
                 assert broken is not None
                 self.assertEqual(broken.row, row, broken.why)
 
+    def test_just_and_finally_have_neither_order_nor_count(self) -> None:
+        for words, seen in (
+                ('finally prints a 1 after mote 0 sends 1', 'no order: .* `mote 3 prints a 1 after mote 0 sends 1`'),
+                ('finally prints a 1 within 10 of receiving 1', '`mote 3 prints a 1 within 10 of mote 0 sends 1`'),
+                ('prints just a 1, 2 before it sends', '`just` is about all lines .* has no order'),
+                ('finally prints a 1 twice', 'has no count'), ('prints just a 1 at least 2 times', 'has no count')):
+            with self.assertRaisesRegex(SentenceFault, '(?s)Hint: .*' + seen.replace(' ', r'\s+')):
+                read_sentence('mote 3 ' + words)
+        for words in 'finally prints a 1 after 10', 'prints just a 1, 2 before 9', 'finally prints a 1 at 7':
+            read_sentence('mote 3 ' + words)
+
     def test_what_may_stand_is_told(self) -> None:
         for sentence, word, wanted in FAULTS:
             with self.subTest(sentence), self.assertRaises(SentenceFault) as caught:

@@ -21,7 +21,7 @@ from unittest import mock
 
 from here import TOOLS
 from motesim.grading.entries import anonymous, data_of, entries_of
-from motesim.grading.marking import Mark, Marks, page_name
+from motesim.grading.marking import Mark, Marks, Task, page_name
 from motesim.grading.nets import nets_of, program_of
 from motesim.grading.page import page_of
 from motesim.grading.pages import HEAD
@@ -29,7 +29,8 @@ from motesim.grading.progress import Progress
 from motesim.grading.tables import cell, csv_of
 from motesim.grading.tables import table as table_of
 from motesim.faults import Fault
-from motesim.runner import program_path
+from motesim.judge.expectations import parts_of
+from motesim.runner import Limits, program_path
 from motesim.scenario import Scenario
 from skips import need_program
 from stub import write_stub
@@ -499,6 +500,19 @@ class Forms(Folder):
         self.assertEqual((note['title'], note['why'], note['mote'], note['at']), (
             'every mote prints a 3', 'mote 0 has 0 such lines; wanted: at least 1', 0, 60))
         self.assertNotIn('<script>', page)
+
+    def test_a_run_that_is_too_long_for_a_page_says_so_in_its_row(self) -> None:
+        self.hand_in('anna.toml', net(PROGRAM % 4))
+        task = Task(parts_of(EXPECT, 'task.expect.toml')[0], (), Limits(60), self.top)
+        entry, = entries_of(self.folder)
+        with mock.patch.dict(os.environ, {'MOTESIM': str(self.stub)}):
+            self.assertEqual(task.of((1, entry)).no_page, '')
+            with mock.patch('motesim.grading.marking.MOST_SHOWN', 20):
+                marks = task.of((1, entry))
+        self.assertEqual(marks.picture, '')
+        self.assertRegex(marks.no_page, 'no page of this run: its report has [0-9]+ bytes, and a page shows at most '
+                                        '20; with a smaller `end`')
+        self.assertIn(marks.no_page, page_of([marks], ['a', 'b', 'c'], 'Marks', 'runs'))
 
     def test_a_refused_solution_is_shown_how_its_error_is_put_right(self) -> None:
         need_program(self)

@@ -30,6 +30,8 @@ from motesim.toml import MARK
 
 # Reports longer than this have no timeline.
 MOST_SHOWN = 4_000_000
+TOO_LONG = ('no page of this run: its report has {:,} bytes, and a page shows at most {:,}; with a smaller `end` in '
+            'the scenario or net it is shorter, and tools/expect shows the lines without a page')
 LONGEST_WHY = 300
 # The names of solutions in a table have at most so many signs.
 WIDEST_NAME = 40
@@ -72,6 +74,7 @@ class Marks:
 
     is_open  whether it has to be marked again: the reason isn't its own
     picture  the page with the timeline of its first failed sentence, in the folder of pictures
+    no_page  the reason why there is no such page, though pages were asked for
     fix      of a refused scenario or program, the place of its error and how it is put right
     """
     name: str
@@ -79,6 +82,7 @@ class Marks:
     why: str = ''
     lacks: tuple[str, ...] = ()
     picture: str = ''
+    no_page: str = ''
     fix: tuple[str, ...] = ()
     is_open: bool = False
 
@@ -121,6 +125,7 @@ class InNet(NamedTuple):
     is_refused: bool = False
     net: str = ''
     is_hidden: bool = False
+    bytes: int = 0
 
 
 @dataclass(frozen=True)
@@ -165,7 +170,8 @@ class Task:
         marks = self.together(entry.name, found)
         if any(its.is_refused for its in found):
             return replace(marks, fix=self.fix(entry, data))
-        return replace(marks, picture=self.picture(number, marks, found))
+        picture, no_page = self.picture(number, marks, found)
+        return replace(marks, picture=picture, no_page=no_page)
 
     def fix(self, entry: Entry, data: bytes) -> tuple[str, ...]:
         """The place of the error of a solution, and how it is put right, as tools/explain shows them."""
@@ -207,7 +213,7 @@ class Task:
             whole = same_report(judge.rows, self.part.report)
             marks.append(Mark(whole.sentence, whole.holds, (), tuple(whole.more)))
         run = Run('', report, scenario) if len(got.report) <= MOST_SHOWN else None
-        return InNet(marks, lacks, '', run, [None if lack else next(places) for lack in lacks])
+        return InNet(marks, lacks, '', run, [None if lack else next(places) for lack in lacks], bytes=len(got.report))
 
     def spread(self, held: Iterator[Mark], lacks: list[str]) -> list[Mark]:
         """A mark for each sentence: one on what a scenario lacks doesn't hold."""
@@ -231,23 +237,23 @@ class Task:
         nets = [net.name for net in self.nets if not net.is_hidden] if self.nets else ['']
         return [page_name(number, entry.name, net) for number, entry in enumerate(entries, 1) for net in nets]
 
-    def picture(self, number: int, marks: Marks, found: list[InNet]) -> str:
-        """Writes the timeline that shows the first failed sentence; returns its name, or an empty one.
+    def picture(self, number: int, marks: Marks, found: list[InNet]) -> tuple[str, str]:
+        """Writes the timeline that shows the first failed sentence; returns its name, or the reason why there is none.
 
         There is none of a run in a hidden net.
         """
         place = marks.first_failed
         if place is None or self.pictures is None:
-            return ''
+            return '', ''
         its = next((its for its in found if not its.marks[place].holds and not its.is_hidden), None)
         if its is None or its.run is None:
-            return ''
+            return '', TOO_LONG.format(its.bytes, MOST_SHOWN) if its and its.bytes > MOST_SHOWN else ''
         mark = its.marks[place]
         note = note_of(its.run, mark.sentence, its.broken[place] if place < len(its.broken) else None, mark.more)
         name = page_name(number, marks.name, its.net)
         write_page(self.pictures / name, '%s: %s' % (marks.name, mark.sentence), [its.run._replace(name=marks.name)],
                    note=note, write=replace_whole)
-        return name
+        return name, ''
 
 
 def unmarked(name: str, why: str) -> Marks:

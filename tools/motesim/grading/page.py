@@ -42,7 +42,8 @@ def _first_failed(marks: Marks, folder: str) -> str:
     words = '%d. %s' % (place + 1, mark.words)
     link = '<a href="%s/%s">%s</a>' % (quote(folder), quote(marks.picture), escape(words)) if marks.picture \
         else escape(words)
-    return link + ('<pre>%s</pre>' % escape('\n'.join(mark.shown)) if mark.shown else '')
+    rows = [*mark.shown, *([marks.no_page] if marks.no_page else [])]
+    return link + ('<pre>%s</pre>' % escape('\n'.join(rows)) if rows else '')
 
 
 def _row(marks: Marks, count: int, folder: str) -> str:

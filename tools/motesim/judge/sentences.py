@@ -56,6 +56,14 @@ REDIRECTS.update(dict.fromkeys(('must', 'should', 'shall', 'does', 'do', 'will',
                                'write only the verb, `mote 3 prints a 1`.'))
 
 
+# The first words of TIMES, except `at`, after which a WHEN may follow.
+COUNTS = 'exactly', 'more', 'fewer', 'once', 'twice'
+ORDERED = ('`%s` is about all lines of a mote together, so a sentence with it has no order: write two sentences, one '
+           'with it, and one without it for the order, as in `mote 3 prints a 1 %s mote 0 sends 1`.')
+COUNTED = ('`%s` is about all lines of a mote together, so a sentence with it has no count: write two sentences, one '
+           'with it, and one without it for the count, as in `mote 3 prints a twice`.')
+
+
 def redirected(rest: str) -> str | None:
     """Advice on what to write instead of the first of these words, if sentences don't have it."""
     word = re.match(r'[A-Za-z]+', rest)
@@ -70,13 +78,14 @@ def gerund(many: str) -> str:
 class SentenceFault(Fault):
     """A sentence that can't be read: the place of the first word that isn't allowed, and the allowed ones."""
 
-    def __init__(self, sentence: str, place: int, wanted: list[str]):
+    def __init__(self, sentence: str, place: int, wanted: list[str], hint: str = ''):
         self.sentence, self.place, self.wanted = sentence, place, wanted
         may = textwrap.wrap('Allowed here: ' + ', '.join(wanted), WIDTH, break_on_hyphens=False)
         like = meant(sentence[place:], wanted)
         lines = [sentence, ' ' * place + '^', *may]
         lines += ['Did you mean: %s' % like] if like else []
-        lines += ['Hint: %s' % hint for hint in [redirected(sentence[place:])] if hint]
+        hints = textwrap.wrap('Hint: %s' % hint, WIDTH, break_on_hyphens=False) if hint else []
+        lines += hints or ['Hint: %s' % it for it in [redirected(sentence[place:])] if it]
         # (the sentence with a mark under the word, and the allowed words)
         self.explained = '  ' + '\n  '.join(lines)
         super().__init__('a sentence that is not known\n' + self.explained)
@@ -535,6 +544,8 @@ class _Reader:
         never = motes.kind in ('each', 'together') and self.accept('never')
         deed = self.deed()
         window, count, than = self.window(), None, None
+        if deed.way != 'any':
+            self.refuse_after(deed)
         if deed.way == 'any' and not never:
             count = self.count()
         if count:
@@ -557,6 +568,15 @@ class _Reader:
         is_counted = bool(never) or count is not None
         count = Count('at most', 0) if never else count or Count('at least', 1)
         return Does(motes, deed, count, window or Window(), than, relation, is_counted)
+
+    def refuse_after(self, deed: Deed) -> None:
+        """Refuses ORDER and TIMES after `finally` and `just`, which are about all lines together, in words."""
+        word = 'finally' if deed.way == 'finally' else 'just'
+        if self.word() in ('after', 'before', 'within'):
+            raise SentenceFault(self.sentence, self.places[self.at], ['the end'], ORDERED % (
+                word, 'within 10 of' if self.word() == 'within' else self.word()))
+        if self.word() in ('at', *COUNTS):
+            raise SentenceFault(self.sentence, self.places[self.at], ['the end'], COUNTED % word)
 
     def relation(self, same: Deed) -> Relation | None:
         """The position of the lines relative to others, if the sentence has one."""
