@@ -23,6 +23,8 @@ RIGHT: list[tuple[str, str, str]] = [
     (BODY, 'send self * 256 + n;', 'send ((self * 256) + n);'),
     (BODY, 'set t x + 5;', 'set t (x + 5);'),
     (BODY, 'set t 10 + self % 4;', 'set t (10 + (self % 4));'),
+    (BODY, 'x 5;', 'x = 5;'),
+    (BODY, 'x(data + 1);', 'x = (data + 1);'),
     (BODY, 'wait_until x == 3;', 'wait_until (x == 3);'),
     (BODY, 'yield_until is(packet) && data > 3;', 'yield_until (is(packet) && (data > 3));'),
     (BODY, 'if x == 1 {\n}', 'if (x == 1) {\n}'),

@@ -501,6 +501,14 @@ class Forms(Folder):
             'every mote prints a 3', 'mote 0 has 0 such lines; wanted: at least 1', 0, 60))
         self.assertNotIn('<script>', page)
 
+    def test_a_program_and_a_scenario_under_the_name_of_the_other(self) -> None:
+        (self.folder / 'bom.toml').write_bytes(b'\xef\xbb\xbf' + (PROGRAM % 3).encode())
+        self.hand_in('ben.mote', '# mine\n' + net(PROGRAM % 3))
+        rows = self.rows('--net', 'task.toml')
+        self.assertIn('it is the text of a program, and no scenario: a file of such a text is NAME.mote',
+                      rows['bom.toml'])
+        self.assertIn('it is a scenario, and no text of a program: a file of a scenario is NAME.toml', rows['ben.mote'])
+
     def test_a_run_that_is_too_long_for_a_page_says_so_in_its_row(self) -> None:
         self.hand_in('anna.toml', net(PROGRAM % 4))
         task = Task(parts_of(EXPECT, 'task.expect.toml')[0], (), Limits(60), self.top)

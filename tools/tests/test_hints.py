@@ -34,7 +34,10 @@ BODIES = [
     ('if (!fired(t) && seq + 1 * 2 < 3 || seen) { }', '`((!fired(t) && ((seq + (1 * 2)) < 3)) || seen)`'),
     ('while (seq == 1 || seen == ) { }', '((a == 1) && (b == 2))'), ('send (seq - 1 - 1);', '`((seq - 1) - 1)`'),
     ('if (seq == 1) { } else if (seq == 2) { }', 'into it'), ('send 1, seq;', '256'), ('print "got";', 'numbers'),
-    ('for (seq = 0; seq < 3) { }', 'while'), ('# x', '//'), ('/* x */ print 1;', '//'), ('seq = random(3);', 'seed'),
+    ('set t 10 * self;', '`(10 * self)`'), ('set t (seq) * 2;', 'set t (seq * 2);'),
+    ('seq 5;', 'seq = 5;'), ('seq(data);', '`seq` is a variable, which `=` assigns to. Write, as line 1'),
+    ('hops(data);', 'There are no functions'), ('for (seq = 0; seq < 3) { }', 'while'),
+    ('# x', '//'), ('/* x */ print 1;', '//'), ('seq = random(3);', 'seed'),
     ('pritn 1;', '`print`'), ('print sen;', '`seen`'), ('if (seq = 1) { }', '`==`'), ('seq = -1;', '65535'),
     ('print 1\n print 2;', 'missing after `1`'), ('int x;', 'var x = 0;'), ('x = 1;', '`var x = 0;`'),
     ('while true { }', '1 is true'), ('print Seq;', 'small letters'), ('sleep 3;', 'yield_until'),
@@ -100,6 +103,12 @@ class Hints(unittest.TestCase):
             if fault and fault.kind == 1:
                 with self.subTest(written):
                     self.assertIn('was `%s` meant?' % meant, hints.of_program(text, fault) or '')
+
+    def test_numbers_that_are_too_large_in_a_scenario(self) -> None:
+        self.assertIn('above 1,000,000', hint_of(scenario().replace('end = 9', 'end = %d' % 10 ** 30)))
+        inline = 'version = 1\nend = 9\nmedium = { range = 9, base = 2, per = 9 }\n' \
+                 'mote = [{ x = 99999, y = 1, program = "a" }]\n[programs]\na = "process a; code a { body { } }"\n'
+        self.assertIn('  mote = [{ x = 30000, y = 1, program = "a" }]', self.shown(inline))
 
     def test_a_declaration(self) -> None:
         for text, wanted in ('process a; code a { var count = 0; body { } }', '`count` is a word'), (
@@ -281,6 +290,26 @@ class Warnings(unittest.TestCase):
         self.assertEqual([it.text for it in warnings(Scenario.parse(text)) if 'mote 0' in it.text
                           or 'loss' in it.text], [
             'mote 0 sends, and nobody hears it: no mote is within `range`; the same goes for 1 more mote: 1'])
+
+    def explained(self, name: str, text: str) -> str:
+        """The output of tools/explain for a file that is no scenario."""
+        with tempfile.TemporaryDirectory() as folder, contextlib.redirect_stdout(io.StringIO()) as said, \
+                mock.patch.object(explain, 'answer', lambda data: Answer(1, b'', b'motesim: scenario fault 2\n')):
+            path = Path(folder) / name
+            path.write_text(text, encoding='utf-8')
+            self.assertEqual(explain.explain(str(path)), 1)
+        return ' '.join(said.getvalue().split())
+
+    def test_a_program_or_a_plan_in_place_of_a_scenario_is_called_so(self) -> None:
+        for mark in '', '\ufeff':
+            found = self.explained('a.toml', mark + '// mine\nprocess a;\ncode a { body { prnt 1; } }\n')
+            self.assertRegex(found, r'a\.toml is the text of a program, and no scenario\. Hint: .*`\[programs\]`.*'
+                                    r'The program has an error, too: .*line 3: .*Did you mean `print`\?')
+        self.assertNotIn('an error', self.explained('a.mote', 'process a;\ncode a { body { print 1; } }\n'))
+        plan = 'end = 9\nmedium = { range = 9, base = 2, per = 9 }\n[places]\nrule = "line"\ncount = 2\nstep = 5\n'
+        found = self.explained('a.plan.toml', plan)
+        self.assertRegex(found, r'a\.plan\.toml is a plan, and no scenario: tools/scenario \S+ -o NAME\.toml makes')
+        self.assertNotIn('version', found)
 
     def test_explain_shows_them(self) -> None:
         text = scenario(program='process a; code a { body { print 1; } }')

@@ -264,6 +264,15 @@ class FaultsTest(unittest.TestCase):
             self.assertEqual(shown[mark.find('^'):mark.rfind('^') + 1].strip(), marked, seen)
             self.assertIn(words, ' '.join(it.strip() for it in rest), seen)
 
+    def test_a_program_with_a_byte_order_mark_and_a_scenario_in_its_place(self) -> None:
+        plan = ('end = 9\nmedium = { range = 9, base = 2, per = 9 }\n[places]\nrule = "line"\ncount = 1\nstep = 1\n'
+                'program = "a.toml"\n')
+        source = 'process a;\ncode a { body { } }\n'
+        made = Plan('a.plan.toml', plan, Files(Path(), {'a.toml': b'\xef\xbb\xbf' + source.encode()})).scenario({})
+        self.assertEqual(Scenario.parse(made).programs, {'a': source})
+        with self.assertRaisesRegex(Fault, 'This file begins as a scenario'):
+            Plan('a.plan.toml', plan, Files(Path(), {'a.toml': b'# a net\nversion = 2\n'})).scenario({})
+
     def test_faults_of_files_beside(self) -> None:
         for old, new, begin in FAULTS_BESIDE:
             seen = self.seen(PLAN.replace(old, new, 1))

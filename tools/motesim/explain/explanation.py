@@ -16,8 +16,9 @@ from motesim.report import Report
 from motesim.runner.run import Answer, answer, is_report, read_file
 from motesim.scenario import Scenario
 from motesim.scenario.faults import Place, ScenarioError
+from motesim.scenario.kinds import begins_as_program
 from motesim.terminal import one_line
-from motesim.toml import NoToml, read_toml
+from motesim.toml import MARK, NoToml, read_toml
 
 WIDTH = 112
 # (characters that a terminal would mistake for a command)
@@ -182,6 +183,8 @@ def explanation(name: str, data: bytes, line: str) -> list[str]:
     if encoding:
         return (wrapped(encodings.shown(name, encoding)) + wrapped(rule_of(what))
                 + hinted(encodings.hint(name, encoding)) + allowed('text in UTF-8'))
+    if is_plan(tables_or_none(text)):
+        return wrapped(hints.OF_PLAN % (one_line(name), one_line(name)))
     may = allowed(missing.may_stand(fault.lacks) if fault.lacks else fault.may)
     lines = where_told(name, text, fault) + wrapped(rule_of(what))
     found = None if is_report(data) else repair(text, fault)
@@ -227,9 +230,25 @@ def all_warnings(name: str, data: bytes, report: bytes) -> list[str]:
     return lines
 
 
+def is_plan(tables: dict[str, Any] | None) -> bool:
+    """Returns whether tables are those of a plan, and of no scenario."""
+    return tables is not None and 'places' in tables and 'mote' not in tables and 'version' not in tables
+
+
+def program_instead(name: str, data: bytes) -> list[str]:
+    """The lines on a file with the text of a program instead of a scenario: how a scenario has it, and its error."""
+    source = data.decode('utf-8', 'replace').removeprefix(MARK)
+    its = program_faults.find_fault(source)
+    lines = ['%s is the text of a program, and no scenario.' % one_line(name), *hinted(hints.OF_PROGRAM)]
+    return lines + ([*wrapped('The program has an error, too:'), *of_program_file(name, source, its)] if its else [])
+
+
 def explain(name: str) -> int:
     """Prints what tools/explain says of a file; returns the status."""
     data = read_file(name)
+    if begins_as_program(data):
+        print('\n'.join(program_instead(name, data)))
+        return 1
     got = answer(data)
     line = error_line(got)
     if line is None:

@@ -186,13 +186,25 @@ def _attempts_at_value(text: str, rows: list[str], tables: object, fault: Scenar
         nearest = min(max(value, least), rule.most)
         hint = '`%s` is at %s %s' % (name, 'most' if value > nearest else 'least', '{:,}'.format(nearest))
         more = ', in moments: a moment may be as long as you like.' if name == 'end' else '.'
-        yield Repair(hint + more, number, number, (_replaced(row, place, str(nearest)),))
+        yield from _attempts_at_number(hint + more, row, number, place, (name, value, nearest))
     if fault.message == 'medium fault 4' and type(value) is int:
         count = len(synonyms.at(tables, ('mote',)) or ())  # type: ignore[arg-type]
         hint = 'Motes are numbered from 0, in the order of the file: here 0 to %d.' % (count - 1)
         for other in (value - 1, *range(count)):
             if 0 <= other < count:
                 yield Repair(hint, number, number, (_replaced(row, place, str(other)),))
+
+
+def _attempts_at_number(hint: str, row: str, number: int, place: Place, of: tuple[str, int, int]) -> Iterator[Repair]:
+    """Another number at a place; if the place is a whole table within a line, at the key in it."""
+    name, value, nearest = of
+    if row[place.column:place.column + place.length].replace('_', '').lstrip('+') == str(value):
+        yield Repair(hint, number, number, (_replaced(row, place, str(nearest)),))
+        return
+    found = list(re.finditer(r'\b%s\s*=\s*(%d)\b' % (re.escape(name), value), row))
+    if len(found) == 1:
+        begin, end = found[0].span(1)
+        yield Repair(hint, number, number, (row[:begin] + str(nearest) + row[end:],))
 
 
 def _attempts_at_header(name: str, number: int) -> Iterator[Repair]:

@@ -178,6 +178,11 @@ class Statements(Declarations, Calls, Control):
         if behind in ('++', '--'):
             self.at += 2
             return self.end(self.stepped(word, behind))
+        if kind == 'variable' and (behind == '(' or self.ahead(1).kind in ('name', 'number')):
+            self.at += 1
+            value = self.expression()
+            self.why('`%s` is a variable, which `=` assigns to.' % word)
+            return self.end('%s = %s' % (word, self.writer.text(value)))
         if behind == '(':
             raise NoCounterpart(NO_CALLS)
         if behind == '[':

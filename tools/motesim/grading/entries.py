@@ -21,8 +21,6 @@ from motesim.terminal import one_line
 SUFFIXES = ('.toml', '.mote')
 OF_TEACHER = '.expect.toml'
 MOST_ENTRIES = 10_000
-# The beginning of a program, which may have comments first.
-PROGRAM = re.compile(rb'(?:\s|//[^\n]*+\n)*+(?:process|event|semaphore)[ \t]++[a-z]')
 DEEPEST = 8
 
 
@@ -105,11 +103,6 @@ def skipped_of(folder: Path) -> list[str]:
     names = sorted(it.name for it in os.scandir(folder))
     own = own_of(folder)
     return [one_line(it) for it in names if it.startswith('.') or it.endswith(OF_TEACHER) or it in own]
-
-
-def is_program(data: bytes) -> bool:
-    """True if a text begins as a program does, and no TOML."""
-    return PROGRAM.match(data) is not None
 
 
 def data_of(entry: Entry) -> bytes:

@@ -10,7 +10,7 @@ from typing import NamedTuple
 from motesim.explain.explanation import explanation, of_program, of_program_file, tables_or_none
 from motesim.faults import Fault
 from motesim.files import replace_whole
-from motesim.grading.entries import Entry, data_of, is_program
+from motesim.grading.entries import Entry, data_of
 from motesim.grading.nets import Net, NoProgram, program_of
 from motesim.judge.expectations import (
     REFUSED, Part, UnknownSentence, known_of, more_of, read_all, refused, same_report,
@@ -23,6 +23,7 @@ from motesim.runner import LimitMet, Limits, Runner
 from motesim.runner.run import Run
 from motesim.scenario import Scenario
 from motesim.scenario.faults import find_fault
+from motesim.scenario.kinds import begins_as_program, begins_as_scenario
 from motesim.terminal import cut, one_line
 from motesim.timeline.html import write_page
 from motesim.timeline.note import note_of
@@ -146,9 +147,12 @@ class Task:
         data = b''
         try:
             data = data_of(entry)
-            if entry.path.suffix == '.toml' and is_program(data):
+            if entry.path.suffix == '.toml' and begins_as_program(data):
                 return Marks(entry.name, why='it is the text of a program, and no scenario: a file of such a text is '
                                              'NAME.mote')
+            if entry.path.suffix == '.mote' and begins_as_scenario(data):
+                return Marks(entry.name, why='it is a scenario, and no text of a program: a file of a scenario is '
+                                             'NAME.toml')
             if not self.nets:
                 found = [self.in_net(data.decode('utf-8'))]
             else:

@@ -22,12 +22,20 @@ def _is_outside(token: Token) -> bool:
     return token.kind == 'end' or token.text in ENDS or (token.kind == 'keyword' and token.text not in INSIDE)
 
 
+def _are_two_values(before: Token, here: Token) -> bool:
+    """Returns whether a value ends and another begins, as in `set t 10`: then the second is a value by itself."""
+    is_end = before.kind in ('name', 'number') or before.text in (')', 'data', 'from', 'now', 'self')
+    return is_end and (here.kind in ('name', 'number') or here.text == '(' or here.text in INSIDE)
+
+
 def _reach(tokens: Sequence[Token], at: int, step: int, opens: str, closes: str) -> int:
     """The end of the expression around a token, in one direction."""
     depth = 0
     while 0 <= at + step < len(tokens):
         there = tokens[at + step]
         if depth == 0 and (there.text == closes or _is_outside(there)):
+            break
+        if depth == 0 and step < 0 and _are_two_values(there, tokens[at]):
             break
         depth += (there.text == opens) - (there.text == closes)
         at += step

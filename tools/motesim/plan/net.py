@@ -19,6 +19,8 @@ from motesim.plan.keys import (
 from motesim.plan.tables import Key, NoParameter, PlanFault, Tables, filled, needed, optional, shown, text_of_value
 from motesim.plan.text import Mote, Net, scenario_text
 from motesim.scenario.faults import Path, Place
+from motesim.scenario.kinds import begins_as_scenario
+from motesim.toml import MARK
 
 def files_of(tables: Tables, files: Files) -> list[str]:
     """The names of the files that a plan needs, as far as they are known."""
@@ -117,7 +119,7 @@ class Builder:
 
     def program_text(self, file: str, path: Path) -> str:
         """The program's text with the parameters filled in; a text that is no program is a fault."""
-        source = self.read_file(file, path)
+        source = self.read_file(file, path).removeprefix(MARK)
         try:
             text = filled(source, self.tables.parameters)
         except NoParameter as fault:
@@ -131,6 +133,8 @@ class Builder:
             place = Place(token.line, token.column, len(token.text))
             title, rule = program_faults.RULES[fault_there.kind]
             name = file if text == source else '%s, with its parameters' % file
+            if begins_as_scenario(source.encode()):
+                rule += ' This file begins as a scenario: a plan needs one with the text of a program only.'
             raise PlanFault(shown(name, text, place, '%s: %s' % (title, rule), ', '.join(fault_there.may)))
         return text
 

@@ -35,6 +35,7 @@ from motesim.runner.programs import ProgramFault as ProgramFault
 from motesim.runner.programs import program_path as program_path
 from motesim.report import Report, ReportFault
 from motesim.scenario import Scenario, ScenarioFault
+from motesim.scenario.kinds import begins_as_program
 
 # How a report begins, and how a scenario: by a comment, a table or a key.
 OF_REPORT = re.compile(rb'mote 0 ')
@@ -78,6 +79,13 @@ def is_scenario(path: str | Path, data: bytes) -> bool:
     return not is_report(data) and (str(path).endswith('.toml') or OF_SCENARIO.match(data) is not None)
 
 
+def refuse_program(path: str | Path, data: bytes) -> None:
+    """Raises a fault if a file has the text of a program instead of a scenario."""
+    if begins_as_program(data):
+        raise Fault('%s is the text of a program, and no scenario: tools/explain %s says how a scenario has it' % (
+            path, path))
+
+
 def read_run(path: str | Path, scenario: str | Path | None = None, limits: Limits = Limits(),
              program: Path | None = None) -> Run:
     """A report from a file, with the scenario from another one if it is named.
@@ -85,6 +93,7 @@ def read_run(path: str | Path, scenario: str | Path | None = None, limits: Limit
     A scenario is run: a text that begins as one, or else a file NAME.toml. The name `-` is standard input.
     """
     data = read_file(path)
+    refuse_program(path, data)
     is_run, at, found = is_scenario(path, data), path, None
     if is_run and scenario is not None:
         raise Fault('%s is a scenario itself: leave the other one out' % path)
