@@ -27,37 +27,34 @@ from project import kit
 from project.progress import Line
 
 NAME = 'motesim'
-FIRST, FAST = 'first', 'fast'
 # The levels of optimization. With a program that is seen as a whole, 1 needs no less time than 2.
+FIRST, FAST = 'first', 'fast'
 LEVELS = {FIRST: 0, FAST: 2}
-# The files of the first build from which the fast one is made, and the note that the fast one can't be made.
-PARTS, FAILED = 'parts', 'fast.failed'
-# The seconds until the fast program is tried again after that.
-SECONDS_TO_RETRY = 600
+# The files of the first build from which the fast one is made, and the note that the fast one can't be made, with the
+# seconds until it is tried again.
+PARTS, FAILED, SECONDS_TO_RETRY = 'parts', 'fast.failed', 600
 COMPILING = 'no program is built yet: compiling one, without proving it; this needs about a minute'
 # The megabytes that compiling needs on the disk.
 MEGABYTES = 100
+DISK_IS_FULL = 'the disk is full: compiling the program needs %d megabytes in %s' % (MEGABYTES, PROGRAMS)
 # How many programs of other sources are kept, besides those that a process holds.
 MOST_KEPT = 6
 
 
-class Busy(Exception):
-    """Another process does the same."""
-
-
 @contextlib.contextmanager
-def alone(name: str, line: Line | None) -> Iterator[None]:
-    """Locks the work. Waits for a process that has the lock, and says so; without a line, raises `Busy`."""
+def locked(name: str, line: Line | None) -> Iterator[bool]:
+    """Locks the work, and yields whether it is locked. With a line, waits for a process that has the lock."""
     PROGRAMS.mkdir(parents=True, exist_ok=True)
     with open(PROGRAMS / (name + '.lock'), 'w', encoding='ascii') as lock:
         try:
             fcntl.flock(lock, fcntl.LOCK_EX | fcntl.LOCK_NB)
         except BlockingIOError:
             if line is None:
-                raise Busy from None
+                yield False
+                return
             line.say('another run is compiling the program; this one waits for it')
             fcntl.flock(lock, fcntl.LOCK_EX)
-        yield
+        yield True
 
 
 @contextlib.contextmanager
@@ -83,27 +80,35 @@ def waited_for(ran: subprocess.Popen[str], line: Line | None, began: float) -> s
             return said
 
 
-def megabytes_free() -> int:
-    return shutil.disk_usage(PROGRAMS).free >> 20
-
-
 def check_disk() -> None:
-    if megabytes_free() < MEGABYTES:
-        raise Fault('the disk is full: compiling the program needs %d megabytes in %s, and %d are free' % (
-            MEGABYTES, PROGRAMS, megabytes_free()))
+    free = shutil.disk_usage(PROGRAMS).free >> 20
+    if free < MEGABYTES:
+        raise Fault('%s, and %d are free' % (DISK_IS_FULL, free))
+
+
+def check_made(said: str | None) -> None:
+    """Raises a fault if something was said that explains why nothing was made."""
+    if said is not None:
+        is_full = 'No space left on device' in said
+        raise Fault(DISK_IS_FULL if is_full else
+                    'the program was not compiled, as these lines say:\n%s' % said.rstrip())
 
 
 def make(name: str, line: Line | None) -> None:
     """Makes a program, and keeps it once it is whole."""
     folder, began = compiled_folder(), time.time()
+
+    def wait(ran: subprocess.Popen[str]) -> str:
+        return waited_for(ran, line, began)
+
     check_disk()
     with room(name) as work:
         parts = folder / PARTS
         if not parts.is_dir():
             parts = work / PARTS
             parts.mkdir()
-            check(kit.translate(NAME, TOP, parts, lambda ran: waited_for(ran, line, began)))
-        check(kit.link(parts, LEVELS[name], work / name, lambda ran: waited_for(ran, line, began)))
+            check_made(kit.translate(NAME, TOP, parts, wait))
+        check_made(kit.link(parts, LEVELS[name], work / name, wait))
         folder.mkdir(parents=True, exist_ok=True)
         # (a source that is edited meanwhile is newer than the program)
         os.utime(work / name, (began, began))
@@ -112,15 +117,6 @@ def make(name: str, line: Line | None) -> None:
         os.replace(work / name, folder / name)
     if name == FAST:
         shutil.rmtree(folder / PARTS, ignore_errors=True)
-
-
-def check(said: str | None) -> None:
-    """Raises a fault if something was said that explains why nothing was made."""
-    if said is None:
-        return
-    if 'No space left on device' in said:
-        raise Fault('the disk is full: compiling the program needs %d megabytes in %s' % (MEGABYTES, PROGRAMS))
-    raise Fault('the program was not compiled, as these lines say:\n%s' % said.rstrip())
 
 
 def clear_others() -> None:
@@ -134,17 +130,17 @@ def clear_others() -> None:
                 shutil.rmtree(folder, ignore_errors=True)
 
 
-def make_first(line: Line) -> None:
+def make_first() -> None:
     """Makes the first program of these sources, unless one is there."""
-    with alone(FIRST, line):
-        if any(is_program(compiled_folder() / it) for it in LEVELS):
-            return
-        if not line.is_terminal:
-            line.say(COMPILING)
-        if kit.another():
-            line.say(str(kit.another()))
-        make(FIRST, line)
-        clear_others()
+    line = Line(sys.stderr)
+    with locked(FIRST, line):
+        if not any(is_program(compiled_folder() / it) for it in LEVELS):
+            if not line.is_terminal:
+                line.say(COMPILING)
+            if kit.another():
+                line.say(str(kit.another()))
+            make(FIRST, line)
+            clear_others()
 
 
 def is_wanted() -> bool:
@@ -156,8 +152,8 @@ def is_wanted() -> bool:
 
 def make_fast() -> None:
     """Makes the fast program of these sources, unless it is there or another process makes one."""
-    with contextlib.suppress(Busy), alone(FAST, None):
-        if is_wanted():
+    with locked(FAST, None) as is_ours:
+        if is_ours and is_wanted():
             try:
                 make(FAST, None)
             except Fault as fault:
@@ -187,8 +183,5 @@ def main() -> int:
     asked = words.parse_args()
     for number in signal.SIGTERM, signal.SIGHUP, signal.SIGINT:
         signal.signal(number, lambda number, _: stop(number))
-    if asked.fast:
-        make_fast()
-    else:
-        make_first(Line(sys.stderr))
+    make_fast() if asked.fast else make_first()
     return 0

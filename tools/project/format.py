@@ -5,7 +5,6 @@ its files.
 """
 from __future__ import annotations
 
-
 from motesim.faults import Fault, command
 from motesim.words import words_of
 from project import kit

@@ -25,8 +25,8 @@ HEADLINE = 'crates/simulation/specs/Simulation*.antt'
 WIDTH = 112
 CONSTANTS = 'TheConstants'
 MARKS = Marks('<!-- the files: written by tools/dev/headline_files -->', '<!-- end of the files -->')
-IMPORT = re.compile(r'^(?:pub )?use ([\w.]+?)(?:\.\{| as |\.?$)', re.M)
-DECLARED = re.compile(r'^(?:pub )?use Rattle\.(\w+)\.specs\.declared\.([\w.]+?)\.([A-Z]\w*)(?:\.|\s|$)', re.M)
+# An import, with its name if that is of a form that is known.
+IMPORT = re.compile(r'^(?:pub )?use (?:([\w.]+?)(?:\.\{| as |\.?$))?', re.M)
 
 
 @dataclass
@@ -44,57 +44,55 @@ def crates_of(top: Path) -> list[str]:
     return [row[0] for row in rows if row]
 
 
-def crate_of(path: Path) -> str:
-    """The crate of a file of specs/ or src/."""
-    at = max(at for at, it in enumerate(path.parts) if it in ('specs', 'src') and path.parts[at - 2] == 'crates')
-    return path.parts[at - 1]
+def crate_of(top: Path, path: Path) -> str:
+    """The crate of a file."""
+    return path.relative_to(top / 'crates').parts[0]
 
 
-def first_file(found: list[Path], fault: str) -> Path:
-    """The first of these paths that is a file."""
-    path = next((it for it in found if it.is_file()), None)
-    if path is None:
-        raise Fault(fault)
-    return path
-
-
-def imports(top: Path, path: Path, crates: list[str], rests: Rests) -> list[Path]:
-    """The files of specs/ that a file imports; types of sources and libraries are noted."""
-    text, found = path.read_text('utf-8'), []
-    names = IMPORT.findall(text)
-    if len(names) != len(re.findall(r'^(?:pub )?use ', text, re.M)):
-        raise Fault('%s has an import of a form that is not known' % path)
-    for name in names:
-        library, crate, *words = name.split('.') + ['']
-        if library != 'Rattle' or crate not in crates:
-            rests.libraries.add(crate if library == 'Rattle' else library)
-        elif words[0] != 'specs':
-            raise Fault('%s imports %s, which is none of specs/' % (path, name))
-        elif words[1] != 'declared':
-            folder, words = top / 'crates' / crate / 'specs', words[1:-1]
-            found.append(first_file([folder.joinpath(*words[:end]).with_suffix('.antt')
-                                     for end in range(len(words), 0, -1)],
-                                    'no file of crates/%s/specs is %s' % (crate, '.'.join(words))))
-    for crate, module, name in DECLARED.findall(text):
-        if crate in crates:
-            source = top.joinpath('crates', crate, 'src', *module.split('.'))
-            file = first_file([source.with_suffix('.rt'), source / 'mod.rt'],
-                              'no source of crates/%s is %s' % (crate, module))
-            rests.types.setdefault(file, set()).add(name)
-    return list(dict.fromkeys(found))
+def modules_of(top: Path) -> dict[str, Path]:
+    """The files of specs/ and src/ of all crates, by the names under which a file of specs/ imports them."""
+    found = {}
+    for path in [*top.glob('crates/*/specs/**/*.antt'), *top.glob('crates/*/src/**/*.rt')]:
+        crate, folder, *words = path.relative_to(top / 'crates').with_suffix('').parts
+        words = [it for it in words if it != 'mod']
+        found['.'.join(['Rattle', crate, 'specs', *(['declared'] if folder == 'src' else []), *words])] = path
+    return found
 
 
 def rests_of(top: Path) -> Rests:
     """The headline's files, and all on which they rest."""
-    crates, rests, left = crates_of(top), Rests(), sorted(top.glob(HEADLINE))
+    rests, left = Rests(), sorted(top.glob(HEADLINE))
     if not left:
         raise Fault('there is no %s' % HEADLINE)
+    modules, crates = modules_of(top), crates_of(top)
     while left:
         path = left.pop()
         if path not in rests.files:
-            rests.files[path] = imports(top, path, crates, rests)
+            rests.files[path] = []
+            for name in IMPORT.findall(path.read_text('utf-8')):
+                note_import(path, name, modules, crates, rests)
             left += rests.files[path]
     return rests
+
+
+def note_import(path: Path, name: str, modules: dict[str, Path], crates: list[str], rests: Rests) -> None:
+    """Notes what a file imports: another one of specs/, a type of a source, or a library."""
+    if not name:
+        raise Fault('%s has an import of a form that is not known' % path)
+    library, *words = name.split('.')
+    if library != 'Rattle' or words[0] not in crates:
+        rests.libraries.add(words[0] if library == 'Rattle' else library)
+        return
+    # (the last words may name parts of the file)
+    prefixes = ['.'.join(['Rattle', *words[:end]]) for end in range(len(words), 0, -1)]
+    module = next((it for it in prefixes if it in modules), None)
+    if module is None:
+        raise Fault('%s imports %s, of which there is no file' % (path, name))
+    if modules[module].suffix == '.rt':
+        part = name[len(module) + 1:].partition('.')[0]
+        rests.types.setdefault(modules[module], set()).add(part)
+    elif modules[module] not in rests.files[path]:
+        rests.files[path].append(modules[module])
 
 
 def from_the_top(files: dict[Path, list[Path]]) -> list[Path]:
@@ -119,8 +117,8 @@ def about(path: Path) -> str:
     return re.split(r'(?<=[.])\s+(?=[A-Z])', text, maxsplit=1)[0]
 
 
-def lines_of(path: Path) -> int:
-    return path.read_bytes().count(b'\n')
+def lines_of(*paths: Path) -> int:
+    return sum(it.read_bytes().count(b'\n') for it in paths)
 
 
 def number_of(number: int, name: str) -> str:
@@ -132,40 +130,35 @@ def item(text: str) -> list[str]:
     return textwrap.wrap('- ' + text, WIDTH, subsequent_indent='  ', break_long_words=False, break_on_hyphens=False)
 
 
-def section(top: Path, crate: str, rests: Rests) -> list[str]:
+def section(top: Path, crate: str, files: dict[Path, list[Path]]) -> list[str]:
     """The files of a crate."""
-    order = from_the_top({path: below for path, below in rests.files.items() if crate_of(path) == crate})
-    number = 'one file' if len(order) == 1 else '%d files' % len(order)
-    folder = 'crates/%s/specs' % crate
-    rows = ['**[%s](../../%s)**: %s, %s' % (folder, folder, number, number_of(sum(map(lines_of, order)), 'line')), '']
+    folder, order = 'crates/%s/specs' % crate, from_the_top(files)
+    rows = ['**[%s](../../%s)**: %s, %s' % (folder, folder, number_of(len(order), 'file'),
+                                            number_of(lines_of(*order), 'line')), '']
     for path in order:
         rows += item('`%s` (%d): %s' % (path.relative_to(top / folder).as_posix(), lines_of(path), about(path)))
-    return rows + ['']
-
-
-def types(top: Path, crates: list[str], rests: Rests) -> list[str]:
-    """The types that sources declare, source by source."""
-    number = sum(len(names - {CONSTANTS}) for names in rests.types.values())
-    rows = ['**Types of sources** that these files name: %d, in %d sources' % (number, len(rests.types)), '']
-    for path in sorted(rests.types, key=lambda path: (-crates.index(crate_of(path.relative_to(top))), path)):
-        names = ['its constants' if it == CONSTANTS else '`%s`' % it for it in sorted(rests.types[path])]
-        rows += item('`%s`: %s' % (path.relative_to(top / 'crates').as_posix(), ', '.join(names)))
-    return rows + ['']
+    return [*rows, '']
 
 
 def listed(top: Path) -> str:
     """The whole list, as the page has it."""
-    rests, crates = rests_of(top), crates_of(top)
-    used = [crate for crate in reversed(crates) if any(crate_of(path) == crate for path in rests.files)]
+    rests, by_crate = rests_of(top), dict[str, dict[Path, list[Path]]]()
+    for path, below in rests.files.items():
+        by_crate.setdefault(crate_of(top, path), {})[path] = below
     rows = ['', 'The list has %s with %s, in %s.' % (
-        number_of(len(rests.files), 'file'), number_of(sum(map(lines_of, rests.files)), 'line'),
-        number_of(len(used), 'crate')),
+        number_of(len(rests.files), 'file'), number_of(lines_of(*rests.files), 'line'),
+        number_of(len(by_crate), 'crate')),
         'All `specs/` together have %d files.' % len(list(top.glob('crates/*/specs/**/*.antt'))), '']
-    for crate in used:
-        rows += section(top, crate, rests)
+    crates = crates_of(top)[::-1]
+    for crate in crates:
+        rows += section(top, crate, by_crate[crate]) if crate in by_crate else []
+    rows += ['**Types of sources** that these files name: %d, in %d sources' % (
+        sum(len(names - {CONSTANTS}) for names in rests.types.values()), len(rests.types)), '']
+    for path in sorted(rests.types, key=lambda path: (crates.index(crate_of(top, path)), path)):
+        names = ['its constants' if it == CONSTANTS else '`%s`' % it for it in sorted(rests.types[path])]
+        rows += item('`%s`: %s' % (path.relative_to(top / 'crates').as_posix(), ', '.join(names)))
     libraries = ', '.join('`%s`' % it for it in sorted(rests.libraries)) or 'none'
-    return '\n'.join([*rows, *types(top, crates, rests),
-                      '**Libraries** of the kit that these files import: %s.' % libraries, '', ''])
+    return '\n'.join([*rows, '', '**Libraries** of the kit that these files import: %s.' % libraries, '', ''])
 
 
 @command('headline_files')

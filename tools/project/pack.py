@@ -14,7 +14,9 @@ from __future__ import annotations
 
 import gzip
 import hashlib
+import importlib
 import io
+import re
 import subprocess
 import sys
 import tarfile
@@ -29,66 +31,20 @@ from project import kit
 
 # What goes into the archive besides the program: files, and folders with all that git knows in them.
 PARTS = ('CHANGES.md', 'CITATION.cff', 'LICENSE', 'docs/use', 'examples', 'tools/contiki_host', 'tools/motesim')
-RUN = """#!/bin/sh
-# Simulates a scenario: ./run FILE, or ./run with the scenario on standard input. ./run --help has the options.
-here=$(dirname "$(readlink -f "$0")")
-if [ ! -f "$here/PROVED.md" ]; then
-  [ "$*" = --version ] && echo 'motesim %(version)s, compiled without a proof' && exit
-  echo 'motesim: %(compiled)s' >&2
-fi
-[ "$*" = --version ] && exec "$here/tools/explain" --version
-exec "$here/motesim" "$@"
-"""
-README = """# motesim %(version)s
-
-`./run examples/flooding.toml` simulates a scenario, and writes its report to standard output. `./run --help` has the
-options. The tools need Python 3.11 or newer; each says by `--help` what it does:
-
-%(tools)s
-
-- docs/use/TUTORIAL.md is half an hour with two motes; docs/use/EXAMPLES.md has protocols with tasks.
-- %(proof)s
-- LICENSES.md has the terms under which all of this may be passed on.
-"""
-LICENSES = """# Terms
-
-The motesim simulator, its tools, pages and examples are under the terms of LICENSE. The program also contains code of
-libraries of the Rattle kit, under the terms of the texts that the kit has for them:
-
-| Library | Terms |
-|---|---|
-%(rows)s
-
-For the texts of the others, ask the person who gave you the kit. Some code of the C library and of GCC that starts a
-program is linked in too; the C library itself is the machine's.
-"""
-PROVED_PAGE = """# The proof of this `motesim`
-
-*Take any scenario, any number of workers from 1 to 16, of either kind, and any partition of the motes. If the
-call `simulate` returns Ok, and the reader and the writer that it was given report their bytes faithfully, then it has
-written the report of one thread, and nothing else.* This is a clause in the contract of `simulate`, which the prover
-checks. It rests on the definitions of that contract, and on the Rattle toolchain, LLVM, the C library and the machine.
-It is not proved that a run ends, that a waiting thread continues, or how fast anything is. The tools are Python, and
-tested.
-
-| What | Which |
-|---|---|
-| version | %(version)s |
-| commit | %(commit)s |
-| proved and built with | %(kit)s |
-| the program's SHA-256 | %(digest)s |
-
-With that commit and that kit, `./test` proves all of it from nothing. The pages in its docs/proof/ say exactly what is
-promised.
-"""
 
 
-def git(*words: str) -> str:
-    """Git's output here, or nothing if this is no clone."""
+def template(name: str) -> str:
+    """A text of the archive, in which some words are replaced."""
+    return Path(__file__).with_name('archive').joinpath(name + '.txt').read_text('utf-8')
+
+
+def commit() -> str:
+    """The commit of this tree, if it is a clone."""
     try:
-        return subprocess.run(['git', '-C', str(TOP), *words], capture_output=True, text=True, check=True).stdout
+        done = subprocess.run(['git', '-C', str(TOP), 'rev-parse', 'HEAD'], capture_output=True, text=True, check=True)
+        return done.stdout.strip()
     except (OSError, subprocess.CalledProcessError):
-        return ''
+        return 'not known'
 
 
 def program() -> Path:
@@ -106,13 +62,12 @@ def program() -> Path:
 
 def licenses() -> dict[str, bytes]:
     """The terms of the kit's libraries in the program: a page, and the texts."""
-    found: dict[str, bytes] = {}
-    rows = []
-    for name, texts in kit.licenses('motesim', TOP).items():
-        names = ['licenses/%s/%s' % (name, it.name) for it in texts]
-        found.update(zip(names, (it.read_bytes() for it in texts)))
-        rows.append('| %s | %s |' % (name, ', '.join(names) or 'the kit has no text'))
-    return {'LICENSES.md': (LICENSES % {'rows': '\n'.join(rows)}).encode(), **found}
+    found, rows = dict[str, bytes](), []
+    for library, texts in kit.licenses('motesim', TOP).items():
+        names = {'licenses/%s/%s' % (library, it.name): it.read_bytes() for it in texts}
+        rows.append('| %s | %s |' % (library, ', '.join(names) or 'the kit has no text'))
+        found.update(names)
+    return {'LICENSES.md': (template('licenses') % {'rows': '\n'.join(rows)}).encode(), **found}
 
 
 def kit_at_hand() -> str:
@@ -123,58 +78,53 @@ def kit_at_hand() -> str:
         return KIT
 
 
-def user_commands() -> list[str]:
-    """The commands in tools/ that are for users: they begin a module of the users' package."""
-    found = [it for it in sorted((TOP / 'tools').iterdir()) if it.is_file() and not it.suffix]
-    return [it.name for it in found if 'from motesim.' in it.read_text('utf-8')]
+def user_commands() -> dict[str, str]:
+    """The commands in tools/ that are for users, which call a module of the users' package, with what each is for."""
+    found = {}
+    for path in sorted(it for it in (TOP / 'tools').iterdir() if it.is_file()):
+        module = re.search(r'^from (motesim\.\S+) import main$', path.read_text('utf-8'), re.M)
+        if module:
+            about = importlib.import_module(module[1]).__doc__ or ''
+            found[path.name] = about.split('\n')[0].split(': tools/')[0].rstrip('.')
+    return found
 
 
-def summary_of(name: str) -> str:
-    """The first line of a tool's module: what it is for."""
-    module = (TOP / 'tools' / name).read_text('utf-8').split('from ')[1].split(' import')[0]
-    path = TOP / 'tools' / (module.replace('.', '/') + '.py')
-    path = path if path.is_file() else path.with_suffix('') / '__init__.py'
-    return path.read_text('utf-8').split('"""')[1].split('\n')[0].split(': tools/')[0].rstrip('.')
+def is_for_students(file: Path) -> bool:
+    """Returns whether a file goes into the archive: not the lesson's solutions, nor the page on how it is graded."""
+    is_for_teachers = TOP / 'examples/lesson/solutions' in file.parents or file == TOP / 'docs/use/TEACH.md'
+    return file.is_file() and '__pycache__' not in file.parts and not is_for_teachers
 
 
 def files(program: Path) -> dict[str, tuple[bytes, int]]:
     """The contents of the archive: of each name its bytes and its mode."""
     tools, built = user_commands(), program.read_bytes()
-    shown = '\n'.join('- `tools/%s`: %s' % (it, summary_of(it)) for it in tools)
-    about = {'version': VERSION, 'commit': git('rev-parse', 'HEAD').strip() or 'not known', 'kit': kit_at_hand(),
-             'digest': hashlib.sha256(built).hexdigest(), 'tools': shown, 'compiled': COMPILED,
+    about = {'version': VERSION, 'commit': commit(), 'kit': kit_at_hand(), 'compiled': COMPILED,
+             'digest': hashlib.sha256(built).hexdigest(),
+             'tools': '\n'.join('- `tools/%s`: %s' % it for it in tools.items()),
              'proof': 'PROVED.md says what was proved of this program.' if is_proved(program) else
                       'The program is compiled, not proved.'}
-    texts = {'README.md': README % about, **({'PROVED.md': PROVED_PAGE % about} if is_proved(program) else {})}
-    found = {name: (text.encode(), 0o644) for name, text in texts.items()}
-    found.update((name, (data, 0o644)) for name, data in licenses().items())
-    found.update({'motesim': (built, 0o755), 'run': ((RUN % about).encode(), 0o755)})
-    for it in tools:
-        found['tools/' + it] = (TOP / 'tools' / it).read_bytes(), 0o755
-    for part in PARTS:
+    pages = {'README.md': (template('readme') % about).encode(), **licenses()}
+    if is_proved(program):
+        pages['PROVED.md'] = (template('proved') % about).encode()
+    found = {name: (data, 0o644) for name, data in pages.items()}
+    found |= {'motesim': (built, 0o755), 'run': ((template('run') % about).encode(), 0o755)}
+    for part in (*PARTS, *('tools/' + it for it in tools)):
         path = TOP / part
-        for file in [path] if path.is_file() else sorted(path.rglob('*')):
-            if file.is_file() and '__pycache__' not in file.parts and not is_for_teachers(file):
-                found[str(file.relative_to(TOP))] = file.read_bytes(), 0o755 if file.stat().st_mode & 0o100 else 0o644
+        for file in filter(is_for_students, [path, *sorted(path.rglob('*'))]):
+            mode = 0o755 if file.stat().st_mode & 0o100 else 0o644
+            found[str(file.relative_to(TOP))] = file.read_bytes(), mode
     return found
-
-
-def is_for_teachers(file: Path) -> bool:
-    """True if students shouldn't get a file: the solutions of the lesson, and the page on how it is graded."""
-    return TOP / 'examples/lesson/solutions' in file.parents or file == TOP / 'docs/use/TEACH.md'
 
 
 def archive(folder: str, program: Path) -> bytes:
     """The archive, with all in one folder."""
-    plain, packed = io.BytesIO(), io.BytesIO()
+    plain = io.BytesIO()
     with tarfile.open(fileobj=plain, mode='w', format=tarfile.USTAR_FORMAT) as tar:
         for name, (data, mode) in sorted(files(program).items()):
             entry = tarfile.TarInfo('%s/%s' % (folder, name))
-            entry.size, entry.mode, entry.mtime = len(data), mode, 0
+            entry.size, entry.mode = len(data), mode
             tar.addfile(entry, io.BytesIO(data))
-    with gzip.GzipFile(fileobj=packed, mode='wb', mtime=0, filename='') as gz:
-        gz.write(plain.getvalue())
-    return packed.getvalue()
+    return gzip.compress(plain.getvalue(), mtime=0)
 
 
 @command('pack')

@@ -101,7 +101,7 @@ class Lists(unittest.TestCase):
 
     def test_an_import_of_no_file_is_told(self) -> None:
         self.put('crates/low/specs/Near.antt', '-- What is near.\nuse Rattle.low.specs.Gone.{x}\n')
-        self.assertIn('no file of crates/low/specs is Gone', self.run_with('--check')[1])
+        self.assertIn('imports Rattle.low.specs.Gone, of which there is no file', self.run_with('--check')[1])
 
     def test_an_import_of_another_form_is_told(self) -> None:
         self.put('crates/low/specs/Near.antt', '-- What is near.\nuse {x} from Rattle\n')
@@ -125,9 +125,10 @@ class ThisTree(unittest.TestCase):
         rests = headline.rests_of(here.TOP)
         crates = headline.crates_of(here.TOP)
         self.assertGreater(len(rests.files), 20)
+        places = {path: crates.index(headline.crate_of(here.TOP, path)) for path in rests.files}
         for path, below in rests.files.items():
             for it in below:
-                self.assertLessEqual(crates.index(headline.crate_of(it)), crates.index(headline.crate_of(path)))
+                self.assertLessEqual(places[it], places[path])
 
 
 if __name__ == '__main__':

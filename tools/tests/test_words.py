@@ -21,6 +21,7 @@ TABLE = Path(__file__).with_name('words.tsv')
 LOG = here.TOP / 'log/wrong_bodies.tsv'
 LONGEST = {'.rt': 120, '.antt': 120, '.md': 119, '.py': 120, '.js': 120}
 PAGES = ('*.md', 'docs/**/*.md', 'bench/*.md', 'examples/**/*.md', 'tests/**/*.md', 'tools/**/*.md')
+PYTHON = ('tools/motesim/**/*.py', 'tools/project/**/*.py', 'tests/*.py')
 # (the pages of style quote what is not to be written)
 NO_PROSE = ('docs/dev/STYLE.md', 'tools/tests/test_words.py')
 UNWANTED = {
@@ -81,7 +82,7 @@ def comments_of(mark: str) -> Callable[[Path], Iterator[Place]]:
 
 AREAS: dict[str, list[tuple[tuple[str, ...], Callable[[Path], Iterator[Place]]]]] = {
     'pages': [(PAGES, prose_of_page)],
-    'tools': [(('tools/motesim/**/*.py', 'tools/project/**/*.py'), prose_of_python)],
+    'tools': [(PYTHON, prose_of_python)],
     'crates': [(('crates/*/src/**/*.rt',), comments_of('//')),
                (('crates/*/specs/**/*.antt', 'crates/*/proofs/**/*.antt'), comments_of('--'))],
     'examples': [(('examples/**/*.toml',), comments_of('#'))],
@@ -112,7 +113,7 @@ def questions() -> Iterator[str]:
     for path in files('crates/*/src/**/*.rt'):
         yield from ('%s:%d' % (name_of(path), at) for at, doc,
                     _ in docs_of_rattle(path) if doc and QUESTION.match(doc[0]))
-    for path in files('tools/motesim/**/*.py', 'tools/project/**/*.py'):
+    for path in files(*PYTHON):
         for node in ast.walk(ast.parse(text_of(path))):
             if isinstance(node, (ast.Module, ast.ClassDef,
                                  ast.FunctionDef)) and QUESTION.match(ast.get_docstring(node) or ''):
@@ -191,7 +192,7 @@ COUNTS: dict[str, Callable[[], object]] = {
     'results without a section on errors': without_errors, 'clauses without a name': without_names,
     'long lines of crates': lambda: long_lines('crates/*/src/**/*.rt', 'crates/*/specs/**/*.antt'),
     'long lines of pages': lambda: long_lines(*PAGES),
-    'long lines of tools': lambda: long_lines('tools/**/*.py', 'tools/**/*.js'),
+    'long lines of tools': lambda: long_lines('tools/**/*.py', 'tools/**/*.js', 'tests/*.py'),
     'broken links': broken_links, 'open mutants': open_mutants,
 }
 

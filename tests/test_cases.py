@@ -1,0 +1,106 @@
+"""Runs the built program on the cases of tests/cases and compares what it writes: tools/dev/run_cases [NAME ..]
+
+NAME is a case, `nets/two_senders`, or a folder of cases, `nets`; without a name all are run. tests/cases/README.md
+describes the files of a case. Shows of each case that fails the first run that does, with the lines that differ; a
+case with nothing to expect fails too, and so does a file that belongs to no case.
+"""
+from __future__ import annotations
+
+import runpy
+from collections.abc import Iterator
+from functools import cached_property
+from pathlib import Path
+from typing import Any
+
+import pytest
+from differences import answer, check_answer
+from motesim.runner import Answer
+from motesim.runner.programs import is_compiled
+
+CASES = Path(__file__).parent / 'cases'
+INPUTS, EXPECTED = ('.toml', '.make', '.args', '.runs'), ('.expected', '.stderr', '.status')
+KINDS = (*INPUTS, *EXPECTED, '.stack')
+NO_SCENARIO = b'this is no scenario\n'
+
+
+def as_bytes(text: str | bytes) -> bytes:
+    return text.encode() if isinstance(text, str) else text
+
+
+class Case:
+    """The files of one name."""
+
+    def __init__(self, path: Path):
+        self.path = path
+        self.files = {kind: path.with_suffix(kind) for kind in KINDS if path.with_suffix(kind).is_file()}
+
+    def read(self, kind: str) -> bytes:
+        return self.files[kind].read_bytes() if kind in self.files else b''
+
+    @cached_property
+    def made(self) -> dict[str, Any]:
+        """The definitions of NAME.make."""
+        return runpy.run_path(str(self.files['.make'])) if '.make' in self.files else {}
+
+    def check_files(self) -> None:
+        """Fails unless there is something to run and something to expect of it, each once."""
+        assert not self.path.is_file(), 'the file belongs to no case'
+        assert self.files.keys() & set(INPUTS), 'there is nothing to run'
+        assert not {'.toml', '.make'} <= self.files.keys(), 'there are both .toml and .make'
+        assert not {'.args', '.runs'} <= self.files.keys(), 'there are both .args and .runs'
+        has_expectation = bool(self.files.keys() & set(EXPECTED))
+        if 'table' in self.made:
+            assert self.made['table']() and not has_expectation, 'a table has to tell all that is expected'
+        else:
+            assert has_expectation or 'expected' in self.made, 'there is no expectation'
+
+    def runs(self) -> list[list[str]]:
+        """The arguments of each run."""
+        if '.runs' in self.files:
+            return [line.split() for line in self.read('.runs').decode().splitlines()]
+        return [self.read('.args').decode().splitlines()]
+
+    def scenarios(self) -> Iterator[tuple[str, bytes, Answer]]:
+        """Each scenario with its name and the expected answer."""
+        if 'table' in self.made:
+            for name, scenario, status, output, errors in self.made['table']():
+                yield name, as_bytes(scenario), Answer(status, as_bytes(output), as_bytes(errors))
+        else:
+            scenario = as_bytes(self.made['scenario']()) if self.made else self.read('.toml')
+            output = as_bytes(self.made['expected']()) if 'expected' in self.made else self.read('.expected')
+            yield '', scenario, Answer(int(self.read('.status') or 0), output, self.read('.stderr'))
+
+    def answer(self, program: Path, scenario: bytes, *arguments: str) -> Answer:
+        """The answer of a run, which has the stack that the case asks for."""
+        stack = self.read('.stack').decode().strip()
+        # (a binary without a proof has checks that need more stack)
+        if stack and not is_compiled(program):
+            limited = 'ulimit -s "$0" && exec "$@"'
+            return answer(Path('/bin/sh'), scenario, '-c', limited, stack, str(program), *arguments)
+        return answer(program, scenario, *arguments)
+
+
+def all_cases() -> list[Path]:
+    """The paths of all cases, without an ending, and the files that belong to none."""
+    files = [it for it in CASES.rglob('*') if it.is_file() and it.name != 'README.md']
+    return sorted({it.with_suffix('') if it.suffix in KINDS else it for it in files})
+
+
+def pytest_generate_tests(metafunc: pytest.Metafunc) -> None:
+    """Has a test for each case that has one of the names, or is in a folder of that name."""
+    names = {CASES / it for it in metafunc.config.getoption('name')}
+    chosen = [it for it in all_cases() if not names or names & {it, *it.parents}]
+    for name in names.difference(*({it, *it.parents} for it in chosen)):
+        raise pytest.UsageError('there is no case %s' % name.relative_to(CASES))
+    metafunc.parametrize('case', map(Case, chosen), ids=[str(it.relative_to(CASES)) for it in chosen])
+
+
+def test_case(case: Case, program: Path, tmp_path: Path) -> None:
+    case.check_files()
+    file = tmp_path / 'scenario.toml'
+    for name, scenario, expected in case.scenarios():
+        file.write_bytes(scenario)
+        for words in case.runs():
+            given = NO_SCENARIO if '{}' in words else scenario
+            found = case.answer(program, given, *(str(file) if word == '{}' else word for word in words))
+            check_answer(' '.join(filter(None, [case.path.name, name, *words])), expected, found)

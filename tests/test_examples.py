@@ -1,0 +1,101 @@
+"""Checks the statements on each example: tools/dev/check_examples
+
+For each scenario of examples/ the sentences of NAME.expect.toml have to hold, as tools/expect tells them; what
+README.md and the pages of docs/ quote of an example must be in it or in its report. For each task of examples/lesson
+the solution has to meet the expectations, and what students begin with must not.
+"""
+from __future__ import annotations
+
+import re
+from collections.abc import Callable
+from functools import cache
+from pathlib import Path
+
+import pytest
+from motesim.judge.expectations import beside, expect
+from motesim.judge.judge import Judge
+from motesim.report import Report
+from motesim.runner.programs import TOP
+from motesim.runner.run import Run, read_run
+
+PAGES = ['README.md', 'docs/use/EXAMPLES.md', 'docs/use/SCENARIO.md', 'docs/use/REPORT.md']
+EXPECTED = '.expect.toml'
+LESSON = TOP / 'examples/lesson'
+
+
+def readings_of_those_below(run: Run) -> None:
+    """Each mote sends its own reading from 300 on, and one for each mote below it; no sentence can say so."""
+    assert run.scenario
+    judge = Judge(run.report, run.scenario)
+    below = {mote.number: 1 for mote in run.report.motes}
+    for mote in sorted(run.report.motes[1:], key=lambda mote: -judge.hops(0, mote.number)):
+        parents = [line.value or 0 for line in mote.lines if line.kind == 'print' and line.process == 'parent']
+        sends = [line for line in mote.lines if line.kind == 'send' and line.at >= 300]
+        assert len(sends) == below[mote.number], 'mote %d sends another number of readings' % mote.number
+        below[parents[-1]] += below[mote.number]
+
+
+# The checks of an example besides its sentences.
+MORE: dict[str, Callable[[Run], None]] = {'collection_tree': readings_of_those_below}
+
+
+def quotes_of(page: str) -> list[tuple[str, str]]:
+    """The lines of a page's code blocks, each with the example, NAME.toml, that the page names last before it."""
+    quotes: list[tuple[str, str]] = []
+    name = block = None
+    for line in page.split('\n'):
+        if line.startswith('```'):
+            block = None if block else line
+        elif block in ('```', '```toml') and name:
+            quotes.append((name, line))
+        elif not block and re.search(r'[\w.]+\.toml', line):
+            name = re.findall(r'([\w.]+)\.toml', line)[-1]
+    return quotes
+
+
+@cache
+def quotes_by_example() -> dict[str, list[tuple[str, str]]]:
+    """The lines that pages quote of each example, each with its page."""
+    found: dict[str, list[tuple[str, str]]] = {}
+    for page in PAGES:
+        for name, line in quotes_of((TOP / page).read_text('utf-8')):
+            found.setdefault(name, []).append((page, line))
+    return found
+
+
+def check_quotes(scenario: str, report: Report, quotes: list[tuple[str, str]]) -> None:
+    """Fails if a quoted line is neither in the scenario nor in its report."""
+    lines = {line.strip() for line in [*scenario.split('\n'), *report.rows()]} | {'', '..'}
+    for page, line in quotes:
+        if line.strip() not in lines:
+            pytest.fail('%s quotes a line that is not there: `%s`' % (page, line), pytrace=False)
+
+
+def check_sentences(scenario: Path, expectations: Path) -> None:
+    """Fails if a sentence doesn't hold; each one that doesn't is printed."""
+    held, broken = expect(scenario, expectations, is_quiet=True)
+    if broken:
+        pytest.fail('%s: %d sentences hold, %d are broken' % (expectations.name, held, broken), pytrace=False)
+
+
+def pytest_generate_tests(metafunc: pytest.Metafunc) -> None:
+    for name, folder in ('task', LESSON), ('example', TOP / 'examples'):
+        paths = [it for it in sorted(folder.glob('*.toml')) if it.name.endswith(EXPECTED) == (name == 'task')]
+        if name in metafunc.fixturenames:
+            metafunc.parametrize(name, paths, ids=[it.name for it in paths])
+
+
+def test_example(example: Path) -> None:
+    check_sentences(example, beside(example))
+    quotes, more = quotes_by_example().get(example.stem, []), MORE.get(example.stem)
+    if quotes or more:
+        run = read_run(example)
+        check_quotes(example.read_text('utf-8'), run.report, quotes)
+        if more:
+            more(run)
+
+
+def test_task_of_the_lesson(task: Path) -> None:
+    check_sentences(LESSON / 'solutions' / task.name.replace(EXPECTED, '.toml'), task)
+    _, broken = expect(LESSON / 'start.toml', task, is_quiet=True)
+    assert broken, 'there is nothing to do: start.toml meets all expectations'

@@ -1,0 +1,83 @@
+"""Refuses each request for memory of a run in turn: tools/dev/refuse_memory [FILE [-- WORD ..]]
+
+The program simulates a scenario, and is refused its first request, in the next run its second, and so on until a run
+needs no more of them. The start of a thread is a request too, for its stack. Each run has to end with the whole
+report and status 0, or with `motesim: out of memory`, status 1 and a beginning of the report, or, by workers, with
+`motesim: run fault 5`, status 1 and no report; and each has to end. The words after FILE are the program's, as
+`-- --workers 2 --sync marks`. Without FILE small scenarios are tried, on one thread and by two and three workers of
+both kinds: packets that meet and are heard, a full ring, a full queue, a refused timer, and a scenario with a fault.
+So is a test of crates/part_tests, as `rt ci` builds it, which calls kernels and motes once they are out of memory: it
+has to pass, or to end with an error of its own if it has no kernel or mote to call.
+
+A library in C that is loaded before the C library refuses. `cc` compiles it, or else the compiler of the Rattle kit.
+"""
+from __future__ import annotations
+
+import shutil
+import subprocess
+from itertools import count
+from pathlib import Path
+
+import pytest
+from differences import answer
+from motesim.runner import Answer, LimitMet
+from motesim.runner.programs import TOP
+from project import kit
+
+FILES = ['tests/cases/nets/two_senders.toml', 'tests/cases/nets/ring_overflows.toml',
+         'tests/cases/queues/full_queue.toml', 'tests/cases/queues/refused_timer_waits.toml', 'examples/wrong.toml']
+WAYS = ['', *('--workers %s --sync %s' % (workers, sync) for sync in ('joins', 'marks') for workers in '23')]
+CALLS = ['crates/part_tests/out/part_tests_tests', 'tests::refused::once_out_of_memory']
+# Each run: a scenario and the program's arguments, or a program of tests and the name of one. (The last file has a
+# fault, which is found before there are workers.)
+RUNS: list[list[str]] = [
+    *([file, *way.split()] for way in WAYS for file in (FILES if way in WAYS[:2] else FILES[:-1])), CALLS]
+REFUSES = Path(__file__).with_name('refuses.c')
+# The status of a test that returns an error; one whose assertion fails is stopped by a signal.
+RETURNED_ERROR = 101
+
+
+def may_be(found: Answer, whole: Answer, words: list[str]) -> bool:
+    """Returns whether a run that was refused a request may answer so; `whole` is the answer if none is refused."""
+    if words == CALLS:
+        return whole.status == 0 and (found.status == RETURNED_ERROR or found == whole)
+    if (found.status, found.fault) == (1, b'motesim: out of memory\n'):
+        return whole.report.startswith(found.report)
+    return found == whole or '--workers' in words and found == Answer(1, b'', b'motesim: run fault 5\n')
+
+
+@pytest.fixture(scope='session')
+def refuses(tmp_path_factory: pytest.TempPathFactory) -> Path:
+    """The library that refuses."""
+    if not (shutil.which('cc') or shutil.which('rt')):
+        pytest.fail('nothing is tried, since there is no C compiler here, neither cc nor the Rattle kit', pytrace=False)
+    library = tmp_path_factory.mktemp('refuses') / 'refuses.so'
+    compiler = ['cc'] if shutil.which('cc') else kit.c_compiler()
+    subprocess.run([*compiler, '-O1', '-shared', '-fPIC', '-fno-builtin', '-o', library, REFUSES], check=True)
+    return library
+
+
+def pytest_generate_tests(metafunc: pytest.Metafunc) -> None:
+    named: list[str] = metafunc.config.getoption('name')
+    runs: list[list[str]] = [named] if named else RUNS
+    metafunc.parametrize('words', runs, ids=[' '.join(it) for it in runs])
+
+
+def test_each_request_is_refused(words: list[str], program: Path, refuses: Path) -> None:
+    file, *arguments = words
+    tested, scenario = (TOP / file, b'') if words == CALLS else (program, (TOP / file).read_bytes())
+    assert tested.is_file(), '%s is not built: rt ci builds it' % file
+    whole, done = answer(tested, scenario, *arguments), refuses.with_name('done')
+    for number in count(1):
+        refusing = ['LD_PRELOAD=%s' % refuses, 'REFUSED=%d' % number, 'DONE=%s' % done, str(tested)]
+        try:
+            found = answer(Path('/usr/bin/env'), scenario, *refusing, *arguments)
+        except LimitMet as fault:
+            pytest.fail('request %d refused: %s' % (number, fault), pytrace=False)
+        if not done.exists():
+            # (the library doesn't reach a program that asks for no memory at all)
+            assert number > 1, 'the program makes no request that can be refused'
+            return
+        done.unlink()
+        if not may_be(found, whole, words):
+            pytest.fail('request %d refused: status %d, %r' % (number, found.status, found.fault[:100]), pytrace=False)

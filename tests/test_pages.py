@@ -1,0 +1,101 @@
+"""Checks that the commands of the pages print what the pages show: tools/dev/check_tutorial [--write] [PAGE ..]
+
+The pages are those of docs/use/. Their blocks of commands begin with ```sh, and the output of these is in the block
+right after, which begins with ```. If there is no such block, they print nothing. A block that begins with ```console
+has commands that open a window, and is not run. A block that begins with ```toml NAME, ```mote NAME or ```python NAME
+is a file that the reader saves under that name. The commands of a page are run in a folder of their own, in which
+./run, tools/ and examples/ are found.
+
+Shows the difference of each block that fails. With `--write` it writes the output of the commands into the pages: read
+it before you keep it.
+"""
+from __future__ import annotations
+
+import os
+import re
+import subprocess
+import tempfile
+from functools import cache
+from pathlib import Path
+
+import pytest
+from differences import check_lines
+from motesim.runner.programs import TOP
+
+# A block, and the one that shows the output of its commands: only empty lines are between the two.
+BLOCK = re.compile(r'^```(?P<info>.*)\n(?P<text>(?:.*\n)*?)```$(?:\n+```\n(?P<shown>(?:.*\n)*?)```$)?', re.M)
+SAVED = re.compile(r'(?:toml|mote|python) ([a-z_.]+[.](?:toml|mote|py))')
+RUN = '#!/bin/sh\nexec "$MOTESIM" "$@"\n'
+SECONDS = 300
+
+
+def blocks_of(page: str) -> list[re.Match[str]]:
+    """The blocks of a page."""
+    blocks, fences = list(BLOCK.finditer(page)), re.findall('^```', page, re.M)
+    assert len(fences) == sum(2 if it['shown'] is None else 4 for it in blocks), 'a block of the page has no end'
+    return blocks
+
+
+def has_commands(block: re.Match[str]) -> bool:
+    return block['info'].split()[:1] == ['sh']
+
+
+def printed_by(commands: str, folder: Path, program: Path) -> str:
+    """The output of commands, on both streams."""
+    environment = {**os.environ, 'MOTESIM': str(program), 'LC_ALL': 'C.UTF-8', 'PYTHONDONTWRITEBYTECODE': '1'}
+    done = subprocess.run(['timeout', str(SECONDS), 'bash', '-c', commands], cwd=folder, env=environment,
+                          stdin=subprocess.DEVNULL, stdout=subprocess.PIPE, stderr=subprocess.STDOUT)
+    text = done.stdout.decode('utf-8', 'backslashreplace')
+    return text if text.endswith('\n') or not text else text + '\n'
+
+
+@cache
+def outputs_of(page: str, program: Path) -> list[str]:
+    """The output of each block of commands of a page."""
+    outputs = []
+    with tempfile.TemporaryDirectory() as name:
+        folder = Path(name)
+        for link in 'tools', 'examples':
+            (folder / link).symlink_to(TOP / link)
+        (folder / 'run').write_text(RUN, 'ascii')
+        (folder / 'run').chmod(0o755)
+        for block in blocks_of(page):
+            saved = SAVED.fullmatch(block['info'])
+            if saved:
+                (folder / saved[1]).write_text(block['text'], 'utf-8')
+            if has_commands(block):
+                outputs.append(printed_by(block['text'], folder, program))
+    return outputs
+
+
+def with_outputs(page: str, program: Path) -> str:
+    """The page with the outputs of its commands instead of those that it shows."""
+    outputs = iter(outputs_of(page, program))
+
+    def renewed(block: re.Match[str]) -> str:
+        if not has_commands(block):
+            return block[0]
+        output = next(outputs)
+        return '```%s\n%s```' % (block['info'], block['text']) + ('\n\n```\n%s```' % output if output else '')
+
+    return BLOCK.sub(renewed, page)
+
+
+def pytest_generate_tests(metafunc: pytest.Metafunc) -> None:
+    """Has a test for each block of commands. Those of a page run in one process, one after the other."""
+    names, tests = metafunc.config.getoption('name'), []
+    for path in map(Path, names) if names else sorted(TOP.glob('docs/use/*.md')):
+        page = path.read_text('utf-8')
+        for number, block in enumerate(filter(has_commands, blocks_of(page))):
+            line = page.count('\n', 0, block.start('text')) + 1
+            tests.append(pytest.param(path, page, number, block['shown'] or '', id='%s, line %d' % (path.name, line),
+                                      marks=pytest.mark.xdist_group(path.name)))
+    metafunc.parametrize(('path', 'page', 'number', 'shown'), tests)
+
+
+def test_commands(path: Path, page: str, number: int, shown: str, program: Path, pytestconfig: pytest.Config) -> None:
+    printed = outputs_of(page, program)[number]
+    if pytestconfig.getoption('write'):
+        path.write_text(with_outputs(page, program), 'utf-8')
+    else:
+        check_lines('the output of the commands', shown.split('\n'), printed.split('\n'))

@@ -1,0 +1,386 @@
+"""The commands in tools/dev that test the built program. The programs here are stand-ins, and most have an error."""
+from __future__ import annotations
+
+import runpy
+import shutil
+import subprocess
+import sys
+import tempfile
+import unittest
+from pathlib import Path
+from typing import Any
+from unittest import mock
+
+from here import TOOLS, TOP
+from motesim.faults import Fault
+from motesim.report import Report
+from motesim.runner import Answer
+from motesim.runner.run import Run
+from motesim.scenario import Scenario
+from project import check
+
+# (no test here is worth several processes)
+IN_ONE_PROCESS = '-n0'
+
+
+def module(name: str) -> dict[str, Any]:
+    """The definitions of a module of tests/."""
+    with mock.patch.object(sys, 'path', [str(TOP / 'tests'), *sys.path]):
+        return runpy.run_path(str(TOP / 'tests' / name))
+
+
+class Check(unittest.TestCase):
+    def setUp(self) -> None:
+        room = tempfile.TemporaryDirectory()
+        self.addCleanup(room.cleanup)
+        self.room = Path(room.name)
+        self.program = self.room / 'motesim'
+
+    def put(self, name: str, text: str) -> Path:
+        (self.room / name).write_text(text, 'utf-8')
+        return self.room / name
+
+    def put_program(self, script: str) -> None:
+        self.put('motesim', '#!/bin/sh\n%s\n' % script).chmod(0o755)
+
+    def check(self, command: str, *words: object) -> tuple[str, str, int]:
+        """The output of a command, its last line, and its status."""
+        called = [TOOLS / 'dev' / command, IN_ONE_PROCESS, '--program', self.program, *words]
+        done = subprocess.run([str(it) for it in called], stdout=subprocess.PIPE, stderr=subprocess.STDOUT, text=True)
+        return done.stdout, done.stdout.splitlines()[-1], done.returncode
+
+
+class Commands(Check):
+    def test_each_describes_itself(self) -> None:
+        for command in ('run_cases', 'check_examples', 'check_tutorial', 'spoil_bytes', 'compare_workers',
+                        'refuse_memory'):
+            done = subprocess.run([str(TOOLS / 'dev' / command), '--help'], capture_output=True, text=True)
+            self.assertIn('tools/dev/' + command, done.stdout)
+            self.assertIn('--program FILE', done.stdout)
+
+    def test_without_a_program_they_fail(self) -> None:
+        self.assertIn('there is no program', self.check('spoil_bytes')[0])
+
+    def test_without_pytest_they_say_what_to_install(self) -> None:
+        self.put_program('true')
+        with mock.patch('project.unit_tests.has', lambda module, python: False), mock.patch.object(
+                sys, 'argv', ['run_cases', '--program', str(self.program)]):
+            with self.assertRaisesRegex(Fault, 'apt-get install python3-pytest'):
+                check.check(TOP / 'tests/test_cases.py')
+
+    def test_a_program_that_does_not_end_is_reported(self) -> None:
+        source = module('differences.py')
+        self.put_program('sleep 60')
+        with self.assertRaisesRegex(Fault, 'no answer in 0.1 seconds'):
+            source['answer'](self.program, b'', seconds=0.1)
+
+
+class Cases(Check):
+    def test_a_case_that_fails_shows_the_lines_that_differ(self) -> None:
+        self.put_program('echo mote 0 p; echo medium; exit 3')
+        said, last, status = self.check('run_cases', 'nets/two_senders')
+        self.assertEqual((last, status), ('0 passed, 1 failed, 0 skipped', 1))
+        self.assertIn('nets/two_senders', said)
+        for line in '--- expected', '+++ found', '@@ -1,36 +1,5 @@', '-status: 0', '+status: 3', '-2 recv 0 0 5':
+            self.assertIn('\n%s\n' % line, said)
+
+    def test_a_folder_of_cases(self) -> None:
+        self.put_program('cat')
+        cases = {it.with_suffix('') for it in (TOP / 'tests/cases/queues').iterdir()}
+        self.assertEqual(self.check('run_cases', 'queues')[1], '0 passed, %d failed, 0 skipped' % len(cases))
+
+    def test_a_name_of_no_case(self) -> None:
+        self.put_program('cat')
+        said, _, status = self.check('run_cases', 'nets/none')
+        self.assertIn('there is no case nets/none', said)
+        self.assertNotEqual(status, 0)
+
+    def test_files_that_make_no_case(self) -> None:
+        case = module('test_cases.py')['Case']
+        for names, why in [
+            ({'a.expected': ''}, 'nothing to run'), ({'a.toml': ''}, 'no expectation'),
+            ({'a.toml': '', 'a.make': '', 'a.status': '1'}, 'both .toml and .make'),
+            ({'a.args': '', 'a.runs': '', 'a.status': '1'}, 'both .args and .runs'),
+            ({'a.make': 'def table(): return []'}, 'a table'),
+            ({'a.make': 'def table(): return [1]', 'a.status': '1'}, 'a table'),
+        ]:
+            for name, text in names.items():
+                self.put(name, text)
+            with self.assertRaisesRegex(AssertionError, why):
+                case(self.room / 'a').check_files()
+            for name in names:
+                (self.room / name).unlink()
+
+
+class SpoiledBytes(Check):
+    def test_each_byte_and_the_fronts_fail_for_another_program(self) -> None:
+        self.put_program('echo "motesim: scenario fault 1" >&2; exit 1')
+        said, last, status = self.check('spoil_bytes')
+        self.assertEqual((last, status), ('1 passed, 7 failed, 0 skipped', 1))
+        self.assertIn("180 times scenario fault 1, not 0', '0 times scenario is not UTF-8, not 180", said)
+
+
+class Workers(Check):
+    def setUp(self) -> None:
+        super().setUp()
+        self.scenario = self.put('a.toml', 'end = 5\n')
+        self.put('a.expect.toml', '')
+
+    def compared(self, odd: str) -> tuple[str, str, int]:
+        """The result for a program that writes its arguments next to it, and the scenario, or something else if an
+        argument is odd."""
+        self.put_program('echo "$*" >>%s/words\ncase " $* " in *" %s "*) echo another ;; *) cat ;; esac' % (
+            self.room, odd))
+        return self.check('compare_workers', self.room)
+
+    def test_each_way_once(self) -> None:
+        self.assertEqual(self.compared('none')[1:], ('1 passed, 0 failed, 0 skipped', 0))
+        words = (self.room / 'words').read_text().splitlines()
+        self.assertEqual((words[0], len(words)), ('', 21))
+        for workers in 1, 2, 3, 7, 16:
+            for cut in 'block', 'stripe':
+                for sync in 'joins', 'marks':
+                    self.assertEqual(words.count('--workers %d --cut %s --sync %s' % (workers, cut, sync)), 1)
+
+    def test_a_kind_that_differs(self) -> None:
+        said, last, status = self.compared('marks')
+        self.assertIn('--workers 1 --cut block --sync marks differs:', said)
+        self.assertIn('\n-end = 5\n+another\n', said)
+        self.assertEqual((last, status), ('0 passed, 1 failed, 0 skipped', 1))
+
+    def test_a_report_that_is_written_down(self) -> None:
+        self.put('a.expected', 'end = 6\n')
+        said, last, _ = self.compared('none')
+        self.assertIn('on one thread differs:', said)
+        self.assertEqual(last, '0 passed, 1 failed, 0 skipped')
+
+
+PAGE = '''# A page
+
+Save this as `one.toml`:
+
+```toml one.toml
+end = 5
+```
+
+It is run so:
+
+```sh
+./run one.toml
+echo done
+```
+
+```
+ran end = 5
+done
+```
+
+This prints nothing:
+
+```sh
+test -e tools/dev/run_cases -a -e examples/tdma.toml
+```
+
+And a block that is no output:
+
+```
+nothing ran this
+```
+'''
+
+
+class Pages(Check):
+    def setUp(self) -> None:
+        super().setUp()
+        self.put_program('echo "ran $(cat "$1")"')
+
+    def test_another_output_fails_and_can_be_written(self) -> None:
+        for changed in PAGE.replace('\ndone\n', '\nover\n'), PAGE.replace('\n```\nran end = 5\ndone\n```\n', ''):
+            page = self.put('PAGE.md', changed)
+            said, last, status = self.check('check_tutorial', page)
+            self.assertEqual((last, status), ('1 passed, 1 failed, 0 skipped', 1))
+            self.assertIn('PAGE.md, line 12', said)
+            self.assertIn('\n+done\n', said)
+            self.assertEqual(self.check('check_tutorial', '--write', page)[2], 0)
+            self.assertEqual(page.read_text('utf-8'), PAGE)
+            self.assertEqual(self.check('check_tutorial', page)[1:], ('2 passed, 0 failed, 0 skipped', 0))
+
+    def test_commands_that_print_nothing_more_lose_their_block(self) -> None:
+        page = self.put('PAGE.md', '```sh\ntrue\n```\n\n```\nonce\n```\nend\n')
+        self.check('check_tutorial', '--write', page)
+        self.assertEqual(page.read_text('utf-8'), '```sh\ntrue\n```\nend\n')
+
+    def test_a_block_needs_its_end(self) -> None:
+        for text in 'text\n```sh\ntrue\n', '```sh\n```sh\n```\n':
+            said, _, status = self.check('check_tutorial', self.put('PAGE.md', text))
+            self.assertIn('a block of the page has no end', said)
+            self.assertNotEqual(status, 0)
+
+
+QUOTES = """# `one.toml`
+
+```
+a line of one
+```
+
+```sh
+./run other.toml
+```
+
+And `two.toml`, with `one.expect.toml` beside it, and `two.toml`:
+
+```toml
+end = 5
+..
+```
+"""
+# Mote 1 is between mote 0, the root, and mote 2.
+SCENARIO = """
+version = 1
+end = 400
+medium = { range = 10, base = 1, per = 100 }
+programs = { p = "" }
+mote = [{ x = 0, y = 0, program = "p" }, { x = 10, y = 0, program = "p" }, { x = 20, y = 0, program = "p" }]
+"""
+REPORT = """mote 0 p
+mote 1 p
+2 print parent 0
+300 send 0 1
+304 send 1 2
+mote 2 p
+3 print parent 1
+302 send 0 102
+medium
+300 1 0 1 0@302 2@302
+302 2 0 102 1@304
+304 1 1 2 0@306 2@306
+left 0
+"""
+
+
+class Examples(unittest.TestCase):
+    def setUp(self) -> None:
+        self.examples = module('test_examples.py')
+
+    def test_blocks_belong_to_the_example_that_is_named_last(self) -> None:
+        self.assertEqual(self.examples['quotes_of'](QUOTES), [('one', 'a line of one'), ('two', 'end = 5'),
+                                                              ('two', '..')])
+
+    def test_a_quoted_line_is_in_the_scenario_or_the_report(self) -> None:
+        check_quotes, report = self.examples['check_quotes'], Report.parse(REPORT)
+        check_quotes(SCENARIO, report, [('P', '  end = 400'), ('P', '304 send 1 2'), ('P', '..')])
+        with self.assertRaisesRegex(BaseException, 'P quotes a line that is not there: `305 send 1 2`'):
+            check_quotes(SCENARIO, report, [('P', '305 send 1 2')])
+
+    def test_each_mote_sends_the_readings_of_those_below_it(self) -> None:
+        readings, scenario = self.examples['readings_of_those_below'], Scenario.parse(SCENARIO)
+        readings(Run('r', Report.parse(REPORT), scenario))
+        with self.assertRaisesRegex(AssertionError, 'mote 1 sends'):
+            readings(Run('r', Report.parse(REPORT.replace('304 send 1 2\n', '')), scenario))
+
+
+# A program that asks for memory three times; it says so if one is refused, except for the one in CALM.
+ASKS = r"""
+#include <stdio.h>
+#include <stdlib.h>
+#include <unistd.h>
+
+int main(void) {
+  static char room[256];
+  setvbuf(stdout, room, _IOFBF, sizeof room);
+  for (int n = 1; n <= 3; n++) {
+    void *volatile part = malloc(100);
+    if (!part && n != CALM) return write(2, FAULT, sizeof FAULT - 1) > 0;
+  }
+  return write(1, "left 0\n", 7) != 7;
+}
+"""
+# A program that starts two threads, the second one after the first has ended if an argument says so.
+STARTS = r"""
+#include <pthread.h>
+#include <stdlib.h>
+#include <unistd.h>
+
+static void *work(void *given) {
+  return given;
+}
+
+int main(void) {
+  pthread_t made[2];
+  for (int n = 0; n < 2; n++) {
+    if (pthread_create(&made[n], 0, work, 0)) _exit(write(2, FAULT, sizeof FAULT - 1) > 0);
+    if (JOINS) pthread_join(made[n], 0);
+  }
+  _exit(write(1, "left 0\n", 7) != 7);
+}
+"""
+NO_MEMORY, NO_THREAD = '"motesim: out of memory\\n"', '"motesim: run fault 5\\n"'
+
+
+class Memory(Check):
+    def test_answers_that_may_be(self) -> None:
+        names = module('test_memory.py')
+        may_be, calls, whole = names['may_be'], names['CALLS'], Answer(0, b'mote 0 p\nleft 0\n', b'')
+        out_of_memory, no_thread = b'motesim: out of memory\n', b'motesim: run fault 5\n'
+        one, workers = ['a.toml'], ['a.toml', '--workers', '2']
+        for found, words in [(whole, one), (Answer(1, b'', out_of_memory), one),
+                             (Answer(1, b'mote 0 p\n', out_of_memory), workers), (Answer(1, b'', no_thread), workers),
+                             (whole, calls), (Answer(101, b'', b'error: Memory\n'), calls)]:
+            self.assertTrue(may_be(found, whole, words), found)
+        for found, words in [(Answer(0, b'mote 0 p\n', b''), one), (Answer(0, b'', out_of_memory), one),
+                             (Answer(1, b'left 0\n', out_of_memory), one), (Answer(1, b'', no_thread), one),
+                             (Answer(1, b'mote 0 p\n', no_thread), workers),
+                             (Answer(1, b'', b'motesim: run fault 6\n'), workers), (Answer(-11, b'', b''), workers),
+                             (Answer(0, b'', b''), calls), (Answer(1, b'', out_of_memory), calls),
+                             (Answer(-6, b'', b'assertion failed'), calls)]:
+            self.assertFalse(may_be(found, whole, words), found)
+        # (a test that returns an error if nothing is refused: no such test, say)
+        self.assertFalse(may_be(Answer(101, b'', b''), Answer(101, b'', b''), calls))
+
+    def test_the_runs_without_a_name(self) -> None:
+        names = module('test_memory.py')
+        ways = [' '.join(words) for _, *words in names['RUNS'] if [_, *words] != names['CALLS']]
+        for wanted, number in [('', 5), ('--workers 2 --sync joins', 5), ('--workers 3 --sync joins', 4),
+                               ('--workers 2 --sync marks', 4), ('--workers 3 --sync marks', 4)]:
+            self.assertEqual(ways.count(wanted), number)
+        self.assertIn('tools/dev/refuse_memory program %d\n' % len(names['RUNS']), (TOP / 'test').read_text('utf-8'))
+        folder, _, test = names['CALLS'][1].rpartition('::')
+        source = TOP / 'crates/part_tests/src' / folder.replace('::', '/')
+        self.assertIn('fn %s(' % test, source.with_suffix('.rt').read_text('utf-8'))
+
+    def refused(self, source: str, *words: str, **defined: object) -> tuple[str, str, int]:
+        """The result for a program in C."""
+        path, scenario = self.put('p.c', source), self.put('s.toml', '')
+        flags = ['-D%s=%s' % it for it in defined.items()]
+        subprocess.run(['cc', '-O0', *flags, '-o', str(self.program), str(path), '-pthread'], check=True)
+        return self.check('refuse_memory', scenario, '--', *words)
+
+    @unittest.skipUnless(shutil.which('cc'), 'there is no C compiler cc here')
+    def test_each_request_is_refused(self) -> None:
+        for calm in 0, 2:
+            self.assertEqual(self.refused(ASKS, CALM=calm, FAULT=NO_MEMORY)[1:], ('1 passed, 0 failed, 0 skipped', 0))
+        for fault in '"motesim: fault\\n"', NO_THREAD:
+            said, last, status = self.refused(ASKS, CALM=1, FAULT=fault)
+            self.assertEqual((last, status), ('0 passed, 1 failed, 0 skipped', 1))
+            self.assertIn('request 2 refused: status 1, ', said)
+
+    @unittest.skipUnless(shutil.which('cc'), 'there is no C compiler cc here')
+    def test_each_start_is_refused(self) -> None:
+        # (a start asks for a stack, and for memory of the thread's own; the second one uses those of a thread that has
+        # ended)
+        for joins in 0, 1:
+            passed = self.refused(STARTS, '--workers', '2', JOINS=joins, FAULT=NO_THREAD)
+            self.assertEqual(passed[1:], ('1 passed, 0 failed, 0 skipped', 0))
+        said, last, _ = self.refused(STARTS, '--workers', '2', JOINS=0, FAULT='"motesim: run fault 6\\n"')
+        self.assertIn('request 1 refused: ', said)
+        self.assertEqual(last, '0 passed, 1 failed, 0 skipped')
+
+    @unittest.skipUnless(shutil.which('cc'), 'there is no C compiler cc here')
+    def test_a_program_that_can_not_be_refused_anything(self) -> None:
+        said, _, status = self.refused('int main(void) { return 0; }')
+        self.assertIn('no request that can be refused', said)
+        self.assertEqual(status, 1)
+
+
+if __name__ == '__main__':
+    unittest.main()
