@@ -6,6 +6,8 @@ import sys
 import tempfile
 import unittest
 from pathlib import Path
+from types import SimpleNamespace
+from typing import cast
 
 from here import TOOLS, TOP
 import skips
@@ -14,13 +16,14 @@ from motesim.contiki.random_scenario import random_scenario
 from motesim.faults import Fault
 from motesim.runner.run import answer
 from motesim.scenario import Scenario
+from motesim.why.callers import Callers
 from motesim.why.chain import as_json, cause_of, chain, path_of, places
 from motesim.why.diverge import diverged
 from motesim.why.fate import fate_of
 from motesim.why.lines_of_file import ScenarioFile
 from motesim.why.miss import misses
 from motesim.why.question import Asked, Asker, Missing, Unasked
-from motesim.why.replay import Parted
+from motesim.why.replay import Parted, Reached, Replay
 from motesim.why.source import At, Source
 from motesim.why.translate import translated
 
@@ -139,6 +142,65 @@ HEAD = -1
 CAUSES = [HEAD, HEAD, HEAD, HEAD, HEAD, 4, 5, 6, 6, 6, 6, 6, 6, 7, 13, 8, 15, 16]
 # The same of mote 1, but for what came from mote 0, which line 13 of its lines from 1 sent.
 CAUSES_OF_HEARER = [HEAD, HEAD, HEAD, HEAD, None, 4, 5, 6, 6]
+
+
+# A process that only the `if` of another one would call, a process that only it would start, and a thread.
+CALLED = """version = 2
+end = 40
+medium = { range = 10, base = 2, per = 100, collide = false }
+mote = [{ x = 0, y = 0, program = "p" }]
+[programs]
+p = '''
+event go;
+process boss, worker, late;
+autostart boss, worker;
+code boss {
+  var n = 0;
+  etimer t;
+  thread count_up {
+    n = (n + 1);
+    print n;
+  }
+  body {
+    while (n < 3) {
+      set t 10;
+      yield_until fired(t);
+      n = (n + 1);
+      if (n > 7) {
+        synch worker go 1;
+        start late;
+      }
+      if (n == 9) {
+        spawn count_up;
+      }
+    }
+  }
+}
+code worker {
+  body {
+    yield_until is(go);
+    print 1;
+  }
+}
+code late { body { print 7; } }
+'''
+"""
+REPORT_OF_CALLED = '''mote 0 p
+0 start etimer
+0 start ctimer
+0 start radio
+0 start boss
+0 start worker
+10 post 0 boss timer 0
+10 take 0 boss
+20 post 1 boss timer 0
+20 take 1 boss
+30 post 2 boss timer 0
+30 take 2 boss
+30 leave boss
+medium
+left 0
+'''
 
 
 def source(scenario: str = SCENARIO, report: str = REPORT) -> Source:
@@ -322,14 +384,40 @@ class Misses(unittest.TestCase):
         """`print data` of b is reached once; the first call of b, by the poll, isn't with `msg`."""
         said = self.misses('mote 0 prints b 9')
         self.assertIn('line 24: `print data` was reached once, at 4', said)
-        self.assertIn('b waits at line 23: `yield_until is(msg)` since 4, and nothing called it since', said)
+        self.assertIn('b waits at line 23: `yield_until is(msg)` since 4, and nothing called it since; line 8: `post b '
+                      'msg 5` would have, and was reached last at 4', said)
 
     def test_a_condition_that_never_held(self) -> None:
         scenario = SCENARIO.replace('    yield_until is(packet);\n    print data;',
                                     '    while 1 {\n      yield;\n      if (data > 8) {\n        print data;\n      }\n    }')
         report = REPORT.replace('7 print h 8\n7 leave h\n', '')
         self.assertIn('line 9: `print data` was never reached, since line 8: `if (data > 8)` was tested once, and was '
-                      'never true', self.misses('mote 1 prints h 9', source(scenario, report)))
+                      'never true, the last time at 7', self.misses('mote 1 prints h 9', source(scenario, report)))
+
+    def test_the_statement_that_would_have_called_and_its_condition(self) -> None:
+        found = source(CALLED, REPORT_OF_CALLED)
+        false = ' was never reached, since line 16: `if (n > 7)` was tested 3 times, and was never true, the last ' \
+                'time at 30'
+        self.assertIn('worker waits at line 28: `yield_until is(go)` since 0; its condition was tested once since, and '
+                      'was never true; line 17: `synch worker go 1` would have, and' + false,
+                      self.misses('mote 0 prints worker 1', found))
+        self.assertIn('its process late never started; line 18: `start late` would have, and' + false,
+                      self.misses('mote 0 prints late 7', found))
+        self.assertIn('line 9: `print n` was never reached, since nothing ran its thread count_up; line 21: `spawn '
+                      'count_up` would have, and' + false.replace('16', '20').replace('n > 7', 'n == 9'),
+                      self.misses('mote 0 prints boss 9', found))
+
+    def test_a_condition_that_was_false_the_last_time(self) -> None:
+        text = CALLED.replace('if (n == 9)', 'if (n == 2)').replace('print n;', 'if (n == 3) { print n; } n = 0;')
+        called = Callers(source(text, REPORT_OF_CALLED).program(0), cast(Replay, SimpleNamespace(calls=[], reached=[
+            Reached(0, 10, 2, True), Reached(0, 20, 2, False)])), 40)
+        self.assertRegex(called.reason(3), r'^, since line 9: `if \(n == 3\)` was tested twice, and was not true the '
+                                           r'last time, at 20$')
+
+    def test_a_process_that_nothing_starts(self) -> None:
+        found = source(CALLED.replace('start late;', 'n = 8;'), REPORT_OF_CALLED)
+        self.assertIn('its process late never started: no statement starts it, and `autostart` doesn\'t name it',
+                      self.misses('mote 0 prints late 7', found))
 
     def test_silent_neighbours(self) -> None:
         self.assertIn('of the 1 mote that it hears, these never send: 1', self.misses('mote 0 receives 9'))

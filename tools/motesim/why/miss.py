@@ -11,6 +11,7 @@ from typing import Any, NamedTuple
 
 from motesim.judge.judge import Span
 from motesim.judge.sentences import Does, Value
+from motesim.why.callers import Callers, times
 from motesim.why.chain import count, in_words
 from motesim.why.fate import Fate, fate_of
 from motesim.why.question import ENDLESS, Asker, Missing, within
@@ -43,6 +44,8 @@ class _Misses:
         self.kind = str(self.pattern[0])
         self.begin, self.end = missing.span[0], last_of(missing.span, asker.source)
         self.lines = self.source.traces.lines(mote)
+        self.replay: Replay | None = None
+        self.called: Callers | None = None
 
     def found(self) -> Iterator[Miss]:
         """All misses, the nearest first."""
@@ -179,6 +182,19 @@ class _Misses:
     def program(self) -> Program:
         return self.source.translate(self.source.traces.programs[self.mote], is_detailed=True)
 
+    def replayed(self) -> Replay:
+        """The mote from its start to its end, with each statement that it reached."""
+        if self.replay is None:
+            room = self.source.replay(self.mote).room
+            self.replay = Replay(self.program(), self.mote, room, self.lines).to_end(self.source.scenario.end)
+        return self.replay
+
+    def callers(self, program: Program) -> Callers:
+        if self.called is None:
+            known = str(self.pattern[1]) if self.kind == 'print' and len(self.pattern) > 1 else ''
+            self.called = Callers(program, self.replayed(), self.end, known)
+        return self.called
+
     def processes(self, program: Program) -> list[int]:
         """The processes that could write the line."""
         if self.kind == 'print' and len(self.pattern) > 1:
@@ -199,7 +215,8 @@ class _Misses:
         if not there and not row:
             program = self.program()
             is_known = any(it.name == name for it in program.processes)
-            yield Miss('process', 'its process %s never started' % name if is_known else
+            starts = self.callers(program).starts(str(name)) if is_known else ''
+            yield Miss('process', 'its process %s never started%s' % (name, starts) if is_known else
                        'it runs %s, which has no process %s' % (self.source.traces.programs[self.mote], name))
         elif not there:
             yield Miss('process', '%s had left at %d' % (name, at), row)
@@ -208,9 +225,7 @@ class _Misses:
         """The statements that could write the line: how often they were reached, and what kept them from it."""
         if self.kind not in ('print', 'send'):
             return
-        program = self.program()
-        room = self.source.replay(self.mote).room
-        replay = Replay(program, self.mote, room, self.lines).to_end(self.source.scenario.end)
+        program, replay = self.program(), self.replayed()
         processes = self.processes(program)
         for number, it in enumerate(program.statements, 1):
             if it.kind == self.kind and it.process in processes:
@@ -232,19 +247,17 @@ class _Misses:
             tests = self.inside([it for it in replay.reached if it.statement == around.number
                                  and it.holds is not None])
             right = [it for it in tests if it.holds != around.is_else]
-            if not right:
+            if tests and not right:
                 wanted = 'false' if around.is_else else 'true'
-                tested = 'was tested %s, and was never %s' % (self.times(len(tests)), wanted) if tests else (
-                    'was never reached')
-                return Miss('condition', words + ', since %s %s' % (in_words(program, around.number), tested))
-        return Miss('reached', words)
-
-    @staticmethod
-    def times(number: int) -> str:
-        return {1: 'once', 2: 'twice'}.get(number, '%d times' % number)
+                return Miss('condition', words + ', since %s was tested %s, and was never %s, the last time at %d' % (
+                    in_words(program, around.number), times(len(tests)), wanted, tests[-1].at))
+            if not right:
+                break
+        reason = self.callers(program).reason(number)
+        return Miss('condition' if reason else 'reached', words + reason)
 
     def reached(self, number: int) -> str:
-        return 'reached %s' % self.times(number) if number else 'never reached'
+        return 'reached %s' % times(number) if number else 'never reached'
 
     @staticmethod
     def moments(reached: list[Reached]) -> str:
@@ -264,9 +277,10 @@ class _Misses:
         words = '%s waits at %s since %d' % (program.processes[process].name, in_words(program, waits),
                                              here[came].at)
         if tests:
-            words += '; its condition was tested %s since, and was never true' % self.times(tests)
+            words += '; its condition was tested %s since, and was never true' % times(tests)
         else:
             words += ', and nothing called it since'
+        words += self.callers(program).calls(process, waits, here[came].at)
         yield Miss('waits', words)
 
 

@@ -58,12 +58,14 @@ class Statement(NamedTuple):
     kind     its first word; `=` of one that assigns to a variable
     process  in whose code it is, by its number
     around   the statements around it, the outer ones first
+    inside   the block that it is in: body_0, thread_0_listen, onpoll_0, onexit_0 or callback_0
     """
     line: int
     text: str
     kind: str
     process: int
     around: tuple[Around, ...] = ()
+    inside: str = ''
 
 
 class ProgramPlace(NamedTuple):
@@ -108,6 +110,7 @@ class _Translator:
     def __init__(self, text: str, is_detailed: bool):
         self.is_detailed = is_detailed
         self.around: list[Around] = []
+        self.inside = ''
         self.tokens: list[Token] = tokens_of(text)
         self.at = 0
         self.program = Program(text)
@@ -203,7 +206,7 @@ class _Translator:
     def function(self, name: str, keeper: object, attribute: str) -> None:
         """A block that runs to its end at once."""
         self.emit('def %s(k, e, d, f):' % name)
-        self.depth = 1
+        self.depth, self.inside = 1, name
         self.emit('V = k.variables[%d]' % self.process.number)
         self.block()
         self.depth = 0
@@ -212,7 +215,7 @@ class _Translator:
     def protothread(self, name: str, is_thread: bool) -> None:
         """A body or a thread."""
         self.emit('def %s(k%s):' % (name, ', e, d, f' if is_thread else ''))
-        self.depth = 1
+        self.depth, self.inside = 1, name
         self.emit('V = k.variables[%d]' % self.process.number)
         if not is_thread:
             self.emit('e, d, f = yield')
@@ -293,7 +296,8 @@ class _Translator:
         end = self.tokens[at]
         row = self.text_rows[line - 1]
         text = row[column:end.column] if end.line == line else row[column:].partition('//')[0] + ' ..'
-        self.program.statements[number - 1] = Statement(line, text.strip(), kind, self.process.number, around)
+        self.program.statements[number - 1] = Statement(line, text.strip(), kind, self.process.number, around,
+                                                        self.inside)
 
     def assign(self, variable: str, value: str, here: int) -> None:
         process, place = self.process.number, self.process.variables[variable]
