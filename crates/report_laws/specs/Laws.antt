@@ -19,6 +19,10 @@ ProgramsDeclare net = Each (λ (m : MoteSetup). IsDeclared m.tree × IsComplete 
 abbrev pub TextsDeclare : Type 0
 TextsDeclare = (text : List ℕ) (net : NetTold) → TellsNet text net → ProgramsDeclare net
 
+-- and the names in each program of it differ
+abbrev pub NamesOfTextsDiffer : Type 0
+NamesOfTextsDiffer = (text : List ℕ) (net : NetTold) → TellsNet text net → NetNamesDiffer net
+
 -- each process and event in each line of a run has its name
 abbrev pub RunsNameOnly : Type 0
 RunsNameOnly = (net : NetTold) → ProgramsDeclare net → (r : ReportTold) → IsReportOf net r
@@ -45,3 +49,16 @@ ComparingBytesIsComparingRuns = (m n : NetTold) → AreComparable m n → (a b :
 abbrev pub NoRunBeginsAnother : Type 0
 NoRunBeginsAnother = (m n : NetTold) → AreComparable m n → (a b : ReportTold) → IsRunOf m a → IsRunOf n b
     → (more : List ℕ) → report_text n b ≡ report_text m a ++ more → more ≡ []
+
+-- The same of the nets of two scenarios' texts, if they have the same motes: only the numbers are left as a premise.
+pub record AreScenarios (x y : List ℕ) (m n : NetTold) : Type 0 where
+  pub first : TellsNet x m
+  pub second : TellsNet y n
+  pub motes : n.motes ≡ m.motes
+
+abbrev pub ScenariosAreComparable : Type 0
+ScenariosAreComparable = (x y : List ℕ) (m n : NetTold) → AreScenarios x y m n → AreComparable m n
+
+abbrev pub SameBytesOfScenarios : Type 0
+SameBytesOfScenarios = (x y : List ℕ) (m n : NetTold) → AreScenarios x y m n
+    → (a b : ReportTold) → IsRunOf m a → IsRunOf n b → report_text m a ≡ report_text n b → a ≡ b

@@ -1,13 +1,17 @@
 //! Laws of the reports of runs. Each is a theorem, stated as the contract of a function that is empty or only calls
 //! other laws.
-ghost use Rattle.report_laws.specs.Laws.{ComparingBytesIsComparingRuns, NoRunBeginsAnother, RunsNameOnly, TextsDeclare};
+ghost use Rattle.report_laws.specs.Laws.{ComparingBytesIsComparingRuns, NamesOfTextsDiffer, NoRunBeginsAnother};
+ghost use Rattle.report_laws.specs.Laws.{RunsNameOnly, SameBytesOfScenarios, ScenariosAreComparable, TextsDeclare};
 
 use mote_program::name_laws::what_a_text_names_is_declared;
 use trace_printer::laws::{no_text_begins_another, text_determines_report};
 
-/// The programs of the net of each scenario's text declare what they name, and each declaration has its parts.
+/// The programs of the net of each scenario's text declare what they name, and each declaration has its parts. In each
+/// program no two processes have the same name, nor two events, and no name is the word of a process or an event of the
+/// system.
 pub fn texts_declare()
-    ensures { TextsDeclare }
+    ensures declare { TextsDeclare }
+    ensures differ { NamesOfTextsDiffer }
 {
     what_a_text_names_is_declared();
 }
@@ -28,4 +32,14 @@ pub fn comparing_bytes_is_comparing_runs()
 {
     text_determines_report();
     no_text_begins_another();
+}
+
+/// The same of the nets of two scenarios' texts, if they have the same motes: their programs have such names, so equal
+/// bytes of two runs mean equal runs, given that the numbers in the reports have 64 bits.
+pub fn same_bytes_of_scenarios()
+    ensures comparable { ScenariosAreComparable }
+    ensures same { SameBytesOfScenarios }
+{
+    texts_declare();
+    comparing_bytes_is_comparing_runs();
 }
