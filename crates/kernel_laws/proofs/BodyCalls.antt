@@ -7,6 +7,7 @@ use Rattle.program_tree.specs.declared.event.Event.{Event}
 use Rattle.program_tree.specs.declared.event.SystemEvent.TheVariants.{Poll, Exit, Exited, Timer, Init}
 use Rattle.program_tree.specs.declared.timer.Timer.{Timer as TimerOfProgram}
 use Rattle.program_tree.specs.Code.{Code, Tree}
+use Rattle.event_queue.specs.Queue.{with_posted}
 use Rattle.mote_timers.specs.Timer.{is_due}
 use Rattle.mote_timers.specs.TimerLists.{timer_at}
 use Rattle.protothread.specs.declared.part.Part.TheVariants.{Body, OnPoll, OnExit, Callback}
@@ -34,7 +35,7 @@ use Rattle.process_kernel.specs.Writes.{with_line, write_of, halted_of, spend_of
 use Rattle.process_kernel.specs.Calls.{Calls, Answer, told, is_system_event, walk_of}
 use Rattle.process_kernel.specs.Etimer.{fired_of, purge_of, post_due, walk_timers, walks_of, pass_of, etimer_of}
 use Rattle.process_kernel.specs.Ctimer.{callback_of, waits_for, ctimer_of}
-use Rattle.process_kernel.specs.Radio.{radio_of}
+use Rattle.process_kernel.specs.Radio.{packet_of, radio_of}
 use Rattle.process_kernel.specs.Reaction.{remainder_at, handler_of, resume_of, own_of, react_of}
 use Rattle.process_kernel.specs.Exit.{process_number, last_run_of, exit_of}
 use Rattle.process_kernel.specs.Start.{start_of}
@@ -46,7 +47,7 @@ use Rattle.process_kernel.specs.Call.{has_ended, answered, call_of, calls_of}
 use Rattle.kernel_laws.specs.Printed.{IsQuietApart, LivesSoFar, Told, HasStarted}
 use Rattle.kernel_laws.specs.Telling as telling
 use Rattle.kernel_laws.specs.Telling.{Standing, standing_of, IsOut, Next, AtStart, AtCall, CanCome}
-use Rattle.kernel_laws.proofs.EachStep.{Lead, AreJoined, lead_from, lead_bind, lead_if, lead_option, lead_goes, lead_still, bind_twice, empty_led}
+use Rattle.kernel_laws.proofs.EachStep.{Lead, AreJoined, AreRingSteps, lead_from, lead_bind, lead_if, lead_option, lead_goes, lead_still, bind_twice, empty_led}
 use Rattle.kernel_laws.proofs.Tables.{is_equal}
 use Rattle.kernel_laws.proofs.Lives.{at_first}
 use Rattle.kernel_laws.proofs.QuietThreads.{IsQuietRest, fresh_quiet, poll_quiet as on_poll_quiet, exit_quiet as on_exit_quiet, callback_quiet, IsNoPrintStep, advances_quietly, answered_quietly}
@@ -250,10 +251,17 @@ module _ (program : Tree) (mote p : ℕ) (code : Code) (earlier : List Line) whe
   etimer_led s e =
       either s (is_system_event Poll e) _ _ (walks_led _ s) (either s (is_system_event Exited e) _ _ (goes s tt _ (purge_quiet s e.word)) (still s tt))
 
+  ring_steps : AreRingSteps Keeps Stops chain
+  ring_steps = record {
+    accepted = λ s a later q i r. quiet_keeps s _ (line_quiet p (record s { ring = later; queue = with_posted s.queue (One (Own q)) (packet_of a) }) _ refl);
+    refused = λ s a later q i r. quiet_keeps s _ (line_quiet p (record s { ring = later }) _ refl);
+    deaf = λ s a later i r. quiet_keeps s _ (line_quiet p (record s { ring = later }) _ refl);
+    halts = λ s later. quiet_stops s _ (halted_quiet p (record s { ring = later }));
+  }
+
   radio_led : (s : State) (e : Event) → Leads (Unit {0}) s (radio_of s e)
   unfolding radio_of
-  radio_led s e =
-      either s (is_system_event Poll e) _ _ (empty_led Keeps Stops chain (λ t packets. quiet_keeps t _ refl) (λ t target event fits. quietly t _ (post_quiet p t target event)) (λ t sender number. quiet_keeps t _ (line_quiet p t (what.Deaf sender number) refl)) s.program.receiver s.ring s) (still s tt)
+  radio_led s e = either s (is_system_event Poll e) _ _ (empty_led Keeps Stops chain ring_steps s.program.receiver s.ring s refl refl) (still s tt)
 
   -- an invariant of the calls of a process and the runs of a thread: threads of others, of its body, and of its other
   -- blocks

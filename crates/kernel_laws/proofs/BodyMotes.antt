@@ -1,17 +1,11 @@
 -- Boots and kernel runs keep that the lines about a process are those of its lives, and so do all calls of a kernel.
-use Rattle.std.proofs.Common.{ℕ, ◌≡◌, ◌+◌, Bool, true, false, nat_lt, if◌then◌else◌, List, [], ◌∷◌, ◌++◌, inl, inr, Some, length, slice_get, refl, sym, ap, ◌∙◌, subst, map, append-nil}
+use Rattle.std.proofs.Common.{ℕ, ◌≡◌, ◌+◌, Bool, true, false, nat_lt, if◌then◌else◌, List, [], ◌∷◌, ◌++◌, inl, inr, Some, length, slice_get, refl, sym, ap, ◌∙◌, subst, append-nil}
 use Rattle.std.specs.Prelude.{option_map}
 use Rattle.std.proofs.lemmas.List.{length-replicate}
 use Rattle.std.proofs.lemmas.List.Elements.{filter-append}
 use Rattle.std.proofs.lemmas.Option.{slice_get-map}
-use Rattle.program_tree.specs.declared.event.Proc.{Proc}
-use Rattle.program_tree.specs.declared.event.Proc.TheVariants.{Own, Etimer, Ctimer, Radio}
-use Rattle.program_tree.specs.declared.event.Target.{Target}
-use Rattle.program_tree.specs.declared.event.Target.TheVariants.{One, All}
-use Rattle.program_tree.specs.declared.event.SystemEvent.TheVariants.{Poll}
+use Rattle.program_tree.specs.declared.event.Proc.TheVariants.{Own}
 use Rattle.program_tree.specs.Code.{Code, Tree}
-use Rattle.event_queue.specs.declared.queue.Posted.{Posted}
-use Rattle.event_queue.specs.Queue.{without_front}
 use Rattle.protothread.specs.declared.part.Part.TheVariants.{Body}
 use Rattle.protothread.specs.Remainder.{fresh_of}
 use Rattle.trace_lines.specs.declared.line.Line.{Line}
@@ -20,18 +14,13 @@ use Rattle.trace_lines.specs.declared.line.What.{What}
 use Rattle.trace_lines.specs.declared.line.What.TheVariants as what
 use Rattle.process_kernel.specs.declared.process.ProcessState.{ProcessState}
 use Rattle.process_kernel.specs.declared.process.ProcessState.TheVariants.{Off, Running, Called}
-use Rattle.process_kernel.specs.declared.process.Member.{Member}
 use Rattle.process_kernel.specs.declared.kernel.Ran.TheVariants as ran
 use Rattle.process_kernel.specs.Members.{place_of}
 use Rattle.process_kernel.specs.State.{State, Outcome, Ends, Goes}
-use Rattle.process_kernel.specs.Processes.{is_listed, is_on_list}
-use Rattle.process_kernel.specs.Writes.{write_of}
 use Rattle.process_kernel.specs.Calls.{Calls, told}
 use Rattle.process_kernel.specs.Call.{calls_of}
-use Rattle.process_kernel.specs.Polls.{walk_polls, polls_of, polls_due_of, poll_turn_of}
-use Rattle.process_kernel.specs.Delivery.{give_of, visit_of, walk_broadcast, deliver_to, deliver_of}
-use Rattle.process_kernel.specs.Run.{begun_of, left_of, deliver_front, kernel_of, most_units}
-use Rattle.process_kernel.specs.Boot.{starts_of, boot_of}
+use Rattle.process_kernel.specs.Run.{begun_of, kernel_of, most_units}
+use Rattle.process_kernel.specs.Boot.{boot_of}
 use Rattle.process_kernel.specs.Mote.{Mote, unbooted, with_poll, with_packet}
 use Rattle.process_kernel.specs.Given.{given, begun, unless_halted, boot_given, run_given}
 use Rattle.kernel_laws.specs.Going.{IsNote}
@@ -40,57 +29,36 @@ use Rattle.kernel_laws.specs.Traces.{KernelCall, RunAt, PollOf, Accepts, Notes, 
 use Rattle.kernel_laws.specs.Printed.{IsQuietApart, is_told_of, starts_and_prints, Unborn, LivesSoFar, Told, PrintsAreTheReading, PrintsSoFarAreTheReading}
 use Rattle.kernel_laws.specs.Telling.{Standing, standing_of, RestsAsTold, TellsSoFar, IsProcess, TellingIsOfLives, TellingIsOfLivesSoFar, NoLinesTellFirst, BootTells, RunTells, PollTells, PacketTells, NoteTells}
 use Rattle.kernel_laws.proofs.Resting.{numbered_listed, first_rests}
-use Rattle.kernel_laws.proofs.Standing.{told_more, line_quiet, needs_poll_quiet, poll_quiet}
-use Rattle.kernel_laws.proofs.BodyCalls.{Leads, AreTold, from, bind, either, goes, still, start_led, calls_told}
+use Rattle.kernel_laws.proofs.Standing.{IsQuiet, told_more, line_quiet, needs_poll_quiet, poll_quiet}
+use Rattle.kernel_laws.proofs.EachStep.{Lead, AreRunSteps, kernel_led, boot_led}
+use Rattle.kernel_laws.proofs.BodyCalls.{Keeps, Stops, chain, quiet_keeps, Leads, AreTold, start_led, calls_told}
 
 module _ (program : Tree) (mote p : ℕ) (code : Code) (is_code : slice_get program.codes p ≡ Some code) (apart : IsQuietApart code) where
   -- boots and kernel runs
   module _ (earlier : List Line) (calls : Calls) (are : AreTold program mote p code earlier calls) where
-    abbrev L : (A : Type 0) → State → Outcome A → Type 0
-    L A s o = Leads program mote p code earlier A s o
+    abbrev K : State → State → Type 0
+    K s t = Keeps program mote p code earlier s t
 
-    polls_led : (ms : List Member) (s : State) → L (Unit {0}) s (walk_polls calls ms s)
-    unfolding poll_turn_of
-    polls_led [] s = still program mote p code earlier s tt
-    polls_led (m ∷ ms) s =
-        bind program mote p code earlier s _ _ (either program mote p code earlier s _ _ _ (from program mote p code earlier s _ _ (needs_poll_quiet p s m.process false) (are.call _ m.process (told Poll 0))) (still program mote p code earlier s tt)) (λ a t. polls_led ms t)
+    abbrev S : State → State → Type 0
+    S s t = Stops program mote p code earlier s t
 
-    polls_due_led : (s : State) → L (Unit {0}) s (polls_due_of calls s)
-    unfolding polls_due_of polls_of
-    polls_due_led s = either program mote p code earlier s s.poll_requested _ _ (from program mote p code earlier s _ _ refl (polls_led s.members _)) (still program mote p code earlier s tt)
+    quietly : (s t : State) → IsQuiet p s t → K s t
+    quietly s t e = quiet_keeps program mote p code earlier s t e
 
-    give_led : (s : State) (x : Posted) (q : Proc) (there : Bool) → L (Unit {0}) s (give_of calls s x q there)
-    unfolding give_of write_of
-    give_led s x q there =
-        either program mote p code earlier s there _ _ (from program mote p code earlier s _ _ (line_quiet p s (what.Take x.serial q) refl) (are.call _ q x.event)) (goes program mote p code earlier s tt _ (line_quiet p s (what.Drop x.serial q) refl))
+    run_steps : AreRunSteps K S (chain program mote p code earlier)
+    run_steps = record {
+      unrequested = λ s. quietly s _ refl;
+      cleared = λ s q. quietly s _ (needs_poll_quiet p s q false);
+      front = λ s. quietly s _ refl;
+      takes = λ s n q. quietly s _ (line_quiet p s (what.Take n q) refl);
+      drops = λ s n q. quietly s _ (line_quiet p s (what.Drop n q) refl);
+    }
 
-    walk_broadcast_led : (x : Posted) (ms : List Member) (s : State) → L (Unit {0}) s (walk_broadcast calls x ms s)
-    unfolding visit_of
-    walk_broadcast_led x [] s = still program mote p code earlier s tt
-    walk_broadcast_led x (m ∷ ms) s =
-        bind program mote p code earlier s _ _ (bind program mote p code earlier s _ _ (polls_due_led s) (λ a t. give_led t x m.process (is_on_list t m))) (λ a t. walk_broadcast_led x ms t)
+    run_leads : (s : State) → Lead K S ℕ s (kernel_of calls s)
+    run_leads s = kernel_led K S (chain program mote p code earlier) run_steps calls are.call s
 
-    target_led : (target : Target) (s : State) (x : Posted) → L (Unit {0}) s (deliver_to target calls s x)
-    target_led (One q) s x = give_led s x q (is_listed s q)
-    target_led All s x = walk_broadcast_led x s.members s
-
-    front_led : (q : List Posted) (s : State) → L (Unit {0}) s (deliver_front calls q s)
-    unfolding deliver_of
-    front_led [] s = still program mote p code earlier s tt
-    front_led (x ∷ q) s = from program mote p code earlier s (record s { queue = without_front s.queue }) _ refl (target_led x.target _ x)
-
-    kernel_led : (s : State) → L ℕ s (kernel_of calls s)
-    unfolding kernel_of
-    kernel_led s =
-        bind program mote p code earlier s _ _ (polls_due_led s) (λ a t. bind program mote p code earlier t _ _ (front_led t.queue.events t) (λ b u. still program mote p code earlier u _))
-
-    starts_led : (ps : List Proc) (s : State) → L (Unit {0}) s (starts_of calls ps s)
-    starts_led [] s = still program mote p code earlier s tt
-    starts_led (q ∷ ps) s = bind program mote p code earlier s _ _ (start_led program mote p code earlier is_code apart calls are s q) (λ a t. starts_led ps t)
-
-    boot_led : (s : State) → L ℕ s (boot_of calls s)
-    unfolding boot_of
-    boot_led s = bind program mote p code earlier s _ _ (starts_led (Etimer ∷ Ctimer ∷ Radio ∷ map Own s.program.autostart) s) (λ a t. still program mote p code earlier t (left_of t))
+    boot_leads : (s : State) → Lead K S ℕ s (boot_of calls s)
+    boot_leads s = boot_led K S (chain program mote p code earlier) calls (start_led program mote p code earlier is_code apart calls are) s
 
 -- between the calls of a kernel
 
@@ -144,13 +112,13 @@ pub run_tells : RunTells
 unfolding run_given
 run_tells program mote p code earlier m moment before sends is h =
     let told = starts_and_prints (Own p) earlier in
-    unless_told program mote p code earlier m before sends _ m.halted refl h (λ on. given_told program mote p code earlier m moment before sends _ (h.going on) (kernel_led program mote p code is.is_code is.quiet told (calls_of (most_units + 1)) (calls_told program mote p code told is.is_code is.quiet (most_units + 1)) (begun m moment before sends)))
+    unless_told program mote p code earlier m before sends _ m.halted refl h (λ on. given_told program mote p code earlier m moment before sends _ (h.going on) (run_leads program mote p code is.is_code is.quiet told (calls_of (most_units + 1)) (calls_told program mote p code told is.is_code is.quiet (most_units + 1)) (begun m moment before sends)))
 
 pub boot_tells : BootTells
 unfolding boot_given
 boot_tells program mote p code earlier m moment before sends is h =
     let told = starts_and_prints (Own p) earlier in
-    unless_told program mote p code earlier m before sends _ m.halted refl h (λ on. given_told program mote p code earlier m moment before sends _ (h.going on) (boot_led program mote p code is.is_code is.quiet told (calls_of (most_units + 1)) (calls_told program mote p code told is.is_code is.quiet (most_units + 1)) (begun m moment before sends)))
+    unless_told program mote p code earlier m before sends _ m.halted refl h (λ on. given_told program mote p code earlier m moment before sends _ (h.going on) (boot_leads program mote p code is.is_code is.quiet told (calls_of (most_units + 1)) (calls_told program mote p code told is.is_code is.quiet (most_units + 1)) (begun m moment before sends)))
 
 pub poll_tells : PollTells
 unfolding with_poll

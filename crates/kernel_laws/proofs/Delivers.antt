@@ -13,7 +13,7 @@ use Rattle.program_tree.specs.declared.event.Proc.{Proc}
 use Rattle.program_tree.specs.declared.event.Proc.TheVariants.{Own, Etimer, Ctimer, Radio}
 use Rattle.program_tree.specs.declared.event.Target.{Target}
 use Rattle.program_tree.specs.declared.event.Target.TheVariants.{One, All as ToEach}
-use Rattle.program_tree.specs.declared.event.SystemEvent.TheVariants.{Init, Poll, Exit}
+use Rattle.program_tree.specs.declared.event.SystemEvent.TheVariants.{Init, Exit}
 use Rattle.program_tree.specs.Events.{system_number}
 use Rattle.event_queue.specs.declared.queue.Posted.{Posted}
 use Rattle.trace_lines.specs.declared.line.Line.{Line}
@@ -21,20 +21,20 @@ use Rattle.trace_lines.specs.declared.line.What.TheVariants as what
 use Rattle.process_kernel.specs.declared.process.Member.{Member}
 use Rattle.process_kernel.specs.Members.{place_of, holds_member, stands_in}
 use Rattle.process_kernel.specs.State.{State, Outcome, Ends, Goes, ◌>>=◌}
-use Rattle.process_kernel.specs.Processes.{has_process, is_busy, is_listed, is_on_list}
+use Rattle.process_kernel.specs.Processes.{with_needs_poll, has_process, is_busy, is_listed, is_on_list}
 use Rattle.process_kernel.specs.ProcessList.{numbered_from, enlist_of}
 use Rattle.process_kernel.specs.Writes.{with_line, write_of}
 use Rattle.process_kernel.specs.Calls.{Calls, told}
-use Rattle.process_kernel.specs.Polls.{walk_polls, polls_of, polls_due_of, poll_turn_of}
+use Rattle.process_kernel.specs.Polls.{polls_due_of}
 use Rattle.process_kernel.specs.Delivery.{give_of, visit_of, walk_broadcast, deliver_to, deliver_of}
 use Rattle.process_kernel.specs.Run.{begun_of, deliver_front, kernel_of}
 use Rattle.process_kernel.specs.Start.{start_of}
 use Rattle.process_kernel.specs.Boot.{starts_of, boot_of}
-use Rattle.kernel_laws.specs.Own.{FitsTarget}
+use Rattle.kernel_laws.specs.Own.{IsOwn, FitsTarget}
 use Rattle.kernel_laws.specs.Seen.{seen_lines, seen_member, seen_posted, view_of}
 use Rattle.kernel_laws.specs.Going.{SystemStays}
-use Rattle.kernel_laws.proofs.Steps.{Reach, quiet, reaches_bind, reaches_from, reaches_if, goes_still, needs_poll_quiet, listed_alike, lines_joined, enlists, first_sound}
-use Rattle.kernel_laws.proofs.CallSteps.{AreRuns, fits_other, start_runs}
+use Rattle.kernel_laws.proofs.EachStep.{enlist_led, start_led, polls_due_led}
+use Rattle.kernel_laws.proofs.Steps.{GoesOn, Stops, Reach, chain, quiet, steps, listed_alike, lines_joined, first_sound, AreRuns, fits_other}
 
 -- the machine that the kernel is, in the midst of a walk: the serial of its event and the members still to come
 abbrev pub machine_of : State → ℕ → List Member → DeliveryMachine
@@ -135,15 +135,11 @@ unfolding begun_of
 begun_sound s moment h = record { stays = listed_anew 0 s.members Etimer ∙ h.stays; fits = h.fits }
 
 module _ (calls : Calls) (are : AreRuns calls) where
-  polls_run : (ms : List Member) (s : State) → Reach (Unit {0}) s (walk_polls calls ms s)
-  unfolding poll_turn_of
-  polls_run [] s = goes_still _ s tt
-  polls_run (m ∷ ms) s =
-      reaches_bind _ _ s _ _ (reaches_if _ s _ _ _ (reaches_from _ (quiet s _ (needs_poll_quiet s m.process false)) (are.call _ m.process (told Poll 0) (fits_other m.process _ refl))) (goes_still _ s tt)) (λ a t. polls_run ms t)
-
   pub polls_due_run : (s : State) → Reach (Unit {0}) s (polls_due_of calls s)
-  unfolding polls_due_of polls_of
-  polls_due_run s = reaches_if _ s s.poll_requested _ _ (reaches_from _ (quiet s (record s { poll_requested = false }) (record { lines = refl; members = refl; started = refl; queue = refl })) (polls_run s.members _)) (goes_still _ s tt)
+  unfolding with_needs_poll
+  polls_due_run s =
+      polls_due_led GoesOn Stops chain (λ t. quiet t _ (record { lines = refl; members = refl; started = refl; queue = refl })) (λ t p. quiet t _ (record { lines = refl; members = refl; started = refl; queue = refl })) calls
+      (λ t p. are.call t p _ (fits_other p _ refl)) s
 
   -- the line of an event that reaches a process, and the call that follows it
   given_run : (A : Type 0) (m : DeliveryMachine) (s : State) (x : Posted) (p : Proc) (there : Bool) (walked : ℕ) (coming : List Member) (g : Unit {0} → State → Outcome A) → FitsTarget (One p) x.event.number → SystemStays s →
@@ -197,7 +193,7 @@ module _ (calls : Calls) (are : AreRuns calls) where
 
   starts_run : (ps : List Proc) (s : State) (walked : ℕ) → SystemStays s → RestsAt (machine_of s walked []) s (starts_of calls ps s)
   starts_run [] s walked h = rests_now s walked h
-  starts_run (p ∷ ps) s walked h = rests_after (Unit {0}) (Unit {0}) s walked [] _ _ (start_runs calls are s p) h (λ a t i. starts_run ps t walked i)
+  starts_run (p ∷ ps) s walked h = rests_after (Unit {0}) (Unit {0}) s walked [] _ _ (start_led GoesOn Stops chain IsOwn steps calls are s p) h (λ a t i. starts_run ps t walked i)
 
   -- the etimer process starts on an empty list
   pub first_start : (s : State) → is_busy s Etimer ≡ false → has_process s Etimer ≡ true → is_listed s Etimer ≡ false → start_of calls s Etimer ≡ (enlist_of s Etimer >>= λ _ s1. calls.call s1 Etimer (told Init 0))
@@ -212,7 +208,7 @@ module _ (calls : Calls) (are : AreRuns calls) where
       let f = first_start s b t l in
       let others = Ctimer ∷ Radio ∷ map Own s.program.autostart in
       let r : RestsAt (machine_of s walked []) s ((enlist_of s Etimer >>= λ _ s1. calls.call s1 Etimer (told Init 0)) >>= λ _ s1. starts_of calls others s1) =
-      rests_twice (Unit {0}) (Unit {0}) (Unit {0}) (machine_of s walked []) s (enlist_of s Etimer) _ _ (rests_first (Unit {0}) (Unit {0}) s walked [] (enlist_of s Etimer) _ (enlists s Etimer l) (λ a t g i.
+      rests_twice (Unit {0}) (Unit {0}) (Unit {0}) (machine_of s walked []) s (enlist_of s Etimer) _ _ (rests_first (Unit {0}) (Unit {0}) s walked [] (enlist_of s Etimer) _ (enlist_led GoesOn Stops chain IsOwn steps s Etimer b t l) (λ a t g i.
       rests_after (Unit {0}) (Unit {0}) t walked [] _ _ (are.call t Etimer (told Init 0) (fits_other Etimer _ refl)) (first_sound s a t q g) (λ b u j. starts_run others u walked j))) in
       let r' : RestsAt (machine_of s walked []) s (start_of calls s Etimer >>= λ _ s1. starts_of calls others s1) = rw f r in
       rests_then (Unit {0}) ℕ (machine_of s walked []) s _ _ r' (λ a t w i. rests_now t w i)

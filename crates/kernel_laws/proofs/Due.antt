@@ -29,7 +29,7 @@ use Rattle.kernel_laws.specs.Polled.{TellsOfPost}
 use Rattle.kernel_laws.specs.Poll.{PollWaits, CanBePolled, members_before}
 use Rattle.kernel_laws.specs.Due.{IsDueFor, ForgetsNone, IsAtRest, HasTelling, TellsDue, PollsEtimer, BootForgetsNone, RunForgetsNone, RunTellsDue}
 use Rattle.kernel_laws.proofs.Packets.{IfGoes}
-use Rattle.kernel_laws.proofs.CallSteps.{calls_run}
+use Rattle.kernel_laws.proofs.Steps.{calls_run}
 use Rattle.kernel_laws.proofs.Delivers.{RestsAt, machine_of, listed_anew, begun_sound}
 use Rattle.kernel_laws.proofs.Motes.{run_rests, boot_rests}
 use Rattle.kernel_laws.proofs.Traces.{no_lines_first}
@@ -37,8 +37,8 @@ use Rattle.kernel_laws.proofs.InStep as tables
 use Rattle.kernel_laws.proofs.Resting as resting
 use Rattle.kernel_laws.proofs.Stamps as stamps
 use Rattle.kernel_laws.proofs.StampedCalls as stamped
-use Rattle.kernel_laws.proofs.EachStep.{Whoever, Lead, lead_from, calls_led, polls_led, front_led}
-use Rattle.kernel_laws.proofs.Watch.{Watches, Whatever, chain, steps}
+use Rattle.kernel_laws.proofs.EachStep.{Whatever, Lead, lead_from, calls_led, polls_led, front_led}
+use Rattle.kernel_laws.proofs.Watch.{Watches, chain, steps}
 use Rattle.kernel_laws.proofs.Passes.{Serves, call_serves}
 use Rattle.process_kernel.specs.declared.process.ProcessState.TheVariants.{Off}
 use Rattle.kernel_laws.proofs.Alive.{alive_has}
@@ -257,12 +257,12 @@ module _ (calls : Calls) (are : AreWatched calls) (written : stamped.AreKept cal
       let c : Comes true moment k.member a.midst = subst (IfGoes (Comes true moment k.member)) a.first (comes calls are true moment k.member s e h k.is_it k.holds (inr needs_poll)) in
       let m = still_needs_poll s a.midst a.first needs_poll in
       let call = sym (turn_calls Etimer calls a.midst k.member k.is_it c.there m) ∙ b.first in
-      let i = adds_by _ a.midst b.midst tt _ call (lead_from stamps.Keeps stamps.Keeps stamps.chain _ a.midst _ _ (stamps.run_steps.needs_poll a.midst Etimer) (written.call _ Etimer (told Poll 0) (λ q. tt))) in
+      let i = adds_by _ a.midst b.midst tt _ call (lead_from stamps.Keeps stamps.Keeps stamps.chain _ a.midst _ _ (stamps.run_steps.cleared a.midst Etimer) (written.call _ Etimer (told Poll 0) (λ q. tt))) in
       record {
         at_turn = a.midst;
         comes = a.first;
-        tells = tells_within moment s a.midst b.midst t (adds_by _ s a.midst tt _ a.first (polls_led stamps.Keeps stamps.Keeps stamps.chain Whoever stamps.steps stamps.run_steps calls written (members_before Etimer s.members) s)) i
-            (adds_by _ b.midst t tt _ b.second (polls_led stamps.Keeps stamps.Keeps stamps.chain Whoever stamps.steps stamps.run_steps calls written k.after b.midst)) (served moment a.midst b.midst c.now_is c.stands call i);
+        tells = tells_within moment s a.midst b.midst t (adds_by _ s a.midst tt _ a.first (polls_led stamps.Keeps stamps.Keeps stamps.chain stamps.run_steps.unrequested stamps.run_steps.cleared calls (λ v q. written.call v q _ (λ x. tt)) (members_before Etimer s.members) s)) i
+            (adds_by _ b.midst t tt _ b.second (polls_led stamps.Keeps stamps.Keeps stamps.chain stamps.run_steps.unrequested stamps.run_steps.cleared calls (λ v q. written.call v q _ (λ x. tt)) k.after b.midst)) (served moment a.midst b.midst c.now_is c.stands call i);
       }
 
   tells_on : (moment : ℕ) (u s t v : State) → TellsDue moment u s.lines t.lines → Adds t v → TellsDue moment u s.lines v.lines
@@ -280,7 +280,7 @@ module _ (calls : Calls) (are : AreWatched calls) (written : stamped.AreKept cal
       let a = through _ _ _ _ _ _ goes in
       let b = through _ _ _ _ _ _ a.second in
       let p = polled moment (record s { poll_requested = false }) a.midst e (unrequested true s h) w.needs_poll (sym (polls_are calls s w.poll_requested) ∙ a.first) in
-      let i = adds_by _ a.midst b.midst tt _ b.first (front_led stamps.Keeps stamps.Keeps stamps.chain Whoever stamps.steps stamps.run_steps calls written a.midst.queue.events a.midst) in
+      let i = adds_by _ a.midst b.midst tt _ b.first (front_led stamps.Keeps stamps.Keeps stamps.chain stamps.run_steps calls (λ v q e. written.call v q e (λ x. tt)) a.midst.queue.events a.midst) in
       let last : b.midst.lines ≡ t.lines = cc in
       record { at_turn = p.at_turn; comes = p.comes; tells = subst (λ l. TellsDue moment p.at_turn s.lines l) last (tells_on moment p.at_turn (record s { poll_requested = false }) a.midst b.midst p.tells i) }
 

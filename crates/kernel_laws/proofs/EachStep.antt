@@ -1,20 +1,20 @@
 -- An invariant of each small step of the kernel is one of each call, however deep calls nest, and of each boot and
--- kernel run.
-use Rattle.std.proofs.Common.{ℕ, zero, suc, ◌≡◌, Bool, true, false, not, ◌&&◌, ◌||◌, ◌==◌, nat_lt, if◌then◌else◌, List, [], ◌∷◌, Option, Some, None, slice_get, refl, arith, map}
+-- kernel run. A call and an exit are brackets around the steps within them.
+use Rattle.std.proofs.Common.{ℕ, zero, suc, ◌≡◌, Bool, true, false, not, ◌&&◌, ◌||◌, ◌==◌, nat_lt, if◌then◌else◌, List, [], ◌∷◌, Option, Some, None, slice_get, refl, sym, ap, ◌∙◌, subst, ◌++◌, ◌+◌, ◌-◌, ◌^◌, nat_le, length, arith, map}
 use Rattle.std.proofs.lemmas.Bool.Decides.{nat_tests}
 use Rattle.program_tree.specs.declared.event.Proc.{Proc}
 use Rattle.program_tree.specs.declared.event.Proc.TheVariants.{Own, Etimer, Ctimer, Radio}
 use Rattle.program_tree.specs.declared.event.Target.{Target}
 use Rattle.program_tree.specs.declared.event.Target.TheVariants.{One, All as ToEach}
 use Rattle.program_tree.specs.declared.event.Event.{Event}
-use Rattle.program_tree.specs.declared.event.SystemEvent.TheVariants.{Poll, Exit, Exited, Timer}
+use Rattle.program_tree.specs.declared.event.SystemEvent.TheVariants.{Poll, Exit, Exited, Timer, Packet}
 use Rattle.program_tree.specs.Events.{system_number}
 use Rattle.program_tree.specs.declared.timer.Timer.{Timer as TimerOfProgram}
 use Rattle.program_tree.specs.Code.{Code}
-use Rattle.event_queue.specs.Queue.{without_front}
+use Rattle.event_queue.specs.Queue.{without_front, with_posted}
 use Rattle.event_queue.specs.declared.queue.Posted.{Posted}
 use Rattle.mote_timers.specs.Timer.{is_due}
-use Rattle.mote_timers.specs.TimerLists.{timer_at, with_timer, set_timer, reset_timer, restart_timer, stop_timer, purge_timers}
+use Rattle.mote_timers.specs.TimerLists.{TimerLists, timer_at, with_timer, set_timer, reset_timer, restart_timer, stop_timer, purge_timers}
 use Rattle.protothread.specs.declared.part.Part.TheVariants.{OnPoll, OnExit, Callback}
 use Rattle.protothread.specs.declared.answer.PtState.{PtState}
 use Rattle.protothread.specs.declared.answer.PtState.TheVariants.{Yielded, Ended}
@@ -29,8 +29,8 @@ use Rattle.process_kernel.specs.declared.process.ProcessState.TheVariants.{Runni
 use Rattle.process_kernel.specs.declared.process.Member.{Member}
 use Rattle.process_kernel.specs.Members.{is_same}
 use Rattle.process_kernel.specs.State.{State, Outcome, Went, Ends, Goes, ◌>>=◌}
-use Rattle.process_kernel.specs.Processes.{has_process, is_busy, is_listed, is_running, is_on_list, with_state, with_needs_poll}
-use Rattle.process_kernel.specs.ProcessList.{put_remainder, with_fresh_body, enlist_of, exiting_of, leave_of}
+use Rattle.process_kernel.specs.Processes.{is_alive, process_state, has_process, is_busy, is_listed, is_running, is_on_list, with_state, with_exiting, with_needs_poll}
+use Rattle.process_kernel.specs.ProcessList.{put_remainder, fresh_at, with_fresh_body, enlist_of, exiting_of, unlisted_of, leave_of}
 use Rattle.process_kernel.specs.Posts.{post_of, poll_of, send_of}
 use Rattle.process_kernel.specs.Semaphores.{take_of, signal_of}
 use Rattle.process_kernel.specs.TimerOperations.{has_timer, timer_is_set, set_of, reset_of, restart_of, stop_of}
@@ -49,15 +49,52 @@ use Rattle.process_kernel.specs.Thread.{stepped_with, stepped_of}
 use Rattle.process_kernel.specs.Looks.{looks_of}
 use Rattle.process_kernel.specs.Polls.{walk_polls, polls_of, polls_due_of, poll_turn_of}
 use Rattle.process_kernel.specs.Delivery.{give_of, visit_of, walk_broadcast, deliver_to, deliver_of}
-use Rattle.process_kernel.specs.Run.{left_of, deliver_front, kernel_of}
+use Rattle.process_kernel.specs.Run.{deliver_front, kernel_of}
 use Rattle.process_kernel.specs.Boot.{starts_of, boot_of}
 use Rattle.kernel_laws.specs.Own.{IsOwn, FitsTarget}
-use Rattle.kernel_laws.proofs.Packets.{IfGoes}
+use Rattle.kernel_laws.proofs.Packets.{IfGoes, Handed, hand_tells}
 use Rattle.kernel_laws.proofs.Fits.{FitsOp, FitsStep, fits_advanced}
 
 -- any process may be exited
 abbrev pub Whoever : Proc → Type 0
 Whoever p = Unit {0}
+
+-- no claim is made about halted motes
+abbrev pub Whatever : State → State → Type 0
+Whatever s t = Unit {0}
+
+-- the states that an accepted post, a packet that is sent, a start and the end of an exit leave
+
+abbrev pub with_event : State → Target → Event → State
+with_event s t e = with_line (record s { queue = with_posted s.queue t e }) (what.Post s.queue.accepted t e.number e.word)
+
+abbrev pub with_sent : State → (value : ℕ) → State
+with_sent s value =
+    with_line (record s {
+      sends = s.sends ++ record { at = s.moment; sender = s.mote; number = s.sent; value = value } ∷ [];
+      sent = s.sent + 1;
+    }) (what.Send s.sent value)
+
+abbrev pub fresh_remainders : State → Proc → List Remainder
+fresh_remainders s (Own p) = fresh_at s.program.codes s.remainders p
+fresh_remainders s p = s.remainders
+
+abbrev pub with_started : State → Proc → State
+with_started s p =
+    with_line (record (with_state (record s {
+      members = record { process = p; incarnation = s.started } ∷ s.members;
+      started = s.started + 1;
+    }) p Running) { remainders = fresh_remainders s p }) (what.Start p)
+
+abbrev pub without_process : State → Proc → State
+without_process s p = with_line (unlisted_of (with_exiting s p false) p) (what.Leave p)
+
+pub enlist_is : (s : State) (p : Proc) → enlist_of s p ≡ Goes tt (with_started s p)
+unfolding enlist_of write_of with_state
+enlist_is s (Own p) = refl
+enlist_is s Etimer = refl
+enlist_is s Ctimer = refl
+enlist_is s Radio = refl
 
 -- Two relations from a state to a later one: one from which the kernel continues, and one in which the mote has halted.
 module _ (Keeps Stops : State → State → Type 0) where
@@ -97,6 +134,10 @@ module _ (Keeps Stops : State → State → Type 0) where
     lead_knowing A B P s (Ends t) f h k go = record { leads = h.leads }
     lead_knowing A B P s (Goes a t) f h k go = lead_from B s t (f a t) h.leads (go a t k)
 
+    pub bind_nested : (A B C : Type 0) (s : State) (o : Outcome A) (h : A → State → Outcome B) (g : B → State → Outcome C) → Lead C s ((o >>= h) >>= g) → Lead C s (o >>= λ a t. (h a t >>= g))
+    bind_nested A B C s (Ends t) h g r = r
+    bind_nested A B C s (Goes a t) h g r = r
+
     pub bind_twice : (A B C : Type 0) (s : State) (o : Outcome A) (h : A → State → Outcome B) (g : B → State → Outcome C) → Lead C s (o >>= λ a t. (h a t >>= g)) → Lead C s ((o >>= h) >>= g)
     bind_twice A B C s (Ends t) h g r = r
     bind_twice A B C s (Goes a t) h g r = r
@@ -127,29 +168,143 @@ module _ (Keeps Stops : State → State → Type 0) where
     keeps_cases s true t u h i = h refl
     keeps_cases s false t u h i = i refl
 
-    -- the radio's poll, if it is a chain of small steps
-    module _ (ring : (s : State) (packets : List Arrival) → Keeps s (record s { ring = packets })) (posts : (s : State) (t : Target) (e : Event) → FitsTarget t e.number → Lead Bool s (post_of s t e)) (deaf : (s : State) (sender number : ℕ) → Keeps s (with_line s (what.Deaf sender number))) where
-      hand_led : (receiver : Option ℕ) (s : State) (a : Arrival) → Lead (Unit {0}) s (hand_to receiver s a)
-      unfolding hand_to write_of
-      hand_led (Some p) s a = lead_bind _ _ s _ _ (posts s _ (packet_of a) (λ q. absurd (grind (arith, nat_tests)))) (λ full t. lead_still _ t tt)
-      hand_led None s a = lead_goes _ s tt _ (deaf s a.sender a.number)
+    -- A post, a packet and a timer that is set, if what they are made of is a step.
 
-      pub empty_led : (receiver : Option ℕ) (packets : List Arrival) (s : State) → Lead (Unit {0}) s (empty_ring receiver packets s)
-      empty_led receiver [] s = lead_still _ s tt
-      empty_led receiver (a ∷ later) s = lead_bind _ _ s _ _ (lead_from _ s _ _ (ring s later) (hand_led receiver _ a)) (λ u t. empty_led receiver later t)
+    pub lead_post : (s : State) (t : Target) (e : Event) → Stops s (halted_of s) → Keeps s (with_line s (what.Full t e.number e.word)) → Keeps s (with_event s t e) → Lead Bool s (post_of s t e)
+    unfolding post_of write_of
+    lead_post s t e halts full accepted =
+        lead_if _ s (nat_le (2 ^ 62) s.queue.accepted) _ _ (record { leads = halts })
+        (lead_if _ s (nat_le s.queue.capacity (length s.queue.events)) _ _ (record { leads = full }) (record { leads = accepted }))
+
+    pub lead_send : (s : State) (v : ℕ) → Stops s (halted_of s) → Keeps s (with_sent s v) → Lead (Unit {0}) s (send_of s v)
+    unfolding send_of write_of
+    lead_send s v halts sent = lead_if _ s (nat_le (2 ^ 62) s.sent) _ _ (record { leads = halts }) (record { leads = sent })
+
+    pub keeps_poll : (s : State) (p : Proc) → Keeps s (record (with_needs_poll s p true) { poll_requested = true }) → Keeps s (poll_of s p)
+    unfolding poll_of
+    keeps_poll s p polled = keeps_if s (is_alive (process_state s p)) _ s polled (chain.same s)
+
+    pub keeps_set : (s : State) (timers : TimerLists) (timer : ℕ) → ((callbacks : List ℕ) → Keeps s (record s { timers = timers; callbacks = callbacks })) → ((t : State) → Keeps t (poll_of t Etimer))
+        → Keeps s (timer_is_set (record s { timers = timers }) timer)
+    unfolding timer_is_set
+    keeps_set s timers timer changed polled = chain.joined s _ _ (changed _) (polled _)
+
+    -- the radio's poll: the packet in front leaves the ring, and its line is written
+    pub record AreRingSteps : Type 0 where
+      pub accepted : (s : State) (a : Arrival) (later : List Arrival) (p : ℕ) → s.ring ≡ a ∷ later → s.program.receiver ≡ Some p → Keeps s (with_event (record s { ring = later }) (One (Own p)) (packet_of a))
+      pub refused : (s : State) (a : Arrival) (later : List Arrival) (p : ℕ) → s.ring ≡ a ∷ later → s.program.receiver ≡ Some p → Keeps s (with_line (record s { ring = later }) (what.Full (One (Own p)) (system_number Packet) a.value))
+      pub deaf : (s : State) (a : Arrival) (later : List Arrival) → s.ring ≡ a ∷ later → s.program.receiver ≡ None → Keeps s (with_line (record s { ring = later }) (what.Deaf a.sender a.number))
+      pub halts : (s : State) (later : List Arrival) → Stops s (halted_of (record s { ring = later }))
+
+    module _ (steps : AreRingSteps) where
+      hand_led : (receiver : Option ℕ) (a : Arrival) (later : List Arrival) (s : State) → s.ring ≡ a ∷ later → s.program.receiver ≡ receiver → Lead (Unit {0}) s (hand_to receiver (record s { ring = later }) a)
+      unfolding hand_to post_of write_of
+      hand_led (Some p) a later s ring r =
+          lead_bind _ _ s _ _ (lead_if Bool s (nat_le (2 ^ 62) s.queue.accepted) _ _ (record { leads = steps.halts s later })
+          (lead_if Bool s (nat_le s.queue.capacity (length s.queue.events)) _ _ (record { leads = steps.refused s a later p ring r })
+          (record { leads = steps.accepted s a later p ring r }))) (λ full t. lead_still _ t tt)
+      hand_led None a later s ring r = record { leads = steps.deaf s a later ring r }
+
+      pub empty_led : (receiver : Option ℕ) (packets : List Arrival) (s : State) → s.ring ≡ packets → s.program.receiver ≡ receiver → Lead (Unit {0}) s (empty_ring receiver packets s)
+      empty_led receiver [] s ring r = lead_still _ s tt
+      empty_led receiver (a ∷ later) s ring r =
+          lead_knowing _ _ (Handed receiver (record s { ring = later }) a) s _ _ (hand_led receiver a later s ring r) (hand_tells receiver (record s { ring = later }) a)
+          (λ u t h. empty_led receiver later t h.0.ring (ap (λ p. p.receiver) h.0.program ∙ r))
+
+    -- the polls, if a call with POLL is made of steps
+    module _ (unrequested : (s : State) → Keeps s (record s { poll_requested = false })) (cleared : (s : State) (p : Proc) → Keeps s (with_needs_poll s p false)) (calls : Calls)
+        (polled : (s : State) (p : Proc) → Lead (Unit {0}) s (calls.call s p (told Poll 0))) where
+      pub polls_led : (ms : List Member) (s : State) → Lead (Unit {0}) s (walk_polls calls ms s)
+      unfolding poll_turn_of
+      polls_led [] s = lead_still _ s tt
+      polls_led (m ∷ ms) s =
+          lead_bind _ _ s _ _ (lead_if _ s _ _ _ (lead_from _ s _ _ (cleared s m.process) (polled _ m.process)) (lead_still _ s tt)) (λ a t. polls_led ms t)
+
+      pub polls_due_led : (s : State) → Lead (Unit {0}) s (polls_due_of calls s)
+      unfolding polls_due_of polls_of
+      polls_due_led s = lead_if _ s s.poll_requested _ _ (lead_from _ s _ _ (unrequested s) (polls_led s.members _)) (lead_still _ s tt)
+
+    -- the steps of boots and kernel runs outside any call
+    pub record AreRunSteps : Type 0 where
+      pub unrequested : (s : State) → Keeps s (record s { poll_requested = false })
+      pub cleared : (s : State) (p : Proc) → Keeps s (with_needs_poll s p false)
+      pub front : (s : State) → Keeps s (record s { queue = without_front s.queue })
+      pub takes : (s : State) (serial : ℕ) (p : Proc) → Keeps s (with_line s (what.Take serial p))
+      pub drops : (s : State) (serial : ℕ) (p : Proc) → Keeps s (with_line s (what.Drop serial p))
+
+    -- boots and kernel runs, if each call is made of steps
+    module _ (steps : AreRunSteps) (calls : Calls) (called : (s : State) (p : Proc) (e : Event) → Lead (Unit {0}) s (calls.call s p e)) where
+      due_polls_led : (s : State) → Lead (Unit {0}) s (polls_due_of calls s)
+      due_polls_led s = polls_due_led steps.unrequested steps.cleared calls (λ t p. called t p _) s
+
+      pub give_led : (s : State) (x : Posted) (p : Proc) (there : Bool) → Lead (Unit {0}) s (give_of calls s x p there)
+      unfolding give_of write_of
+      give_led s x p there =
+          lead_if _ s there _ _ (lead_from _ s _ _ (steps.takes s x.serial p) (called _ p x.event)) (lead_goes _ s tt _ (steps.drops s x.serial p))
+
+      walk_broadcast_led : (x : Posted) (ms : List Member) (s : State) → Lead (Unit {0}) s (walk_broadcast calls x ms s)
+      unfolding visit_of
+      walk_broadcast_led x [] s = lead_still _ s tt
+      walk_broadcast_led x (m ∷ ms) s =
+          lead_bind _ _ s _ _ (lead_bind _ _ s _ _ (due_polls_led s) (λ a t. give_led t x m.process (is_on_list t m))) (λ a t. walk_broadcast_led x ms t)
+
+      target_led : (target : Target) (s : State) (x : Posted) → Lead (Unit {0}) s (deliver_to target calls s x)
+      target_led (One p) s x = give_led s x p (is_listed s p)
+      target_led ToEach s x = walk_broadcast_led x s.members s
+
+      pub front_led : (q : List Posted) (s : State) → Lead (Unit {0}) s (deliver_front calls q s)
+      unfolding deliver_of
+      front_led [] s = lead_still _ s tt
+      front_led (x ∷ q) s = lead_from _ s _ _ (steps.front s) (target_led x.target _ x)
+
+      pub kernel_led : (s : State) → Lead ℕ s (kernel_of calls s)
+      unfolding kernel_of
+      kernel_led s =
+          lead_bind _ _ s _ _ (due_polls_led s) (λ a t. lead_bind _ _ t _ _ (front_led t.queue.events t) (λ b u. lead_still _ u _))
+
+    pub starts_led : (calls : Calls) → ((s : State) (p : Proc) → Lead (Unit {0}) s (start_of calls s p)) → (ps : List Proc) (s : State) → Lead (Unit {0}) s (starts_of calls ps s)
+    starts_led calls started [] s = lead_still _ s tt
+    starts_led calls started (p ∷ ps) s = lead_bind _ _ s _ _ (started s p) (λ a t. starts_led calls started ps t)
+
+    pub boot_led : (calls : Calls) → ((s : State) (p : Proc) → Lead (Unit {0}) s (start_of calls s p)) → (s : State) → Lead ℕ s (boot_of calls s)
+    unfolding boot_of
+    boot_led calls started s =
+        lead_bind _ _ s _ _ (starts_led calls started (Etimer ∷ Ctimer ∷ Radio ∷ map Own s.program.autostart) s) (λ a t. lead_still _ t _)
 
     -- and which processes may be exited
     module _ (Leaves : Proc → Type 0) where
-      -- each small step
+      -- The brackets of a call, of an exit, and of the exit of a process that its own call ends: with steps in between,
+      -- they are a step.
+      pub record AreBrackets : Type 0 where
+        pub call : (s t : State) (p : Proc) → is_running s p ≡ true → Keeps (with_state s p Called) t → Keeps s (with_state t p Running)
+        pub call_stops : (s t : State) (p : Proc) → is_running s p ≡ true → Stops (with_state s p Called) t → Stops s t
+        pub exit : (s t : State) (p : Proc) → Leaves p → is_busy s p ≡ false → is_listed s p ≡ true → Keeps (exiting_of s p) t → Keeps s (without_process t p)
+        pub exit_stops : (s t : State) (p : Proc) → Leaves p → is_busy s p ≡ false → is_listed s p ≡ true → Stops (exiting_of s p) t → Stops s t
+        pub last : (s t u : State) (p : Proc) → Leaves p → is_running s p ≡ true → Keeps (with_state s p Called) t → is_listed t p ≡ true → Keeps (exiting_of t p) u → Keeps s (without_process u p)
+        pub last_stops : (s t u : State) (p : Proc) → Leaves p → is_running s p ≡ true → Keeps (with_state s p Called) t → is_listed t p ≡ true → Stops (exiting_of t p) u → Stops s u
+        pub gone : (s t : State) (p : Proc) → is_running s p ≡ true → Keeps (with_state s p Called) t → is_listed t p ≡ false → Keeps s t
+
+      -- if both sides of each bracket are steps
+      pub brackets_of : ((s : State) (p : Proc) → Keeps s (with_state s p Called)) → ((s : State) (p : Proc) → Keeps s (with_state s p Running)) → ((s : State) (p : Proc) → Leaves p → Keeps s (exiting_of s p))
+          → ((s : State) (p : Proc) → Leaves p → Keeps s (without_process s p)) → AreBrackets
+      brackets_of called runs exiting leaves = record {
+        call = λ s t p r k. chain.joined s _ _ (called s p) (chain.joined _ t _ k (runs t p));
+        call_stops = λ s t p r k. chain.ended s _ t (called s p) k;
+        exit = λ s t p l b i k. chain.joined s _ _ (exiting s p l) (chain.joined _ t _ k (leaves t p l));
+        exit_stops = λ s t p l b i k. chain.ended s _ t (exiting s p l) k;
+        last = λ s t u p l r k i h. chain.joined s _ _ (called s p) (chain.joined _ t _ k (chain.joined t _ _ (exiting t p l) (chain.joined _ u _ h (leaves u p l))));
+        last_stops = λ s t u p l r k i h. chain.ended s _ u (called s p) (chain.ended _ t u k (chain.ended t _ u (exiting t p l) h));
+        gone = λ s t p r k i. chain.joined s _ t (called s p) k;
+      }
+
+      -- each small step, and the brackets
       pub record AreSteps : Type 0 where
         pub own : (p : Proc) → IsOwn p → Leaves p
+        pub brackets : AreBrackets
         pub halts : (s : State) → Stops s (halted_of s)
         pub units : (s : State) (n : ℕ) → Keeps s (record s { units = n })
         pub busy : (s : State) (p : Proc) → Keeps s (with_line s (what.Busy p))
         pub prints : (s : State) (p : Proc) (v : ℕ) → Keeps s (with_line s (what.Print p v))
-        pub called : (s : State) (p : Proc) → Keeps s (with_state s p Called)
-        pub runs : (s : State) (p : Proc) → Keeps s (with_state s p Running)
-        pub exiting : (s : State) (p : Proc) → Leaves p → Keeps s (exiting_of s p)
         pub polled : (s : State) (p : Proc) → Keeps s (poll_of s p)
         pub remainders : (s : State) (rs : List Remainder) → Keeps s (record s { remainders = rs })
         pub variables : (s : State) (vs : List (List ℕ)) → Keeps s (record s { variables = vs })
@@ -159,11 +314,11 @@ module _ (Keeps Stops : State → State → Type 0) where
         pub purges : (s : State) (p : Proc) → Keeps s (record s { timers = purge_timers s.timers p })
         pub callbacks : (s : State) (ts : List ℕ) → Keeps s (record s { callbacks = ts })
         pub semaphores : (s : State) (ns : List ℕ) → Keeps s (record s { semaphores = ns })
-        pub posts : (s : State) (t : Target) (e : Event) → FitsTarget t e.number → Lead Bool s (post_of s t e)
-        pub sends : (s : State) (v : ℕ) → Lead (Unit {0}) s (send_of s v)
-        pub enlists : (s : State) (p : Proc) → is_listed s p ≡ false → Lead (Unit {0}) s (enlist_of s p)
-        pub leaves : (s : State) (p : Proc) → Leaves p → Lead (Unit {0}) s (leave_of s p)
-        pub empties : (s : State) → Lead (Unit {0}) s (empty_ring s.program.receiver s.ring s)
+        pub full : (s : State) (t : Target) (e : Event) → Keeps s (with_line s (what.Full t e.number e.word))
+        pub posts : (s : State) (t : Target) (e : Event) → FitsTarget t e.number → Keeps s (with_event s t e)
+        pub sends : (s : State) (v : ℕ) → Keeps s (with_sent s v)
+        pub starts : (s : State) (p : Proc) → is_busy s p ≡ false → has_process s p ≡ true → is_listed s p ≡ false → Keeps s (with_started s p)
+        pub ring : AreRingSteps
 
       -- an event that may come to this process: an exit, only if the process may leave
       abbrev pub Fits : Proc → (number : ℕ) → Type 0
@@ -194,6 +349,15 @@ module _ (Keeps Stops : State → State → Type 0) where
         pub spend_led : (s : State) → Lead (Unit {0}) s (spend_of s)
         unfolding spend_of
         spend_led s = lead_if _ s (s.units == 0) _ _ (lead_halts _ s) (lead_goes _ s tt _ (steps.units s _))
+
+        pub post_led : (s : State) (t : Target) (e : Event) → FitsTarget t e.number → Lead Bool s (post_of s t e)
+        post_led s t e f = lead_post s t e (steps.halts s) (steps.full s t e) (steps.posts s t e f)
+
+        pub send_led : (s : State) (v : ℕ) → Lead (Unit {0}) s (send_of s v)
+        send_led s v = lead_send s v (steps.halts s) (steps.sends s v)
+
+        pub enlist_led : (s : State) (p : Proc) → is_busy s p ≡ false → has_process s p ≡ true → is_listed s p ≡ false → Lead (Unit {0}) s (enlist_of s p)
+        enlist_led s p b h l = subst (λ o. Lead (Unit {0}) s o) (sym (enlist_is s p)) (lead_goes _ s tt _ (steps.starts s p b h l))
 
         remainder_kept : (s : State) (p : ℕ) (r : Remainder) → Keeps s (put_remainder s p r)
         unfolding put_remainder
@@ -252,7 +416,7 @@ module _ (Keeps Stops : State → State → Type 0) where
         due_led : (again on : State → Went) → ((s : State) → Lead (Unit {0}) s (again s)) → ((s : State) → Lead (Unit {0}) s (on s)) → (s : State) (timer : ℕ) (owner : Option Proc) → Lead (Unit {0}) s (post_due again on s timer owner)
         due_led again on h i s timer None = i s
         due_led again on h i s timer (Some owner) =
-            lead_bind _ _ s _ _ (steps.posts s _ (told Timer timer) (λ q. absurd (grind (arith, nat_tests)))) (λ full t. lead_if _ t full _ _ (lead_from _ t _ _ (steps.polled t Etimer) (i _)) (lead_from _ t _ _ (fired_kept t timer) (h _)))
+            lead_bind _ _ s _ _ (post_led s _ (told Timer timer) (λ q. absurd (grind (arith, nat_tests)))) (λ full t. lead_if _ t full _ _ (lead_from _ t _ _ (steps.polled t Etimer) (i _)) (lead_from _ t _ _ (fired_kept t timer) (h _)))
 
         pub walk_timers_led : (again : State → Went) → ((s : State) → Lead (Unit {0}) s (again s)) → (ts : List ℕ) (s : State) → Lead (Unit {0}) s (walk_timers again ts s)
         walk_timers_led again h [] s = lead_still _ s tt
@@ -271,7 +435,7 @@ module _ (Keeps Stops : State → State → Type 0) where
         -- the radio process
         radio_led : (s : State) (e : Event) → Lead (Unit {0}) s (radio_of s e)
         unfolding radio_of
-        radio_led s e = lead_if _ s (is_system_event Poll e) _ _ (steps.empties s) (lead_still _ s tt)
+        radio_led s e = lead_if _ s (is_system_event Poll e) _ _ (empty_led steps.ring s.program.receiver s.ring s refl refl) (lead_still _ s tt)
 
         module _ (calls : Calls) (are : AreLed calls) where
           walk_led : (e : Event) → (is_system_event Exit e) ≡ false → (p : Proc) (ms : List Member) (s : State) → Lead (Unit {0}) s (walk_of calls e p ms s)
@@ -320,25 +484,42 @@ module _ (Keeps Stops : State → State → Type 0) where
           unfolding last_run_of
           last_run_led s p = lead_bind _ _ s _ _ (spend_led s) (λ u t. lead_bind _ _ t _ _ (react_led t p _) (λ a v. lead_still _ v tt))
 
-          exit_led : (s : State) (p f : Proc) → Leaves p → Lead (Unit {0}) s (exit_of calls s p f)
-          unfolding exit_of
-          exit_led s p f l =
-              lead_if _ s (is_listed s p) _ _ (lead_bind _ _ s _ _ (lead_from _ s _ _ (steps.exiting s p l) (walk_led (told Exited (process_number p)) refl p s.members _)) (λ a t.
-              lead_bind _ _ t _ _ (lead_if _ t (is_same p f) _ _ (lead_still _ t tt) (last_run_led t p)) (λ b u. steps.leaves u p l))) (lead_still _ s tt)
+          -- the walk and the last run of a process that is being exited
+          exiting_led : (s : State) (p f : Proc) (ms : List Member) → Lead (Unit {0}) s (walk_of calls (told Exited (process_number p)) p ms s >>= λ _ t. if is_same p f then Goes tt t else last_run_of calls t p)
+          exiting_led s p f ms = lead_bind _ _ s _ _ (walk_led (told Exited (process_number p)) refl p ms s) (λ a t. lead_if _ t (is_same p f) _ _ (lead_still _ t tt) (last_run_led t p))
 
-          unlisted : (b c : Bool) → (b && not c) ≡ true → c ≡ false
-          unlisted true false e = refl
-          unlisted true true e = absurd (cc)
-          unlisted false c e = absurd (cc)
+          left_led : (s t : State) (p : Proc) (o : Went) → Lead (Unit {0}) t o → ((u : State) → Keeps t u → Keeps s (without_process u p)) → ((u : State) → Stops t u → Stops s u) → Lead (Unit {0}) s (o >>= λ _ u. leave_of u p)
+          unfolding leave_of write_of
+          left_led s t p (Ends u) h kept stopped = record { leads = stopped u h.leads }
+          left_led s t p (Goes a u) h kept stopped = record { leads = kept u h.leads }
+
+          -- an exit that began in a state t, and that is a step from s on
+          leaves_led : (s t : State) (p f : Proc) (ms : List Member) → ((u : State) → Keeps t u → Keeps s (without_process u p)) → ((u : State) → Stops t u → Stops s u)
+              → Lead (Unit {0}) s (walk_of calls (told Exited (process_number p)) p ms t >>= λ _ u. ((if is_same p f then Goes tt u else last_run_of calls u p) >>= λ _ v. leave_of v p))
+          leaves_led s t p f ms kept stopped =
+              bind_nested (Unit {0}) (Unit {0}) (Unit {0}) s (walk_of calls (told Exited (process_number p)) p ms t) (λ _ u. if is_same p f then Goes tt u else last_run_of calls u p) (λ _ v. leave_of v p)
+              (left_led s t p _ (exiting_led t p f ms) kept stopped)
+
+          exit_led : (s : State) (p f : Proc) → Leaves p → is_busy s p ≡ false → Lead (Unit {0}) s (exit_of calls s p f)
+          unfolding exit_of
+          exit_led s p f l b =
+              lead_cases _ s (is_listed s p) _ _ (λ i. leaves_led s (exiting_of s p) p f s.members (λ u k. steps.brackets.exit s u p l b i k) (λ u k. steps.brackets.exit_stops s u p l b i k)) (λ i. lead_still _ s tt)
+
+          both : (b c : Bool) → (b && not c) ≡ true → (b ≡ true) × (c ≡ false)
+          both true false e = (refl, refl)
+          both true true e = absurd (cc)
+          both false c e = absurd (cc)
 
           pub start_led : (s : State) (p : Proc) → Lead (Unit {0}) s (start_of calls s p)
           unfolding start_of
           start_led s p =
-              lead_if _ s (is_busy s p) _ _ (busy_led s p) (lead_cases _ s (has_process s p && not (is_listed s p)) _ _ (λ l. lead_bind _ _ s _ _ (steps.enlists s p (unlisted (has_process s p) _ l)) (λ a t. are.call t p _ (fits_no_exit p _ refl))) (λ l. lead_still _ s tt))
+              lead_cases _ s (is_busy s p) _ _ (λ b. busy_led s p) (λ b. lead_cases _ s (has_process s p && not (is_listed s p)) _ _ (λ l.
+              let h = both (has_process s p) _ l in
+              lead_bind _ _ s _ _ (enlist_led s p b h.0 h.1) (λ a t. are.call t p _ (fits_no_exit p _ refl))) (λ l. lead_still _ s tt))
 
           kill_led : (s : State) (p : Proc) (current : ℕ) → Leaves p → Lead (Unit {0}) s (kill_of calls s p current)
           unfolding kill_of
-          kill_led s p current l = lead_if _ s (is_busy s p) _ _ (busy_led s p) (exit_led s p (Own current) l)
+          kill_led s p current l = lead_cases _ s (is_busy s p) _ _ (λ b. busy_led s p) (λ b. exit_led s p (Own current) l b)
 
           act_led : (s : State) (current : ℕ) (o : Op) → FitsOp o → Lead (Unit {0}) s (act_of calls s current o)
           unfolding act_of
@@ -351,14 +532,14 @@ module _ (Keeps Stops : State → State → Type 0) where
           act_led s current (op.Reset t) f = lead_goes _ s tt _ (resets_kept s t current)
           act_led s current (op.RestartTimer t) f = lead_goes _ s tt _ (restarts_kept s t current)
           act_led s current (op.Stop t) f = lead_goes _ s tt _ (stops_kept s t)
-          act_led s current (op.Send v) f = steps.sends s v
+          act_led s current (op.Send v) f = send_led s v
           act_led s current (op.Print v) f = prints_led s (Own current) v
           act_led s current (op.Take k) f = lead_goes _ s tt _ (taken_kept s k)
           act_led s current (op.Signal k) f = lead_goes _ s tt _ (signalled_kept s k)
 
           perform_led : (s : State) (code : Code) (r : Remainder) (current : ℕ) (o : Op) → FitsOp o → Lead Remainder s (perform_of calls s r current o)
           unfolding perform_of
-          perform_led s code r current (op.Post to e w) f = lead_bind _ _ s _ _ (steps.posts s to _ f) (λ full t. answers_led t r current full)
+          perform_led s code r current (op.Post to e w) f = lead_bind _ _ s _ _ (post_led s to _ f) (λ full t. answers_led t r current full)
           perform_led s code r current o f = lead_bind _ _ s _ _ (act_led s current o f) (λ a t. lead_still _ t r)
 
           step_led : (code : Code) (p : ℕ) (e : Event) (x : Step) (r : Remainder) (s : State) → FitsStep x → Lead Answer s (after_step calls code p e x r s)
@@ -378,86 +559,55 @@ module _ (Keeps Stops : State → State → Type 0) where
           unfolding run_of
           one_run_led s code r p e = lead_from _ s _ _ (stepped_kept s code r p e) (step_led code p e _ _ _ (all_fits s code r p e))
 
-          answered_led : (s : State) (p : Proc) (b : Bool) → (b ≡ true → Leaves p) → Lead (Unit {0}) s (answered calls s p b)
-          unfolding answered
-          answered_led s p true l = exit_led s p p (l refl)
-          answered_led s p false l = lead_goes _ s tt _ (steps.runs s p)
+          -- a call that has come from s to t
+          answered_led : (s t : State) (p : Proc) (b : Bool) → is_running s p ≡ true → (b ≡ true → Leaves p) → Keeps (with_state s p Called) t → Lead (Unit {0}) s (answered calls t p b)
+          unfolding answered exit_of
+          answered_led s t p true r l k =
+              lead_cases _ s (is_listed t p) _ _ (λ i. leaves_led s (exiting_of t p) p p t.members (λ u h. steps.brackets.last s t u p (l refl) r k i h) (λ u h. steps.brackets.last_stops s t u p (l refl) r k i h))
+              (λ i. record { leads = steps.brackets.gone s t p r k i })
+          answered_led s t p false r l k = lead_goes _ s tt _ (steps.brackets.call s t p r k)
 
-          -- a system process has answered that it yields
-          system_led : (s : State) (p : Proc) (e : Event) → Fits p e.number → (o : Went) → Lead (Unit {0}) s o →
-              Lead (Unit {0}) s ((o >>= λ _ s1. Goes Yielded s1) >>= λ answer s2. answered calls s2 p (has_ended answer || is_system_event Exit e))
-          system_led s p e f o h = bind_twice _ _ _ s o _ _ (lead_bind _ _ s o _ h (λ a t. answered_led t p (is_system_event Exit e) (λ q. f (grind (arith, nat_tests)))))
+          -- a process of the program reacts, and its answer decides the next step
+          reacted_led : (s : State) (p : ℕ) (e : Event) (o : Outcome PtState) → is_running s (Own p) ≡ true → Lead PtState (with_state s (Own p) Called) o
+              → Lead (Unit {0}) s (o >>= λ answer t. answered calls t (Own p) (has_ended answer || is_system_event Exit e))
+          reacted_led s p e (Ends t) r h = record { leads = steps.brackets.call_stops s t (Own p) r h.leads }
+          reacted_led s p e (Goes a t) r h = answered_led s t (Own p) _ r (λ q. steps.own (Own p) tt) h.leads
 
-          -- a process that is called reacts, and its answer decides the next step
-          reacted_led : (s : State) (p : Proc) (e : Event) → Fits p e.number → Lead (Unit {0}) s (react_of calls s p e >>= λ answer s2. answered calls s2 p (has_ended answer || is_system_event Exit e))
+          -- a system process yields, and leaves only if it is exited
+          system_led : (s : State) (p : Proc) (e : Event) (o : Went) → is_running s p ≡ true → Fits p e.number → Lead (Unit {0}) (with_state s p Called) o
+              → Lead (Unit {0}) s ((o >>= λ _ t. Goes Yielded t) >>= λ answer t. answered calls t p (has_ended answer || is_system_event Exit e))
+          system_led s p e (Ends t) r f h = record { leads = steps.brackets.call_stops s t p r h.leads }
+          system_led s p e (Goes a t) r f h = answered_led s t p _ r (λ q. f (grind (arith, nat_tests))) h.leads
+
+          called_led : (s : State) (p : Proc) (e : Event) → is_running s p ≡ true → Fits p e.number
+              → Lead (Unit {0}) s (react_of calls (with_state s p Called) p e >>= λ answer t. answered calls t p (has_ended answer || is_system_event Exit e))
           unfolding react_of
-          reacted_led s (Own p) e f = lead_bind _ _ s _ _ (own_led s p e) (λ b t. answered_led t (Own p) _ (λ q. steps.own (Own p) tt))
-          reacted_led s Etimer e f = system_led s Etimer e f _ (etimer_led s e)
-          reacted_led s Ctimer e f = system_led s Ctimer e f _ (ctimer_led s e)
-          reacted_led s Radio e f = system_led s Radio e f _ (radio_led s e)
+          called_led s (Own p) e r f = reacted_led s p e _ r (own_led _ p e)
+          called_led s Etimer e r f = system_led s Etimer e _ r f (etimer_led _ e)
+          called_led s Ctimer e r f = system_led s Ctimer e _ r f (ctimer_led _ e)
+          called_led s Radio e r f = system_led s Radio e _ r f (radio_led _ e)
+
+          spent_led : (s : State) (p : Proc) (e : Event) (none : Bool) → is_running s p ≡ true → Fits p e.number
+              → Lead (Unit {0}) s ((if none then Ends (halted_of s) else Goes (tt {0}) (record s { units = s.units - 1 })) >>= λ _ t. react_of calls (with_state t p Called) p e >>= λ answer u. answered calls u p (has_ended answer || is_system_event Exit e))
+          spent_led s p e true r f = lead_halts _ s
+          spent_led s p e false r f = lead_from _ s _ _ (steps.units s _) (called_led _ p e r f)
 
           call_led : (s : State) (p : Proc) (e : Event) → Fits p e.number → Lead (Unit {0}) s (call_of calls s p e)
-          unfolding call_of
-          call_led s p e f =
-              lead_if _ s (is_running s p) _ _ (lead_bind _ _ s _ _ (spend_led s) (λ a t. lead_from _ t _ _ (steps.called t p) (reacted_led _ p e f))) (lead_still _ s tt)
+          unfolding call_of spend_of
+          call_led s p e f = lead_cases _ s (is_running s p) _ _ (λ r. spent_led s p e _ r f) (λ r. lead_still _ s tt)
 
         pub calls_led : (k : ℕ) → AreLed (calls_of k)
         unfolding calls_of
         calls_led zero = record { call = λ s p e f. lead_halts _ s; run = λ s code r p e. lead_halts _ s }
         calls_led (suc k) = record { call = call_led (calls_of k) (calls_led k); run = one_run_led (calls_of k) (calls_led k) }
 
-      -- the steps of boots and kernel runs outside any call, in which each process may be exited
-      pub record AreRunSteps : Type 0 where
-        pub any : (p : Proc) → Leaves p
-        pub poll_requested : (s : State) → Keeps s (record s { poll_requested = false })
-        pub needs_poll : (s : State) (p : Proc) → Keeps s (with_needs_poll s p false)
-        pub front : (s : State) → Keeps s (record s { queue = without_front s.queue })
-        pub takes : (s : State) (serial : ℕ) (p : Proc) → Keeps s (with_line s (what.Take serial p))
-        pub drops : (s : State) (serial : ℕ) (p : Proc) → Keeps s (with_line s (what.Drop serial p))
+    -- boots and kernel runs at any depth, if any process may be exited
+    module _ (steps : AreSteps Whoever) (run_steps : AreRunSteps) (depth : ℕ) where
+      called_at : (s : State) (p : Proc) (e : Event) → Lead (Unit {0}) s ((calls_of depth).call s p e)
+      called_at s p e = (calls_led Whoever steps depth).call s p e (λ q. tt)
 
-      module _ (steps : AreSteps) (run_steps : AreRunSteps) (calls : Calls) (are : AreLed calls) where
-        call_any : (s : State) (p : Proc) (e : Event) → Lead (Unit {0}) s (calls.call s p e)
-        call_any s p e = are.call s p e (λ q. run_steps.any p)
+      pub runs_led : (s : State) → Lead ℕ s (kernel_of (calls_of depth) s)
+      runs_led s = kernel_led run_steps (calls_of depth) called_at s
 
-        pub polls_led : (ms : List Member) (s : State) → Lead (Unit {0}) s (walk_polls calls ms s)
-        unfolding poll_turn_of
-        polls_led [] s = lead_still _ s tt
-        polls_led (m ∷ ms) s =
-            lead_bind _ _ s _ _ (lead_if _ s _ _ _ (lead_from _ s _ _ (run_steps.needs_poll s m.process) (call_any _ m.process (told Poll 0))) (lead_still _ s tt)) (λ a t. polls_led ms t)
-
-        polls_due_led : (s : State) → Lead (Unit {0}) s (polls_due_of calls s)
-        unfolding polls_due_of polls_of
-        polls_due_led s = lead_if _ s s.poll_requested _ _ (lead_from _ s _ _ (run_steps.poll_requested s) (polls_led s.members _)) (lead_still _ s tt)
-
-        give_led : (s : State) (x : Posted) (p : Proc) (there : Bool) → Lead (Unit {0}) s (give_of calls s x p there)
-        unfolding give_of write_of
-        give_led s x p there =
-            lead_if _ s there _ _ (lead_from _ s _ _ (run_steps.takes s x.serial p) (call_any _ p x.event)) (lead_goes _ s tt _ (run_steps.drops s x.serial p))
-
-        walk_broadcast_led : (x : Posted) (ms : List Member) (s : State) → Lead (Unit {0}) s (walk_broadcast calls x ms s)
-        unfolding visit_of
-        walk_broadcast_led x [] s = lead_still _ s tt
-        walk_broadcast_led x (m ∷ ms) s =
-            lead_bind _ _ s _ _ (lead_bind _ _ s _ _ (polls_due_led s) (λ a t. give_led t x m.process (is_on_list t m))) (λ a t. walk_broadcast_led x ms t)
-
-        target_led : (target : Target) (s : State) (x : Posted) → Lead (Unit {0}) s (deliver_to target calls s x)
-        target_led (One p) s x = give_led s x p (is_listed s p)
-        target_led ToEach s x = walk_broadcast_led x s.members s
-
-        pub front_led : (q : List Posted) (s : State) → Lead (Unit {0}) s (deliver_front calls q s)
-        unfolding deliver_of
-        front_led [] s = lead_still _ s tt
-        front_led (x ∷ q) s = lead_from _ s _ _ (run_steps.front s) (target_led x.target _ x)
-
-        pub kernel_led : (s : State) → Lead ℕ s (kernel_of calls s)
-        unfolding kernel_of
-        kernel_led s =
-            lead_bind _ _ s _ _ (polls_due_led s) (λ a t. lead_bind _ _ t _ _ (front_led t.queue.events t) (λ b u. lead_still _ u _))
-
-        starts_led : (ps : List Proc) (s : State) → Lead (Unit {0}) s (starts_of calls ps s)
-        starts_led [] s = lead_still _ s tt
-        starts_led (p ∷ ps) s = lead_bind _ _ s _ _ (start_led steps calls are s p) (λ a t. starts_led ps t)
-
-        pub boot_led : (s : State) → Lead ℕ s (boot_of calls s)
-        unfolding boot_of
-        boot_led s = lead_bind _ _ s _ _ (starts_led (Etimer ∷ Ctimer ∷ Radio ∷ map Own s.program.autostart) s) (λ a t. lead_goes _ t (left_of t) t (chain.same t))
+      pub boots_led : (s : State) → Lead ℕ s (boot_of (calls_of depth) s)
+      boots_led s = boot_led (calls_of depth) (start_led Whoever steps (calls_of depth) (calls_led Whoever steps depth)) s

@@ -26,12 +26,11 @@ use Rattle.kernel_laws.specs.Poll.{PollWaits, members_before}
 use Rattle.kernel_laws.specs.Due.{IsAtRest}
 use Rattle.kernel_laws.specs.Ring.{RingRuns, NoneMore, Receives, Loses, Hands, Passes, RingGoes, RingHalts, RunEmptiesRing}
 use Rattle.kernel_laws.proofs.InStep as tables
-use Rattle.kernel_laws.proofs.Resting as resting
 use Rattle.kernel_laws.proofs.Packets.{IfGoes, Empties, ring_empties}
-use Rattle.kernel_laws.proofs.EachStep.{Whoever, Lead, AreLed, calls_led, polls_led, front_led}
+use Rattle.kernel_laws.proofs.EachStep.{Whatever, Whoever, Lead, AreLed, calls_led, polls_led, front_led}
 use Rattle.kernel_laws.proofs.Ring as ring
 use Rattle.kernel_laws.proofs.Ring.{HearsNone, run_tells_packets}
-use Rattle.kernel_laws.proofs.Watch.{Watches, Whatever, chain, steps}
+use Rattle.kernel_laws.proofs.Watch.{Watches, chain, steps}
 use Rattle.kernel_laws.proofs.PollTurns.{splits, walk_splits, turn_calls, before_led, polls_are}
 use Rattle.kernel_laws.proofs.Passes.{spent}
 use Rattle.kernel_laws.proofs.WatchedRuns.{Stands, unrequested, runs_now}
@@ -99,7 +98,7 @@ module _ (calls : Calls) (are : AreHeard calls) where
   comes s u e = let h : Lead (Watches Radio) Whatever (Unit {0}) s (Goes tt u) = subst (λ (o : Went). Lead (Watches Radio) Whatever (Unit {0}) s o) e (before_led Radio calls are.led s.members s) in h.leads
 
   kept : (s u : State) → walk_polls calls (members_before Radio s.members) s ≡ Goes tt u → Stands true s → tables.Keeps s u
-  kept s u e h = let k : tables.Leaves (Unit {0}) (tables.Keeps s) (Goes tt u) = subst (λ (o : Went). tables.Leaves (Unit {0}) (tables.Keeps s) o) e (resting.polls_kept calls are.kept (members_before Radio s.members) s h.step) in k.out
+  kept s u e h = let k : tables.Kept (Unit {0}) s (Goes tt u) = subst (λ (o : Went). tables.Kept (Unit {0}) s o) e (tables.polls_kept calls are.kept (members_before Radio s.members) s) in k.leads.kept h.step
 
   cleared_runs : (u : State) → is_running u Radio ≡ true → is_running (with_needs_poll u Radio false) Radio ≡ true
   unfolding with_needs_poll
@@ -117,7 +116,7 @@ module _ (calls : Calls) (are : AreHeard calls) where
       let call = sym (turn_calls Radio calls u k.member k.is_it (w.radio.there k.member k.is_it k.holds) (w.needs_poll needs_poll)) ∙ b.first in
       let running = cleared_runs u (runs_now (process_state u Radio) (w.radio.can q.can).alive (i.busy.called 2 ∙ h.idle.called 2)) in
       let none : b.midst.ring ≡ [] = subst (IfGoes (λ v. v.ring ≡ [])) call (are.empties (with_needs_poll u Radio false) running) in
-      empty_by _ b.midst t tt _ b.second (polls_led RingGoes RingHalts ring.chain Whoever ring.steps ring.run_steps calls are.rings k.after b.midst) none
+      empty_by _ b.midst t tt _ b.second (polls_led RingGoes RingHalts ring.chain ring.run_steps.unrequested ring.run_steps.cleared calls (λ v q. are.rings.call v q _ (λ x. tt)) k.after b.midst) none
 
   run_emptied : (s t : State) (n : ℕ) → Stands true s → PollWaits Radio s → kernel_of calls s ≡ Goes n t → t.ring ≡ []
   unfolding kernel_of
@@ -126,7 +125,7 @@ module _ (calls : Calls) (are : AreHeard calls) where
       let b = through _ _ _ _ _ _ a.second in
       let none = polled (record s { poll_requested = false }) a.midst (unrequested true s h) w.needs_poll (sym (polls_are calls s w.poll_requested) ∙ a.first) in
       let last : b.midst.ring ≡ t.ring = cc in
-      sym last ∙ empty_by _ a.midst b.midst tt _ b.first (front_led RingGoes RingHalts ring.chain Whoever ring.steps ring.run_steps calls are.rings a.midst.queue.events a.midst) none
+      sym last ∙ empty_by _ a.midst b.midst tt _ b.first (front_led RingGoes RingHalts ring.chain ring.run_steps calls (λ v q e. are.rings.call v q e (λ x. tt)) a.midst.queue.events a.midst) none
 
 given_emptied : (moment : ℕ) (m : Mote) (lines : List Line) (sends : List Sent) (o : Outcome ℕ) → IsAtRest m.state → PollWaits Radio m.state → kernel_of (calls_of (most_units + 1)) (begun m moment lines sends) ≡ o → (given o).mote.halted ≡ false → (given o).mote.state.ring ≡ []
 unfolding begun_of

@@ -2,7 +2,6 @@ pub mod Alive
 pub mod BodyCalls
 pub mod BodyMotes
 pub mod BodyRuns
-pub mod CallSteps
 pub mod Delivers
 pub mod Depth
 pub mod Due

@@ -3,7 +3,6 @@ use Rattle.std.proofs.Common.{ℕ, ◌≡◌, ◌+◌, Bool, true, false, if◌t
 use Rattle.std.proofs.lemmas.List.{map-append}
 use Rattle.delivery_laws.specs.HandedOn as handed
 use Rattle.delivery_laws.specs.View as view
-use Rattle.delivery_laws.specs.View.{HasHalted}
 use Rattle.delivery_laws.proofs.Views.{goes_further, goes_to_halt, other_moves, goes_with_hands_on, halted_hands_on, goes_with_halts_last, halted_halts_last, goes_with_starts, halted_starts}
 use Rattle.program_tree.specs.declared.event.Proc.{Proc}
 use Rattle.trace_lines.specs.declared.line.Line.{Line}
@@ -22,7 +21,7 @@ use Rattle.process_kernel.specs.Given.{Given, given, begun, boot_given, run_give
 use Rattle.kernel_laws.specs.Seen.{seen_what, seen_lines, view_of}
 use Rattle.kernel_laws.specs.Going.{SystemStays, IsBlank, GoesWithAs, GoesWith, Adds, IsNote, IsInOrder}
 use Rattle.kernel_laws.proofs.Steps.{IsQuiet, quiet, view_quiet, poll_quiet}
-use Rattle.kernel_laws.proofs.CallSteps.{calls_run}
+use Rattle.kernel_laws.proofs.Steps.{calls_run}
 use Rattle.kernel_laws.proofs.Delivers.{machine_of, RestsAt, rests_behind, begun_run, begun_lines, begun_sound, boot_run, kernel_run}
 
 -- more lines of a mote that goes with its lines so far

@@ -1,13 +1,11 @@
 -- Each small step of the kernel keeps that each timer on the list has an owner.
-use Rattle.std.proofs.Common.{ℕ, ◌≡◌, ◌+◌, ◌^◌, ◌==◌, Bool, true, false, not, nat_lt, nat_le, if◌then◌else◌, List, ◌∷◌, Some, length, refl, sym, subst, arith}
+use Rattle.std.proofs.Common.{ℕ, ◌≡◌, ◌+◌, ◌==◌, Bool, true, false, not, nat_lt, if◌then◌else◌, List, ◌∷◌, Some, length, refl, sym, subst, arith}
 use Rattle.std.specs.Prelude.{IsSome}
 use Rattle.std.proofs.lemmas.List.{get_or-set_same, get_or-set_other}
 use Rattle.std.proofs.lemmas.Bool.{eqb-true, eqb-false}
 use Rattle.std.proofs.lemmas.Bool.Decides.{nat_tests}
 use Rattle.program_tree.specs.declared.event.Proc.{Proc}
-use Rattle.program_tree.specs.declared.event.Proc.TheVariants.{Own, Etimer, Ctimer, Radio}
-use Rattle.program_tree.specs.declared.event.Target.{Target}
-use Rattle.program_tree.specs.declared.event.Event.{Event}
+use Rattle.program_tree.specs.declared.event.Proc.TheVariants.{Etimer}
 use Rattle.mote_timers.specs.declared.timer.Timer.{Timer}
 use Rattle.mote_timers.specs.Numbers.{is_member}
 use Rattle.mote_timers.specs.Timer.{unset, is_owned_by}
@@ -17,18 +15,17 @@ use Rattle.radio_packet.specs.declared.sent.Sent.{Sent}
 use Rattle.process_kernel.specs.declared.kernel.Ran.TheVariants as ran
 use Rattle.process_kernel.specs.State.{State, Outcome, Ends, Goes}
 use Rattle.process_kernel.specs.Processes.{is_alive, process_state, with_state, with_exiting, with_needs_poll}
-use Rattle.process_kernel.specs.ProcessList.{with_fresh_process, enlist_of, exiting_of, unlisted_of, leave_of}
-use Rattle.process_kernel.specs.Posts.{post_of, poll_of, send_of}
+use Rattle.process_kernel.specs.ProcessList.{exiting_of, unlisted_of}
+use Rattle.process_kernel.specs.Posts.{poll_of}
 use Rattle.process_kernel.specs.TimerOperations.{has_timer, timer_is_set}
-use Rattle.process_kernel.specs.Writes.{write_of, halted_of}
-use Rattle.process_kernel.specs.Call.{calls_of}
+use Rattle.process_kernel.specs.Writes.{halted_of}
 use Rattle.process_kernel.specs.Run.{begun_of, most_units}
 use Rattle.process_kernel.specs.Mote.{Mote}
 use Rattle.process_kernel.specs.Given.{given, begun, unless_halted, boot_given, run_given}
 use Rattle.kernel_laws.specs.Due.{HaveOwners, BootKeepsOwners, RunKeepsOwners}
 use Rattle.kernel_laws.proofs.Timers.{further, other_timer}
 use Rattle.kernel_laws.proofs.Watch.{is_left}
-use Rattle.kernel_laws.proofs.EachStep.{Whoever, Lead, AreJoined, AreSteps, AreRunSteps, lead_if, empty_led, calls_led, kernel_led, boot_led}
+use Rattle.kernel_laws.proofs.EachStep.{Whoever, Lead, AreJoined, AreSteps, AreRunSteps, keeps_set, brackets_of, boots_led, runs_led}
 
 pub record Owns (s t : State) : Type 0 where
   pub owns : HaveOwners s.timers → HaveOwners t.timers
@@ -78,58 +75,21 @@ poll_timers s p = by (is_alive (process_state s p))
     by true = refl
     by false = refl
 
-set_timers : (s : State) (timers : TimerLists) (timer : ℕ) → (timer_is_set (record s { timers = timers }) timer).timers ≡ timers
-unfolding timer_is_set
-set_timers s timers timer = poll_timers _ Etimer
-
 sets_own : (s : State) (timer start interval : ℕ) (owner : Proc) → has_timer s timer ≡ true → Owns s (timer_is_set (record s { timers = with_timer s.timers timer (record { start = start; interval = interval; owner = Some owner }) }) timer)
 sets_own s timer start interval owner there =
-    let t : Timer = record { start = start; interval = interval; owner = Some owner } in
-    record { owns = λ h. subst HaveOwners (sym (set_timers s (with_timer s.timers timer t) timer)) (owned_with s.timers timer t there refl h) }
+    keeps_set Owns Owns chain s _ timer (λ callbacks. record { owns = owned_with s.timers timer _ there refl }) (λ t. owns_still t _ (poll_timers t Etimer))
 
 -- the other steps
 
-abbrev Leads : (A : Type 0) → State → Outcome A → Type 0
-Leads A s o = Lead Owns Owns A s o
-
-leads_if : (A : Type 0) (s : State) (b : Bool) (o p : Outcome A) → Leads A s o → Leads A s p → Leads A s (if b then o else p)
-leads_if A s b o p h i = lead_if Owns Owns chain A s b o p h i
-
-posts_own : (s : State) (t : Target) (e : Event) → Leads Bool s (post_of s t e)
-unfolding post_of write_of halted_of
-posts_own s t e =
-    leads_if Bool s (nat_le (2 ^ 62) s.queue.accepted) _ _ (record { leads = owns_still s _ refl })
-    (leads_if Bool s (nat_le s.queue.capacity (length s.queue.events)) _ _ (record { leads = owns_still s _ refl }) (record { leads = owns_still s _ refl }))
-
-sends_own : (s : State) (v : ℕ) → Leads (Unit {0}) s (send_of s v)
-unfolding send_of write_of halted_of
-sends_own s v = leads_if _ s (nat_le (2 ^ 62) s.sent) _ _ (record { leads = owns_still s _ refl }) (record { leads = owns_still s _ refl })
-
-fresh_timers : (s : State) (p : Proc) → (with_fresh_process s p).timers ≡ s.timers
-fresh_timers s (Own p) = refl
-fresh_timers s Etimer = refl
-fresh_timers s Ctimer = refl
-fresh_timers s Radio = refl
-
-enlists_own : (s : State) (p : Proc) → Leads (Unit {0}) s (enlist_of s p)
-unfolding enlist_of write_of with_state
-enlists_own s p = record { leads = owns_still s _ (fresh_timers _ p) }
-
-leaves_own : (s : State) (p : Proc) → Leads (Unit {0}) s (leave_of s p)
-unfolding leave_of write_of unlisted_of with_exiting
-leaves_own s p = record { leads = owns_still s _ refl }
-
 steps : AreSteps Owns Owns chain Whoever
-unfolding halted_of with_state exiting_of with_exiting
+unfolding halted_of with_state exiting_of with_exiting unlisted_of
 steps = record {
   own = λ p own. tt;
+  brackets = brackets_of Owns Owns chain Whoever (λ s p. owns_still s _ refl) (λ s p. owns_still s _ refl) (λ s p l. owns_still s _ refl) (λ s p l. owns_still s _ refl);
   halts = λ s. owns_still s _ refl;
   units = λ s n. owns_still s _ refl;
   busy = λ s p. owns_still s _ refl;
   prints = λ s p v. owns_still s _ refl;
-  called = λ s p. owns_still s _ refl;
-  runs = λ s p. owns_still s _ refl;
-  exiting = λ s p l. owns_still s _ refl;
   polled = λ s p. owns_still s _ (poll_timers s p);
   remainders = λ s rs. owns_still s _ refl;
   variables = λ s vs. owns_still s _ refl;
@@ -138,30 +98,34 @@ steps = record {
   purges = λ s p. record { owns = owned_purged s.timers p };
   callbacks = λ s ts. owns_still s _ refl;
   semaphores = λ s ns. owns_still s _ refl;
-  posts = λ s t e f. posts_own s t e;
-  sends = sends_own;
-  enlists = λ s p l. enlists_own s p;
-  leaves = λ s p l. leaves_own s p;
-  empties = λ s. empty_led Owns Owns chain (λ t r. owns_still t _ refl) (λ t to e f. posts_own t to e) (λ t f n. owns_still t _ refl) s.program.receiver s.ring s;
+  full = λ s t e. owns_still s _ refl;
+  posts = λ s t e f. owns_still s _ refl;
+  sends = λ s v. owns_still s _ refl;
+  starts = λ s p b h l. owns_still s _ refl;
+  ring = record {
+    accepted = λ s a later p i r. owns_still s _ refl;
+    refused = λ s a later p i r. owns_still s _ refl;
+    deaf = λ s a later i r. owns_still s _ refl;
+    halts = λ s later. owns_still s _ refl;
+  };
 }
 
-run_steps : AreRunSteps Owns Owns chain Whoever
+run_steps : AreRunSteps Owns Owns chain
 unfolding with_needs_poll
 run_steps = record {
-  any = λ p. tt;
-  poll_requested = λ s. owns_still s _ refl;
-  needs_poll = λ s p. owns_still s _ refl;
+  unrequested = λ s. owns_still s _ refl;
+  cleared = λ s p. owns_still s _ refl;
   front = λ s. owns_still s _ refl;
   takes = λ s n p. owns_still s _ refl;
   drops = λ s n p. owns_still s _ refl;
 }
 
-given_owns : (moment : ℕ) (m : Mote) (lines : List Line) (sends : List Sent) (o : Outcome ℕ) → Leads ℕ (begun m moment lines sends) o → HaveOwners m.state.timers → HaveOwners (given o).mote.state.timers
+given_owns : (moment : ℕ) (m : Mote) (lines : List Line) (sends : List Sent) (o : Outcome ℕ) → Lead Owns Owns ℕ (begun m moment lines sends) o → HaveOwners m.state.timers → HaveOwners (given o).mote.state.timers
 unfolding begun_of
 given_owns moment m lines sends (Ends t) k h = k.leads.owns h
 given_owns moment m lines sends (Goes a t) k h = k.leads.owns h
 
-unless_owns : (moment : ℕ) (m : Mote) (lines : List Line) (sends : List Sent) (o : Outcome ℕ) → Leads ℕ (begun m moment lines sends) o → HaveOwners m.state.timers → HaveOwners (unless_halted m lines sends (given o)).mote.state.timers
+unless_owns : (moment : ℕ) (m : Mote) (lines : List Line) (sends : List Sent) (o : Outcome ℕ) → Lead Owns Owns ℕ (begun m moment lines sends) o → HaveOwners m.state.timers → HaveOwners (unless_halted m lines sends (given o)).mote.state.timers
 unless_owns moment m lines sends o k h = by m.halted
   where
     by : (b : Bool) → HaveOwners (if b then record { ran = ran.Halted; mote = m; lines = lines; sends = sends } else given o).mote.state.timers
@@ -171,9 +135,9 @@ unless_owns moment m lines sends o k h = by m.halted
 pub boot_keeps_owners : BootKeepsOwners
 unfolding boot_given
 boot_keeps_owners moment m lines sends h =
-    unless_owns moment m lines sends _ (boot_led Owns Owns chain Whoever steps run_steps (calls_of (most_units + 1)) (calls_led Owns Owns chain Whoever steps (most_units + 1)) (begun m moment lines sends)) h
+    unless_owns moment m lines sends _ (boots_led Owns Owns chain steps run_steps (most_units + 1) (begun m moment lines sends)) h
 
 pub run_keeps_owners : RunKeepsOwners
 unfolding run_given
 run_keeps_owners moment m lines sends h =
-    unless_owns moment m lines sends _ (kernel_led Owns Owns chain Whoever steps run_steps (calls_of (most_units + 1)) (calls_led Owns Owns chain Whoever steps (most_units + 1)) (begun m moment lines sends)) h
+    unless_owns moment m lines sends _ (runs_led Owns Owns chain steps run_steps (most_units + 1) (begun m moment lines sends)) h

@@ -28,9 +28,9 @@ use Rattle.kernel_laws.specs.Poll.{PollWaits, CanBePolled}
 use Rattle.kernel_laws.specs.Due.{IsDueFor, ForgetsNone, CallsForgetNone}
 use Rattle.kernel_laws.proofs.Packets.{IfGoes, goes_if, goes_bind}
 use Rattle.kernel_laws.proofs.Timers.{further, fewer, goes_cases, timers_are_told}
-use Rattle.kernel_laws.proofs.EachStep.{Lead, calls_led, walk_timers_led, walks_led}
+use Rattle.kernel_laws.proofs.EachStep.{Whatever, Lead, calls_led, walk_timers_led, walks_led}
 use Rattle.kernel_laws.proofs.Alive.{alive_state}
-use Rattle.kernel_laws.proofs.Watch.{Watches, Whatever, chain, steps, IsStill, watches_still, forgets_on, still_waits, waits_now, etimer_system}
+use Rattle.kernel_laws.proofs.Watch.{Watches, chain, steps, IsStill, watches_still, forgets_on, still_waits, waits_now, etimer_system}
 
 abbrev Watched : (A : Type 0) → State → Outcome A → Type 0
 Watched A s o = Lead (Watches Etimer) Whatever A s o

@@ -12,8 +12,8 @@ use Rattle.process_kernel.specs.Calls.{Calls, told}
 use Rattle.process_kernel.specs.Polls.{walk_polls, polls_of, polls_due_of, poll_turn_of}
 use Rattle.kernel_laws.specs.Own.{IsOwn}
 use Rattle.kernel_laws.specs.Poll.{members_before}
-use Rattle.kernel_laws.proofs.EachStep.{Lead, AreLed, fits_no_exit, lead_bind, lead_from, lead_if, lead_still}
-use Rattle.kernel_laws.proofs.Watch.{Watches, Whatever, chain, watches_cleared}
+use Rattle.kernel_laws.proofs.EachStep.{Whatever, Lead, AreLed, fits_no_exit, lead_bind, lead_from, lead_if, lead_still}
+use Rattle.kernel_laws.proofs.Watch.{Watches, chain, watches_cleared}
 
 place_is : (q p : Proc) → is_same q p ≡ true → q ≡ p
 place_is (Own a) (Own b) e = let same : a ≡ b = grind (arith, nat_tests) in ap Own same

@@ -3,8 +3,7 @@ use Rattle.std.proofs.Common.{ℕ, ◌+◌, Bool, true, false, if◌then◌else�
 use Rattle.process_kernel.specs.State.{State, Outcome, Ends, Goes}
 use Rattle.process_kernel.specs.Calls.{Calls}
 use Rattle.process_kernel.specs.Call.{calls_of}
-use Rattle.process_kernel.specs.Run.{begun_of, kernel_of, most_units}
-use Rattle.process_kernel.specs.Boot.{boot_of}
+use Rattle.process_kernel.specs.Run.{begun_of, most_units}
 use Rattle.process_kernel.specs.Mote.{Mote}
 use Rattle.process_kernel.specs.declared.kernel.Ran.TheVariants as ran
 use Rattle.process_kernel.specs.Given.{given, begun, unless_halted, boot_given, run_given}
@@ -12,7 +11,7 @@ use Rattle.trace_lines.specs.declared.line.Line.{Line}
 use Rattle.radio_packet.specs.declared.sent.Sent.{Sent}
 use Rattle.kernel_laws.specs.Stamps.{state_after, GivesStamped}
 use Rattle.kernel_laws.specs.Laws.{CallsStamp, BootStamps, RunStamps}
-use Rattle.kernel_laws.proofs.EachStep.{Whoever, AreLed, calls_led, kernel_led, boot_led}
+use Rattle.kernel_laws.proofs.EachStep.{Whoever, AreLed, calls_led, runs_led, boots_led}
 use Rattle.kernel_laws.proofs.Stamps.{Keeps, Kept, chain, steps, run_steps, stamped_still}
 
 left_by : (A : Type 0) (s : State) (o : Outcome A) → Kept s o → Keeps s (state_after o)
@@ -65,8 +64,8 @@ calls_stamp depth s p e = let k = left_by (Unit {0}) s _ ((calls_kept depth).cal
 
 pub boot_stamps : BootStamps
 unfolding boot_given
-boot_stamps moment m lines sends = unless_stamped moment m lines sends (boot_of (calls_of (most_units + 1)) (begun m moment lines sends)) (boot_led Keeps Keeps chain Whoever steps run_steps (calls_of (most_units + 1)) (calls_kept (most_units + 1)) _)
+boot_stamps moment m lines sends = unless_stamped moment m lines sends _ (boots_led Keeps Keeps chain steps run_steps (most_units + 1) (begun m moment lines sends))
 
 pub run_stamps : RunStamps
 unfolding run_given
-run_stamps moment m lines sends = unless_stamped moment m lines sends (kernel_of (calls_of (most_units + 1)) (begun m moment lines sends)) (kernel_led Keeps Keeps chain Whoever steps run_steps (calls_of (most_units + 1)) (calls_kept (most_units + 1)) _)
+run_stamps moment m lines sends = unless_stamped moment m lines sends _ (runs_led Keeps Keeps chain steps run_steps (most_units + 1) (begun m moment lines sends))

@@ -1,28 +1,22 @@
 -- Each small step of the kernel writes lines and packets that are stamped with its moment.
-use Rattle.std.proofs.Common.{ℕ, zero, suc, ◌≡◌, ◌+◌, ◌^◌, Bool, true, false, nat_le, if◌then◌else◌, List, [], ◌∷◌, length, refl, sym, ap, ◌∙◌, subst, arith, ◌++◌, append_assoc, append-nil}
+use Rattle.std.proofs.Common.{ℕ, zero, suc, ◌≡◌, ◌+◌, Bool, true, false, if◌then◌else◌, List, [], ◌∷◌, length, refl, sym, ap, ◌∙◌, subst, arith, ◌++◌, append_assoc, append-nil}
 use Rattle.std.proofs.lemmas.List.{map-append, length-append}
 use Rattle.program_tree.specs.declared.event.Proc.{Proc}
-use Rattle.program_tree.specs.declared.event.Proc.TheVariants.{Own, Etimer, Ctimer, Radio}
-use Rattle.program_tree.specs.declared.event.Target.{Target}
-use Rattle.program_tree.specs.declared.event.Event.{Event}
-use Rattle.mote_timers.specs.TimerLists.{TimerLists}
+use Rattle.program_tree.specs.declared.event.Proc.TheVariants.{Etimer}
 use Rattle.trace_lines.specs.declared.line.What.{What}
 use Rattle.trace_lines.specs.declared.line.What.TheVariants as what
-use Rattle.process_kernel.specs.declared.process.ProcessState.{ProcessState}
-use Rattle.process_kernel.specs.declared.process.ProcessState.TheVariants.{Running, Called}
-use Rattle.process_kernel.specs.State.{State, Outcome, Ends, Goes, ◌>>=◌}
+use Rattle.process_kernel.specs.State.{State, Outcome}
 use Rattle.process_kernel.specs.Processes.{is_alive, process_state, with_state, with_exiting, with_needs_poll}
-use Rattle.process_kernel.specs.ProcessList.{with_fresh_body, with_fresh_process, enlist_of, exiting_of, unlisted_of, leave_of}
-use Rattle.process_kernel.specs.Posts.{post_of, poll_of, send_of}
-use Rattle.process_kernel.specs.TimerOperations.{timer_is_set}
-use Rattle.process_kernel.specs.Writes.{with_line, write_of, halted_of}
+use Rattle.process_kernel.specs.ProcessList.{exiting_of, unlisted_of}
+use Rattle.process_kernel.specs.Posts.{poll_of}
+use Rattle.process_kernel.specs.Writes.{with_line, halted_of}
 use Rattle.std.specs.List.{range_with_len}
 use Rattle.std.proofs.lemmas.List.Elements.{All-nil, All-cons, All-append}
 use Rattle.radio_packet.specs.declared.sent.Sent.{Sent}
 use Rattle.trace_lines.specs.declared.line.What.TheVariants.{Halt}
 use Rattle.kernel_laws.specs.Stamps.{PacketsBear, AreNumberedFrom, Stamped}
 use Rattle.kernel_laws.proofs.Steps.{lines_joined}
-use Rattle.kernel_laws.proofs.EachStep.{Whoever, Lead, AreJoined, AreSteps, AreRunSteps, lead_goes, lead_bind, lead_from, lead_if, empty_led}
+use Rattle.kernel_laws.proofs.EachStep.{Whoever, Lead, AreJoined, AreSteps, AreRunSteps, keeps_set, brackets_of}
 
 -- All that is written is stamped with the moment, and the moment stays.
 pub record Keeps (s t : State) : Type 0 where
@@ -85,20 +79,6 @@ pub record IsStill (s t : State) : Type 0 where
 pub still : (s : State) → IsStill s s
 still s = record { lines = refl; sends = refl; sent = refl; moment = refl; mote = refl; program = refl }
 
-still_twice : (s t u : State) → IsStill s t → IsStill t u → IsStill s u
-still_twice s t u h i = record {
-  lines = i.lines ∙ h.lines;
-  sends = i.sends ∙ h.sends;
-  sent = i.sent ∙ h.sent;
-  moment = i.moment ∙ h.moment;
-  mote = i.mote ∙ h.mote;
-  program = i.program ∙ h.program;
-}
-
-still_if : (s : State) (b : Bool) (t u : State) → IsStill s t → IsStill s u → IsStill s (if b then t else u)
-still_if s true t u h i = h
-still_if s false t u h i = i
-
 -- a state with the same lines, packets, count, mote and program
 pub stamped_still : (moment : ℕ) (s t : State) → t.lines ≡ s.lines → t.sends ≡ s.sends → t.sent ≡ s.sent → t.mote ≡ s.mote → t.program ≡ s.program → Stamped moment s t
 stamped_still moment s t lines sends sent mote program = record {
@@ -122,18 +102,6 @@ keeps_still s t q = record { stamped = stamped_still s.moment s t q.lines q.send
 pub chain : AreJoined Keeps Keeps
 chain = record { same = λ s. keeps_still s s (still s); joined = keeps_twice; ended = keeps_twice }
 
-kept_goes : {A : Type 0} (s : State) (a : A) (t : State) → IsStill s t → Kept s (Goes a t)
-kept_goes s a t q = lead_goes Keeps Keeps chain _ s a t (keeps_still s t q)
-
-kept_bind : {A B : Type 0} (s : State) (o : Outcome A) (f : A → State → Outcome B) → Kept s o → ((a : A) (t : State) → Kept t (f a t)) → Kept s (o >>= f)
-kept_bind s o f h g = lead_bind Keeps Keeps chain _ _ s o f h g
-
-kept_from : {A : Type 0} (s t : State) (o : Outcome A) → IsStill s t → Kept t o → Kept s o
-kept_from s t o q h = lead_from Keeps Keeps chain _ s t o (keeps_still s t q) h
-
-kept_if : {A : Type 0} (s : State) (b : Bool) (o p : Outcome A) → Kept s o → Kept s p → Kept s (if b then o else p)
-kept_if s b o p h i = lead_if Keeps Keeps chain _ s b o p h i
-
 -- lines
 
 keeps_line : (s : State) (w : What) → Keeps s (with_line s w)
@@ -153,44 +121,19 @@ keeps_line s w = record {
   moment = refl;
 }
 
-kept_halts : {A : Type 0} (s : State) → Kept {A = A} s (Ends (halted_of s))
-unfolding halted_of
-kept_halts s = record { leads = keeps_line s Halt }
-
-write_kept : (s : State) (w : What) → Kept s (write_of s w)
-unfolding write_of
-write_kept s w = record { leads = keeps_line s w }
+-- a line after something else has changed
+keeps_written : (s u : State) (w : What) → IsStill s u → Keeps s (with_line u w)
+keeps_written s u w q = keeps_twice s u _ (keeps_still s u q) (keeps_line u w)
 
 -- steps without output
 
-state_still : (s : State) (p : Proc) (x : ProcessState) → IsStill s (with_state s p x)
-unfolding with_state
-state_still s p x = record { lines = refl; sends = refl; sent = refl; moment = refl; mote = refl; program = refl }
-
-exiting_still : (s : State) (p : Proc) → IsStill s (exiting_of s p)
-unfolding exiting_of with_exiting with_state
-exiting_still s p = record { lines = refl; sends = refl; sent = refl; moment = refl; mote = refl; program = refl }
-
-pub needs_poll_still : (s : State) (p : Proc) (b : Bool) → IsStill s (with_needs_poll s p b)
-unfolding with_needs_poll
-needs_poll_still s p b = record { lines = refl; sends = refl; sent = refl; moment = refl; mote = refl; program = refl }
-
 pub poll_still : (s : State) (p : Proc) → IsStill s (poll_of s p)
 unfolding poll_of with_needs_poll
-poll_still s p = still_if s (is_alive (process_state s p)) _ s (record { lines = refl; sends = refl; sent = refl; moment = refl; mote = refl; program = refl }) (still s)
-
-body_still : (s : State) (p : ℕ) → IsStill s (with_fresh_body s p)
-body_still s p = record { lines = refl; sends = refl; sent = refl; moment = refl; mote = refl; program = refl }
-
-fresh_still : (s : State) (p : Proc) → IsStill s (with_fresh_process s p)
-fresh_still s (Own p) = body_still s p
-fresh_still s Etimer = still s
-fresh_still s Ctimer = still s
-fresh_still s Radio = still s
-
-set_still : (s : State) (timers : TimerLists) (timer : ℕ) → IsStill s (timer_is_set (record s { timers = timers }) timer)
-unfolding timer_is_set
-set_still s timers timer = still_twice s _ _ (record { lines = refl; sends = refl; sent = refl; moment = refl; mote = refl; program = refl }) (poll_still _ Etimer)
+poll_still s p = by (is_alive (process_state s p))
+  where
+    by : (b : Bool) → IsStill s (if b then record (with_needs_poll s p true) { poll_requested = true } else s)
+    by true = record { lines = refl; sends = refl; sent = refl; moment = refl; mote = refl; program = refl }
+    by false = still s
 
 -- packets
 
@@ -211,57 +154,43 @@ keeps_packet s v = record {
   moment = refl;
 }
 
-send_kept : (s : State) (v : ℕ) → Kept s (send_of s v)
-unfolding send_of
-send_kept s v = kept_if s (nat_le (2 ^ 62) s.sent) _ _ (kept_halts s) (lead_from Keeps Keeps chain _ s _ _ (keeps_packet s v) (write_kept _ (what.Send s.sent v)))
-
--- events and the process list
-
-post_kept : (s : State) (t : Target) (e : Event) → Kept s (post_of s t e)
-unfolding post_of
-post_kept s t e =
-    kept_if s (nat_le (2 ^ 62) s.queue.accepted) _ _ (kept_halts s) (kept_if s (nat_le s.queue.capacity (length s.queue.events)) _ _ (kept_bind s _ _ (write_kept s _) (λ a u. kept_goes u true u (still u))) (kept_bind s _ _ (kept_from s _ _ (record { lines = refl; sends = refl; sent = refl; moment = refl; mote = refl; program = refl }) (write_kept _ _)) (λ a u. kept_goes u false u (still u))))
-
-enlist_kept : (s : State) (p : Proc) → Kept s (enlist_of s p)
-unfolding enlist_of with_state
-enlist_kept s p = kept_from s _ _ (still_twice s _ _ (record { lines = refl; sends = refl; sent = refl; moment = refl; mote = refl; program = refl }) (fresh_still _ p)) (write_kept _ _)
-
-leave_kept : (s : State) (p : Proc) → Kept s (leave_of s p)
-unfolding leave_of unlisted_of with_exiting
-leave_kept s p = kept_from s _ _ (record { lines = refl; sends = refl; sent = refl; moment = refl; mote = refl; program = refl }) (write_kept _ _)
-
 -- all of them
 
 pub steps : AreSteps Keeps Keeps chain Whoever
+unfolding halted_of with_state exiting_of with_exiting unlisted_of
 steps = record {
   own = λ p own. tt;
-  halts = λ s. (kept_halts {A = Unit {0}} s).leads;
+  brackets = brackets_of Keeps Keeps chain Whoever (λ s p. keeps_still s _ (record { lines = refl; sends = refl; sent = refl; moment = refl; mote = refl; program = refl })) (λ s p. keeps_still s _ (record { lines = refl; sends = refl; sent = refl; moment = refl; mote = refl; program = refl }))
+      (λ s p l. keeps_still s _ (record { lines = refl; sends = refl; sent = refl; moment = refl; mote = refl; program = refl })) (λ s p l. keeps_written s _ (what.Leave p) (record { lines = refl; sends = refl; sent = refl; moment = refl; mote = refl; program = refl }));
+  halts = λ s. keeps_line s Halt;
   units = λ s n. keeps_still s _ (record { lines = refl; sends = refl; sent = refl; moment = refl; mote = refl; program = refl });
   busy = λ s p. keeps_line s (what.Busy p);
   prints = λ s p v. keeps_line s (what.Print p v);
-  called = λ s p. keeps_still s _ (state_still s p Called);
-  runs = λ s p. keeps_still s _ (state_still s p Running);
-  exiting = λ s p l. keeps_still s _ (exiting_still s p);
   polled = λ s p. keeps_still s _ (poll_still s p);
   remainders = λ s rs. keeps_still s _ (record { lines = refl; sends = refl; sent = refl; moment = refl; mote = refl; program = refl });
   variables = λ s vs. keeps_still s _ (record { lines = refl; sends = refl; sent = refl; moment = refl; mote = refl; program = refl });
-  sets = λ s t start interval owner there. keeps_still s _ (set_still s _ t);
+  sets = λ s t start interval owner there. keeps_set Keeps Keeps chain s _ t (λ callbacks. keeps_still s _ (record { lines = refl; sends = refl; sent = refl; moment = refl; mote = refl; program = refl })) (λ u. keeps_still u _ (poll_still u Etimer));
   stops = λ s t. keeps_still s _ (record { lines = refl; sends = refl; sent = refl; moment = refl; mote = refl; program = refl });
   purges = λ s p. keeps_still s _ (record { lines = refl; sends = refl; sent = refl; moment = refl; mote = refl; program = refl });
   callbacks = λ s ts. keeps_still s _ (record { lines = refl; sends = refl; sent = refl; moment = refl; mote = refl; program = refl });
   semaphores = λ s ns. keeps_still s _ (record { lines = refl; sends = refl; sent = refl; moment = refl; mote = refl; program = refl });
-  posts = λ s t e f. post_kept s t e;
-  sends = send_kept;
-  enlists = λ s p l. enlist_kept s p;
-  leaves = λ s p l. leave_kept s p;
-  empties = λ s. empty_led Keeps Keeps chain (λ t r. keeps_still t _ (record { lines = refl; sends = refl; sent = refl; moment = refl; mote = refl; program = refl })) (λ t to e f. post_kept t to e) (λ t f n. keeps_line t (what.Deaf f n)) s.program.receiver s.ring s;
+  full = λ s t e. keeps_line s (what.Full t e.number e.word);
+  posts = λ s t e f. keeps_written s _ _ (record { lines = refl; sends = refl; sent = refl; moment = refl; mote = refl; program = refl });
+  sends = λ s v. keeps_twice s _ _ (keeps_packet s v) (keeps_line _ _);
+  starts = λ s p b h l. keeps_written s _ (what.Start p) (record { lines = refl; sends = refl; sent = refl; moment = refl; mote = refl; program = refl });
+  ring = record {
+    accepted = λ s a later p i r. keeps_written s _ _ (record { lines = refl; sends = refl; sent = refl; moment = refl; mote = refl; program = refl });
+    refused = λ s a later p i r. keeps_written s _ _ (record { lines = refl; sends = refl; sent = refl; moment = refl; mote = refl; program = refl });
+    deaf = λ s a later i r. keeps_written s _ _ (record { lines = refl; sends = refl; sent = refl; moment = refl; mote = refl; program = refl });
+    halts = λ s later. keeps_written s _ Halt (record { lines = refl; sends = refl; sent = refl; moment = refl; mote = refl; program = refl });
+  };
 }
 
-pub run_steps : AreRunSteps Keeps Keeps chain Whoever
+pub run_steps : AreRunSteps Keeps Keeps chain
+unfolding with_needs_poll
 run_steps = record {
-  any = λ p. tt;
-  poll_requested = λ s. keeps_still s _ (record { lines = refl; sends = refl; sent = refl; moment = refl; mote = refl; program = refl });
-  needs_poll = λ s p. keeps_still s _ (needs_poll_still s p false);
+  unrequested = λ s. keeps_still s _ (record { lines = refl; sends = refl; sent = refl; moment = refl; mote = refl; program = refl });
+  cleared = λ s p. keeps_still s _ (record { lines = refl; sends = refl; sent = refl; moment = refl; mote = refl; program = refl });
   front = λ s. keeps_still s _ (record { lines = refl; sends = refl; sent = refl; moment = refl; mote = refl; program = refl });
   takes = λ s n p. keeps_line s (what.Take n p);
   drops = λ s n p. keeps_line s (what.Drop n p);

@@ -1,5 +1,5 @@
 -- Each small step of the kernel is a run of the delivery machine, in the midst of any walk.
-use Rattle.std.proofs.Common.{ℕ, ◌≡◌, ◌+◌, ◌^◌, ◌||◌, ◌==◌, not, nat_le, length, Bool, true, false, cond, if◌then◌else◌, List, [], ◌∷◌, ◌++◌, refl, sym, ap, subst, ◌∙◌, append_assoc, append-nil, arith, map}
+use Rattle.std.proofs.Common.{ℕ, ◌≡◌, ◌+◌, ◌||◌, ◌==◌, not, Bool, true, false, cond, if◌then◌else◌, List, [], ◌∷◌, ◌++◌, refl, sym, ap, subst, ◌∙◌, append_assoc, append-nil, arith, map}
 use Rattle.std.proofs.lemmas.List.{map-append}
 use Rattle.std.specs.List.{filter}
 use Rattle.std.proofs.lemmas.List.Elements.{All-nil, All-push}
@@ -11,26 +11,27 @@ use Rattle.delivery_laws.proofs.Views.{Moves, stands_still, moves_joined, stops_
 use Rattle.program_tree.specs.declared.event.Proc.{Proc}
 use Rattle.program_tree.specs.declared.event.Proc.TheVariants.{Own, Etimer, Ctimer, Radio}
 use Rattle.program_tree.specs.declared.event.Target.{Target}
+use Rattle.program_tree.specs.declared.event.Target.TheVariants.{One}
 use Rattle.program_tree.specs.declared.event.Event.{Event}
+use Rattle.program_tree.specs.declared.event.SystemEvent.TheVariants.{Exit, Packet}
+use Rattle.program_tree.specs.Events.{system_number}
 use Rattle.event_queue.specs.Queue.{with_posted}
-use Rattle.mote_timers.specs.TimerLists.{TimerLists}
 use Rattle.trace_lines.specs.declared.line.Line.{Line}
 use Rattle.trace_lines.specs.declared.line.What.{What}
 use Rattle.trace_lines.specs.declared.line.What.TheVariants as what
-use Rattle.process_kernel.specs.declared.process.ProcessState.{ProcessState}
-use Rattle.process_kernel.specs.declared.process.ProcessState.TheVariants.{Running}
 use Rattle.process_kernel.specs.declared.process.Member.{Member}
 use Rattle.process_kernel.specs.Members.{place_of, is_same, stands_in}
-use Rattle.process_kernel.specs.State.{State, Outcome, Ends, Goes, ◌>>=◌}
+use Rattle.process_kernel.specs.State.{State, Outcome, Goes}
 use Rattle.process_kernel.specs.Processes.{is_alive, process_state, is_listed, with_state, with_exiting, with_needs_poll}
-use Rattle.process_kernel.specs.ProcessList.{with_fresh_body, with_fresh_process, enlist_of, exiting_of, unlisted_of, leave_of}
-use Rattle.process_kernel.specs.Posts.{post_of, poll_of, send_of}
-use Rattle.process_kernel.specs.TimerOperations.{timer_is_set}
-use Rattle.process_kernel.specs.Writes.{with_line, write_of, halted_of}
+use Rattle.process_kernel.specs.ProcessList.{enlist_of, exiting_of, unlisted_of}
+use Rattle.process_kernel.specs.Posts.{poll_of}
+use Rattle.process_kernel.specs.Writes.{with_line, halted_of}
+use Rattle.process_kernel.specs.Calls.{Calls}
+use Rattle.process_kernel.specs.Call.{calls_of}
 use Rattle.kernel_laws.specs.Own.{IsOwn, FitsTarget}
 use Rattle.kernel_laws.specs.Seen.{seen_what, seen_lines, seen_target, seen_member, seen_posted, view_of}
 use Rattle.kernel_laws.specs.Going.{SystemStays}
-use Rattle.kernel_laws.proofs.EachStep.{Leads, Lead, AreJoined, lead_from, lead_bind, lead_if}
+use Rattle.kernel_laws.proofs.EachStep.{Leads, Lead, AreJoined, AreSteps, AreLed, with_event, with_started, without_process, enlist_is, keeps_set, brackets_of, fits_no_exit, calls_led}
 
 -- the later state is reached by lines that are a run of the machine, whatever walk is under way
 pub record GoesOn (s t : State) : Type 0 where
@@ -58,9 +59,6 @@ pub record IsQuiet (s t : State) : Type 0 where
   pub members : t.members ≡ s.members
   pub started : t.started ≡ s.started
   pub queue : t.queue ≡ s.queue
-
-pub quiet_twice : (a b c : State) → IsQuiet a b → IsQuiet b c → IsQuiet a c
-quiet_twice a b c h i = record { lines = i.lines ∙ h.lines; members = i.members ∙ h.members; started = i.started ∙ h.started; queue = i.queue ∙ h.queue }
 
 pub quiet_same : (s : State) → IsQuiet s s
 quiet_same s = record { lines = refl; members = refl; started = refl; queue = refl }
@@ -101,27 +99,6 @@ ended a b c h i = record {
 pub chain : AreJoined GoesOn Stops
 chain = record { same = λ s. quiet s s (quiet_same s); joined = joined; ended = ended }
 
-pub reaches_from : {B : Type 0} {s : State} (t : State) {o : Outcome B} → GoesOn s t → Reach B t o → Reach B s o
-reaches_from {B} {s} t {o} h i = lead_from GoesOn Stops chain B s t o h i
-
-pub reaches_bind : (A B : Type 0) (s : State) (o : Outcome A) (f : A → State → Outcome B) → Reach A s o → ((a : A) (t : State) → Reach B t (f a t)) → Reach B s (o >>= f)
-reaches_bind A B s o f h go = lead_bind GoesOn Stops chain A B s o f h go
-
-pub reaches_if : (A : Type 0) (s : State) (b : Bool) (o p : Outcome A) → Reach A s o → Reach A s p → Reach A s (if b then o else p)
-reaches_if A s b o p h i = lead_if GoesOn Stops chain A s b o p h i
-
-pub ends : (A : Type 0) (s t : State) → Stops s t → Reach A s (Ends t)
-ends A s t h = record { leads = h }
-
-pub goes : (A : Type 0) (s : State) (a : A) (t : State) → GoesOn s t → Reach A s (Goes a t)
-goes A s a t h = record { leads = h }
-
-pub goes_quiet : (A : Type 0) (s : State) (a : A) (t : State) → IsQuiet s t → Reach A s (Goes a t)
-goes_quiet A s a t q = goes A s a t (quiet s t q)
-
-pub goes_still : (A : Type 0) (s : State) (a : A) → Reach A s (Goes a s)
-goes_still A s a = goes_quiet A s a s (quiet_same s)
-
 -- lines
 
 -- one line more, which a step of the machine writes
@@ -137,48 +114,19 @@ one_line s u w e m f = record {
 pub line_aside : (s : State) (w : What) → seen_what w ≡ handed.Other → GoesOn s (with_line s w)
 line_aside s w e = one_line s s w refl (rw e (other_moves (view_of s))) (λ h. h)
 
-aside : (s : State) (w : What) → seen_what w ≡ handed.Other → Reach (Unit {0}) s (write_of s w)
-unfolding write_of
-aside s w e = goes (Unit {0}) s tt _ (line_aside s w e)
-
 pub halts : (s : State) → Stops s (halted_of s)
 unfolding halted_of
 halts s = record { added = record { at = s.moment; what = what.Halt } ∷ []; wrote = refl; halts = halt_stops (view_of s) }
 
 -- steps that change nothing that the delivery sees
 
-pub state_quiet : (s : State) (p : Proc) (x : ProcessState) → IsQuiet s (with_state s p x)
-unfolding with_state
-state_quiet s p x = record { lines = refl; members = refl; started = refl; queue = refl }
-
-pub exiting_quiet : (s : State) (p : Proc) → IsQuiet s (exiting_of s p)
-unfolding exiting_of with_exiting with_state
-exiting_quiet s p = record { lines = refl; members = refl; started = refl; queue = refl }
-
 pub needs_poll_quiet : (s : State) (p : Proc) (x : Bool) → IsQuiet s (with_needs_poll s p x)
 unfolding with_needs_poll
 needs_poll_quiet s p x = record { lines = refl; members = refl; started = refl; queue = refl }
 
-pub body_quiet : (s : State) (p : ℕ) → IsQuiet s (with_fresh_body s p)
-body_quiet s p = record { lines = refl; members = refl; started = refl; queue = refl }
-
-pub fresh_quiet : (s : State) (p : Proc) → IsQuiet s (with_fresh_process s p)
-fresh_quiet s (Own p) = body_quiet s p
-fresh_quiet s Etimer = quiet_same s
-fresh_quiet s Ctimer = quiet_same s
-fresh_quiet s Radio = quiet_same s
-
 pub poll_quiet : (s : State) (p : Proc) → IsQuiet s (poll_of s p)
 unfolding poll_of with_needs_poll
 poll_quiet s p = quiet_if s (is_alive (process_state s p)) _ s (record { lines = refl; members = refl; started = refl; queue = refl }) (quiet_same s)
-
-pub set_quiet : (s : State) (timers : TimerLists) (timer : ℕ) → IsQuiet s (timer_is_set (record s { timers = timers }) timer)
-unfolding timer_is_set
-set_quiet s timers timer = quiet_twice s _ _ (record { lines = refl; members = refl; started = refl; queue = refl }) (poll_quiet _ Etimer)
-
-pub sends : (s : State) (v : ℕ) → Reach (Unit {0}) s (send_of s v)
-unfolding send_of
-sends s v = reaches_if (Unit {0}) s (nat_le (2 ^ 62) s.sent) _ _ (ends _ s _ (halts s)) (reaches_from _ (quiet s _ (record { lines = refl; members = refl; started = refl; queue = refl })) (aside _ (what.Send s.sent v) refl))
 
 -- the process list
 
@@ -190,29 +138,17 @@ pub any_or : (b c : Bool) → c ≡ true → (b || c) ≡ true
 any_or true c e = refl
 any_or false c e = e
 
--- the state in which a new incarnation is at the front
-abbrev enlisted : State → Proc → State
-enlisted s p = record s { members = record { process = p; incarnation = s.started } ∷ s.members; started = s.started + 1 }
-
-enlisted_sound : (s u : State) (p : Proc) → IsQuiet (enlisted s p) u → SystemStays s → SystemStays u
-enlisted_sound s u p q h = record {
-  stays = rw (q.members) (any_or (is_same Etimer p) (is_listed s Etimer) h.stays);
-  fits = rw (q.queue) h.fits;
-}
-
-pub enlists : (s : State) (p : Proc) → is_listed s p ≡ false → Reach (Unit {0}) s (enlist_of s p)
-unfolding enlist_of write_of
-enlists s p n =
-    let u = with_fresh_process (with_state (enlisted s p) p Running) p in
-    let q : IsQuiet (enlisted s p) u = quiet_twice _ _ _ (state_quiet (enlisted s p) p Running) (fresh_quiet _ p) in
-    goes (Unit {0}) s tt _ (one_line s u (what.Start p) q.lines (subst (λ v. Moves (view_of s) (handed.Start (place_of p) ∷ []) v) (view_quiet (enlisted s p) u q) (start_moves (view_of s) (place_of p) (sym (listed_alike s.members p) ∙ n))) (enlisted_sound s u p q))
+starts : (s : State) (p : Proc) → is_listed s p ≡ false → GoesOn s (with_started s p)
+unfolding with_state
+starts s p n =
+    one_line s _ (what.Start p) refl (start_moves (view_of s) (place_of p) (sym (listed_alike s.members p) ∙ n)) (λ h. record { stays = any_or (is_same Etimer p) (is_listed s Etimer) h.stays; fits = h.fits })
 
 -- if the etimer process has just started, with no event posted, the state is sound
 pub first_sound : (s : State) (a : Unit {0}) (t : State) → s.queue.events ≡ [] → enlist_of s Etimer ≡ Goes a t → SystemStays t
-unfolding enlist_of write_of with_state
+unfolding with_state
 first_sound s a t f e =
-    let u = with_line (with_fresh_process (with_state (enlisted s Etimer) Etimer Running) Etimer) (what.Start Etimer) in
-    let q : u ≡ t = cc in
+    let u = with_started s Etimer in
+    let q : u ≡ t = cc (enlist_is s Etimer) in
     let h : SystemStays u = record { stays = refl; fits = rw f (All-nil _) } in
     subst SystemStays q h
 
@@ -236,18 +172,55 @@ etimer_is_not_own Etimer own = absurd own
 etimer_is_not_own Ctimer own = absurd own
 etimer_is_not_own Radio own = absurd own
 
-pub leaves_list : (s : State) (p : Proc) → IsOwn p → Reach (Unit {0}) s (leave_of s p)
-unfolding leave_of write_of unlisted_of with_exiting
+leaves_list : (s : State) (p : Proc) → IsOwn p → GoesOn s (without_process s p)
+unfolding unlisted_of with_exiting
 leaves_list s p own =
-    goes (Unit {0}) s tt _ (one_line s (unlisted_of (with_exiting s p false) p) (what.Leave p) refl (leave_moves (view_of s) (place_of p) _ (left_members s.members p)) (λ h. record { stays = others_stay s.members p Etimer (etimer_is_not_own p own) ∙ h.stays; fits = h.fits }))
+    one_line s (unlisted_of (with_exiting s p false) p) (what.Leave p) refl (leave_moves (view_of s) (place_of p) _ (left_members s.members p)) (λ h. record { stays = others_stay s.members p Etimer (etimer_is_not_own p own) ∙ h.stays; fits = h.fits })
 
 -- the queue
 
-posts_at : (s : State) (t : Target) (e : Event) → FitsTarget t e.number → GoesOn s (with_line (record s { queue = with_posted s.queue t e }) (what.Post s.queue.accepted t e.number e.word))
-posts_at s t e f =
-    one_line s (record s { queue = with_posted s.queue t e }) (what.Post s.queue.accepted t e.number e.word) refl (post_moves (view_of s) (seen_target t) _ (map-append seen_posted s.queue.events _)) (λ h. record { stays = h.stays; fits = All-push (λ x. FitsTarget x.target x.event.number) s.queue.events _ h.fits f })
+posts_at : (s u : State) (t : Target) (e : Event) → IsQuiet s u → FitsTarget t e.number → GoesOn s (with_event u t e)
+posts_at s u t e q f =
+    joined s u _ (quiet s u q) (one_line u (record u { queue = with_posted u.queue t e }) (what.Post u.queue.accepted t e.number e.word) refl (post_moves (view_of u) (seen_target t) _ (map-append seen_posted u.queue.events _))
+    (λ h. record { stays = h.stays; fits = All-push (λ x. FitsTarget x.target x.event.number) u.queue.events _ h.fits f }))
 
-pub posts_event : (s : State) (t : Target) (e : Event) → FitsTarget t e.number → Reach Bool s (post_of s t e)
-unfolding post_of write_of
-posts_event s t e f =
-    reaches_if Bool s (nat_le (2 ^ 62) s.queue.accepted) _ _ (ends _ s _ (halts s)) (reaches_if Bool s (nat_le s.queue.capacity (length s.queue.events)) _ _ (goes _ s true _ (aside s (what.Full t e.number e.word) refl).leads) (goes _ s false _ (posts_at s t e f)))
+-- all of them
+
+pub steps : AreSteps GoesOn Stops chain IsOwn
+unfolding with_state exiting_of with_exiting
+steps = record {
+  own = λ p own. own;
+  brackets = brackets_of GoesOn Stops chain IsOwn (λ s p. quiet s _ (record { lines = refl; members = refl; started = refl; queue = refl })) (λ s p. quiet s _ (record { lines = refl; members = refl; started = refl; queue = refl })) (λ s p l. quiet s _ (record { lines = refl; members = refl; started = refl; queue = refl })) leaves_list;
+  halts = halts;
+  units = λ s n. quiet s _ (record { lines = refl; members = refl; started = refl; queue = refl });
+  busy = λ s p. line_aside s (what.Busy p) refl;
+  prints = λ s p v. line_aside s (what.Print p v) refl;
+  polled = λ s p. quiet s _ (poll_quiet s p);
+  remainders = λ s rs. quiet s _ (record { lines = refl; members = refl; started = refl; queue = refl });
+  variables = λ s vs. quiet s _ (record { lines = refl; members = refl; started = refl; queue = refl });
+  sets = λ s t start interval owner there. keeps_set GoesOn Stops chain s _ t (λ callbacks. quiet s _ (record { lines = refl; members = refl; started = refl; queue = refl })) (λ u. quiet u _ (poll_quiet u Etimer));
+  stops = λ s t. quiet s _ (record { lines = refl; members = refl; started = refl; queue = refl });
+  purges = λ s p. quiet s _ (record { lines = refl; members = refl; started = refl; queue = refl });
+  callbacks = λ s ts. quiet s _ (record { lines = refl; members = refl; started = refl; queue = refl });
+  semaphores = λ s ns. quiet s _ (record { lines = refl; members = refl; started = refl; queue = refl });
+  full = λ s t e. line_aside s (what.Full t e.number e.word) refl;
+  posts = λ s t e f. posts_at s s t e (quiet_same s) f;
+  sends = λ s v. joined s _ _ (quiet s _ (record { lines = refl; members = refl; started = refl; queue = refl })) (line_aside _ (what.Send s.sent v) refl);
+  starts = λ s p b h l. starts s p l;
+  ring = record {
+    accepted = λ s a later p i r. posts_at s _ _ _ (record { lines = refl; members = refl; started = refl; queue = refl }) (λ q. absurd (grind (arith, nat_tests)));
+    refused = λ s a later p i r. joined s _ _ (quiet s _ (record { lines = refl; members = refl; started = refl; queue = refl })) (line_aside _ (what.Full (One (Own p)) (system_number Packet) a.value) refl);
+    deaf = λ s a later i r. joined s _ _ (quiet s _ (record { lines = refl; members = refl; started = refl; queue = refl })) (line_aside _ (what.Deaf a.sender a.number) refl);
+    halts = λ s later. ended s _ _ (quiet s _ (record { lines = refl; members = refl; started = refl; queue = refl })) (halts _);
+  };
+}
+
+pub fits_other : (p : Proc) (number : ℕ) → (number == system_number Exit) ≡ false → FitsTarget (One p) number
+fits_other p number e = fits_no_exit GoesOn Stops chain IsOwn p number e
+
+-- the calls of a process, and the runs of a thread
+abbrev pub AreRuns : Calls → Type 0
+AreRuns calls = AreLed GoesOn Stops chain IsOwn calls
+
+pub calls_run : (k : ℕ) → AreRuns (calls_of k)
+calls_run k = calls_led GoesOn Stops chain IsOwn steps k

@@ -1,12 +1,10 @@
 -- An invariant of each small step: etimer and the radio process can be polled, a poll that was requested still waits,
 -- and a timer that is set requests one.
-use Rattle.std.proofs.Common.{ℕ, ◌≡◌, ◌+◌, ◌^◌, ◌<◌, inl, inr, ◌==◌, Bool, true, false, not, nat_lt, nat_le, if◌then◌else◌, List, [], ◌∷◌, length, Some, refl, sym, ◌∙◌, subst, arith}
+use Rattle.std.proofs.Common.{ℕ, ◌≡◌, ◌+◌, ◌<◌, inl, inr, ◌==◌, Bool, true, false, not, nat_lt, if◌then◌else◌, List, [], ◌∷◌, length, Some, refl, sym, ◌∙◌, subst, arith}
 use Rattle.std.specs.List.{filter}
 use Rattle.std.proofs.lemmas.Bool.Decides.{nat_tests}
 use Rattle.program_tree.specs.declared.event.Proc.{Proc}
-use Rattle.program_tree.specs.declared.event.Proc.TheVariants.{Own, Etimer, Ctimer, Radio}
-use Rattle.program_tree.specs.declared.event.Target.{Target}
-use Rattle.program_tree.specs.declared.event.Event.{Event}
+use Rattle.program_tree.specs.declared.event.Proc.TheVariants.{Etimer, Radio}
 use Rattle.mote_timers.specs.Numbers.{is_member}
 use Rattle.mote_timers.specs.Timer.{is_due, is_owned_by}
 use Rattle.mote_timers.specs.TimerLists.{TimerLists, timer_at, stop_timer, purge_timers}
@@ -16,12 +14,12 @@ use Rattle.process_kernel.specs.declared.process.Member.{Member}
 use Rattle.trace_lines.specs.declared.line.What.{What}
 use Rattle.trace_lines.specs.declared.line.What.TheVariants as what
 use Rattle.process_kernel.specs.Members.{place_of}
-use Rattle.process_kernel.specs.State.{State, Outcome}
+use Rattle.process_kernel.specs.State.{State}
 use Rattle.process_kernel.specs.Processes.{is_alive, process_state, process_needs_poll, with_state, with_exiting, with_needs_poll}
-use Rattle.process_kernel.specs.ProcessList.{with_fresh_process, enlist_of, exiting_of, unlisted_of, leave_of}
-use Rattle.process_kernel.specs.Posts.{post_of, poll_of, send_of}
+use Rattle.process_kernel.specs.ProcessList.{exiting_of, unlisted_of}
+use Rattle.process_kernel.specs.Posts.{poll_of}
 use Rattle.process_kernel.specs.TimerOperations.{timer_is_set}
-use Rattle.process_kernel.specs.Writes.{with_line, write_of}
+use Rattle.process_kernel.specs.Writes.{with_line}
 use Rattle.kernel_laws.specs.Own.{IsOwn}
 use Rattle.kernel_laws.specs.Poll.{PollWaits, CanBePolled}
 use Rattle.kernel_laws.specs.Due.{IsDueFor, NoneIsDue, ForgetsNone}
@@ -29,7 +27,7 @@ use Rattle.kernel_laws.proofs.Alive.{Alive, needs_poll_more, alive_still, alive_
 use Rattle.kernel_laws.proofs.Steps.{any_or}
 use Rattle.kernel_laws.proofs.Tables.{set_same, set_other}
 use Rattle.kernel_laws.proofs.Timers.{other_timer}
-use Rattle.kernel_laws.proofs.EachStep.{Lead, AreJoined, AreSteps, lead_if, empty_led}
+use Rattle.kernel_laws.proofs.EachStep.{Whatever, AreJoined, AreSteps, brackets_of, with_started}
 
 -- an invariant of a step, with whether one process needs a poll
 pub record Watches (p : Proc) (s t : State) : Type 0 where
@@ -39,10 +37,6 @@ pub record Watches (p : Proc) (s t : State) : Type 0 where
   pub needs_poll : process_needs_poll s p ≡ true → process_needs_poll t p ≡ true
   pub poll_requested : s.poll_requested ≡ true → t.poll_requested ≡ true
   pub due : p ≡ Etimer → CanBePolled Etimer s → NoneIsDue s.moment s.timers → ForgetsNone t.moment t
-
--- no claim is made about halted motes
-abbrev pub Whatever : State → State → Type 0
-Whatever s t = Unit {0}
 
 pub still_waits : (p : Proc) (s t : State) → Watches p s t → PollWaits p s → PollWaits p t
 still_waits p s t h w = record { needs_poll = h.needs_poll w.needs_poll; poll_requested = h.poll_requested w.poll_requested }
@@ -104,12 +98,6 @@ unpurged_due : (moment : ℕ) (l : TimerLists) (p : Proc) (id : ℕ) (owner : Pr
 unfolding purge_timers
 unpurged_due moment l p id owner d =
     record { listed = (is_left (λ k. not (is_owned_by p (timer_at l.timers k))) id l.listed d.listed).0; due = d.due; owned = d.owned }
-
-fresh_still : (s : State) (p : Proc) → IsStill s (with_fresh_process s p)
-fresh_still s (Own p) = record { moment = refl; states = refl; needs_poll = refl; poll_requested = refl; members = refl; timers = refl }
-fresh_still s Etimer = record { moment = refl; states = refl; needs_poll = refl; poll_requested = refl; members = refl; timers = refl }
-fresh_still s Ctimer = record { moment = refl; states = refl; needs_poll = refl; poll_requested = refl; members = refl; timers = refl }
-fresh_still s Radio = record { moment = refl; states = refl; needs_poll = refl; poll_requested = refl; members = refl; timers = refl }
 
 module _ (p : Proc) where
   pub watches_still : (s t : State) → IsStill s t → Watches p s t
@@ -216,28 +204,8 @@ module _ (p : Proc) where
     due = λ is c n. inl (λ id owner d. n id owner (f id owner d));
   }
 
-  -- events and lines
-
-  abbrev Leads : (A : Type 0) → State → Outcome A → Type 0
-  Leads A s o = Lead (Watches p) Whatever A s o
-
-  leads_if : (A : Type 0) (s : State) (b : Bool) (o q : Outcome A) → Leads A s o → Leads A s q → Leads A s (if b then o else q)
-  leads_if A s b o q h i = lead_if (Watches p) Whatever chain A s b o q h i
-
   pub watches_line : (s : State) (w : What) → Watches p s (with_line s w)
   watches_line s w = watches_still s _ (record { moment = refl; states = refl; needs_poll = refl; poll_requested = refl; members = refl; timers = refl })
-
-  posts_watch : (s : State) (t : Target) (e : Event) → Leads Bool s (post_of s t e)
-  unfolding post_of write_of
-  posts_watch s t e =
-      leads_if Bool s (nat_le (2 ^ 62) s.queue.accepted) _ _ (record { leads = tt })
-      (leads_if Bool s (nat_le s.queue.capacity (length s.queue.events)) _ _ (record { leads = watches_line s _ })
-      (record { leads = watches_still s _ (record { moment = refl; states = refl; needs_poll = refl; poll_requested = refl; members = refl; timers = refl }) }))
-
-  sends_watch : (s : State) (v : ℕ) → Leads (Unit {0}) s (send_of s v)
-  unfolding send_of write_of
-  sends_watch s v =
-      leads_if _ s (nat_le (2 ^ 62) s.sent) _ _ (record { leads = tt }) (record { leads = watches_still s _ (record { moment = refl; states = refl; needs_poll = refl; poll_requested = refl; members = refl; timers = refl }) })
 
   -- the process list
 
@@ -251,13 +219,11 @@ module _ (p : Proc) where
     due = λ is c d. inl d;
   }
 
-  enlists_watch : (s : State) (q : Proc) → Leads (Unit {0}) s (enlist_of s q)
-  unfolding enlist_of write_of
-  enlists_watch s q =
+  watches_started : (s : State) (q : Proc) → Watches p s (with_started s q)
+  watches_started s q =
       let a = record s { members = record { process = q; incarnation = s.started } ∷ s.members; started = s.started + 1 } in
       let b = with_state a q Running in
-      let c = with_fresh_process b q in
-      record { leads = watches_joined s a (with_line c (what.Start q)) (watches_longer s _ _) (watches_joined a b (with_line c (what.Start q)) (watches_state a q Running refl) (watches_joined b c (with_line c (what.Start q)) (watches_still b c (fresh_still b q)) (watches_line c (what.Start q)))) }
+      watches_joined s a _ (watches_longer s _ _) (watches_joined a b _ (watches_state a q Running refl) (watches_still b _ (record { moment = refl; states = refl; needs_poll = refl; poll_requested = refl; members = refl; timers = refl })))
 
   watches_shorter : (s : State) (q : Proc) → IsOwn q → Watches p s (unlisted_of (with_exiting s q false) q)
   unfolding unlisted_of with_exiting
@@ -270,20 +236,15 @@ module _ (p : Proc) where
     due = λ is c n. inl n;
   }
 
-  leaves_watch : (s : State) (q : Proc) → IsOwn q → Leads (Unit {0}) s (leave_of s q)
-  unfolding leave_of write_of
-  leaves_watch s q own = record { leads = watches_joined s _ _ (watches_shorter s q own) (watches_line _ (what.Leave q)) }
-
   pub steps : AreSteps (Watches p) Whatever chain IsOwn
   steps = record {
     own = λ q own. own;
+    brackets = brackets_of (Watches p) Whatever chain IsOwn (λ s q. watches_state s q Called refl) (λ s q. watches_state s q Running refl) watches_exiting
+        (λ s q own. watches_joined s _ _ (watches_shorter s q own) (watches_line _ (what.Leave q)));
     halts = λ s. tt;
     units = λ s n. watches_still s _ (record { moment = refl; states = refl; needs_poll = refl; poll_requested = refl; members = refl; timers = refl });
     busy = λ s q. watches_line s (what.Busy q);
     prints = λ s q v. watches_line s (what.Print q v);
-    called = λ s q. watches_state s q Called refl;
-    runs = λ s q. watches_state s q Running refl;
-    exiting = watches_exiting;
     polled = watches_poll;
     remainders = λ s rs. watches_still s _ (record { moment = refl; states = refl; needs_poll = refl; poll_requested = refl; members = refl; timers = refl });
     variables = λ s vs. watches_still s _ (record { moment = refl; states = refl; needs_poll = refl; poll_requested = refl; members = refl; timers = refl });
@@ -292,9 +253,14 @@ module _ (p : Proc) where
     purges = λ s q. watches_fewer s (purge_timers s.timers q) (unpurged_due s.moment s.timers q);
     callbacks = λ s ts. watches_still s _ (record { moment = refl; states = refl; needs_poll = refl; poll_requested = refl; members = refl; timers = refl });
     semaphores = λ s ns. watches_still s _ (record { moment = refl; states = refl; needs_poll = refl; poll_requested = refl; members = refl; timers = refl });
-    posts = λ s t e f. posts_watch s t e;
-    sends = sends_watch;
-    enlists = λ s q l. enlists_watch s q;
-    leaves = leaves_watch;
-    empties = λ s. empty_led (Watches p) Whatever chain (λ t r. watches_still t _ (record { moment = refl; states = refl; needs_poll = refl; poll_requested = refl; members = refl; timers = refl })) (λ t to e f. posts_watch t to e) (λ t f n. watches_line t (what.Deaf f n)) s.program.receiver s.ring s;
+    full = λ s t e. watches_line s (what.Full t e.number e.word);
+    posts = λ s t e f. watches_still s _ (record { moment = refl; states = refl; needs_poll = refl; poll_requested = refl; members = refl; timers = refl });
+    sends = λ s v. watches_still s _ (record { moment = refl; states = refl; needs_poll = refl; poll_requested = refl; members = refl; timers = refl });
+    starts = λ s q b h l. watches_started s q;
+    ring = record {
+      accepted = λ s a later q i r. watches_still s _ (record { moment = refl; states = refl; needs_poll = refl; poll_requested = refl; members = refl; timers = refl });
+      refused = λ s a later q i r. watches_still s _ (record { moment = refl; states = refl; needs_poll = refl; poll_requested = refl; members = refl; timers = refl });
+      deaf = λ s a later i r. watches_still s _ (record { moment = refl; states = refl; needs_poll = refl; poll_requested = refl; members = refl; timers = refl });
+      halts = λ s later. tt;
+    };
   }

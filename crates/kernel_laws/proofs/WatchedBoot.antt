@@ -23,8 +23,8 @@ use Rattle.kernel_laws.proofs.Delivers.{first_start}
 use Rattle.kernel_laws.proofs.InStep as tables
 use Rattle.kernel_laws.proofs.Tables.{set_same}
 use Rattle.kernel_laws.proofs.Packets.{IfGoes, goes_bind}
-use Rattle.kernel_laws.proofs.EachStep.{Lead, fits_no_exit, start_led}
-use Rattle.kernel_laws.proofs.Watch.{Watches, Whatever, chain, steps}
+use Rattle.kernel_laws.proofs.EachStep.{Whoever, Whatever, Lead, fits_no_exit, start_led}
+use Rattle.kernel_laws.proofs.Watch.{Watches, chain, steps}
 use Rattle.kernel_laws.proofs.WatchedRuns.{Good, good_leads, AreWatched}
 
 below : (k n : ℕ) → nat_lt k n ≡ true → k < n
@@ -74,7 +74,7 @@ pub record IsUnstarted (moment : ℕ) (s : State) : Type 0 where
 
 module _ (calls : Calls) (are : AreWatched calls) where
   start_good : (r : Bool) (moment : ℕ) (s : State) (p : Proc) → Good r moment s → IfGoes (Good r moment) (start_of calls s p)
-  start_good r moment s p g = good_leads _ r moment s _ g (start_led (Watches Etimer) Whatever (chain Etimer) IsOwn (steps Etimer) calls are.led s p) (tables.start_kept calls are.kept s p g.stands.step)
+  start_good r moment s p g = good_leads _ r moment s _ g (start_led (Watches Etimer) Whatever (chain Etimer) IsOwn (steps Etimer) calls are.led s p) (start_led tables.KeepsStep Whatever tables.chain Whoever tables.steps calls are.kept s p)
 
   starts_good : (r : Bool) (moment : ℕ) (ps : List Proc) (s : State) → Good r moment s → IfGoes (Good r moment) (starts_of calls ps s)
   starts_good r moment [] s g = g
@@ -87,18 +87,19 @@ module _ (calls : Calls) (are : AreWatched calls) where
   first_goes s b t n = first_start calls are.reach s b t n
 
   first_by : (moment : ℕ) (s u : State) (o : Went) → IsUnstarted moment s → (u.moment ≡ s.moment) × (u.timers ≡ s.timers) → CanBePolled Etimer u → is_listed u Etimer ≡ true → has_process u Radio ≡ true → nat_lt 2 (length u.needs_poll) ≡ true
-      → Lead (Watches Etimer) Whatever (Unit {0}) u o → tables.Leaves (Unit {0}) (tables.Keeps s) o → IfGoes (Good false moment) o
+      → Lead (Watches Etimer) Whatever (Unit {0}) u o → tables.Kept (Unit {0}) s o → IfGoes (Good false moment) o
   first_by moment s u (Ends t) h same can listed state can_need_poll w k = tt
   first_by moment s u (Goes a t) h same can listed state can_need_poll w k =
       let now : u.moment ≡ moment = same.0 ∙ h.now_is in
       let later : t.moment ≡ moment = w.leads.moment ∙ now in
       let before : NoneIsDue u.moment u.timers = rw (now, same.1) h.none in
+      let kept = k.leads.kept h.step in
       record {
         now_is = later;
         stands = record {
           can = w.leads.etimer.can can;
-          step = k.out.step;
-          idle = record { called = λ j. k.out.busy.called j ∙ h.idle.called j; exiting = λ j. k.out.busy.exiting j ∙ h.idle.exiting j };
+          step = kept.step;
+          idle = record { called = λ j. kept.busy.called j ∙ h.idle.called j; exiting = λ j. kept.busy.exiting j ∙ h.idle.exiting j };
           listed = w.leads.etimer.listed listed;
           radio_state = w.leads.radio.state state;
           radio_can_need_poll = w.leads.radio.can_need_poll can_need_poll;
@@ -113,7 +114,7 @@ module _ (calls : Calls) (are : AreWatched calls) where
       let room = enlisted_room s h.radio_state h.radio_can_need_poll in
       let call = are.led.call (enlisted s Etimer) Etimer (told Init 0) (fits_no_exit (Watches Etimer) Whatever (chain Etimer) IsOwn Etimer (told Init 0).number refl) in
       first_by moment s (enlisted s Etimer) _ h (enlisted_moment s) (enlisted_can s h.there h.can_need_poll) (enlisted_listed s) room.0 room.1
-      (subst (λ o. Lead (Watches Etimer) Whatever (Unit {0}) (enlisted s Etimer) o) (sym q) call) (tables.start_kept calls are.kept s Etimer h.step)
+      (subst (λ o. Lead (Watches Etimer) Whatever (Unit {0}) (enlisted s Etimer) o) (sym q) call) (start_led tables.KeepsStep Whatever tables.chain Whoever tables.steps calls are.kept s Etimer)
 
   -- the radio process
 

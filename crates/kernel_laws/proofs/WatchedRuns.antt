@@ -28,16 +28,15 @@ use Rattle.kernel_laws.specs.InStep.{IsInStep, IsIdle}
 use Rattle.kernel_laws.specs.Due.{NoneIsDue, ForgetsNone}
 use Rattle.kernel_laws.specs.Poll.{CanBePolled, members_before}
 use Rattle.kernel_laws.proofs.Steps.{Reach}
-use Rattle.kernel_laws.proofs.CallSteps.{AreRuns}
+use Rattle.kernel_laws.proofs.Steps.{AreRuns}
 use Rattle.kernel_laws.proofs.Delivers.{polls_due_run}
 use Rattle.kernel_laws.proofs.InStep as tables
-use Rattle.kernel_laws.proofs.Resting as resting
 use Rattle.kernel_laws.proofs.Packets.{IfGoes, goes_bind}
 use Rattle.kernel_laws.proofs.Timers.{goes_cases}
-use Rattle.kernel_laws.proofs.EachStep.{Lead, AreLed, fits_no_exit, lead_from, lead_if, lead_goes}
+use Rattle.kernel_laws.proofs.EachStep.{Whatever, Lead, AreLed, fits_no_exit, lead_from, lead_if, lead_goes}
 use Rattle.kernel_laws.proofs.Alive.{still_has}
 use Rattle.kernel_laws.proofs.PollTurns.{splits, walk_splits, other_led, before_led}
-use Rattle.kernel_laws.proofs.Watch.{Watches, Whatever, chain, watches_still, watches_line, forgets_on}
+use Rattle.kernel_laws.proofs.Watch.{Watches, chain, watches_still, watches_line, forgets_on}
 use Rattle.kernel_laws.proofs.Passes.{Serves}
 
 -- the radio process can be polled, too
@@ -86,9 +85,9 @@ good_on r moment s t g w k =
     let members_before : ForgetsNone s.moment s = subst (λ n. ForgetsNone n s) (sym g.now_is) g.forgets in
     record { now_is = now; stands = stands_on r s t g.stands w k; forgets = subst (λ n. ForgetsNone n t) now (forgets_on s t w g.stands.can members_before) }
 
-pub good_leads : (A : Type 0) (r : Bool) (moment : ℕ) (s : State) (o : Outcome A) → Good r moment s → Lead (Watches Etimer) Whatever A s o → tables.Leaves A (tables.Keeps s) o → IfGoes (Good r moment) o
+pub good_leads : (A : Type 0) (r : Bool) (moment : ℕ) (s : State) (o : Outcome A) → Good r moment s → Lead (Watches Etimer) Whatever A s o → tables.Kept A s o → IfGoes (Good r moment) o
 good_leads A r moment s (Ends t) g w k = tt
-good_leads A r moment s (Goes a t) g w k = good_on r moment s t g w.leads k.out
+good_leads A r moment s (Goes a t) g w k = good_on r moment s t g w.leads (k.leads.kept g.stands.step)
 
 -- `needs_poll` of a process is cleared
 
@@ -137,10 +136,10 @@ pub record AreWatched (calls : Calls) : Type 0 where
 module _ (calls : Calls) (are : AreWatched calls) where
   -- a call that polls etimer
 
-  served_good : (r : Bool) (moment : ℕ) (s : State) (o : Went) → s.moment ≡ moment → Stands r s → Lead (Watches Etimer) Whatever (Unit {0}) s o → tables.Leaves (Unit {0}) (tables.Keeps s) o → IfGoes (Serves s) o → IfGoes (Good r moment) o
+  served_good : (r : Bool) (moment : ℕ) (s : State) (o : Went) → s.moment ≡ moment → Stands r s → Lead (Watches Etimer) Whatever (Unit {0}) s o → tables.Kept (Unit {0}) s o → IfGoes (Serves s) o → IfGoes (Good r moment) o
   served_good r moment s (Ends t) e h w k f = tt
   served_good r moment s (Goes a t) e h w k f =
-      let now : t.moment ≡ moment = w.leads.moment ∙ e in record { now_is = now; stands = stands_on r s t h w.leads k.out; forgets = subst (λ n. ForgetsNone n t) now f.forgets }
+      let now : t.moment ≡ moment = w.leads.moment ∙ e in record { now_is = now; stands = stands_on r s t h w.leads (k.leads.kept h.step); forgets = subst (λ n. ForgetsNone n t) now f.forgets }
 
   -- a poll is no exit
   pub fits_poll : (p : Proc) → FitsTarget (One p) (told Poll 0).number
@@ -148,10 +147,10 @@ module _ (calls : Calls) (are : AreWatched calls) where
 
   etimer_good : (r : Bool) (moment : ℕ) (s : State) → s.moment ≡ moment → Stands r s → IfGoes (Good r moment) (calls.call s Etimer (told Poll 0))
   etimer_good r moment s e h =
-      served_good r moment s _ e h (are.led.call s Etimer (told Poll 0) (fits_poll Etimer)) (are.kept.call s Etimer (told Poll 0) h.step) (are.serves s (etimer_runs r s h) h.can)
+      served_good r moment s _ e h (are.led.call s Etimer (told Poll 0) (fits_poll Etimer)) (are.kept.call s Etimer (told Poll 0) (λ q. tt)) (are.serves s (etimer_runs r s h) h.can)
 
   other_good : (r : Bool) (moment : ℕ) (s : State) (p : Proc) → (0 ≡ place_of p → ⊥) → Good r moment s → IfGoes (Good r moment) (calls.call (with_needs_poll s p false) p (told Poll 0))
-  other_good r moment s p n g = good_leads _ r moment s _ g (other_led Etimer calls are.led s p n) (tables.kept_from s _ _ (tables.needs_poll_still s p false) (are.kept.call _ p (told Poll 0)) g.stands.step)
+  other_good r moment s p n g = good_leads _ r moment s _ g (other_led Etimer calls are.led s p n) (lead_from tables.KeepsStep Whatever tables.chain _ s _ _ (tables.run_steps.cleared s p) (are.kept.call _ p (told Poll 0) (λ q. tt)))
 
   polled_good : (r : Bool) (moment : ℕ) (s : State) (p : Proc) → Good r moment s → IfGoes (Good r moment) (calls.call (with_needs_poll s p false) p (told Poll 0))
   polled_good r moment s (Own p) g = other_good r moment s (Own p) (λ e. omega arith) g
@@ -170,10 +169,10 @@ module _ (calls : Calls) (are : AreWatched calls) where
   -- before etimer's turn it still needs a poll
 
   comes_by : (r : Bool) (moment : ℕ) (x : Member) (s : State) (o : Went) → s.moment ≡ moment → Stands r s → x.process ≡ Etimer → is_on_list s x ≡ true → NoneIsDue moment s.timers ⊎ (process_needs_poll s Etimer ≡ true)
-      → Lead (Watches Etimer) Whatever (Unit {0}) s o → tables.Leaves (Unit {0}) (tables.Keeps s) o → IfGoes (Comes r moment x) o
+      → Lead (Watches Etimer) Whatever (Unit {0}) s o → tables.Kept (Unit {0}) s o → IfGoes (Comes r moment x) o
   comes_by r moment x s (Ends t) e h p there due w k = tt
   comes_by r moment x s (Goes a t) e h p there due w k =
-      let now : t.moment ≡ moment = w.leads.moment ∙ e in record { now_is = now; stands = stands_on r s t h w.leads k.out; there = w.leads.etimer.there x p there; due = still due }
+      let now : t.moment ≡ moment = w.leads.moment ∙ e in record { now_is = now; stands = stands_on r s t h w.leads (k.leads.kept h.step); there = w.leads.etimer.there x p there; due = still due }
     where
       on : ForgetsNone t.moment t → NoneIsDue moment t.timers ⊎ (process_needs_poll t Etimer ≡ true)
       on (inl n) = inl (subst (λ m. NoneIsDue m t.timers) (w.leads.moment ∙ e) n)
@@ -185,7 +184,7 @@ module _ (calls : Calls) (are : AreWatched calls) where
 
   pub comes : (r : Bool) (moment : ℕ) (x : Member) (s : State) → s.moment ≡ moment → Stands r s → x.process ≡ Etimer → is_on_list s x ≡ true → NoneIsDue moment s.timers ⊎ (process_needs_poll s Etimer ≡ true) → IfGoes (Comes r moment x) (walk_polls calls (members_before Etimer s.members) s)
   comes r moment x s e h p there due =
-      comes_by r moment x s _ e h p there due (before_led Etimer calls are.led s.members s) (resting.polls_kept calls are.kept (members_before Etimer s.members) s h.step)
+      comes_by r moment x s _ e h p there due (before_led Etimer calls are.led s.members s) (tables.polls_kept calls are.kept (members_before Etimer s.members) s)
 
   at_turn : (r : Bool) (moment : ℕ) (x : Member) (u : State) → x.process ≡ Etimer → Comes r moment x u → IfGoes (Good r moment) (poll_turn_of calls u x)
   unfolding poll_turn_of
@@ -223,7 +222,7 @@ module _ (calls : Calls) (are : AreWatched calls) where
       lead_if (Watches Etimer) Whatever (chain Etimer) _ s there _ _ (lead_from (Watches Etimer) Whatever (chain Etimer) _ s _ _ (watches_line Etimer s (what.Take x.serial p)) (are.led.call _ p x.event f)) (lead_goes (Watches Etimer) Whatever (chain Etimer) _ s tt _ (watches_line Etimer s (what.Drop x.serial p)))
 
   give_good : (r : Bool) (moment : ℕ) (s : State) (x : Posted) (p : Proc) (there : Bool) → FitsTarget (One p) x.event.number → Good r moment s → IfGoes (Good r moment) (give_of calls s x p there)
-  give_good r moment s x p there f g = good_leads _ r moment s _ g (give_led s x p there f) (resting.give_kept calls are.kept s x p there g.stands.step)
+  give_good r moment s x p there f g = good_leads _ r moment s _ g (give_led s x p there f) (tables.give_kept calls are.kept s x p there)
 
   walk_broadcast_good : (r : Bool) (moment : ℕ) (x : Posted) (ms : List Member) (s : State) → (x.event.number ≡ system_number Exit → ⊥) → Good r moment s → IfGoes (Good r moment) (walk_broadcast calls x ms s)
   unfolding visit_of
