@@ -36,9 +36,10 @@ use Rattle.mote_node.specs.Arrivals.{received_line, lost_line, hear, hear_each, 
 use Rattle.mote_node.specs.Turn.{most_runs, boot_due, is_some_due, poll_due, follow, runs_of, work_of, mote_turn, net_turn, turn_of}
 use Rattle.mote_node.specs.Wake.{wake_of, wake_after}
 use Rattle.mote_node.specs.Laws as turns
-use Rattle.mote_node.specs.Laws.{Turns, Rests, Takes}
+use Rattle.mote_node.specs.Laws.{Turns}
 use Rattle.mote_laws.specs.Laws.{first_node}
 use Rattle.mote_laws.specs.Due.{WakesForEtimer, TurnsForgetNone, runs_begin, ServesTimers, TurnsServeTimers}
+use Rattle.mote_laws.proofs.EachTurn.{either, follows, nodes_keep, runs_keep}
 use Rattle.mote_laws.proofs.Stamps as stamps
 use Rattle.mote_laws.proofs.Stamps.{now_last}
 use Rattle.mote_laws.proofs.Ring.{run_stays}
@@ -84,14 +85,10 @@ poll_rested : (m : Mote) (p : Proc) → Rested m → Rested (with_poll m p)
 unfolding with_poll
 poll_rested m p r = record { booted = r.booted; rest = λ h. poll_rests m.state p (r.rest h) }
 
-rested_if : (b : Bool) (u v : Underway) → Rested u.mote → Rested v.mote → Rested (if b then u else v).mote
-rested_if true u v h i = h
-rested_if false u v h i = i
-
 hear_rested : (moment : ℕ) (a : Arrival) (u : Underway) → Rested u.mote → Rested (hear moment a u).mote
 unfolding hear
 hear_rested moment a u r =
-    rested_if (has_room u.mote) (with_lines (with_mote u (with_packet u.mote a)) (received_line moment a ∷ [])) (with_lines u (lost_line moment a ∷ [])) (packet_rested u.mote a r) r
+    either (λ w. Rested w.mote) (has_room u.mote) (with_lines (with_mote u (with_packet u.mote a)) (received_line moment a ∷ [])) (with_lines u (lost_line moment a ∷ [])) (packet_rested u.mote a r) r
 
 pub hear_each_rested : (moment : ℕ) (packets : List Arrival) (u : Underway) → Rested u.mote → Rested (hear_each moment packets u).mote
 hear_each_rested moment [] u r = r
@@ -102,7 +99,7 @@ unfolding hear_all
 hear_all_rested moment packets u r =
     let v = hear_each moment packets u in
     let h = hear_each_rested moment packets u r in
-    rested_if (took_some u.mote v.mote) (with_mote v (with_poll v.mote Radio)) v (poll_rested v.mote Radio h) h
+    either (λ w. Rested w.mote) (took_some u.mote v.mote) (with_mote v (with_poll v.mote Radio)) v (poll_rested v.mote Radio h) h
 
 -- and they leave the timers as they are
 
@@ -174,18 +171,8 @@ run_by moment u false e w =
     let f = run_forgets_none moment u.mote u.lines u.sends (w.rested.rest e) (w.forgets e) in
     record { rested = record { booted = run_booted u.mote moment u.lines u.sends w.rested.booted; rest = λ h. (f h).0 }; forgets = λ h. (f h).1 }
 
-follow_watched : (moment : ℕ) (r : Ran) (others : Underway → Underway) (u : Underway) → Watched moment u.mote → Watched moment (others u).mote → Watched moment (follow r others u).mote
-follow_watched moment ran.Halted others u h i = h
-follow_watched moment (ran.Left zero) others u h i = h
-follow_watched moment (ran.Left (suc n)) others u h i = i
-
 runs_watched : (most moment : ℕ) (u : Underway) → Watched moment u.mote → Watched moment (runs_of most moment u).mote
-unfolding runs_of
-runs_watched zero moment u w = w
-runs_watched (suc most) moment u w =
-    let g = run_given moment u.mote u.lines u.sends in
-    let k = run_by moment u u.mote.halted refl w in
-    follow_watched moment g.ran (runs_of most moment) (after g) k (runs_watched most moment (after g) k)
+runs_watched most moment u w = runs_keep moment (λ v. Watched moment v.mote) (λ v h. run_by moment v v.mote.halted refl h) most u w
 
 -- a turn of a mote that is as it was made, or is at rest
 
@@ -251,16 +238,12 @@ turn_stands program number queue n x s =
     same_some : (a b : ℕ) → Some a ≡ Some b → a ≡ b
     same_some a b e = cc
 
-turns_stand : (program : Tree) (number queue : ℕ) (n last : Node) (given : List turns.TurnInput) (lines : List Line) → Turns n given lines last → Stands program number queue n → Stands program number queue last
-turns_stand program number queue n last given lines Rests s = s
-turns_stand program number queue n last given lines (Takes {given = x} past t) s = turns_stand program number queue _ last _ _ t (turn_stands program number queue n x s)
-
 pub first_stands : (program : Tree) (number queue : ℕ) (collides : Bool) → Stands program number queue (first_node program number queue collides)
 unfolding new_node
 first_stands program number queue collides = inl (refl, refl)
 
 all_stand : (program : Tree) (number queue : ℕ) (collides : Bool) (given : List turns.TurnInput) (lines : List Line) (last : Node) → Turns (first_node program number queue collides) given lines last → Stands program number queue last
-all_stand program number queue collides given lines last t = turns_stand program number queue _ last given lines t (first_stands program number queue collides)
+all_stand program number queue collides given lines last t = nodes_keep (Stands program number queue) (turn_stands program number queue) _ last given lines t (first_stands program number queue collides)
 
 -- if a poll of etimer waits, the mote wakes at the next moment
 wakes_next : (moment : ℕ) (n : Node) → n.last ≡ Some moment → n.mote.halted ≡ false → PollWaits Etimer n.mote.state → wake_of n ≡ Some (moment + 1)
@@ -285,17 +268,7 @@ turns_forget_none program number queue collides given lines last moment t e runn
 -- a mote that has halted stays halted
 
 still_halted : (most moment : ℕ) (u : Underway) → u.mote.halted ≡ true → (runs_of most moment u).mote.halted ≡ true
-unfolding runs_of
-still_halted zero moment u e = e
-still_halted (suc most) moment u e =
-    let g = run_given moment u.mote u.lines u.sends in
-    let now : g.mote.halted ≡ true = ap (λ (v : Underway). v.mote.halted) (run_stays moment u e) ∙ e in
-    by g.ran (after g) now (still_halted most moment (after g) now)
-  where
-    by : (r : Ran) (v : Underway) → v.mote.halted ≡ true → (runs_of most moment v).mote.halted ≡ true → (follow r (runs_of most moment) v).mote.halted ≡ true
-    by ran.Halted v h i = h
-    by (ran.Left zero) v h i = h
-    by (ran.Left (suc n)) v h i = i
+still_halted most moment u e = runs_keep moment (λ v. v.mote.halted ≡ true) (λ v h. ap (λ (w : Underway). w.mote.halted) (run_stays moment v h) ∙ h) most u e
 
 not_halted : (most moment : ℕ) (u : Underway) (b : Bool) → u.mote.halted ≡ b → (runs_of most moment u).mote.halted ≡ false → u.mote.halted ≡ false
 not_halted most moment u true e h = let k = still_halted most moment u e in absurd (cc)
@@ -319,7 +292,7 @@ unfolding runs_of
 runs_serve most moment u rest waits running h =
     let g = run_given moment u.mote u.lines u.sends in
     let p = run_tells_due moment u.mote u.lines u.sends running rest waits (first_not_halted most moment g.ran (after g) h) in
-    let more = stamps.follow_goes moment (after g) g.ran (runs_of most moment) (after g) (stamps.goes_still moment (after g)) (stamps.runs_go most moment (after g)) in
+    let more = follows (λ v. stamps.Goes moment (after g) v) g.ran (runs_of most moment) (after g) (stamps.goes_still moment (after g)) (stamps.runs_go most moment (after g)) in
     record {
       at_turn = p.at_turn;
       comes = p.comes;

@@ -1,11 +1,9 @@
 -- A turn leaves no packet in the ring.
-use Rattle.std.proofs.Common.{ℕ, zero, suc, ◌≡◌, ◌⊎◌, inl, inr, ◌&&◌, nat_lt, Bool, true, false, if◌then◌else◌, List, [], ◌∷◌, length, refl, sym, ap, ◌∙◌, subst, arith}
+use Rattle.std.proofs.Common.{ℕ, suc, ◌≡◌, ◌⊎◌, inl, inr, ◌&&◌, nat_lt, Bool, true, false, if◌then◌else◌, List, [], ◌∷◌, length, refl, sym, ap, ◌∙◌, subst, arith}
 use Rattle.std.proofs.lemmas.Bool.Decides.{nat_tests}
 use Rattle.program_tree.specs.declared.event.Proc.TheVariants.{Etimer, Radio}
 use Rattle.program_tree.specs.Code.{Tree}
 use Rattle.mote_timers.specs.TimerLists.{next_expiration_of}
-use Rattle.process_kernel.specs.declared.kernel.Ran.{Ran}
-use Rattle.process_kernel.specs.declared.kernel.Ran.TheVariants as ran
 use Rattle.radio_packet.specs.declared.arrival.Arrival.{Arrival}
 use Rattle.trace_lines.specs.declared.line.Line.{Line}
 use Rattle.process_kernel.specs.Posts.{poll_of}
@@ -19,11 +17,12 @@ use Rattle.kernel_laws.proofs.Watch.{watches_poll, still_waits, waits_now}
 use Rattle.mote_node.specs.Node.{Node, new_node}
 use Rattle.mote_node.specs.Underway.{Underway, with_mote, after}
 use Rattle.mote_node.specs.Arrivals.{hear_each, took_some, hear_all, is_collision, with_collisions}
-use Rattle.mote_node.specs.Turn.{boot_due, is_some_due, poll_due, follow, runs_of, work_of, mote_turn, net_turn, turn_of}
+use Rattle.mote_node.specs.Turn.{boot_due, is_some_due, poll_due, runs_of, work_of, mote_turn, net_turn, turn_of}
 use Rattle.mote_node.specs.Laws as turns
-use Rattle.mote_node.specs.Laws.{Turns, Rests, Takes}
+use Rattle.mote_node.specs.Laws.{Turns}
 use Rattle.mote_laws.specs.Laws.{first_node}
 use Rattle.mote_laws.specs.Ring.{TurnsEmptyRing, PacketsAreAccountedFor}
+use Rattle.mote_laws.proofs.EachTurn.{follows, nodes_keep, runs_keep}
 use Rattle.mote_laws.proofs.Ring.{run_stays, poll_same, accounts, ring_goes_with_lines}
 use Rattle.mote_laws.proofs.Due.{Rested, Watched, hear_each_rested, hear_all_rested, hear_each_timers, poll_due_watched, run_by, IsAsMade, Stands, boot_due_rested, either_stands, turn_stands, first_stands}
 
@@ -75,19 +74,9 @@ run_empties moment u true e k r =
     let now : (run_given moment u.mote u.lines u.sends).mote.halted ≡ true = ap (λ (v : Underway). v.mote.halted) (run_stays moment u e) ∙ e in record { none = λ h. absurd (cc) }
 run_empties moment u false e k r = record { none = λ h. run_empties_ring moment u.mote u.lines u.sends (k.rest e) (r.ready e) h }
 
-follow_emptied : (r : Ran) (others : Underway → Underway) (u : Underway) → Emptied u.mote → Emptied (others u).mote → Emptied (follow r others u).mote
-follow_emptied ran.Halted others u h i = h
-follow_emptied (ran.Left zero) others u h i = h
-follow_emptied (ran.Left (suc n)) others u h i = i
-
 runs_emptied : (most moment : ℕ) (u : Underway) → Watched moment u.mote → Emptied u.mote → Emptied (runs_of most moment u).mote
-unfolding runs_of
-runs_emptied zero moment u w e = e
-runs_emptied (suc most) moment u w e =
-    let g = run_given moment u.mote u.lines u.sends in
-    let k = run_by moment u u.mote.halted refl w in
-    let f = run_empties moment u u.mote.halted refl w.rested (emptied_ready u.mote e) in
-    follow_emptied g.ran (runs_of most moment) (after g) f (runs_emptied most moment (after g) k f)
+runs_emptied most moment u w e =
+    (runs_keep moment (λ v. Watched moment v.mote × Emptied v.mote) (λ v h. (run_by moment v v.mote.halted refl h.0, run_empties moment v v.mote.halted refl h.0.rested (emptied_ready v.mote h.1))) most u (w, e)).1
 
 first_emptied : (most moment : ℕ) (u : Underway) → Watched moment u.mote → Ready u.mote → Emptied (runs_of (suc most) moment u).mote
 unfolding runs_of
@@ -95,7 +84,7 @@ first_emptied most moment u w r =
     let g = run_given moment u.mote u.lines u.sends in
     let k = run_by moment u u.mote.halted refl w in
     let f = run_empties moment u u.mote.halted refl w.rested r in
-    follow_emptied g.ran (runs_of most moment) (after g) f (runs_emptied most moment (after g) k f)
+    follows (λ v. Emptied v.mote) g.ran (runs_of most moment) (after g) f (runs_emptied most moment (after g) k f)
 
 -- turns
 
@@ -145,8 +134,8 @@ unfolding turn_of net_turn
 turn_emptied program number queue n x s k = net_emptied program number queue x.moment x.arrivals (record { mote = n.mote; lines = []; sends = [] }) (n.collides && is_collision n.mote x.arrivals) (either_stands program number queue n s) k
 
 turns_emptied : (program : Tree) (number queue : ℕ) (n last : Node) (given : List turns.TurnInput) (lines : List Line) → Turns n given lines last → Stands program number queue n → Emptied n.mote → Emptied last.mote
-turns_emptied program number queue n last given lines Rests s k = k
-turns_emptied program number queue n last given lines (Takes {given = x} past t) s k = turns_emptied program number queue _ last _ _ t (turn_stands program number queue n x s) (turn_emptied program number queue n x s k)
+turns_emptied program number queue n last given lines t s k =
+    (nodes_keep (λ m. Stands program number queue m × Emptied m.mote) (λ m x h. (turn_stands program number queue m x h.0, turn_emptied program number queue m x h.0 h.1)) n last given lines t (s, k)).1
 
 new_emptied : (program : Tree) (number queue : ℕ) (collides : Bool) → Emptied (first_node program number queue collides).mote
 unfolding new_node unbooted

@@ -1,10 +1,8 @@
 -- Each packet that arrives at a turn has its line there.
-use Rattle.std.proofs.Common.{ℕ, zero, suc, ◌≡◌, ◌&&◌, Bool, true, false, if◌then◌else◌, List, [], ◌∷◌, ◌++◌, map, refl, sym, ap, ◌∙◌, subst, append_assoc, append-nil}
+use Rattle.std.proofs.Common.{ℕ, ◌≡◌, ◌&&◌, Bool, true, false, if◌then◌else◌, List, [], ◌∷◌, ◌++◌, map, refl, sym, ap, ◌∙◌, subst, append_assoc, append-nil}
 use Rattle.std.specs.List.{All}
 use Rattle.std.proofs.lemmas.List.Elements.{All-head, All-tail}
 use Rattle.program_tree.specs.declared.event.Proc.TheVariants.{Radio}
-use Rattle.process_kernel.specs.declared.kernel.Ran.{Ran}
-use Rattle.process_kernel.specs.declared.kernel.Ran.TheVariants as ran
 use Rattle.radio_packet.specs.declared.arrival.Arrival.{Arrival}
 use Rattle.trace_lines.specs.declared.line.Line.{Line}
 use Rattle.trace_lines.specs.declared.line.What.{What}
@@ -15,8 +13,9 @@ use Rattle.kernel_laws.specs.Going.{IsNote}
 use Rattle.kernel_laws.proofs.Ring.{boot_tells_packets, run_tells_packets}
 use Rattle.mote_node.specs.Underway.{Underway, with_mote, with_lines, after}
 use Rattle.mote_node.specs.Arrivals.{received_line, lost_line, collision_line, hear, hear_each, took_some, hear_all, is_collision, with_collisions}
-use Rattle.mote_node.specs.Turn.{most_runs, boot_due, poll_due, follow, runs_of, work_of, mote_turn, net_turn, turn_of}
+use Rattle.mote_node.specs.Turn.{most_runs, boot_due, poll_due, runs_of, work_of, mote_turn, net_turn, turn_of}
 use Rattle.mote_laws.specs.Ring.{note_of, notes_in, AreHeard, NoneCame, IsReceived, IsLost, BeginWithCollisions, TurnsCollide, TurnsHear}
+use Rattle.mote_laws.proofs.EachTurn.{either, runs_keep}
 
 notes_joined : (xs ys : List Line) → notes_in (xs ++ ys) ≡ notes_in xs ++ notes_in ys
 notes_joined [] ys = refl
@@ -67,10 +66,6 @@ quiet_joined u v w h i = record {
   none = notes_joined h.added i.added ∙ rw (h.none) (i.none);
 }
 
-quiet_if : (u : Underway) (b : Bool) (v w : Underway) → Quiet u v → Quiet u w → Quiet u (if b then v else w)
-quiet_if u true v w h i = h
-quiet_if u false v w h i = i
-
 hears_between : (packets : List Arrival) (t u v w : Underway) → Quiet t u → Hears packets u v → Quiet v w → Hears packets t w
 hears_between packets t u v w h k i = record {
   added = h.added ++ (k.added ++ i.added);
@@ -112,20 +107,10 @@ boot_quiet : (moment : ℕ) (u : Underway) → Quiet u (boot_due moment u)
 unfolding boot_due
 boot_quiet moment u =
     let k = boot_tells_packets moment u.mote u.lines u.sends in
-    quiet_if u u.mote.booted u (after (boot_given moment u.mote u.lines u.sends)) (quiet_same u) (record { added = k.added; wrote = k.wrote; none = no_notes k.added k.hears_none })
-
-follow_quiet : (u : Underway) (r : Ran) (others : Underway → Underway) (v : Underway) → Quiet u v → Quiet u (others v) → Quiet u (follow r others v)
-follow_quiet u ran.Halted others v h i = h
-follow_quiet u (ran.Left zero) others v h i = h
-follow_quiet u (ran.Left (suc n)) others v h i = i
+    either (λ v. Quiet u v) u.mote.booted u (after (boot_given moment u.mote u.lines u.sends)) (quiet_same u) (record { added = k.added; wrote = k.wrote; none = no_notes k.added k.hears_none })
 
 runs_quiet : (most moment : ℕ) (u : Underway) → Quiet u (runs_of most moment u)
-unfolding runs_of
-runs_quiet zero moment u = quiet_same u
-runs_quiet (suc most) moment u =
-    let g = run_given moment u.mote u.lines u.sends in
-    let k = run_quiet moment u in
-    follow_quiet u g.ran (runs_of most moment) (after g) k (quiet_joined u (after g) (runs_of most moment (after g)) k (runs_quiet most moment (after g)))
+runs_quiet most moment u = runs_keep moment (λ v. Quiet u v) (λ v h. quiet_joined u v (after (run_given moment v.mote v.lines v.sends)) h (run_quiet moment v)) most u (quiet_same u)
 
 work_hears : (moment : ℕ) (packets : List Arrival) (t u : Underway) → Quiet t u → Hears packets t (work_of moment packets u)
 unfolding work_of

@@ -1,4 +1,5 @@
 pub mod Due
+pub mod EachTurn
 pub mod Emptied
 pub mod Heard
 pub mod Owners
