@@ -1,18 +1,15 @@
 -- Each call keeps that the lines about a process are those of its lives, however deep calls nest.
-use Rattle.std.proofs.Common.{ℕ, zero, suc, ◌≡◌, ◌⊎◌, inl, inr, not, ◌&&◌, ◌||◌, ◌==◌, nat_lt, Bool, true, false, if◌then◌else◌, List, [], ◌∷◌, ◌++◌, Option, Some, None, slice_get, unwrap_or, refl, sym, ap, ◌∙◌, subst, append_assoc}
+use Rattle.std.proofs.Common.{ℕ, zero, suc, ◌≡◌, ◌⊎◌, inl, inr, not, ◌&&◌, ◌||◌, ◌==◌, Bool, true, false, if◌then◌else◌, List, [], ◌∷◌, ◌++◌, ◌+◌, Option, Some, None, slice_get, unwrap_or, refl, sym, ap, ◌∙◌, subst, append_assoc}
 use Rattle.program_tree.specs.declared.event.Proc.{Proc}
 use Rattle.program_tree.specs.declared.event.Proc.TheVariants.{Own, Etimer, Ctimer, Radio}
 use Rattle.program_tree.specs.declared.event.Target.TheVariants.{One}
 use Rattle.program_tree.specs.declared.event.Event.{Event}
-use Rattle.program_tree.specs.declared.event.SystemEvent.TheVariants.{Poll, Exit, Exited, Timer, Init}
-use Rattle.program_tree.specs.declared.timer.Timer.{Timer as TimerOfProgram}
+use Rattle.program_tree.specs.declared.event.SystemEvent.TheVariants.{Poll, Exit, Exited, Init}
 use Rattle.program_tree.specs.Code.{Code, Tree}
 use Rattle.event_queue.specs.Queue.{with_posted}
-use Rattle.mote_timers.specs.Timer.{is_due}
-use Rattle.mote_timers.specs.TimerLists.{timer_at}
 use Rattle.protothread.specs.declared.part.Part.TheVariants.{Body, OnPoll, OnExit, Callback}
 use Rattle.protothread.specs.declared.answer.PtState.{PtState}
-use Rattle.protothread.specs.declared.answer.PtState.TheVariants.{Yielded, Ended}
+use Rattle.protothread.specs.declared.answer.PtState.TheVariants.{Ended}
 use Rattle.protothread.specs.declared.step.Op.{Op}
 use Rattle.protothread.specs.declared.step.Op.TheVariants as op
 use Rattle.protothread.specs.declared.step.Step.{Step}
@@ -25,17 +22,13 @@ use Rattle.trace_lines.specs.declared.line.What.TheVariants as what
 use Rattle.process_kernel.specs.declared.process.ProcessState.TheVariants.{Off, Running, Called}
 use Rattle.process_kernel.specs.declared.process.Member.{Member}
 use Rattle.process_kernel.specs.Members.{place_of, is_same}
-use Rattle.process_kernel.specs.State.{State, Outcome, Went, Ends, Goes, ◌>>=◌}
+use Rattle.process_kernel.specs.State.{State, Outcome, Ends, Goes, ◌>>=◌}
 use Rattle.process_kernel.specs.Processes.{is_running_state, has_process, is_busy, is_listed, is_running, with_state}
 use Rattle.process_kernel.specs.ProcessList.{put_remainder, with_fresh_body, enlist_of, exiting_of, leave_of}
 use Rattle.process_kernel.specs.Posts.{post_of}
-use Rattle.process_kernel.specs.Semaphores.{take_of, signal_of}
-use Rattle.process_kernel.specs.TimerOperations.{has_timer, timer_is_set, set_of, reset_of, restart_of, stop_of}
 use Rattle.process_kernel.specs.Writes.{with_line, write_of, halted_of, spend_of}
 use Rattle.process_kernel.specs.Calls.{Calls, Answer, told, is_system_event, walk_of}
-use Rattle.process_kernel.specs.Etimer.{fired_of, purge_of, post_due, walk_timers, walks_of, pass_of, etimer_of}
-use Rattle.process_kernel.specs.Ctimer.{callback_of, waits_for, ctimer_of}
-use Rattle.process_kernel.specs.Radio.{packet_of, radio_of}
+use Rattle.process_kernel.specs.Radio.{packet_of}
 use Rattle.process_kernel.specs.Reaction.{remainder_at, handler_of, resume_of, own_of, react_of}
 use Rattle.process_kernel.specs.Exit.{process_number, last_run_of, exit_of}
 use Rattle.process_kernel.specs.Start.{start_of}
@@ -47,11 +40,12 @@ use Rattle.process_kernel.specs.Call.{has_ended, answered, call_of, calls_of}
 use Rattle.kernel_laws.specs.Printed.{IsQuietApart, LivesSoFar, Told, HasStarted}
 use Rattle.kernel_laws.specs.Telling as telling
 use Rattle.kernel_laws.specs.Telling.{Standing, standing_of, IsOut, Next, AtStart, AtCall, CanCome}
-use Rattle.kernel_laws.proofs.EachStep.{Lead, AreJoined, AreRingSteps, lead_from, lead_bind, lead_if, lead_option, lead_goes, lead_still, bind_twice, empty_led}
+use Rattle.kernel_laws.proofs.EachStep as each
+use Rattle.kernel_laws.proofs.EachStep.{Whoever, Lead, AreJoined, AreRingSteps, lead_from, lead_bind, lead_if, lead_goes, lead_still, bind_twice}
 use Rattle.kernel_laws.proofs.Tables.{is_equal}
 use Rattle.kernel_laws.proofs.Lives.{at_first}
 use Rattle.kernel_laws.proofs.QuietThreads.{IsQuietRest, fresh_quiet, poll_quiet as on_poll_quiet, exit_quiet as on_exit_quiet, callback_quiet, IsNoPrintStep, advances_quietly, answered_quietly}
-use Rattle.kernel_laws.proofs.Standing.{Always, always_if, halted_quiet, get_set, IsOther, IsQuiet, which, other_own, line_quiet, print_quiet, state_quiet, exiting_quiet, quiet_if, poll_quiet, variables_quiet, remainder_quiet, body_quiet, enlist_quiet, leave_quiet, post_quiet, send_quiet}
+use Rattle.kernel_laws.proofs.Standing.{Always, etimer_other, ctimer_other, radio_other, own_other, always_if, halted_quiet, get_set, IsOther, IsQuiet, which, other_own, line_quiet, print_quiet, state_quiet, exiting_quiet, poll_quiet, variables_quiet, remainder_quiet, body_quiet, enlist_quiet, leave_quiet, post_quiet}
 use Rattle.kernel_laws.proofs.OwnSteps.{alike, state_stands, exiting_stands, leave_stands, body_stands, put_stands, enlist_stands}
 use Rattle.kernel_laws.proofs.BodyRuns.{IfGives, gives_bind, from_always, IsAway, ComesHere, HasLived, SoFar, RanFrom, BodyRuns, IsNoPrint, runs_on}
 
@@ -179,77 +173,9 @@ module _ (program : Tree) (mote p : ℕ) (code : Code) (earlier : List Line) whe
   spent v s e so =
       from_always (Unit {0}) Stopped (λ t. IsQuiet p s t) (λ t. standing_of p t ≡ v) (spend_of s) (spend_quiet s) (λ t same. subst (λ w. SoFar program mote p code earlier w.told) (sym (same ∙ e)) so) (λ t same. same ∙ e)
 
-  spends : (s : State) → Leads (Unit {0}) s (spend_of s)
-  spends s = quietly s _ (spend_quiet s)
-
-  set_quiet : (s : State) (t n q : ℕ) → IsQuiet p s (set_of s t n q)
-  unfolding set_of timer_is_set
-  set_quiet s t n q = quiet_if p s (has_timer s t) _ s (poll_quiet p _ Etimer) refl
-
-  reset_quiet : (s : State) (t q : ℕ) → IsQuiet p s (reset_of s t q)
-  unfolding reset_of timer_is_set
-  reset_quiet s t q = quiet_if p s (has_timer s t) _ s (poll_quiet p _ Etimer) refl
-
-  restart_quiet : (s : State) (t q : ℕ) → IsQuiet p s (restart_of s t q)
-  unfolding restart_of timer_is_set
-  restart_quiet s t q = quiet_if p s (has_timer s t) _ s (poll_quiet p _ Etimer) refl
-
-  stop_quiet : (s : State) (t : ℕ) → IsQuiet p s (stop_of s t)
-  unfolding stop_of
-  stop_quiet s t = quiet_if p s (has_timer s t) _ s refl refl
-
-  fired_quiet : (s : State) (t : ℕ) → IsQuiet p s (fired_of s t)
-  unfolding fired_of
-  fired_quiet s t = refl
-
-  purge_quiet : (s : State) (q : ℕ) → IsQuiet p s (purge_of s q)
-  unfolding purge_of
-  purge_quiet s q = quiet_if p s (nat_lt q 256) _ s refl refl
-
-  take_quiet : (s : State) (k : ℕ) → IsQuiet p s (take_of s k)
-  unfolding take_of
-  take_quiet s k = refl
-
-  signal_quiet : (s : State) (k : ℕ) → IsQuiet p s (signal_of s k)
-  unfolding signal_of
-  signal_quiet s k = refl
-
   writes : (s : State) (w : What) → IsQuiet p s (with_line s w) → Leads (Unit {0}) s (write_of s w)
   unfolding write_of
   writes s w e = goes s tt _ e
-
-  stepped_as : (variables : Option (List ℕ)) (s : State) (c : Code) (r : Remainder) (q : ℕ) (e : Event) → (q ≡ p → ⊥) → IsQuiet p s (stepped_with variables s c r q e).state
-  stepped_as (Some variables) s c r q e n = variables_quiet p s q _ s.units n
-  stepped_as None s c r q e n = refl
-
-  answered_as : (variables : Option (List ℕ)) (s : State) (r : Remainder) (q answer : ℕ) → (q ≡ p → ⊥) → Leads Remainder s (answered_with variables s r q answer)
-  answered_as (Some variables) s r q answer n = goes s _ _ (variables_quiet p s q _ s.units n)
-  answered_as None s r q answer n = still s r
-
-  answers : (s : State) (r : Remainder) (q : ℕ) (full : Bool) → (q ≡ p → ⊥) → Leads Remainder s (answer_of s r q full)
-  unfolding answer_of
-  answers s r q full n = answered_as _ s r q _ n
-
-  -- the system processes
-
-  due_led : (again on : State → Went) → ((s : State) → Leads (Unit {0}) s (again s)) → ((s : State) → Leads (Unit {0}) s (on s)) → (s : State) (timer : ℕ) (owner : Option Proc) → Leads (Unit {0}) s (post_due again on s timer owner)
-  due_led again on h i s timer None = i s
-  due_led again on h i s timer (Some owner) =
-      bind s _ _ (quietly s _ (post_quiet p s (One owner) (told Timer timer))) (λ full t. either t full _ _ (from t _ _ (poll_quiet p t Etimer) (i _)) (from t _ _ (fired_quiet t timer) (h _)))
-
-  walk_timers_led : (again : State → Went) → ((s : State) → Leads (Unit {0}) s (again s)) → (ts : List ℕ) (s : State) → Leads (Unit {0}) s (walk_timers again ts s)
-  walk_timers_led again h [] s = still s tt
-  walk_timers_led again h (t ∷ ts) s =
-      either s (is_due s.moment (timer_at s.timers.timers t)) _ _ (due_led again (walk_timers again ts) h (walk_timers_led again h ts) s t _) (walk_timers_led again h ts s)
-
-  walks_led : (k : ℕ) (s : State) → Leads (Unit {0}) s (walks_of k s)
-  walks_led zero s = still s tt
-  walks_led (suc k) s = walk_timers_led (walks_of k) (walks_led k) s.timers.listed s
-
-  etimer_led : (s : State) (e : Event) → Leads (Unit {0}) s (etimer_of s e)
-  unfolding etimer_of pass_of
-  etimer_led s e =
-      either s (is_system_event Poll e) _ _ (walks_led _ s) (either s (is_system_event Exited e) _ _ (goes s tt _ (purge_quiet s e.word)) (still s tt))
 
   ring_steps : AreRingSteps Keeps Stops chain
   ring_steps = record {
@@ -259,9 +185,48 @@ module _ (program : Tree) (mote p : ℕ) (code : Code) (earlier : List Line) whe
     halts = λ s later. quiet_stops s _ (halted_quiet p (record s { ring = later }));
   }
 
-  radio_led : (s : State) (e : Event) → Leads (Unit {0}) s (radio_of s e)
-  unfolding radio_of
-  radio_led s e = either s (is_system_event Poll e) _ _ (empty_led Keeps Stops chain ring_steps s.program.receiver s.ring s refl refl) (still s tt)
+  -- the steps of other processes
+
+  abbrev Others : ℕ → Type 0
+  Others q = q ≡ p → ⊥
+
+  is_other : (q : Proc) → each.IsOurs Keeps Stops chain Whoever Others q → IsOther p q
+  is_other (Own q) n = own_other p q n
+  is_other Etimer n = etimer_other p
+  is_other Ctimer n = ctimer_other p
+  is_other Radio n = radio_other p
+
+  is_ours : (q : Proc) → IsOther p q → each.IsOurs Keeps Stops chain Whoever Others q
+  is_ours (Own q) n = λ k. other_own p q n (sym k)
+  is_ours Etimer n = tt
+  is_ours Ctimer n = tt
+  is_ours Radio n = tt
+
+  pub steps : each.AreSteps Keeps Stops chain Whoever Others
+  unfolding leave_of write_of
+  steps = record {
+    own = λ q own. tt;
+    brackets = each.brackets_of Keeps Stops chain Whoever Others (λ s q o. quiet_keeps s _ (state_quiet p s q Called (is_other q o))) (λ s q o. quiet_keeps s _ (state_quiet p s q Running (is_other q o)))
+        (λ s q o l. quiet_keeps s _ (exiting_quiet p s q (is_other q o))) (λ s q o l. quiet_keeps s _ (leave_quiet p s q (is_other q o)));
+    halts = λ s. quiet_stops s _ (halted_quiet p s);
+    units = λ s n. quiet_keeps s _ refl;
+    busy = λ s q. quiet_keeps s _ (line_quiet p s (what.Busy q) refl);
+    prints = λ s q v o. quiet_keeps s _ (print_quiet p s q v o);
+    polled = λ s q. quiet_keeps s _ (poll_quiet p s q);
+    remainder = λ s q r o. quiet_keeps s _ (remainder_quiet p s q r o);
+    fresh = λ s q o. quiet_keeps s _ (body_quiet p s q o);
+    variables = λ s q vs n o. quiet_keeps s _ (variables_quiet p s q vs n o);
+    sets = λ s t start interval owner there. each.keeps_set Keeps Stops chain s _ t (λ callbacks. quiet_keeps s _ refl) (λ u. quiet_keeps u _ (poll_quiet p u Etimer));
+    stops = λ s t. quiet_keeps s _ refl;
+    purges = λ s q. quiet_keeps s _ refl;
+    callbacks = λ s ts. quiet_keeps s _ refl;
+    semaphores = λ s ns. quiet_keeps s _ refl;
+    full = λ s t e. quiet_keeps s _ (line_quiet p s _ refl);
+    posts = λ s t e f. quiet_keeps s _ (line_quiet p (record s { queue = with_posted s.queue t e }) _ refl);
+    sends = λ s v. quiet_keeps s _ (line_quiet p (record s { sends = s.sends ++ record { at = s.moment; sender = s.mote; number = s.sent; value = v } ∷ []; sent = s.sent + 1 }) _ refl);
+    starts = λ s q o b h l. quiet_keeps s _ (subst (λ x. Always (λ t. IsQuiet p s t) x) (each.enlist_is s q) (enlist_quiet p s q (is_other q o)));
+    ring = ring_steps;
+  }
 
   -- an invariant of the calls of a process and the runs of a thread: threads of others, of its body, and of its other
   -- blocks
@@ -322,68 +287,23 @@ module _ (program : Tree) (mote p : ℕ) (code : Code) (earlier : List Line) whe
       walk_led e q [] s = still s tt
       walk_led e q (m ∷ ms) s = bind s _ _ (either s _ _ _ (are.call s m.process e) (still s tt)) (λ a t. walk_led e q ms t)
 
-      -- another process
-
-      handler_led : (s : State) (c : Code) (q : ℕ) (e : Event) → (q ≡ p → ⊥) → Leads (Unit {0}) s (handler_of calls s c q e)
-      unfolding handler_of
-      handler_led s c q e n =
-          either s (is_system_event Poll e) _ _ (bind s _ _ (are.run s c (fresh_of c OnPoll) q e n) (λ a t. still t tt))
-          (either s (is_system_event Exit e) _ _ (bind s _ _ (are.run s c (fresh_of c OnExit) q e n) (λ a t. still t tt)) (still s tt))
-
-      resume_led : (s : State) (c : Code) (q : ℕ) (e : Event) → (q ≡ p → ⊥) → Leads PtState s (resume_of calls s c q e)
-      unfolding resume_of
-      resume_led s c q e n =
-          bind s _ _ (from s (with_fresh_body s q) _ (body_quiet p s q n) (are.run _ c _ q e n)) (λ a t. goes t _ _ (remainder_quiet p t q _ n))
-
-      own_led : (s : State) (q : ℕ) (e : Event) → (q ≡ p → ⊥) → Leads PtState s (own_of calls s q e)
-      unfolding own_of
-      own_led s q e n =
-          lead_option Keeps Stops chain PtState Code s (slice_get s.program.codes q) (Goes Ended s) (λ c. handler_of calls s c q e >>= λ u t. resume_of calls t c q e) (still s Ended) (λ c. bind s _ _ (handler_led s c q e n) (λ u t. resume_led t c q e n))
-
-      -- callbacks
-
-      abbrev called_back : State → (q : ℕ) → Event → Option Code → Went
-      called_back s q e c = elim c [ None ↦ Goes tt s | Some c ↦ calls.run s c (fresh_of c (Callback e.word)) q e >>= λ _ s1. Goes tt s1 ]
-
-      own_callback : (s : State) (e : Event) (c : Option Code) → slice_get s.program.codes p ≡ c → (standing_of p s).program ≡ program → Leads (Unit {0}) s (called_back s p e c)
-      own_callback s e None is of_program = still s tt
-      own_callback s e (Some c) is of_program =
+      own_callback : (s : State) (c : Code) (e : Event) → slice_get s.program.codes p ≡ Some c → (standing_of p s).program ≡ program → Leads Answer s (calls.run s c (fresh_of c (Callback e.word)) p e)
+      own_callback s c e is of_program =
           let same : c ≡ code = some_is c code (sym is ∙ code_there s of_program) in
-          bind s _ _ (subst (λ c. Leads Answer s (calls.run s c (fresh_of c (Callback e.word)) p e)) (sym same) (are.beside s _ e (fresh_quiet code (Callback e.word) (callback_quiet code e.word apart)))) (λ a t. still t tt)
+          subst (λ c. Leads Answer s (calls.run s c (fresh_of c (Callback e.word)) p e)) (sym same) (are.beside s _ e (fresh_quiet code (Callback e.word) (callback_quiet code e.word apart)))
 
-      other_callback : (s : State) (q : ℕ) (e : Event) (c : Option Code) → (q ≡ p → ⊥) → Leads (Unit {0}) s (called_back s q e c)
-      other_callback s q e None n = still s tt
-      other_callback s q e (Some c) n = bind s _ _ (are.run s c _ q e n) (λ a t. still t tt)
+      callback_led : (s : State) (c : Code) (q : ℕ) (e : Event) → slice_get s.program.codes q ≡ Some c → (q ≡ p) ⊎ (q ≡ p → ⊥) → Leads Answer s (calls.run s c (fresh_of c (Callback e.word)) q e)
+      callback_led s c q e is (inl same) =
+          subst (λ k. slice_get s.program.codes k ≡ Some c → Leads Answer s (calls.run s c (fresh_of c (Callback e.word)) k e)) (sym same) (λ i. knowing s _ (own_callback s c e i)) is
+      callback_led s c q e is (inr n) = are.run s c _ q e n
 
-      code_led : (s : State) (q : ℕ) (e : Event) → (q ≡ p) ⊎ (q ≡ p → ⊥) → Leads (Unit {0}) s (called_back s q e (slice_get s.program.codes q))
-      code_led s q e (inl same) = subst (λ k. Leads (Unit {0}) s (called_back s k e (slice_get s.program.codes k))) (sym same) (knowing s _ (own_callback s e _ refl))
-      code_led s q e (inr n) = other_callback s q e _ n
-
-      callback_led : (s : State) (e : Event) → Leads (Unit {0}) s (callback_of calls s e)
-      unfolding callback_of
-      callback_led s e =
-          lead_option Keeps Stops chain (Unit {0}) TimerOfProgram s (slice_get s.program.timers e.word) (Goes tt s) _ (still s tt) (λ t. code_led s t.process e (is_equal t.process p))
-
-      ctimer_led : (s : State) (e : Event) → Leads (Unit {0}) s (ctimer_of calls s e)
-      unfolding ctimer_of
-      ctimer_led s e = either s (is_system_event Timer e && waits_for s e.word) _ _ (from s _ _ refl (callback_led _ e)) (still s tt)
-
-      react_led : (s : State) (q : Proc) (e : Event) → IsOther p q → Leads PtState s (react_of calls s q e)
-      unfolding react_of
-      react_led s (Own q) e n = own_led s q e (λ k. other_own p q n (sym k))
-      react_led s Etimer e n = bind s _ _ (etimer_led s e) (λ u t. still t Yielded)
-      react_led s Ctimer e n = bind s _ _ (ctimer_led s e) (λ u t. still t Yielded)
-      react_led s Radio e n = bind s _ _ (radio_led s e) (λ u t. still t Yielded)
-
-      last_run_led : (s : State) (q : Proc) → IsOther p q → Leads (Unit {0}) s (last_run_of calls s q)
-      unfolding last_run_of
-      last_run_led s q n = bind s _ _ (spends s) (λ u t. bind t _ _ (react_led t q _ n) (λ a v. still v tt))
-
-      other_exit : (s : State) (q f : Proc) → IsOther p q → Leads (Unit {0}) s (exit_of calls s q f)
-      unfolding exit_of
-      other_exit s q f n =
-          either s (is_listed s q) _ _ (bind s _ _ (from s _ _ (exiting_quiet p s q n) (walk_led (told Exited (process_number q)) q s.members _)) (λ a t.
-          bind t _ _ (either t (is_same q f) _ _ (still t tt) (last_run_led t q n)) (λ b u. quietly u _ (leave_quiet p u q n)))) (still s tt)
+      -- the calls as those of other processes
+      led : each.AreLed Keeps Stops chain Whoever Others calls
+      led = record {
+        call = λ s q e f. are.call s q e;
+        run = λ s c r q e n. are.run s c r q e n;
+        callback = λ s c q e is. callback_led s c q e is (is_equal q p);
+      }
 
       -- the process itself
 
@@ -625,65 +545,32 @@ module _ (program : Tree) (mote p : ℕ) (code : Code) (earlier : List Line) whe
           by true e = writes s _ (line_quiet p s (what.Busy (Own p)) refl)
           by false e = lead_of s _ (λ a. absurd (busy_away s a e)) (λ h. own_exit s (Own current) h)
 
-      other_start : (s : State) (q : Proc) → IsOther p q → Leads (Unit {0}) s (start_of calls s q)
-      unfolding start_of
-      other_start s q n =
-          either s (is_busy s q) _ _ (writes s _ (line_quiet p s (what.Busy q) refl)) (either s (has_process s q && not (is_listed s q)) _ _ (bind s _ _ (quietly s _ (enlist_quiet p s q n)) (λ a t. are.call t q _)) (still s tt))
-
-      other_kill : (s : State) (q : Proc) (current : ℕ) → IsOther p q → Leads (Unit {0}) s (kill_of calls s q current)
-      unfolding kill_of
-      other_kill s q current n = either s (is_busy s q) _ _ (writes s _ (line_quiet p s (what.Busy q) refl)) (other_exit s q (Own current) n)
-
       pub start_led : (s : State) (q : Proc) → Leads (Unit {0}) s (start_of calls s q)
       start_led s q = by (which p q)
         where
           by : (q ≡ Own p) ⊎ IsOther p q → Leads (Unit {0}) s (start_of calls s q)
           by (inl e) = subst (λ k. Leads (Unit {0}) s (start_of calls s k)) (sym e) (own_start s)
-          by (inr n) = other_start s q n
+          by (inr n) = each.start_led Keeps Stops chain Whoever Others steps calls led s q (is_ours q n)
 
       kill_led : (s : State) (q : Proc) (current : ℕ) → Leads (Unit {0}) s (kill_of calls s q current)
       kill_led s q current = by (which p q)
         where
           by : (q ≡ Own p) ⊎ IsOther p q → Leads (Unit {0}) s (kill_of calls s q current)
           by (inl e) = subst (λ k. Leads (Unit {0}) s (kill_of calls s k current)) (sym e) (own_kill s current)
-          by (inr n) = other_kill s q current n
+          by (inr n) = each.kill_led Keeps Stops chain Whoever Others steps calls led s q current (is_ours q n) tt
 
       -- operations, but for prints
 
-      act_led : (s : State) (current : ℕ) (o : Op) → IsNoPrint o → Leads (Unit {0}) s (act_of calls s current o)
-      unfolding act_of
-      act_led s current (op.Post t e w) f = still s tt
-      act_led s current (op.Synch q e w) f = are.call s q _
-      act_led s current (op.Poll q) f = goes s tt _ (poll_quiet p s q)
-      act_led s current (op.Start q) f = start_led s q
-      act_led s current (op.Kill q) f = kill_led s q current
-      act_led s current (op.Set t n) f = goes s tt _ (set_quiet s t n current)
-      act_led s current (op.Reset t) f = goes s tt _ (reset_quiet s t current)
-      act_led s current (op.RestartTimer t) f = goes s tt _ (restart_quiet s t current)
-      act_led s current (op.Stop t) f = goes s tt _ (stop_quiet s t)
-      act_led s current (op.Send v) f = quietly s _ (send_quiet p s v)
-      act_led s current (op.Print v) f = absurd f
-      act_led s current (op.Take k) f = goes s tt _ (take_quiet s k)
-      act_led s current (op.Signal k) f = goes s tt _ (signal_quiet s k)
+      allowed : (current : ℕ) (x : Op) → IsNoPrint x → each.Allowed Keeps Stops chain Whoever Others current x
+      allowed current (op.Synch q e w) f = λ z. tt
+      allowed current (op.Print v) f = absurd f
+      allowed current x f = tt
 
-      print_led : (s : State) (q v : ℕ) → (q ≡ p → ⊥) → Leads (Unit {0}) s (act_of calls s q (op.Print v))
-      unfolding act_of
-      print_led s q v n = writes s _ (print_quiet p s q v n)
-
-      perform_led : (s : State) (r : Remainder) (q : ℕ) (o : Op) → (q ≡ p → ⊥) → Leads Remainder s (perform_of calls s r q o)
-      unfolding perform_of
-      perform_led s r q (op.Post to e w) n = bind s _ _ (quietly s _ (post_quiet p s to _)) (λ full t. answers t r q full n)
-      perform_led s r q (op.Print v) n = bind s _ _ (print_led s q v n) (λ a t. still t r)
-      perform_led s r q o n = bind s _ _ (act_led s q o tt) (λ a t. still t r)
-
-      step_led : (c : Code) (q : ℕ) (e : Event) (x : Step) (r : Remainder) (s : State) → (q ≡ p → ⊥) → Leads Answer s (after_step calls c q e x r s)
-      step_led c q e (step.Op o) r s n = bind s _ _ (perform_led s r q o n) (λ r1 t. are.run t c r1 q e n)
-      step_led c q e (step.Done a) r s n = still s _
-      step_led c q e step.Runaway r s n = halts s
+      act_led : (s : State) (current : ℕ) (x : Op) → IsNoPrint x → Leads (Unit {0}) s (act_of calls s current x)
+      act_led s current x f = each.act_led Keeps Stops chain Whoever Others steps calls led start_led (λ t q k l. kill_led t q k) s current x (allowed current x f)
 
       run_led : (s : State) (c : Code) (r : Remainder) (q : ℕ) (e : Event) → (q ≡ p → ⊥) → Leads Answer s (run_of calls s c r q e)
-      unfolding run_of stepped_of
-      run_led s c r q e n = from s _ _ (stepped_as _ s c r q e n) (step_led c q e _ _ _ n)
+      run_led s c r q e n = each.one_run_led Keeps Stops chain Whoever Others steps calls led start_led (λ t k current l. kill_led t k current) s c r q e n
 
       body_runs : (s : State) (r : Remainder) (vars : List ℕ) (e : Event) (coming : Next) → IsAway program mote (standing_of p s) → (standing_of p s).vars ≡ Some vars → CanCome coming e s.moment → ComesHere program mote p code earlier (standing_of p s).told coming r vars → Stopped s
           → IfGives Stopped (RanFrom program mote p code earlier (standing_of p s)) (run_of calls s code r p e)
@@ -728,16 +615,6 @@ module _ (program : Tree) (mote p : ℕ) (code : Code) (earlier : List Line) whe
 
       -- a call
 
-      other_answered : (s : State) (q : Proc) (b : Bool) → IsOther p q → Leads (Unit {0}) s (answered calls s q b)
-      unfolding answered
-      other_answered s q true n = other_exit s q q n
-      other_answered s q false n = goes s tt _ (state_quiet p s q Running n)
-
-      other_called : (s : State) (q : Proc) (e : Event) → IsOther p q → Leads (Unit {0}) s (call_of calls s q e)
-      unfolding call_of
-      other_called s q e n =
-          either s (is_running s q) _ _ (bind s _ _ (spends s) (λ a t. from t _ _ (state_quiet p t q Called n) (bind _ _ _ (react_led _ q e n) (λ answer u. other_answered u q _ n)))) (still s tt)
-
       lost : (s : State) (e : Event) → is_running s (Own p) ≡ false → call_of calls s (Own p) e ≡ Goes tt s
       unfolding call_of
       lost s e r = rw r refl
@@ -754,7 +631,7 @@ module _ (program : Tree) (mote p : ℕ) (code : Code) (earlier : List Line) whe
         where
           by : (q ≡ Own p) ⊎ IsOther p q → Leads (Unit {0}) s (call_of calls s q e)
           by (inl i) = subst (λ k. Leads (Unit {0}) s (call_of calls s k e)) (sym i) (own_called s e)
-          by (inr n) = other_called s q e n
+          by (inr n) = each.call_led Keeps Stops chain Whoever Others steps calls led s q e (is_ours q n) (λ z. tt)
 
     pub calls_told : (k : ℕ) → AreTold (calls_of k)
     unfolding calls_of

@@ -33,7 +33,7 @@ use Rattle.process_kernel.specs.Boot.{starts_of, boot_of}
 use Rattle.kernel_laws.specs.Own.{IsOwn, FitsTarget}
 use Rattle.kernel_laws.specs.Seen.{seen_lines, seen_member, seen_posted, view_of}
 use Rattle.kernel_laws.specs.Going.{SystemStays}
-use Rattle.kernel_laws.proofs.EachStep.{enlist_led, start_led, polls_due_led}
+use Rattle.kernel_laws.proofs.EachStep.{Every, enlist_led, start_all, polls_due_led}
 use Rattle.kernel_laws.proofs.Steps.{GoesOn, Stops, Reach, chain, quiet, steps, listed_alike, lines_joined, first_sound, AreRuns, fits_other}
 
 -- the machine that the kernel is, in the midst of a walk: the serial of its event and the members still to come
@@ -193,7 +193,7 @@ module _ (calls : Calls) (are : AreRuns calls) where
 
   starts_run : (ps : List Proc) (s : State) (walked : ℕ) → SystemStays s → RestsAt (machine_of s walked []) s (starts_of calls ps s)
   starts_run [] s walked h = rests_now s walked h
-  starts_run (p ∷ ps) s walked h = rests_after (Unit {0}) (Unit {0}) s walked [] _ _ (start_led GoesOn Stops chain IsOwn steps calls are s p) h (λ a t i. starts_run ps t walked i)
+  starts_run (p ∷ ps) s walked h = rests_after (Unit {0}) (Unit {0}) s walked [] _ _ (start_all GoesOn Stops chain IsOwn steps calls are s p) h (λ a t i. starts_run ps t walked i)
 
   -- the etimer process starts on an empty list
   pub first_start : (s : State) → is_busy s Etimer ≡ false → has_process s Etimer ≡ true → is_listed s Etimer ≡ false → start_of calls s Etimer ≡ (enlist_of s Etimer >>= λ _ s1. calls.call s1 Etimer (told Init 0))
@@ -208,7 +208,7 @@ module _ (calls : Calls) (are : AreRuns calls) where
       let f = first_start s b t l in
       let others = Ctimer ∷ Radio ∷ map Own s.program.autostart in
       let r : RestsAt (machine_of s walked []) s ((enlist_of s Etimer >>= λ _ s1. calls.call s1 Etimer (told Init 0)) >>= λ _ s1. starts_of calls others s1) =
-      rests_twice (Unit {0}) (Unit {0}) (Unit {0}) (machine_of s walked []) s (enlist_of s Etimer) _ _ (rests_first (Unit {0}) (Unit {0}) s walked [] (enlist_of s Etimer) _ (enlist_led GoesOn Stops chain IsOwn steps s Etimer b t l) (λ a t g i.
+      rests_twice (Unit {0}) (Unit {0}) (Unit {0}) (machine_of s walked []) s (enlist_of s Etimer) _ _ (rests_first (Unit {0}) (Unit {0}) s walked [] (enlist_of s Etimer) _ (enlist_led GoesOn Stops chain IsOwn Every steps s Etimer tt b t l) (λ a t g i.
       rests_after (Unit {0}) (Unit {0}) t walked [] _ _ (are.call t Etimer (told Init 0) (fits_other Etimer _ refl)) (first_sound s a t q g) (λ b u j. starts_run others u walked j))) in
       let r' : RestsAt (machine_of s walked []) s (start_of calls s Etimer >>= λ _ s1. starts_of calls others s1) = rw f r in
       rests_then (Unit {0}) ℕ (machine_of s walked []) s _ _ r' (λ a t w i. rests_now t w i)

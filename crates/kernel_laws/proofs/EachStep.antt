@@ -1,6 +1,6 @@
 -- An invariant of each small step of the kernel is one of each call, however deep calls nest, and of each boot and
 -- kernel run. A call and an exit are brackets around the steps within them.
-use Rattle.std.proofs.Common.{ℕ, zero, suc, ◌≡◌, Bool, true, false, not, ◌&&◌, ◌||◌, ◌==◌, nat_lt, if◌then◌else◌, List, [], ◌∷◌, Option, Some, None, slice_get, refl, sym, ap, ◌∙◌, subst, ◌++◌, ◌+◌, ◌-◌, ◌^◌, nat_le, length, arith, map}
+use Rattle.std.proofs.Common.{ℕ, zero, suc, ◌≡◌, Bool, true, false, not, ◌&&◌, ◌||◌, ◌==◌, nat_lt, if◌then◌else◌, List, [], ◌∷◌, Option, Some, None, slice_get, slice_set, refl, sym, ap, ◌∙◌, subst, ◌++◌, ◌+◌, ◌-◌, ◌^◌, nat_le, length, arith, map}
 use Rattle.std.proofs.lemmas.Bool.Decides.{nat_tests}
 use Rattle.program_tree.specs.declared.event.Proc.{Proc}
 use Rattle.program_tree.specs.declared.event.Proc.TheVariants.{Own, Etimer, Ctimer, Radio}
@@ -58,6 +58,10 @@ use Rattle.kernel_laws.proofs.Fits.{FitsOp, FitsStep, fits_advanced}
 -- any process may be exited
 abbrev pub Whoever : Proc → Type 0
 Whoever p = Unit {0}
+
+-- all processes of the program
+abbrev pub Every : ℕ → Type 0
+Every p = Unit {0}
 
 -- no claim is made about halted motes
 abbrev pub Whatever : State → State → Type 0
@@ -271,30 +275,35 @@ module _ (Keeps Stops : State → State → Type 0) where
     boot_led calls started s =
         lead_bind _ _ s _ _ (starts_led calls started (Etimer ∷ Ctimer ∷ Radio ∷ map Own s.program.autostart) s) (λ a t. lead_still _ t _)
 
-    -- and which processes may be exited
-    module _ (Leaves : Proc → Type 0) where
+    -- which processes may be exited, and which of the program's own are looked at
+    module _ (Leaves : Proc → Type 0) (Ours : ℕ → Type 0) where
+      -- a process that is looked at: one of these, or a system process
+      abbrev pub IsOurs : Proc → Type 0
+      IsOurs (Own p) = Ours p
+      IsOurs p = Unit {0}
+
       -- The brackets of a call, of an exit, and of the exit of a process that its own call ends: with steps in between,
       -- they are a step.
       pub record AreBrackets : Type 0 where
-        pub call : (s t : State) (p : Proc) → is_running s p ≡ true → Keeps (with_state s p Called) t → Keeps s (with_state t p Running)
-        pub call_stops : (s t : State) (p : Proc) → is_running s p ≡ true → Stops (with_state s p Called) t → Stops s t
-        pub exit : (s t : State) (p : Proc) → Leaves p → is_busy s p ≡ false → is_listed s p ≡ true → Keeps (exiting_of s p) t → Keeps s (without_process t p)
-        pub exit_stops : (s t : State) (p : Proc) → Leaves p → is_busy s p ≡ false → is_listed s p ≡ true → Stops (exiting_of s p) t → Stops s t
-        pub last : (s t u : State) (p : Proc) → Leaves p → is_running s p ≡ true → Keeps (with_state s p Called) t → is_listed t p ≡ true → Keeps (exiting_of t p) u → Keeps s (without_process u p)
-        pub last_stops : (s t u : State) (p : Proc) → Leaves p → is_running s p ≡ true → Keeps (with_state s p Called) t → is_listed t p ≡ true → Stops (exiting_of t p) u → Stops s u
-        pub gone : (s t : State) (p : Proc) → is_running s p ≡ true → Keeps (with_state s p Called) t → is_listed t p ≡ false → Keeps s t
+        pub call : (s t : State) (p : Proc) → IsOurs p → is_running s p ≡ true → Keeps (with_state s p Called) t → Keeps s (with_state t p Running)
+        pub call_stops : (s t : State) (p : Proc) → IsOurs p → is_running s p ≡ true → Stops (with_state s p Called) t → Stops s t
+        pub exit : (s t : State) (p : Proc) → IsOurs p → Leaves p → is_busy s p ≡ false → is_listed s p ≡ true → Keeps (exiting_of s p) t → Keeps s (without_process t p)
+        pub exit_stops : (s t : State) (p : Proc) → IsOurs p → Leaves p → is_busy s p ≡ false → is_listed s p ≡ true → Stops (exiting_of s p) t → Stops s t
+        pub last : (s t u : State) (p : Proc) → IsOurs p → Leaves p → is_running s p ≡ true → Keeps (with_state s p Called) t → is_listed t p ≡ true → Keeps (exiting_of t p) u → Keeps s (without_process u p)
+        pub last_stops : (s t u : State) (p : Proc) → IsOurs p → Leaves p → is_running s p ≡ true → Keeps (with_state s p Called) t → is_listed t p ≡ true → Stops (exiting_of t p) u → Stops s u
+        pub gone : (s t : State) (p : Proc) → IsOurs p → is_running s p ≡ true → Keeps (with_state s p Called) t → is_listed t p ≡ false → Keeps s t
 
       -- if both sides of each bracket are steps
-      pub brackets_of : ((s : State) (p : Proc) → Keeps s (with_state s p Called)) → ((s : State) (p : Proc) → Keeps s (with_state s p Running)) → ((s : State) (p : Proc) → Leaves p → Keeps s (exiting_of s p))
-          → ((s : State) (p : Proc) → Leaves p → Keeps s (without_process s p)) → AreBrackets
+      pub brackets_of : ((s : State) (p : Proc) → IsOurs p → Keeps s (with_state s p Called)) → ((s : State) (p : Proc) → IsOurs p → Keeps s (with_state s p Running)) → ((s : State) (p : Proc) → IsOurs p → Leaves p → Keeps s (exiting_of s p))
+          → ((s : State) (p : Proc) → IsOurs p → Leaves p → Keeps s (without_process s p)) → AreBrackets
       brackets_of called runs exiting leaves = record {
-        call = λ s t p r k. chain.joined s _ _ (called s p) (chain.joined _ t _ k (runs t p));
-        call_stops = λ s t p r k. chain.ended s _ t (called s p) k;
-        exit = λ s t p l b i k. chain.joined s _ _ (exiting s p l) (chain.joined _ t _ k (leaves t p l));
-        exit_stops = λ s t p l b i k. chain.ended s _ t (exiting s p l) k;
-        last = λ s t u p l r k i h. chain.joined s _ _ (called s p) (chain.joined _ t _ k (chain.joined t _ _ (exiting t p l) (chain.joined _ u _ h (leaves u p l))));
-        last_stops = λ s t u p l r k i h. chain.ended s _ u (called s p) (chain.ended _ t u k (chain.ended t _ u (exiting t p l) h));
-        gone = λ s t p r k i. chain.joined s _ t (called s p) k;
+        call = λ s t p o r k. chain.joined s _ _ (called s p o) (chain.joined _ t _ k (runs t p o));
+        call_stops = λ s t p o r k. chain.ended s _ t (called s p o) k;
+        exit = λ s t p o l b i k. chain.joined s _ _ (exiting s p o l) (chain.joined _ t _ k (leaves t p o l));
+        exit_stops = λ s t p o l b i k. chain.ended s _ t (exiting s p o l) k;
+        last = λ s t u p o l r k i h. chain.joined s _ _ (called s p o) (chain.joined _ t _ k (chain.joined t _ _ (exiting t p o l) (chain.joined _ u _ h (leaves u p o l))));
+        last_stops = λ s t u p o l r k i h. chain.ended s _ u (called s p o) (chain.ended _ t u k (chain.ended t _ u (exiting t p o l) h));
+        gone = λ s t p o r k i. chain.joined s _ t (called s p o) k;
       }
 
       -- each small step, and the brackets
@@ -304,10 +313,11 @@ module _ (Keeps Stops : State → State → Type 0) where
         pub halts : (s : State) → Stops s (halted_of s)
         pub units : (s : State) (n : ℕ) → Keeps s (record s { units = n })
         pub busy : (s : State) (p : Proc) → Keeps s (with_line s (what.Busy p))
-        pub prints : (s : State) (p : Proc) (v : ℕ) → Keeps s (with_line s (what.Print p v))
+        pub prints : (s : State) (p v : ℕ) → Ours p → Keeps s (with_line s (what.Print (Own p) v))
         pub polled : (s : State) (p : Proc) → Keeps s (poll_of s p)
-        pub remainders : (s : State) (rs : List Remainder) → Keeps s (record s { remainders = rs })
-        pub variables : (s : State) (vs : List (List ℕ)) → Keeps s (record s { variables = vs })
+        pub remainder : (s : State) (p : ℕ) (r : Remainder) → Ours p → Keeps s (put_remainder s p r)
+        pub fresh : (s : State) (p : ℕ) → Ours p → Keeps s (with_fresh_body s p)
+        pub variables : (s : State) (p : ℕ) (vs : List ℕ) (units : ℕ) → Ours p → Keeps s (record s { variables = slice_set s.variables p vs; units = units })
         pub sets : (s : State) (timer start interval : ℕ) (owner : Proc) → has_timer s timer ≡ true
             → Keeps s (timer_is_set (record s { timers = with_timer s.timers timer (record { start = start; interval = interval; owner = Some owner }) }) timer)
         pub stops : (s : State) (timer : ℕ) → Keeps s (record s { timers = stop_timer s.timers timer })
@@ -317,7 +327,7 @@ module _ (Keeps Stops : State → State → Type 0) where
         pub full : (s : State) (t : Target) (e : Event) → Keeps s (with_line s (what.Full t e.number e.word))
         pub posts : (s : State) (t : Target) (e : Event) → FitsTarget t e.number → Keeps s (with_event s t e)
         pub sends : (s : State) (v : ℕ) → Keeps s (with_sent s v)
-        pub starts : (s : State) (p : Proc) → is_busy s p ≡ false → has_process s p ≡ true → is_listed s p ≡ false → Keeps s (with_started s p)
+        pub starts : (s : State) (p : Proc) → IsOurs p → is_busy s p ≡ false → has_process s p ≡ true → is_listed s p ≡ false → Keeps s (with_started s p)
         pub ring : AreRingSteps
 
       -- an event that may come to this process: an exit, only if the process may leave
@@ -330,7 +340,15 @@ module _ (Keeps Stops : State → State → Type 0) where
       -- the calls of a process, and the runs of a thread
       pub record AreLed (calls : Calls) : Type 0 where
         pub call : (s : State) (p : Proc) (e : Event) → Fits p e.number → Lead (Unit {0}) s (calls.call s p e)
-        pub run : (s : State) (code : Code) (r : Remainder) (p : ℕ) (e : Event) → Lead Answer s (calls.run s code r p e)
+        pub run : (s : State) (code : Code) (r : Remainder) (p : ℕ) (e : Event) → Ours p → Lead Answer s (calls.run s code r p e)
+        pub callback : (s : State) (code : Code) (p : ℕ) (e : Event) → slice_get s.program.codes p ≡ Some code → Lead Answer s (calls.run s code (fresh_of code (Callback e.word)) p e)
+
+      -- the conditions of an operation of the current process
+      abbrev pub Allowed : (current : ℕ) → Op → Type 0
+      Allowed current (op.Synch p e w) = Fits p e
+      Allowed current (op.Kill p) = Leaves p
+      Allowed current (op.Print v) = Ours current
+      Allowed current o = Unit {0}
 
       module _ (steps : AreSteps) where
         lead_halts : (A : Type 0) (s : State) → Lead A s (Ends (halted_of s))
@@ -342,10 +360,6 @@ module _ (Keeps Stops : State → State → Type 0) where
         unfolding write_of
         busy_led s p = record { leads = steps.busy s p }
 
-        prints_led : (s : State) (p : Proc) (v : ℕ) → Lead (Unit {0}) s (write_of s (what.Print p v))
-        unfolding write_of
-        prints_led s p v = record { leads = steps.prints s p v }
-
         pub spend_led : (s : State) → Lead (Unit {0}) s (spend_of s)
         unfolding spend_of
         spend_led s = lead_if _ s (s.units == 0) _ _ (lead_halts _ s) (lead_goes _ s tt _ (steps.units s _))
@@ -356,12 +370,8 @@ module _ (Keeps Stops : State → State → Type 0) where
         pub send_led : (s : State) (v : ℕ) → Lead (Unit {0}) s (send_of s v)
         send_led s v = lead_send s v (steps.halts s) (steps.sends s v)
 
-        pub enlist_led : (s : State) (p : Proc) → is_busy s p ≡ false → has_process s p ≡ true → is_listed s p ≡ false → Lead (Unit {0}) s (enlist_of s p)
-        enlist_led s p b h l = subst (λ o. Lead (Unit {0}) s o) (sym (enlist_is s p)) (lead_goes _ s tt _ (steps.starts s p b h l))
-
-        remainder_kept : (s : State) (p : ℕ) (r : Remainder) → Keeps s (put_remainder s p r)
-        unfolding put_remainder
-        remainder_kept s p r = steps.remainders s _
+        pub enlist_led : (s : State) (p : Proc) → IsOurs p → is_busy s p ≡ false → has_process s p ≡ true → is_listed s p ≡ false → Lead (Unit {0}) s (enlist_of s p)
+        enlist_led s p o b h l = subst (λ o. Lead (Unit {0}) s o) (sym (enlist_is s p)) (lead_goes _ s tt _ (steps.starts s p o b h l))
 
         sets_kept : (s : State) (t n p : ℕ) → Keeps s (set_of s t n p)
         unfolding set_of set_timer
@@ -395,21 +405,21 @@ module _ (Keeps Stops : State → State → Type 0) where
         unfolding signal_of
         signalled_kept s k = steps.semaphores s _
 
-        stepped_as : (variables : Option (List ℕ)) (s : State) (code : Code) (r : Remainder) (p : ℕ) (e : Event) → Keeps s (stepped_with variables s code r p e).state
-        stepped_as (Some variables) s code r p e = chain.joined s _ _ (steps.variables s _) (steps.units _ _)
-        stepped_as None s code r p e = chain.same s
+        stepped_as : (variables : Option (List ℕ)) (s : State) (code : Code) (r : Remainder) (p : ℕ) (e : Event) → Ours p → Keeps s (stepped_with variables s code r p e).state
+        stepped_as (Some variables) s code r p e o = steps.variables s p _ _ o
+        stepped_as None s code r p e o = chain.same s
 
-        stepped_kept : (s : State) (code : Code) (r : Remainder) (p : ℕ) (e : Event) → Keeps s (stepped_of s code r p e).state
+        stepped_kept : (s : State) (code : Code) (r : Remainder) (p : ℕ) (e : Event) → Ours p → Keeps s (stepped_of s code r p e).state
         unfolding stepped_of
-        stepped_kept s code r p e = stepped_as _ s code r p e
+        stepped_kept s code r p e o = stepped_as _ s code r p e o
 
-        answered_as : (variables : Option (List ℕ)) (s : State) (r : Remainder) (p answer : ℕ) → Lead Remainder s (answered_with variables s r p answer)
-        answered_as (Some variables) s r p answer = lead_goes _ s _ _ (steps.variables s _)
-        answered_as None s r p answer = lead_still _ s r
+        answered_as : (variables : Option (List ℕ)) (s : State) (r : Remainder) (p answer : ℕ) → Ours p → Lead Remainder s (answered_with variables s r p answer)
+        answered_as (Some variables) s r p answer o = lead_goes _ s _ _ (steps.variables s p _ s.units o)
+        answered_as None s r p answer o = lead_still _ s r
 
-        answers_led : (s : State) (r : Remainder) (p : ℕ) (full : Bool) → Lead Remainder s (answer_of s r p full)
+        answers_led : (s : State) (r : Remainder) (p : ℕ) (full : Bool) → Ours p → Lead Remainder s (answer_of s r p full)
         unfolding answer_of
-        answers_led s r p full = answered_as _ s r p _
+        answers_led s r p full o = answered_as _ s r p _ o
 
         -- the etimer process
 
@@ -427,66 +437,66 @@ module _ (Keeps Stops : State → State → Type 0) where
         walks_led zero s = lead_still _ s tt
         walks_led (suc k) s = walk_timers_led (walks_of k) (walks_led k) s.timers.listed s
 
-        etimer_led : (s : State) (e : Event) → Lead (Unit {0}) s (etimer_of s e)
+        pub etimer_led : (s : State) (e : Event) → Lead (Unit {0}) s (etimer_of s e)
         unfolding etimer_of pass_of
         etimer_led s e =
             lead_if _ s (is_system_event Poll e) _ _ (walks_led _ s) (lead_if _ s (is_system_event Exited e) _ _ (lead_goes _ s tt _ (purged_kept s e.word)) (lead_still _ s tt))
 
         -- the radio process
-        radio_led : (s : State) (e : Event) → Lead (Unit {0}) s (radio_of s e)
+        pub radio_led : (s : State) (e : Event) → Lead (Unit {0}) s (radio_of s e)
         unfolding radio_of
         radio_led s e = lead_if _ s (is_system_event Poll e) _ _ (empty_led steps.ring s.program.receiver s.ring s refl refl) (lead_still _ s tt)
 
         module _ (calls : Calls) (are : AreLed calls) where
-          walk_led : (e : Event) → (is_system_event Exit e) ≡ false → (p : Proc) (ms : List Member) (s : State) → Lead (Unit {0}) s (walk_of calls e p ms s)
+          pub walk_led : (e : Event) → (is_system_event Exit e) ≡ false → (p : Proc) (ms : List Member) (s : State) → Lead (Unit {0}) s (walk_of calls e p ms s)
           walk_led e f p [] s = lead_still _ s tt
           walk_led e f p (m ∷ ms) s =
               lead_bind _ _ s _ _ (lead_if _ s _ _ _ (are.call s m.process e (fits_no_exit m.process e.number f)) (lead_still _ s tt)) (λ a t. walk_led e f p ms t)
 
-          handler_led : (s : State) (code : Code) (p : ℕ) (e : Event) → Lead (Unit {0}) s (handler_of calls s code p e)
+          handler_led : (s : State) (code : Code) (p : ℕ) (e : Event) → Ours p → Lead (Unit {0}) s (handler_of calls s code p e)
           unfolding handler_of
-          handler_led s code p e =
-              lead_if _ s (is_system_event Poll e) _ _ (lead_bind _ _ s _ _ (are.run s code (fresh_of code OnPoll) p e) (λ a t. lead_still _ t tt))
-              (lead_if _ s (is_system_event Exit e) _ _ (lead_bind _ _ s _ _ (are.run s code (fresh_of code OnExit) p e) (λ a t. lead_still _ t tt)) (lead_still _ s tt))
+          handler_led s code p e o =
+              lead_if _ s (is_system_event Poll e) _ _ (lead_bind _ _ s _ _ (are.run s code (fresh_of code OnPoll) p e o) (λ a t. lead_still _ t tt))
+              (lead_if _ s (is_system_event Exit e) _ _ (lead_bind _ _ s _ _ (are.run s code (fresh_of code OnExit) p e o) (λ a t. lead_still _ t tt)) (lead_still _ s tt))
 
-          resume_led : (s : State) (code : Code) (p : ℕ) (e : Event) → Lead PtState s (resume_of calls s code p e)
+          resume_led : (s : State) (code : Code) (p : ℕ) (e : Event) → Ours p → Lead PtState s (resume_of calls s code p e)
           unfolding resume_of
-          resume_led s code p e =
-              lead_bind _ _ s _ _ (lead_from _ s (with_fresh_body s p) _ (steps.remainders s _) (are.run _ code _ p e)) (λ a t. lead_goes _ t _ _ (remainder_kept t p _))
+          resume_led s code p e o =
+              lead_bind _ _ s _ _ (lead_from _ s (with_fresh_body s p) _ (steps.fresh s p o) (are.run _ code _ p e o)) (λ a t. lead_goes _ t _ _ (steps.remainder t p _ o))
 
-          own_led : (s : State) (p : ℕ) (e : Event) → Lead PtState s (own_of calls s p e)
+          own_led : (s : State) (p : ℕ) (e : Event) → Ours p → Lead PtState s (own_of calls s p e)
           unfolding own_of
-          own_led s p e =
-              lead_option PtState Code s (slice_get s.program.codes p) (Goes Ended s) (λ code. handler_of calls s code p e >>= λ u t. resume_of calls t code p e) (lead_still _ s Ended) (λ code. lead_bind _ _ s _ _ (handler_led s code p e) (λ u t. resume_led t code p e))
+          own_led s p e o =
+              lead_option PtState Code s (slice_get s.program.codes p) (Goes Ended s) (λ code. handler_of calls s code p e >>= λ u t. resume_of calls t code p e) (lead_still _ s Ended) (λ code. lead_bind _ _ s _ _ (handler_led s code p e o) (λ u t. resume_led t code p e o))
 
-          code_led : (s : State) (e : Event) (p : ℕ) (code : Option Code) → Lead (Unit {0}) s (elim code [ None ↦ Goes tt s | Some c ↦ calls.run s c (fresh_of c (Callback e.word)) p e >>= λ _ s1. Goes tt s1 ])
-          code_led s e p None = lead_still _ s tt
-          code_led s e p (Some c) = lead_bind _ _ s _ _ (are.run s c _ p e) (λ a t. lead_still _ t tt)
+          code_led : (s : State) (e : Event) (p : ℕ) (code : Option Code) → slice_get s.program.codes p ≡ code → Lead (Unit {0}) s (elim code [ None ↦ Goes tt s | Some c ↦ calls.run s c (fresh_of c (Callback e.word)) p e >>= λ _ s1. Goes tt s1 ])
+          code_led s e p None is = lead_still _ s tt
+          code_led s e p (Some c) is = lead_bind _ _ s _ _ (are.callback s c p e is) (λ a t. lead_still _ t tt)
 
           callback_led : (s : State) (e : Event) → Lead (Unit {0}) s (callback_of calls s e)
           unfolding callback_of
           callback_led s e =
-              lead_option (Unit {0}) TimerOfProgram s (slice_get s.program.timers e.word) (Goes tt s) _ (lead_still _ s tt) (λ t. code_led s e t.process (slice_get s.program.codes t.process))
+              lead_option (Unit {0}) TimerOfProgram s (slice_get s.program.timers e.word) (Goes tt s) _ (lead_still _ s tt) (λ t. code_led s e t.process (slice_get s.program.codes t.process) refl)
 
           ctimer_led : (s : State) (e : Event) → Lead (Unit {0}) s (ctimer_of calls s e)
           unfolding ctimer_of
           ctimer_led s e =
               lead_if _ s (is_system_event Timer e && waits_for s e.word) _ _ (lead_from _ s _ _ (steps.callbacks s _) (callback_led _ e)) (lead_still _ s tt)
 
-          react_led : (s : State) (p : Proc) (e : Event) → Lead PtState s (react_of calls s p e)
+          react_led : (s : State) (p : Proc) (e : Event) → IsOurs p → Lead PtState s (react_of calls s p e)
           unfolding react_of
-          react_led s (Own p) e = own_led s p e
-          react_led s Etimer e = lead_bind _ _ s _ _ (etimer_led s e) (λ u t. lead_still _ t Yielded)
-          react_led s Ctimer e = lead_bind _ _ s _ _ (ctimer_led s e) (λ u t. lead_still _ t Yielded)
-          react_led s Radio e = lead_bind _ _ s _ _ (radio_led s e) (λ u t. lead_still _ t Yielded)
+          react_led s (Own p) e o = own_led s p e o
+          react_led s Etimer e o = lead_bind _ _ s _ _ (etimer_led s e) (λ u t. lead_still _ t Yielded)
+          react_led s Ctimer e o = lead_bind _ _ s _ _ (ctimer_led s e) (λ u t. lead_still _ t Yielded)
+          react_led s Radio e o = lead_bind _ _ s _ _ (radio_led s e) (λ u t. lead_still _ t Yielded)
 
-          last_run_led : (s : State) (p : Proc) → Lead (Unit {0}) s (last_run_of calls s p)
+          last_run_led : (s : State) (p : Proc) → IsOurs p → Lead (Unit {0}) s (last_run_of calls s p)
           unfolding last_run_of
-          last_run_led s p = lead_bind _ _ s _ _ (spend_led s) (λ u t. lead_bind _ _ t _ _ (react_led t p _) (λ a v. lead_still _ v tt))
+          last_run_led s p o = lead_bind _ _ s _ _ (spend_led s) (λ u t. lead_bind _ _ t _ _ (react_led t p _ o) (λ a v. lead_still _ v tt))
 
           -- the walk and the last run of a process that is being exited
-          exiting_led : (s : State) (p f : Proc) (ms : List Member) → Lead (Unit {0}) s (walk_of calls (told Exited (process_number p)) p ms s >>= λ _ t. if is_same p f then Goes tt t else last_run_of calls t p)
-          exiting_led s p f ms = lead_bind _ _ s _ _ (walk_led (told Exited (process_number p)) refl p ms s) (λ a t. lead_if _ t (is_same p f) _ _ (lead_still _ t tt) (last_run_led t p))
+          exiting_led : (s : State) (p f : Proc) (ms : List Member) → IsOurs p → Lead (Unit {0}) s (walk_of calls (told Exited (process_number p)) p ms s >>= λ _ t. if is_same p f then Goes tt t else last_run_of calls t p)
+          exiting_led s p f ms o = lead_bind _ _ s _ _ (walk_led (told Exited (process_number p)) refl p ms s) (λ a t. lead_if _ t (is_same p f) _ _ (lead_still _ t tt) (last_run_led t p o))
 
           left_led : (s t : State) (p : Proc) (o : Went) → Lead (Unit {0}) t o → ((u : State) → Keeps t u → Keeps s (without_process u p)) → ((u : State) → Stops t u → Stops s u) → Lead (Unit {0}) s (o >>= λ _ u. leave_of u p)
           unfolding leave_of write_of
@@ -494,115 +504,141 @@ module _ (Keeps Stops : State → State → Type 0) where
           left_led s t p (Goes a u) h kept stopped = record { leads = kept u h.leads }
 
           -- an exit that began in a state t, and that is a step from s on
-          leaves_led : (s t : State) (p f : Proc) (ms : List Member) → ((u : State) → Keeps t u → Keeps s (without_process u p)) → ((u : State) → Stops t u → Stops s u)
+          leaves_led : (s t : State) (p f : Proc) (ms : List Member) → IsOurs p → ((u : State) → Keeps t u → Keeps s (without_process u p)) → ((u : State) → Stops t u → Stops s u)
               → Lead (Unit {0}) s (walk_of calls (told Exited (process_number p)) p ms t >>= λ _ u. ((if is_same p f then Goes tt u else last_run_of calls u p) >>= λ _ v. leave_of v p))
-          leaves_led s t p f ms kept stopped =
+          leaves_led s t p f ms o kept stopped =
               bind_nested (Unit {0}) (Unit {0}) (Unit {0}) s (walk_of calls (told Exited (process_number p)) p ms t) (λ _ u. if is_same p f then Goes tt u else last_run_of calls u p) (λ _ v. leave_of v p)
-              (left_led s t p _ (exiting_led t p f ms) kept stopped)
+              (left_led s t p _ (exiting_led t p f ms o) kept stopped)
 
-          exit_led : (s : State) (p f : Proc) → Leaves p → is_busy s p ≡ false → Lead (Unit {0}) s (exit_of calls s p f)
+          pub exit_led : (s : State) (p f : Proc) → IsOurs p → Leaves p → is_busy s p ≡ false → Lead (Unit {0}) s (exit_of calls s p f)
           unfolding exit_of
-          exit_led s p f l b =
-              lead_cases _ s (is_listed s p) _ _ (λ i. leaves_led s (exiting_of s p) p f s.members (λ u k. steps.brackets.exit s u p l b i k) (λ u k. steps.brackets.exit_stops s u p l b i k)) (λ i. lead_still _ s tt)
+          exit_led s p f o l b =
+              lead_cases _ s (is_listed s p) _ _ (λ i. leaves_led s (exiting_of s p) p f s.members o (λ u k. steps.brackets.exit s u p o l b i k) (λ u k. steps.brackets.exit_stops s u p o l b i k)) (λ i. lead_still _ s tt)
 
           both : (b c : Bool) → (b && not c) ≡ true → (b ≡ true) × (c ≡ false)
           both true false e = (refl, refl)
           both true true e = absurd (cc)
           both false c e = absurd (cc)
 
-          pub start_led : (s : State) (p : Proc) → Lead (Unit {0}) s (start_of calls s p)
+          pub start_led : (s : State) (p : Proc) → IsOurs p → Lead (Unit {0}) s (start_of calls s p)
           unfolding start_of
-          start_led s p =
+          start_led s p o =
               lead_cases _ s (is_busy s p) _ _ (λ b. busy_led s p) (λ b. lead_cases _ s (has_process s p && not (is_listed s p)) _ _ (λ l.
               let h = both (has_process s p) _ l in
-              lead_bind _ _ s _ _ (enlist_led s p b h.0 h.1) (λ a t. are.call t p _ (fits_no_exit p _ refl))) (λ l. lead_still _ s tt))
+              lead_bind _ _ s _ _ (enlist_led s p o b h.0 h.1) (λ a t. are.call t p _ (fits_no_exit p _ refl))) (λ l. lead_still _ s tt))
 
-          kill_led : (s : State) (p : Proc) (current : ℕ) → Leaves p → Lead (Unit {0}) s (kill_of calls s p current)
+          pub kill_led : (s : State) (p : Proc) (current : ℕ) → IsOurs p → Leaves p → Lead (Unit {0}) s (kill_of calls s p current)
           unfolding kill_of
-          kill_led s p current l = lead_cases _ s (is_busy s p) _ _ (λ b. busy_led s p) (λ b. exit_led s p (Own current) l b)
+          kill_led s p current o l = lead_cases _ s (is_busy s p) _ _ (λ b. busy_led s p) (λ b. exit_led s p (Own current) o l b)
 
-          act_led : (s : State) (current : ℕ) (o : Op) → FitsOp o → Lead (Unit {0}) s (act_of calls s current o)
-          unfolding act_of
-          act_led s current (op.Post t e w) f = lead_still _ s tt
-          act_led s current (op.Synch p e w) f = are.call s p _ (λ q. steps.own p (f q))
-          act_led s current (op.Poll p) f = lead_goes _ s tt _ (steps.polled s p)
-          act_led s current (op.Start p) f = start_led s p
-          act_led s current (op.Kill p) f = kill_led s p current (steps.own p f)
-          act_led s current (op.Set t n) f = lead_goes _ s tt _ (sets_kept s t n current)
-          act_led s current (op.Reset t) f = lead_goes _ s tt _ (resets_kept s t current)
-          act_led s current (op.RestartTimer t) f = lead_goes _ s tt _ (restarts_kept s t current)
-          act_led s current (op.Stop t) f = lead_goes _ s tt _ (stops_kept s t)
-          act_led s current (op.Send v) f = send_led s v
-          act_led s current (op.Print v) f = prints_led s (Own current) v
-          act_led s current (op.Take k) f = lead_goes _ s tt _ (taken_kept s k)
-          act_led s current (op.Signal k) f = lead_goes _ s tt _ (signalled_kept s k)
+          -- the operations of a thread, if each start and each kill is made of steps
+          module _ (started : (s : State) (p : Proc) → Lead (Unit {0}) s (start_of calls s p)) (killed : (s : State) (p : Proc) (current : ℕ) → Leaves p → Lead (Unit {0}) s (kill_of calls s p current)) where
+            pub act_led : (s : State) (current : ℕ) (o : Op) → Allowed current o → Lead (Unit {0}) s (act_of calls s current o)
+            unfolding act_of write_of
+            act_led s current (op.Post t e w) f = lead_still _ s tt
+            act_led s current (op.Synch p e w) f = are.call s p _ f
+            act_led s current (op.Poll p) f = lead_goes _ s tt _ (steps.polled s p)
+            act_led s current (op.Start p) f = started s p
+            act_led s current (op.Kill p) f = killed s p current f
+            act_led s current (op.Set t n) f = lead_goes _ s tt _ (sets_kept s t n current)
+            act_led s current (op.Reset t) f = lead_goes _ s tt _ (resets_kept s t current)
+            act_led s current (op.RestartTimer t) f = lead_goes _ s tt _ (restarts_kept s t current)
+            act_led s current (op.Stop t) f = lead_goes _ s tt _ (stops_kept s t)
+            act_led s current (op.Send v) f = send_led s v
+            act_led s current (op.Print v) f = record { leads = steps.prints s current v f }
+            act_led s current (op.Take k) f = lead_goes _ s tt _ (taken_kept s k)
+            act_led s current (op.Signal k) f = lead_goes _ s tt _ (signalled_kept s k)
 
-          perform_led : (s : State) (code : Code) (r : Remainder) (current : ℕ) (o : Op) → FitsOp o → Lead Remainder s (perform_of calls s r current o)
-          unfolding perform_of
-          perform_led s code r current (op.Post to e w) f = lead_bind _ _ s _ _ (post_led s to _ f) (λ full t. answers_led t r current full)
-          perform_led s code r current o f = lead_bind _ _ s _ _ (act_led s current o f) (λ a t. lead_still _ t r)
+            allowed : (current : ℕ) (x : Op) → FitsOp x → Ours current → Allowed current x
+            allowed current (op.Synch p e w) f o = λ q. steps.own p (f q)
+            allowed current (op.Kill p) f o = steps.own p f
+            allowed current (op.Print v) f o = o
+            allowed current x f o = tt
 
-          step_led : (code : Code) (p : ℕ) (e : Event) (x : Step) (r : Remainder) (s : State) → FitsStep x → Lead Answer s (after_step calls code p e x r s)
-          step_led code p e (step.Op o) r s f = lead_bind _ _ s _ _ (perform_led s code r p o f) (λ r1 t. are.run t code r1 p e)
-          step_led code p e (step.Done answer) r s f = lead_still _ s _
-          step_led code p e step.Runaway r s f = lead_halts _ s
+            perform_led : (s : State) (code : Code) (r : Remainder) (current : ℕ) (x : Op) → FitsOp x → Ours current → Lead Remainder s (perform_of calls s r current x)
+            unfolding perform_of
+            perform_led s code r current (op.Post to e w) f o = lead_bind _ _ s _ _ (post_led s to _ f) (λ full t. answers_led t r current full o)
+            perform_led s code r current x f o = lead_bind _ _ s _ _ (act_led s current x (allowed current x f o)) (λ a t. lead_still _ t r)
 
-          stepped_fits : (variables : Option (List ℕ)) (s : State) (code : Code) (r : Remainder) (p : ℕ) (e : Event) → FitsStep (stepped_with variables s code r p e).step
-          stepped_fits (Some variables) s code r p e = fits_advanced code e (looks_of s) r variables s.units
-          stepped_fits None s code r p e = tt
+            step_led : (code : Code) (p : ℕ) (e : Event) (x : Step) (r : Remainder) (s : State) → FitsStep x → Ours p → Lead Answer s (after_step calls code p e x r s)
+            step_led code p e (step.Op x) r s f o = lead_bind _ _ s _ _ (perform_led s code r p x f o) (λ r1 t. are.run t code r1 p e o)
+            step_led code p e (step.Done answer) r s f o = lead_still _ s _
+            step_led code p e step.Runaway r s f o = lead_halts _ s
 
-          all_fits : (s : State) (code : Code) (r : Remainder) (p : ℕ) (e : Event) → FitsStep (stepped_of s code r p e).step
-          unfolding stepped_of
-          all_fits s code r p e = stepped_fits _ s code r p e
+            stepped_fits : (variables : Option (List ℕ)) (s : State) (code : Code) (r : Remainder) (p : ℕ) (e : Event) → FitsStep (stepped_with variables s code r p e).step
+            stepped_fits (Some variables) s code r p e = fits_advanced code e (looks_of s) r variables s.units
+            stepped_fits None s code r p e = tt
 
-          one_run_led : (s : State) (code : Code) (r : Remainder) (p : ℕ) (e : Event) → Lead Answer s (run_of calls s code r p e)
-          unfolding run_of
-          one_run_led s code r p e = lead_from _ s _ _ (stepped_kept s code r p e) (step_led code p e _ _ _ (all_fits s code r p e))
+            all_fits : (s : State) (code : Code) (r : Remainder) (p : ℕ) (e : Event) → FitsStep (stepped_of s code r p e).step
+            unfolding stepped_of
+            all_fits s code r p e = stepped_fits _ s code r p e
+
+            pub one_run_led : (s : State) (code : Code) (r : Remainder) (p : ℕ) (e : Event) → Ours p → Lead Answer s (run_of calls s code r p e)
+            unfolding run_of
+            one_run_led s code r p e o = lead_from _ s _ _ (stepped_kept s code r p e o) (step_led code p e _ _ _ (all_fits s code r p e) o)
 
           -- a call that has come from s to t
-          answered_led : (s t : State) (p : Proc) (b : Bool) → is_running s p ≡ true → (b ≡ true → Leaves p) → Keeps (with_state s p Called) t → Lead (Unit {0}) s (answered calls t p b)
+          answered_led : (s t : State) (p : Proc) (b : Bool) → IsOurs p → is_running s p ≡ true → (b ≡ true → Leaves p) → Keeps (with_state s p Called) t → Lead (Unit {0}) s (answered calls t p b)
           unfolding answered exit_of
-          answered_led s t p true r l k =
-              lead_cases _ s (is_listed t p) _ _ (λ i. leaves_led s (exiting_of t p) p p t.members (λ u h. steps.brackets.last s t u p (l refl) r k i h) (λ u h. steps.brackets.last_stops s t u p (l refl) r k i h))
-              (λ i. record { leads = steps.brackets.gone s t p r k i })
-          answered_led s t p false r l k = lead_goes _ s tt _ (steps.brackets.call s t p r k)
+          answered_led s t p true o r l k =
+              lead_cases _ s (is_listed t p) _ _ (λ i. leaves_led s (exiting_of t p) p p t.members o (λ u h. steps.brackets.last s t u p o (l refl) r k i h) (λ u h. steps.brackets.last_stops s t u p o (l refl) r k i h))
+              (λ i. record { leads = steps.brackets.gone s t p o r k i })
+          answered_led s t p false o r l k = lead_goes _ s tt _ (steps.brackets.call s t p o r k)
 
           -- a process of the program reacts, and its answer decides the next step
-          reacted_led : (s : State) (p : ℕ) (e : Event) (o : Outcome PtState) → is_running s (Own p) ≡ true → Lead PtState (with_state s (Own p) Called) o
-              → Lead (Unit {0}) s (o >>= λ answer t. answered calls t (Own p) (has_ended answer || is_system_event Exit e))
-          reacted_led s p e (Ends t) r h = record { leads = steps.brackets.call_stops s t (Own p) r h.leads }
-          reacted_led s p e (Goes a t) r h = answered_led s t (Own p) _ r (λ q. steps.own (Own p) tt) h.leads
+          reacted_led : (s : State) (p : ℕ) (e : Event) (x : Outcome PtState) → Ours p → is_running s (Own p) ≡ true → Lead PtState (with_state s (Own p) Called) x
+              → Lead (Unit {0}) s (x >>= λ answer t. answered calls t (Own p) (has_ended answer || is_system_event Exit e))
+          reacted_led s p e (Ends t) o r h = record { leads = steps.brackets.call_stops s t (Own p) o r h.leads }
+          reacted_led s p e (Goes a t) o r h = answered_led s t (Own p) _ o r (λ q. steps.own (Own p) tt) h.leads
 
           -- a system process yields, and leaves only if it is exited
-          system_led : (s : State) (p : Proc) (e : Event) (o : Went) → is_running s p ≡ true → Fits p e.number → Lead (Unit {0}) (with_state s p Called) o
-              → Lead (Unit {0}) s ((o >>= λ _ t. Goes Yielded t) >>= λ answer t. answered calls t p (has_ended answer || is_system_event Exit e))
-          system_led s p e (Ends t) r f h = record { leads = steps.brackets.call_stops s t p r h.leads }
-          system_led s p e (Goes a t) r f h = answered_led s t p _ r (λ q. f (grind (arith, nat_tests))) h.leads
+          system_led : (s : State) (p : Proc) (e : Event) (x : Went) → IsOurs p → is_running s p ≡ true → Fits p e.number → Lead (Unit {0}) (with_state s p Called) x
+              → Lead (Unit {0}) s ((x >>= λ _ t. Goes Yielded t) >>= λ answer t. answered calls t p (has_ended answer || is_system_event Exit e))
+          system_led s p e (Ends t) o r f h = record { leads = steps.brackets.call_stops s t p o r h.leads }
+          system_led s p e (Goes a t) o r f h = answered_led s t p _ o r (λ q. f (grind (arith, nat_tests))) h.leads
 
-          called_led : (s : State) (p : Proc) (e : Event) → is_running s p ≡ true → Fits p e.number
+          called_led : (s : State) (p : Proc) (e : Event) → IsOurs p → is_running s p ≡ true → Fits p e.number
               → Lead (Unit {0}) s (react_of calls (with_state s p Called) p e >>= λ answer t. answered calls t p (has_ended answer || is_system_event Exit e))
           unfolding react_of
-          called_led s (Own p) e r f = reacted_led s p e _ r (own_led _ p e)
-          called_led s Etimer e r f = system_led s Etimer e _ r f (etimer_led _ e)
-          called_led s Ctimer e r f = system_led s Ctimer e _ r f (ctimer_led _ e)
-          called_led s Radio e r f = system_led s Radio e _ r f (radio_led _ e)
+          called_led s (Own p) e o r f = reacted_led s p e _ o r (own_led _ p e o)
+          called_led s Etimer e o r f = system_led s Etimer e _ o r f (etimer_led _ e)
+          called_led s Ctimer e o r f = system_led s Ctimer e _ o r f (ctimer_led _ e)
+          called_led s Radio e o r f = system_led s Radio e _ o r f (radio_led _ e)
 
-          spent_led : (s : State) (p : Proc) (e : Event) (none : Bool) → is_running s p ≡ true → Fits p e.number
+          spent_led : (s : State) (p : Proc) (e : Event) (none : Bool) → IsOurs p → is_running s p ≡ true → Fits p e.number
               → Lead (Unit {0}) s ((if none then Ends (halted_of s) else Goes (tt {0}) (record s { units = s.units - 1 })) >>= λ _ t. react_of calls (with_state t p Called) p e >>= λ answer u. answered calls u p (has_ended answer || is_system_event Exit e))
-          spent_led s p e true r f = lead_halts _ s
-          spent_led s p e false r f = lead_from _ s _ _ (steps.units s _) (called_led _ p e r f)
+          spent_led s p e true o r f = lead_halts _ s
+          spent_led s p e false o r f = lead_from _ s _ _ (steps.units s _) (called_led _ p e o r f)
 
-          call_led : (s : State) (p : Proc) (e : Event) → Fits p e.number → Lead (Unit {0}) s (call_of calls s p e)
+          pub call_led : (s : State) (p : Proc) (e : Event) → IsOurs p → Fits p e.number → Lead (Unit {0}) s (call_of calls s p e)
           unfolding call_of spend_of
-          call_led s p e f = lead_cases _ s (is_running s p) _ _ (λ r. spent_led s p e _ r f) (λ r. lead_still _ s tt)
+          call_led s p e o f = lead_cases _ s (is_running s p) _ _ (λ r. spent_led s p e _ o r f) (λ r. lead_still _ s tt)
 
-        pub calls_led : (k : ℕ) → AreLed (calls_of k)
-        unfolding calls_of
-        calls_led zero = record { call = λ s p e f. lead_halts _ s; run = λ s code r p e. lead_halts _ s }
-        calls_led (suc k) = record { call = call_led (calls_of k) (calls_led k); run = one_run_led (calls_of k) (calls_led k) }
+    -- if all processes are looked at
+    module _ (Leaves : Proc → Type 0) (steps : AreSteps Leaves Every) where
+      ours : (p : Proc) → IsOurs Leaves Every p
+      ours (Own p) = tt
+      ours Etimer = tt
+      ours Ctimer = tt
+      ours Radio = tt
+
+      pub start_all : (calls : Calls) → AreLed Leaves Every calls → (s : State) (p : Proc) → Lead (Unit {0}) s (start_of calls s p)
+      start_all calls are s p = start_led Leaves Every steps calls are s p (ours p)
+
+      run_all : (calls : Calls) → AreLed Leaves Every calls → (s : State) (code : Code) (r : Remainder) (p : ℕ) (e : Event) → Lead Answer s (run_of calls s code r p e)
+      run_all calls are s code r p e = one_run_led Leaves Every steps calls are (start_all calls are) (λ t q current l. kill_led Leaves Every steps calls are t q current (ours q) l) s code r p e tt
+
+      pub calls_led : (k : ℕ) → AreLed Leaves Every (calls_of k)
+      unfolding calls_of
+      calls_led zero = record { call = λ s p e f. record { leads = steps.halts s }; run = λ s code r p e o. record { leads = steps.halts s }; callback = λ s code p e is. record { leads = steps.halts s } }
+      calls_led (suc k) = record {
+        call = λ s p e f. call_led Leaves Every steps (calls_of k) (calls_led k) s p e (ours p) f;
+        run = λ s code r p e o. run_all (calls_of k) (calls_led k) s code r p e;
+        callback = λ s code p e is. run_all (calls_of k) (calls_led k) s code _ p e;
+      }
 
     -- boots and kernel runs at any depth, if any process may be exited
-    module _ (steps : AreSteps Whoever) (run_steps : AreRunSteps) (depth : ℕ) where
+    module _ (steps : AreSteps Whoever Every) (run_steps : AreRunSteps) (depth : ℕ) where
       called_at : (s : State) (p : Proc) (e : Event) → Lead (Unit {0}) s ((calls_of depth).call s p e)
       called_at s p e = (calls_led Whoever steps depth).call s p e (λ q. tt)
 
@@ -610,4 +646,4 @@ module _ (Keeps Stops : State → State → Type 0) where
       runs_led s = kernel_led run_steps (calls_of depth) called_at s
 
       pub boots_led : (s : State) → Lead ℕ s (boot_of (calls_of depth) s)
-      boots_led s = boot_led (calls_of depth) (start_led Whoever steps (calls_of depth) (calls_led Whoever steps depth)) s
+      boots_led s = boot_led (calls_of depth) (start_all Whoever steps (calls_of depth) (calls_led Whoever steps depth)) s

@@ -27,7 +27,7 @@ use Rattle.kernel_laws.specs.Due.{IsAtRest}
 use Rattle.kernel_laws.specs.Ring.{RingRuns, NoneMore, Receives, Loses, Hands, Passes, RingGoes, RingHalts, RunEmptiesRing}
 use Rattle.kernel_laws.proofs.InStep as tables
 use Rattle.kernel_laws.proofs.Packets.{IfGoes, Empties, ring_empties}
-use Rattle.kernel_laws.proofs.EachStep.{Whatever, Whoever, Lead, AreLed, calls_led, polls_led, front_led}
+use Rattle.kernel_laws.proofs.EachStep.{Every, Whatever, Whoever, Lead, AreLed, calls_led, polls_led, front_led}
 use Rattle.kernel_laws.proofs.Ring as ring
 use Rattle.kernel_laws.proofs.Ring.{HearsNone, run_tells_packets}
 use Rattle.kernel_laws.proofs.Watch.{Watches, chain, steps}
@@ -74,9 +74,9 @@ call_empties calls s running = rw running (by (s.units == 0))
 
 -- the properties of the calls that nest less deep
 record AreHeard (calls : Calls) : Type 0 where
-  led : AreLed (Watches Radio) Whatever (chain Radio) IsOwn calls
+  led : AreLed (Watches Radio) Whatever (chain Radio) IsOwn Every calls
   kept : tables.AreKept calls
-  rings : AreLed RingGoes RingHalts ring.chain Whoever calls
+  rings : AreLed RingGoes RingHalts ring.chain Whoever Every calls
   empties : (s : State) → is_running s Radio ≡ true → IfGoes (λ t. t.ring ≡ []) (calls.call s Radio (told Poll 0))
 
 are_heard : (k : ℕ) → AreHeard (calls_of (suc k))

@@ -1,7 +1,6 @@
 -- Each call keeps the process list and the states of the processes in step, and leaves those busy that were.
-use Rattle.std.proofs.Common.{ℕ, ◌≡◌, ◌<◌, Bool, true, false, ◌||◌, inl, inr, nat_lt, if◌then◌else◌, List, ◌∷◌, slice_set, length, refl, sym, ap, ◌∙◌, subst, arith}
+use Rattle.std.proofs.Common.{ℕ, ◌≡◌, ◌<◌, Bool, true, false, ◌||◌, inl, inr, if◌then◌else◌, List, ◌∷◌, slice_set, length, refl, sym, ap, ◌∙◌, subst}
 use Rattle.std.proofs.lemmas.List.{length-set}
-use Rattle.std.proofs.lemmas.Bool.Decides.{nat_tests}
 use Rattle.program_tree.specs.declared.event.Proc.{Proc}
 use Rattle.program_tree.specs.declared.event.Proc.TheVariants.{Etimer}
 use Rattle.event_queue.specs.declared.queue.Posted.{Posted}
@@ -11,15 +10,15 @@ use Rattle.process_kernel.specs.declared.process.Member.{Member}
 use Rattle.process_kernel.specs.Members.{place_of}
 use Rattle.process_kernel.specs.State.{State, Outcome}
 use Rattle.process_kernel.specs.Processes.{is_alive, process_state, has_process, is_busy, is_running, is_running_state, is_called_state, at_process, with_state, with_exiting, with_needs_poll}
-use Rattle.process_kernel.specs.ProcessList.{exiting_of, unlisted_of}
+use Rattle.process_kernel.specs.ProcessList.{put_remainder, exiting_of, unlisted_of}
 use Rattle.process_kernel.specs.Calls.{Calls}
 use Rattle.process_kernel.specs.Call.{calls_of}
 use Rattle.process_kernel.specs.Polls.{walk_polls}
 use Rattle.process_kernel.specs.Delivery.{give_of}
 use Rattle.process_kernel.specs.Posts.{poll_of}
 use Rattle.kernel_laws.specs.InStep.{state_at_place, exiting_at, listed_in, AreInStep, IsInStep, IsAsBusy}
-use Rattle.kernel_laws.proofs.EachStep.{Whoever, Whatever, Lead, AreJoined, AreBrackets, AreSteps, AreRunSteps, AreLed, with_started, without_process, keeps_set, calls_led, polls_led, give_led}
-use Rattle.kernel_laws.proofs.Tables.{set_same, set_other, is_entry, is_equal, left_out, left_in, first_listed, others_listed, DiffersAt, in_step_but, state_differs, exiting_differs, differs_twice, state_set, exiting_set}
+use Rattle.kernel_laws.proofs.EachStep.{Every, Whoever, Whatever, Lead, AreJoined, AreBrackets, AreSteps, AreRunSteps, AreLed, with_started, without_process, keeps_set, calls_led, polls_led, give_led}
+use Rattle.kernel_laws.proofs.Tables.{set_same, set_other, is_entry, is_equal, left_out, left_in, first_listed, others_listed, DiffersAt, in_step_but, state_differs, exiting_differs, differs_twice, state_set, exiting_set, below_of}
 
 -- in step, and as busy as before
 pub record Keeps (s t : State) : Type 0 where
@@ -173,9 +172,6 @@ started_keeps s u p m i w a b c h n e =
       };
     }
 
-below_of : (j n : ℕ) → nat_lt j n ≡ true → j < n
-below_of j n h = grind (arith, nat_tests)
-
 -- a process that was running is called now
 record IsCalled (p : ℕ) (s t : State) : Type 0 where
   step : IsInStep t
@@ -255,15 +251,15 @@ leaves_free s t p i b l h =
     let way = on_its_way s p i f.1 l in
     leaves_at_last s t p f.0 f.1 (goes_its_way (place_of p) s (exiting_of s p) t way (h.kept way.step))
 
-brackets : AreBrackets KeepsStep Whatever chain Whoever
+brackets : AreBrackets KeepsStep Whatever chain Whoever Every
 brackets = record {
-  call = λ s t p r k. record { kept = λ i. runs_again s t p (was_running s p i r) (called_to s t p i r k) };
-  call_stops = λ s t p r k. tt;
-  exit = λ s t p any b l h. record { kept = λ i. leaves_free s t p i b l h };
-  exit_stops = λ s t p any b l h. tt;
-  last = λ s t u p any r k l h. record { kept = λ i. leaves_from s t u p (was_running s p i r) (called_to s t p i r k) l h };
-  last_stops = λ s t u p any r k l h. tt;
-  gone = λ s t p r k l. record { kept = λ i. absurd (let f : true ≡ false = sym (is_called s t p (called_to s t p i r k)).2 ∙ l in cc) };
+  call = λ s t p o r k. record { kept = λ i. runs_again s t p (was_running s p i r) (called_to s t p i r k) };
+  call_stops = λ s t p o r k. tt;
+  exit = λ s t p o any b l h. record { kept = λ i. leaves_free s t p i b l h };
+  exit_stops = λ s t p o any b l h. tt;
+  last = λ s t u p o any r k l h. record { kept = λ i. leaves_from s t u p (was_running s p i r) (called_to s t p i r k) l h };
+  last_stops = λ s t u p o any r k l h. tt;
+  gone = λ s t p o r k l. record { kept = λ i. absurd (let f : true ≡ false = sym (is_called s t p (called_to s t p i r k)).2 ∙ l in cc) };
 }
 
 starts : (s : State) (p : Proc) → is_busy s p ≡ false → has_process s p ≡ true → KeepsStep s (with_started s p)
@@ -275,17 +271,19 @@ starts s p b h =
 
 -- all of them
 
-pub steps : AreSteps KeepsStep Whatever chain Whoever
+pub steps : AreSteps KeepsStep Whatever chain Whoever Every
+unfolding put_remainder
 steps = record {
   own = λ p own. tt;
   brackets = brackets;
   halts = λ s. tt;
   units = λ s n. steps_still s _ (record { states = refl; exiting = refl; members = refl });
   busy = λ s p. steps_still s _ (record { states = refl; exiting = refl; members = refl });
-  prints = λ s p v. steps_still s _ (record { states = refl; exiting = refl; members = refl });
+  prints = λ s p v o. steps_still s _ (record { states = refl; exiting = refl; members = refl });
   polled = λ s p. steps_still s _ (poll_still s p);
-  remainders = λ s rs. steps_still s _ (record { states = refl; exiting = refl; members = refl });
-  variables = λ s vs. steps_still s _ (record { states = refl; exiting = refl; members = refl });
+  remainder = λ s p r o. steps_still s _ (record { states = refl; exiting = refl; members = refl });
+  fresh = λ s p o. steps_still s _ (record { states = refl; exiting = refl; members = refl });
+  variables = λ s p vs n o. steps_still s _ (record { states = refl; exiting = refl; members = refl });
   sets = λ s t start interval owner there. keeps_set KeepsStep Whatever chain s _ t (λ callbacks. steps_still s _ (record { states = refl; exiting = refl; members = refl })) (λ u. steps_still u _ (poll_still u Etimer));
   stops = λ s t. steps_still s _ (record { states = refl; exiting = refl; members = refl });
   purges = λ s p. steps_still s _ (record { states = refl; exiting = refl; members = refl });
@@ -294,7 +292,7 @@ steps = record {
   full = λ s t e. steps_still s _ (record { states = refl; exiting = refl; members = refl });
   posts = λ s t e f. steps_still s _ (record { states = refl; exiting = refl; members = refl });
   sends = λ s v. steps_still s _ (record { states = refl; exiting = refl; members = refl });
-  starts = λ s p b h l. starts s p b h;
+  starts = λ s p o b h l. starts s p b h;
   ring = record {
     accepted = λ s a later p i r. steps_still s _ (record { states = refl; exiting = refl; members = refl });
     refused = λ s a later p i r. steps_still s _ (record { states = refl; exiting = refl; members = refl });
@@ -318,7 +316,7 @@ abbrev pub Kept : (A : Type 0) → State → Outcome A → Type 0
 Kept A s o = Lead KeepsStep Whatever A s o
 
 abbrev pub AreKept : Calls → Type 0
-AreKept calls = AreLed KeepsStep Whatever chain Whoever calls
+AreKept calls = AreLed KeepsStep Whatever chain Whoever Every calls
 
 pub calls_kept : (k : ℕ) → AreKept (calls_of k)
 calls_kept k = calls_led KeepsStep Whatever chain Whoever steps k

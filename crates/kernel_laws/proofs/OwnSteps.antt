@@ -1,5 +1,5 @@
 -- The small steps that a process of the program takes itself: it starts, is called, and leaves.
-use Rattle.std.proofs.Common.{ℕ, ◌≡◌, ◌+◌, ◌<◌, ◌||◌, ◌==◌, Bool, true, false, nat_lt, if◌then◌else◌, [], ◌∷◌, ◌++◌, Some, slice_get, slice_set, refl, ap, ◌∙◌, arith}
+use Rattle.std.proofs.Common.{ℕ, ◌≡◌, ◌+◌, ◌||◌, ◌==◌, Bool, true, false, nat_lt, if◌then◌else◌, [], ◌∷◌, ◌++◌, Some, slice_get, slice_set, refl, ap, ◌∙◌, arith}
 use Rattle.std.proofs.lemmas.List.{length-set}
 use Rattle.std.proofs.lemmas.Bool.Decides.{nat_tests}
 use Rattle.program_tree.specs.declared.event.Proc.TheVariants.{Own}
@@ -16,11 +16,8 @@ use Rattle.process_kernel.specs.ProcessList.{put_remainder, with_fresh_body, enl
 use Rattle.process_kernel.specs.Writes.{with_line, write_of}
 use Rattle.kernel_laws.specs.Printed.{starts_and_prints}
 use Rattle.kernel_laws.specs.Telling.{Standing, standing_of}
-use Rattle.kernel_laws.proofs.Tables.{set_same, left_out}
+use Rattle.kernel_laws.proofs.Tables.{set_same, left_out, below_of}
 use Rattle.kernel_laws.proofs.Standing.{Always, get_set, fresh_there, told_more, line_quiet}
-
-below : (k n : ℕ) → nat_lt k n ≡ true → k < n
-below k n h = grind (arith, nat_tests)
 
 pub alike : (k : ℕ) → (k == k) ≡ true
 alike k = grind (arith, nat_tests)
@@ -32,13 +29,13 @@ module _ (p : ℕ) where
   unfolding with_state
   state_stands s x h =
       ap (λ k. record (standing_of p s) { has = nat_lt (place_of (Own p)) k; state = process_state (with_state s (Own p) x) (Own p) }) (length-set s.states (place_of (Own p)) x)
-      ∙ ap (λ k. record (standing_of p s) { state = k }) (set_same s.states (place_of (Own p)) x Off (below _ _ h))
+      ∙ ap (λ k. record (standing_of p s) { state = k }) (set_same s.states (place_of (Own p)) x Off (below_of _ _ h))
 
   exiting_set_stands : (s : State) (b : Bool) → (standing_of p s).room ≡ true → standing_of p (with_exiting s (Own p) b) ≡ record (standing_of p s) { exiting = b }
   unfolding with_exiting
   exiting_set_stands s b h =
       ap (λ k. record (standing_of p s) { room = nat_lt (place_of (Own p)) k; exiting = at_process (slice_set s.exiting (place_of (Own p)) b) (Own p) }) (length-set s.exiting (place_of (Own p)) b)
-      ∙ ap (λ k. record (standing_of p s) { exiting = k }) (set_same s.exiting (place_of (Own p)) b false (below _ _ h))
+      ∙ ap (λ k. record (standing_of p s) { exiting = k }) (set_same s.exiting (place_of (Own p)) b false (below_of _ _ h))
 
   pub exiting_stands : (s : State) → (standing_of p s).has ≡ true → (standing_of p s).room ≡ true → standing_of p (exiting_of s (Own p)) ≡ record (standing_of p s) { state = Off; exiting = true }
   unfolding exiting_of

@@ -15,7 +15,7 @@ use Rattle.radio_packet.specs.declared.sent.Sent.{Sent}
 use Rattle.process_kernel.specs.declared.kernel.Ran.TheVariants as ran
 use Rattle.process_kernel.specs.State.{State, Outcome, Ends, Goes}
 use Rattle.process_kernel.specs.Processes.{is_alive, process_state, with_state, with_exiting, with_needs_poll}
-use Rattle.process_kernel.specs.ProcessList.{exiting_of, unlisted_of}
+use Rattle.process_kernel.specs.ProcessList.{put_remainder, exiting_of, unlisted_of}
 use Rattle.process_kernel.specs.Posts.{poll_of}
 use Rattle.process_kernel.specs.TimerOperations.{has_timer, timer_is_set}
 use Rattle.process_kernel.specs.Writes.{halted_of}
@@ -25,7 +25,7 @@ use Rattle.process_kernel.specs.Given.{given, begun, unless_halted, boot_given, 
 use Rattle.kernel_laws.specs.Due.{HaveOwners, BootKeepsOwners, RunKeepsOwners}
 use Rattle.kernel_laws.proofs.Timers.{further, other_timer}
 use Rattle.kernel_laws.proofs.Watch.{is_left}
-use Rattle.kernel_laws.proofs.EachStep.{Whoever, Lead, AreJoined, AreSteps, AreRunSteps, keeps_set, brackets_of, boots_led, runs_led}
+use Rattle.kernel_laws.proofs.EachStep.{Every, Whoever, Lead, AreJoined, AreSteps, AreRunSteps, keeps_set, brackets_of, boots_led, runs_led}
 
 pub record Owns (s t : State) : Type 0 where
   pub owns : HaveOwners s.timers → HaveOwners t.timers
@@ -81,18 +81,19 @@ sets_own s timer start interval owner there =
 
 -- the other steps
 
-steps : AreSteps Owns Owns chain Whoever
-unfolding halted_of with_state exiting_of with_exiting unlisted_of
+steps : AreSteps Owns Owns chain Whoever Every
+unfolding put_remainder halted_of with_state exiting_of with_exiting unlisted_of
 steps = record {
   own = λ p own. tt;
-  brackets = brackets_of Owns Owns chain Whoever (λ s p. owns_still s _ refl) (λ s p. owns_still s _ refl) (λ s p l. owns_still s _ refl) (λ s p l. owns_still s _ refl);
+  brackets = brackets_of Owns Owns chain Whoever Every (λ s p o. owns_still s _ refl) (λ s p o. owns_still s _ refl) (λ s p o l. owns_still s _ refl) (λ s p o l. owns_still s _ refl);
   halts = λ s. owns_still s _ refl;
   units = λ s n. owns_still s _ refl;
   busy = λ s p. owns_still s _ refl;
-  prints = λ s p v. owns_still s _ refl;
+  prints = λ s p v o. owns_still s _ refl;
   polled = λ s p. owns_still s _ (poll_timers s p);
-  remainders = λ s rs. owns_still s _ refl;
-  variables = λ s vs. owns_still s _ refl;
+  remainder = λ s p r o. owns_still s _ refl;
+  fresh = λ s p o. owns_still s _ refl;
+  variables = λ s p vs n o. owns_still s _ refl;
   sets = sets_own;
   stops = λ s t. record { owns = owned_stopped s.timers t };
   purges = λ s p. record { owns = owned_purged s.timers p };
@@ -101,7 +102,7 @@ steps = record {
   full = λ s t e. owns_still s _ refl;
   posts = λ s t e f. owns_still s _ refl;
   sends = λ s v. owns_still s _ refl;
-  starts = λ s p b h l. owns_still s _ refl;
+  starts = λ s p o b h l. owns_still s _ refl;
   ring = record {
     accepted = λ s a later p i r. owns_still s _ refl;
     refused = λ s a later p i r. owns_still s _ refl;

@@ -1,7 +1,6 @@
 -- Etimer's pass leaves no timer forgotten, and so does a call that polls it.
 use Rattle.std.proofs.Common.{ℕ, zero, suc, ◌≡◌, ◌-◌, ◌≤◌, ◌==◌, ◌^◌, ◌||◌, inl, inr, Bool, true, false, nat_le, length, if◌then◌else◌, List, [], ◌∷◌, Option, Some, None, refl, ◌∙◌, subst, arith}
 use Rattle.std.proofs.lemmas.Bool.{eqb-true}
-use Rattle.std.proofs.lemmas.Bool.Decides.{nat_tests}
 use Rattle.program_tree.specs.declared.event.Proc.{Proc}
 use Rattle.program_tree.specs.declared.event.Proc.TheVariants.{Etimer}
 use Rattle.program_tree.specs.declared.event.Target.{Target}
@@ -27,8 +26,8 @@ use Rattle.kernel_laws.specs.Polled.{TellsOfPost}
 use Rattle.kernel_laws.specs.Poll.{PollWaits, CanBePolled}
 use Rattle.kernel_laws.specs.Due.{IsDueFor, ForgetsNone, CallsForgetNone}
 use Rattle.kernel_laws.proofs.Packets.{IfGoes, goes_if, goes_bind}
-use Rattle.kernel_laws.proofs.Timers.{further, fewer, goes_cases, timers_are_told}
-use Rattle.kernel_laws.proofs.EachStep.{Whatever, Lead, calls_led, walk_timers_led, walks_led}
+use Rattle.kernel_laws.proofs.Timers.{further, fewer, goes_cases, timers_are_told, first_member, later_member}
+use Rattle.kernel_laws.proofs.EachStep.{Every, Whatever, Lead, calls_led, walk_timers_led, walks_led}
 use Rattle.kernel_laws.proofs.Alive.{alive_state}
 use Rattle.kernel_laws.proofs.Watch.{Watches, chain, steps, IsStill, watches_still, forgets_on, still_waits, waits_now, etimer_system}
 
@@ -67,12 +66,6 @@ AreAhead ts s = (id : ℕ) (owner : Proc) → IsDueFor s.moment s.timers id owne
 abbrev AreListed : List ℕ → State → Type 0
 AreListed ts s = (id : ℕ) → is_member id ts ≡ true → is_member id s.timers.listed ≡ true
 
-first_member : (x : ℕ) (ts : List ℕ) → is_member x (x ∷ ts) ≡ true
-first_member x ts = grind (arith, nat_tests)
-
-later_member : (j x : ℕ) (ts : List ℕ) → is_member j ts ≡ true → is_member j (x ∷ ts) ≡ true
-later_member j x ts h = grind (arith, nat_tests)
-
 -- a timer that isn't due for anybody is passed over
 ahead_later : (s : State) (x : ℕ) (ts : List ℕ) → ((owner : Proc) → IsDueFor s.moment s.timers x owner → ⊥) → AreAhead (x ∷ ts) s → AreAhead ts s
 ahead_later s x ts not ahead id owner d = by (id == x) refl
@@ -100,7 +93,7 @@ module _ (few : ℕ) (again : State → Went) (led : (s : State) → Watched (Un
   due_forgets s x ts None o can within listed later = later refl
   due_forgets s x ts (Some p) o can within listed later =
       goes_bind Bool (Unit {0}) (IsStill s) Forgets (post_of s (One p) (told Timer x)) _ (post_still s (One p) (told Timer x))
-      (λ full u q. offered (walk_timers again ts) (walk_timers_led (Watches Etimer) Whatever (chain Etimer) IsOwn (steps Etimer) again led ts) s u x full q can within (listed x (first_member x ts)))
+      (λ full u q. offered (walk_timers again ts) (walk_timers_led (Watches Etimer) Whatever (chain Etimer) IsOwn Every (steps Etimer) again led ts) s u x full q can within (listed x (first_member x ts)))
 
   walk_forgets : (ts : List ℕ) (s : State) → CanBePolled Etimer s → length s.timers.listed ≤ suc few → AreListed ts s → AreAhead ts s → IfGoes Forgets (walk_timers again ts s)
   walk_forgets [] s can within listed ahead = inl (λ id owner d. let h = ahead id owner d in cc)
@@ -117,7 +110,7 @@ walks_forget zero s can within = inl (λ id owner d. nothing s.timers.listed id 
     nothing [] id h e = cc
     nothing (k ∷ ks) id h e = omega arith
 walks_forget (suc few) s can within =
-    walk_forgets few (walks_of few) (walks_led (Watches Etimer) Whatever (chain Etimer) IsOwn (steps Etimer) few) (walks_forget few) s.timers.listed s can within (λ j h. h) (λ id owner d. d.listed)
+    walk_forgets few (walks_of few) (walks_led (Watches Etimer) Whatever (chain Etimer) IsOwn Every (steps Etimer) few) (walks_forget few) s.timers.listed s can within (λ j h. h) (λ id owner d. d.listed)
 
 -- a call of etimer that polls it
 

@@ -12,8 +12,9 @@ use Rattle.process_kernel.specs.Calls.{Calls, told}
 use Rattle.process_kernel.specs.Polls.{walk_polls, polls_of, polls_due_of, poll_turn_of}
 use Rattle.kernel_laws.specs.Own.{IsOwn}
 use Rattle.kernel_laws.specs.Poll.{members_before}
-use Rattle.kernel_laws.proofs.EachStep.{Whatever, Lead, AreLed, fits_no_exit, lead_bind, lead_from, lead_if, lead_still}
+use Rattle.kernel_laws.proofs.EachStep.{Every, Whatever, Lead, AreLed, fits_no_exit, lead_bind, lead_from, lead_if, lead_still}
 use Rattle.kernel_laws.proofs.Watch.{Watches, chain, watches_cleared}
+use Rattle.kernel_laws.proofs.Steps.{any_or}
 
 place_is : (q p : Proc) → is_same q p ≡ true → q ≡ p
 place_is (Own a) (Own b) e = let same : a ≡ b = grind (arith, nat_tests) in ap Own same
@@ -38,10 +39,6 @@ same_back q p e = grind (arith, nat_tests)
 
 holds_first : (m : Member) (ms : List Member) → holds_member (m ∷ ms) m ≡ true
 holds_first m ms = grind (arith, nat_tests)
-
-or_true : (b c : Bool) → c ≡ true → (b || c) ≡ true
-or_true true c e = refl
-or_true false c e = e
 
 walk_joined : (calls : Calls) (xs ys : List Member) (s : State) → walk_polls calls (xs ++ ys) s ≡ (walk_polls calls xs s >>= λ _ t. walk_polls calls ys t)
 walk_joined calls [] ys s = refl
@@ -74,7 +71,7 @@ module _ (p : Proc) where
       by false e later =
           let back = same_back m.process p e in
           let k = later (subst (λ b. (b || stands_in ms p) ≡ true) back h) in
-          record { member = k.member; after = k.after; split = rw e (ap (λ l. m ∷ l) k.split); is_it = k.is_it; holds = or_true _ (holds_member ms k.member) k.holds }
+          record { member = k.member; after = k.after; split = rw e (ap (λ l. m ∷ l) k.split); is_it = k.is_it; holds = any_or _ (holds_member ms k.member) k.holds }
 
   -- the polls: those before it, its own, and those after it
   pub walk_splits : (calls : Calls) (ms : List Member) (x : Member) (after : List Member) (s : State) → ms ≡ members_before p ms ++ x ∷ after
@@ -87,10 +84,10 @@ module _ (p : Proc) where
   turn_calls calls u x e there needs_poll = rw (there, e, needs_poll) refl
 
   -- before its turn it still needs a poll
-  module _ (calls : Calls) (led : AreLed (Watches p) Whatever (chain p) IsOwn calls) where
+  module _ (calls : Calls) (led : AreLed (Watches p) Whatever (chain p) IsOwn Every calls) where
     pub other_led : (s : State) (q : Proc) → (place_of p ≡ place_of q → ⊥) → Lead (Watches p) Whatever (Unit {0}) s (calls.call (with_needs_poll s q false) q (told Poll 0))
     other_led s q n =
-        lead_from (Watches p) Whatever (chain p) _ s _ _ (watches_cleared p s q n) (led.call _ q (told Poll 0) (fits_no_exit (Watches p) Whatever (chain p) IsOwn q (told Poll 0).number refl))
+        lead_from (Watches p) Whatever (chain p) _ s _ _ (watches_cleared p s q n) (led.call _ q (told Poll 0) (fits_no_exit (Watches p) Whatever (chain p) IsOwn Every q (told Poll 0).number refl))
 
     turn_led : (s : State) (x : Member) → is_same x.process p ≡ false → Lead (Watches p) Whatever (Unit {0}) s (poll_turn_of calls s x)
     unfolding poll_turn_of

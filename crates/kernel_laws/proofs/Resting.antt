@@ -1,5 +1,5 @@
 -- Between the calls of a kernel the processes on the list are running, and no others.
-use Rattle.std.proofs.Common.{ℕ, suc, ◌≡◌, ◌+◌, ◌<◌, ◌≤◌, ◌==◌, ◌||◌, ◌⊎◌, inl, inr, Bool, true, false, if◌then◌else◌, List, [], ◌∷◌, ◌++◌, length, unwrap_or, slice_get, refl, sym, ap, ◌∙◌, subst, arith}
+use Rattle.std.proofs.Common.{ℕ, suc, ◌≡◌, ◌+◌, ◌≤◌, ◌==◌, ◌||◌, inl, inr, Bool, true, false, if◌then◌else◌, List, [], ◌∷◌, ◌++◌, length, unwrap_or, slice_get, refl, sym, ap, ◌∙◌, subst, arith}
 use Rattle.std.proofs.Math.ListN.{replicate}
 use Rattle.std.proofs.lemmas.List.{get_or-replicate, length-replicate}
 use Rattle.std.proofs.lemmas.Option.{unwrap_or-slice_get, slice_get_past}
@@ -23,6 +23,7 @@ use Rattle.kernel_laws.specs.Traces.{KernelCall, RunAt, PollOf, Accepts, Notes, 
 use Rattle.kernel_laws.specs.Laws.{OnlyTheRunningAreCalled, CallsKeepStep, ListedAreRunning}
 use Rattle.kernel_laws.proofs.EachStep.{Whatever, runs_led, boots_led}
 use Rattle.kernel_laws.proofs.InStep.{Keeps, KeepsStep, Kept, IsStill, chain, keeps_still, poll_still, steps, run_steps, calls_kept}
+use Rattle.kernel_laws.proofs.Tables.{dichotomy}
 
 -- at rest
 
@@ -89,9 +90,6 @@ calls_rest (c ∷ cs) t r = calls_rest cs (after_call t c) (call_rests t c r)
 all_alike : {X : Type 0} (n k : ℕ) (x : X) → unwrap_or (slice_get (replicate n x) k) x ≡ x
 all_alike n k x = elim (dichotomy k n) [ inl l ↦ unwrap_or-slice_get (replicate n x) k x ∙ get_or-replicate n k x x l | inr g ↦ (let e = slice_get_past (replicate n x) k (past g) in rw e refl) ]
   where
-    dichotomy : (k n : ℕ) → (k < n) ⊎ (n ≤ k)
-    dichotomy k n = grind arith
-
     past : n ≤ k → length (replicate n x) ≤ k
     past g = let e = length-replicate n x in rw e g
 

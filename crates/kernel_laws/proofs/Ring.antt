@@ -2,7 +2,7 @@
 -- packet.
 use Rattle.std.proofs.Common.{ℕ, ◌≡◌, ◌+◌, Bool, true, false, if◌then◌else◌, List, [], ◌∷◌, ◌++◌, Option, Some, None, refl, sym, ap, ◌∙◌, subst, append-nil}
 use Rattle.program_tree.specs.declared.event.Proc.{Proc}
-use Rattle.program_tree.specs.declared.event.Proc.TheVariants.{Etimer}
+use Rattle.program_tree.specs.declared.event.Proc.TheVariants.{Own, Etimer}
 use Rattle.mote_timers.specs.TimerLists.{TimerLists}
 use Rattle.radio_packet.specs.declared.arrival.Arrival.{Arrival}
 use Rattle.trace_lines.specs.declared.line.Line.{Line}
@@ -11,7 +11,7 @@ use Rattle.trace_lines.specs.declared.line.What.{What}
 use Rattle.trace_lines.specs.declared.line.What.TheVariants as what
 use Rattle.process_kernel.specs.State.{State, Outcome, Ends, Goes}
 use Rattle.process_kernel.specs.Processes.{with_state, with_exiting, with_needs_poll}
-use Rattle.process_kernel.specs.ProcessList.{exiting_of, unlisted_of}
+use Rattle.process_kernel.specs.ProcessList.{put_remainder, exiting_of, unlisted_of}
 use Rattle.process_kernel.specs.Posts.{poll_of}
 use Rattle.process_kernel.specs.TimerOperations.{timer_is_set}
 use Rattle.process_kernel.specs.Writes.{with_line, halted_of}
@@ -25,7 +25,7 @@ use Rattle.kernel_laws.specs.Going.{IsNote}
 use Rattle.kernel_laws.specs.Polled.{Accepted, Refused, TellsPacket}
 use Rattle.kernel_laws.specs.Ring.{IsApart, RingRuns, NoneMore, Receives, Loses, Hands, Passes, RingGoes, RingHalts, RingLeads, GivesPackets, CallsTellPackets, BootTellsPackets, RunTellsPackets}
 use Rattle.kernel_laws.proofs.Steps.{lines_joined}
-use Rattle.kernel_laws.proofs.EachStep.{Whoever, Lead, AreJoined, AreSteps, AreRunSteps, keeps_poll, keeps_set, brackets_of, calls_led, runs_led, boots_led}
+use Rattle.kernel_laws.proofs.EachStep.{Every, Whoever, Lead, AreJoined, AreSteps, AreRunSteps, keeps_poll, keeps_set, brackets_of, calls_led, runs_led, boots_led}
 
 pub ring_runs_on : (receiver : Option ℕ) (a b c : List Arrival) (xs ys : List Line) → RingRuns receiver a xs b → RingRuns receiver b ys c → RingRuns receiver a (xs ++ ys) c
 ring_runs_on receiver a b c xs ys NoneMore r = r
@@ -134,20 +134,21 @@ hands_front receiver a later s u w ring r lines rest program tells n = record {
 
 -- the ring goes by each small step, whichever process is exited
 
-pub steps : AreSteps RingGoes RingHalts chain Whoever
-unfolding with_state exiting_of with_exiting unlisted_of
+pub steps : AreSteps RingGoes RingHalts chain Whoever Every
+unfolding put_remainder with_state exiting_of with_exiting unlisted_of
 steps = record {
   own = λ p own. tt;
-  brackets = brackets_of RingGoes RingHalts chain Whoever
-      (λ s p. goes_still s _ (record { lines = refl; ring = refl; program = refl })) (λ s p. goes_still s _ (record { lines = refl; ring = refl; program = refl }))
-      (λ s p l. goes_still s _ (record { lines = refl; ring = refl; program = refl })) (λ s p l. goes_apart s _ (what.Leave p) (record { lines = refl; ring = refl; program = refl }) tt (λ h. h));
+  brackets = brackets_of RingGoes RingHalts chain Whoever Every
+      (λ s p o. goes_still s _ (record { lines = refl; ring = refl; program = refl })) (λ s p o. goes_still s _ (record { lines = refl; ring = refl; program = refl }))
+      (λ s p o l. goes_still s _ (record { lines = refl; ring = refl; program = refl })) (λ s p o l. goes_apart s _ (what.Leave p) (record { lines = refl; ring = refl; program = refl }) tt (λ h. h));
   halts = λ s. halts_from s s refl refl;
   units = λ s n. goes_still s _ (record { lines = refl; ring = refl; program = refl });
   busy = λ s p. line_apart s (what.Busy p) tt (λ h. h);
-  prints = λ s p v. line_apart s (what.Print p v) tt (λ h. h);
+  prints = λ s p v o. line_apart s (what.Print (Own p) v) tt (λ h. h);
   polled = polls_still;
-  remainders = λ s rs. goes_still s _ (record { lines = refl; ring = refl; program = refl });
-  variables = λ s vs. goes_still s _ (record { lines = refl; ring = refl; program = refl });
+  remainder = λ s p r o. goes_still s _ (record { lines = refl; ring = refl; program = refl });
+  fresh = λ s p o. goes_still s _ (record { lines = refl; ring = refl; program = refl });
+  variables = λ s p vs n o. goes_still s _ (record { lines = refl; ring = refl; program = refl });
   sets = λ s t start interval owner there. sets_still s _ t;
   stops = λ s t. goes_still s _ (record { lines = refl; ring = refl; program = refl });
   purges = λ s p. goes_still s _ (record { lines = refl; ring = refl; program = refl });
@@ -156,7 +157,7 @@ steps = record {
   full = λ s t e. line_apart s (what.Full t e.number e.word) tt (λ h. h);
   posts = λ s t e f. goes_apart s _ (what.Post s.queue.accepted t e.number e.word) (record { lines = refl; ring = refl; program = refl }) tt (λ h. h);
   sends = λ s v. goes_apart s _ (what.Send s.sent v) (record { lines = refl; ring = refl; program = refl }) tt (λ h. h);
-  starts = λ s p b h l. goes_apart s _ (what.Start p) (record { lines = refl; ring = refl; program = refl }) tt (λ h. h);
+  starts = λ s p o b h l. goes_apart s _ (what.Start p) (record { lines = refl; ring = refl; program = refl }) tt (λ h. h);
   ring = record {
     accepted = λ s a later p i r. hands_front (Some p) a later s _ _ i r refl refl refl Accepted (λ h. h);
     refused = λ s a later p i r. hands_front (Some p) a later s (record s { ring = later }) _ i r refl refl refl Refused (λ h. h);

@@ -11,7 +11,7 @@ use Rattle.trace_lines.specs.declared.line.Line.{Line}
 use Rattle.radio_packet.specs.declared.sent.Sent.{Sent}
 use Rattle.kernel_laws.specs.Stamps.{state_after, GivesStamped}
 use Rattle.kernel_laws.specs.Laws.{CallsStamp, BootStamps, RunStamps}
-use Rattle.kernel_laws.proofs.EachStep.{Whoever, AreLed, calls_led, runs_led, boots_led}
+use Rattle.kernel_laws.proofs.EachStep.{Every, Whoever, AreLed, calls_led, runs_led, boots_led}
 use Rattle.kernel_laws.proofs.Stamps.{Keeps, Kept, chain, steps, run_steps, stamped_still}
 
 left_by : (A : Type 0) (s : State) (o : Outcome A) → Kept s o → Keeps s (state_after o)
@@ -19,7 +19,7 @@ left_by A s (Ends t) h = h.leads
 left_by A s (Goes a t) h = h.leads
 
 abbrev pub AreKept : Calls → Type 0
-AreKept calls = AreLed Keeps Keeps chain Whoever calls
+AreKept calls = AreLed Keeps Keeps chain Whoever Every calls
 
 pub calls_kept : (k : ℕ) → AreKept (calls_of k)
 calls_kept k = calls_led Keeps Keeps chain Whoever steps k

@@ -2,12 +2,12 @@
 use Rattle.std.proofs.Common.{ℕ, zero, suc, ◌≡◌, ◌+◌, Bool, true, false, if◌then◌else◌, List, [], ◌∷◌, length, refl, sym, ap, ◌∙◌, subst, arith, ◌++◌, append_assoc, append-nil}
 use Rattle.std.proofs.lemmas.List.{map-append, length-append}
 use Rattle.program_tree.specs.declared.event.Proc.{Proc}
-use Rattle.program_tree.specs.declared.event.Proc.TheVariants.{Etimer}
+use Rattle.program_tree.specs.declared.event.Proc.TheVariants.{Own, Etimer}
 use Rattle.trace_lines.specs.declared.line.What.{What}
 use Rattle.trace_lines.specs.declared.line.What.TheVariants as what
 use Rattle.process_kernel.specs.State.{State, Outcome}
 use Rattle.process_kernel.specs.Processes.{is_alive, process_state, with_state, with_exiting, with_needs_poll}
-use Rattle.process_kernel.specs.ProcessList.{exiting_of, unlisted_of}
+use Rattle.process_kernel.specs.ProcessList.{put_remainder, exiting_of, unlisted_of}
 use Rattle.process_kernel.specs.Posts.{poll_of}
 use Rattle.process_kernel.specs.Writes.{with_line, halted_of}
 use Rattle.std.specs.List.{range_with_len}
@@ -16,7 +16,7 @@ use Rattle.radio_packet.specs.declared.sent.Sent.{Sent}
 use Rattle.trace_lines.specs.declared.line.What.TheVariants.{Halt}
 use Rattle.kernel_laws.specs.Stamps.{PacketsBear, AreNumberedFrom, Stamped}
 use Rattle.kernel_laws.proofs.Steps.{lines_joined}
-use Rattle.kernel_laws.proofs.EachStep.{Whoever, Lead, AreJoined, AreSteps, AreRunSteps, keeps_set, brackets_of}
+use Rattle.kernel_laws.proofs.EachStep.{Every, Whoever, Lead, AreJoined, AreSteps, AreRunSteps, keeps_set, brackets_of}
 
 -- All that is written is stamped with the moment, and the moment stays.
 pub record Keeps (s t : State) : Type 0 where
@@ -156,19 +156,20 @@ keeps_packet s v = record {
 
 -- all of them
 
-pub steps : AreSteps Keeps Keeps chain Whoever
-unfolding halted_of with_state exiting_of with_exiting unlisted_of
+pub steps : AreSteps Keeps Keeps chain Whoever Every
+unfolding put_remainder halted_of with_state exiting_of with_exiting unlisted_of
 steps = record {
   own = λ p own. tt;
-  brackets = brackets_of Keeps Keeps chain Whoever (λ s p. keeps_still s _ (record { lines = refl; sends = refl; sent = refl; moment = refl; mote = refl; program = refl })) (λ s p. keeps_still s _ (record { lines = refl; sends = refl; sent = refl; moment = refl; mote = refl; program = refl }))
-      (λ s p l. keeps_still s _ (record { lines = refl; sends = refl; sent = refl; moment = refl; mote = refl; program = refl })) (λ s p l. keeps_written s _ (what.Leave p) (record { lines = refl; sends = refl; sent = refl; moment = refl; mote = refl; program = refl }));
+  brackets = brackets_of Keeps Keeps chain Whoever Every (λ s p o. keeps_still s _ (record { lines = refl; sends = refl; sent = refl; moment = refl; mote = refl; program = refl })) (λ s p o. keeps_still s _ (record { lines = refl; sends = refl; sent = refl; moment = refl; mote = refl; program = refl }))
+      (λ s p o l. keeps_still s _ (record { lines = refl; sends = refl; sent = refl; moment = refl; mote = refl; program = refl })) (λ s p o l. keeps_written s _ (what.Leave p) (record { lines = refl; sends = refl; sent = refl; moment = refl; mote = refl; program = refl }));
   halts = λ s. keeps_line s Halt;
   units = λ s n. keeps_still s _ (record { lines = refl; sends = refl; sent = refl; moment = refl; mote = refl; program = refl });
   busy = λ s p. keeps_line s (what.Busy p);
-  prints = λ s p v. keeps_line s (what.Print p v);
+  prints = λ s p v o. keeps_line s (what.Print (Own p) v);
   polled = λ s p. keeps_still s _ (poll_still s p);
-  remainders = λ s rs. keeps_still s _ (record { lines = refl; sends = refl; sent = refl; moment = refl; mote = refl; program = refl });
-  variables = λ s vs. keeps_still s _ (record { lines = refl; sends = refl; sent = refl; moment = refl; mote = refl; program = refl });
+  remainder = λ s p r o. keeps_still s _ (record { lines = refl; sends = refl; sent = refl; moment = refl; mote = refl; program = refl });
+  fresh = λ s p o. keeps_still s _ (record { lines = refl; sends = refl; sent = refl; moment = refl; mote = refl; program = refl });
+  variables = λ s p vs n o. keeps_still s _ (record { lines = refl; sends = refl; sent = refl; moment = refl; mote = refl; program = refl });
   sets = λ s t start interval owner there. keeps_set Keeps Keeps chain s _ t (λ callbacks. keeps_still s _ (record { lines = refl; sends = refl; sent = refl; moment = refl; mote = refl; program = refl })) (λ u. keeps_still u _ (poll_still u Etimer));
   stops = λ s t. keeps_still s _ (record { lines = refl; sends = refl; sent = refl; moment = refl; mote = refl; program = refl });
   purges = λ s p. keeps_still s _ (record { lines = refl; sends = refl; sent = refl; moment = refl; mote = refl; program = refl });
@@ -177,7 +178,7 @@ steps = record {
   full = λ s t e. keeps_line s (what.Full t e.number e.word);
   posts = λ s t e f. keeps_written s _ _ (record { lines = refl; sends = refl; sent = refl; moment = refl; mote = refl; program = refl });
   sends = λ s v. keeps_twice s _ _ (keeps_packet s v) (keeps_line _ _);
-  starts = λ s p b h l. keeps_written s _ (what.Start p) (record { lines = refl; sends = refl; sent = refl; moment = refl; mote = refl; program = refl });
+  starts = λ s p o b h l. keeps_written s _ (what.Start p) (record { lines = refl; sends = refl; sent = refl; moment = refl; mote = refl; program = refl });
   ring = record {
     accepted = λ s a later p i r. keeps_written s _ _ (record { lines = refl; sends = refl; sent = refl; moment = refl; mote = refl; program = refl });
     refused = λ s a later p i r. keeps_written s _ _ (record { lines = refl; sends = refl; sent = refl; moment = refl; mote = refl; program = refl });

@@ -1,6 +1,5 @@
 -- The position of a process of the program, and the small steps that don't change it: all those of others.
-use Rattle.std.proofs.Common.{ℕ, zero, suc, ◌≡◌, ◌+◌, ◌^◌, ◌⊎◌, inl, inr, ◌==◌, Bool, true, false, not, nat_lt, nat_le, if◌then◌else◌, List, [], ◌∷◌, ◌++◌, Some, None, length, slice_get, slice_set, refl, sym, ap, ◌∙◌, arith, append-nil}
-use Rattle.std.specs.List.{filter}
+use Rattle.std.proofs.Common.{ℕ, zero, suc, ◌≡◌, ◌+◌, ◌^◌, ◌⊎◌, inl, inr, Bool, true, false, nat_lt, nat_le, if◌then◌else◌, List, [], ◌∷◌, ◌++◌, Some, None, length, slice_get, slice_set, refl, sym, ap, ◌∙◌, arith, append-nil}
 use Rattle.std.proofs.lemmas.List.{length-set}
 use Rattle.std.proofs.lemmas.List.Elements.{filter-append}
 use Rattle.std.proofs.lemmas.Bool.Decides.{nat_tests}
@@ -17,8 +16,7 @@ use Rattle.trace_lines.specs.declared.line.What.{What}
 use Rattle.trace_lines.specs.declared.line.What.TheVariants as what
 use Rattle.process_kernel.specs.declared.process.ProcessState.{ProcessState}
 use Rattle.process_kernel.specs.declared.process.ProcessState.TheVariants.{Off, Running}
-use Rattle.process_kernel.specs.declared.process.Member.{Member}
-use Rattle.process_kernel.specs.Members.{place_of, is_same, stands_in}
+use Rattle.process_kernel.specs.Members.{place_of, is_same}
 use Rattle.process_kernel.specs.State.{State, Outcome, Ends, Goes}
 use Rattle.process_kernel.specs.Processes.{is_alive, process_state, at_process, with_state, with_exiting, with_needs_poll}
 use Rattle.process_kernel.specs.ProcessList.{put_remainder, fresh_at, with_fresh_body, with_fresh_process, enlist_of, exiting_of, unlisted_of, leave_of}
@@ -56,9 +54,6 @@ fresh_there [] rs p c r e f = absurd (cc)
 fresh_there (d ∷ cs) [] p c r e f = absurd (cc)
 fresh_there (d ∷ cs) (x ∷ rs) zero c r e f = ap (λ o. elim o [ None ↦ None | Some k ↦ Some (fresh_of k Body) ]) e
 fresh_there (d ∷ cs) (x ∷ rs) (suc p) c r e f = fresh_there cs rs p c r e f
-
-pub others_filtered : (ms : List Member) (q p : Proc) → (place_of p == place_of q) ≡ false → stands_in (filter (λ m. not (is_same m.process q)) ms) p ≡ stands_in ms p
-others_filtered ms q p e = others_stay ms q p e
 
 -- lines that are added
 
@@ -173,7 +168,7 @@ module _ (p : ℕ) where
 
   unlisted_quiet : (s : State) (q : Proc) → IsOther p q → IsQuiet s (unlisted_of s q)
   unfolding unlisted_of
-  unlisted_quiet s q n = ap (λ b. record (standing_of p s) { listed = b }) (others_filtered s.members q (Own p) (grind (arith, nat_tests, n)))
+  unlisted_quiet s q n = ap (λ b. record (standing_of p s) { listed = b }) (others_stay s.members q (Own p) (grind (arith, nat_tests, n)))
 
   pub leave_quiet : (s : State) (q : Proc) → IsOther p q → Always (λ t. IsQuiet s t) (leave_of s q)
   unfolding leave_of write_of

@@ -23,7 +23,7 @@ use Rattle.process_kernel.specs.declared.process.Member.{Member}
 use Rattle.process_kernel.specs.Members.{place_of, is_same, stands_in}
 use Rattle.process_kernel.specs.State.{State, Outcome, Goes}
 use Rattle.process_kernel.specs.Processes.{is_alive, process_state, is_listed, with_state, with_exiting, with_needs_poll}
-use Rattle.process_kernel.specs.ProcessList.{enlist_of, exiting_of, unlisted_of}
+use Rattle.process_kernel.specs.ProcessList.{put_remainder, enlist_of, exiting_of, unlisted_of}
 use Rattle.process_kernel.specs.Posts.{poll_of}
 use Rattle.process_kernel.specs.Writes.{with_line, halted_of}
 use Rattle.process_kernel.specs.Calls.{Calls}
@@ -31,7 +31,7 @@ use Rattle.process_kernel.specs.Call.{calls_of}
 use Rattle.kernel_laws.specs.Own.{IsOwn, FitsTarget}
 use Rattle.kernel_laws.specs.Seen.{seen_what, seen_lines, seen_target, seen_member, seen_posted, view_of}
 use Rattle.kernel_laws.specs.Going.{SystemStays}
-use Rattle.kernel_laws.proofs.EachStep.{Leads, Lead, AreJoined, AreSteps, AreLed, with_event, with_started, without_process, enlist_is, keeps_set, brackets_of, fits_no_exit, calls_led}
+use Rattle.kernel_laws.proofs.EachStep.{Every, Leads, Lead, AreJoined, AreSteps, AreLed, with_event, with_started, without_process, enlist_is, keeps_set, brackets_of, fits_no_exit, calls_led}
 
 -- the later state is reached by lines that are a run of the machine, whatever walk is under way
 pub record GoesOn (s t : State) : Type 0 where
@@ -120,10 +120,6 @@ halts s = record { added = record { at = s.moment; what = what.Halt } ∷ []; wr
 
 -- steps that change nothing that the delivery sees
 
-pub needs_poll_quiet : (s : State) (p : Proc) (x : Bool) → IsQuiet s (with_needs_poll s p x)
-unfolding with_needs_poll
-needs_poll_quiet s p x = record { lines = refl; members = refl; started = refl; queue = refl }
-
 pub poll_quiet : (s : State) (p : Proc) → IsQuiet s (poll_of s p)
 unfolding poll_of with_needs_poll
 poll_quiet s p = quiet_if s (is_alive (process_state s p)) _ s (record { lines = refl; members = refl; started = refl; queue = refl }) (quiet_same s)
@@ -186,18 +182,19 @@ posts_at s u t e q f =
 
 -- all of them
 
-pub steps : AreSteps GoesOn Stops chain IsOwn
-unfolding with_state exiting_of with_exiting
+pub steps : AreSteps GoesOn Stops chain IsOwn Every
+unfolding put_remainder with_state exiting_of with_exiting
 steps = record {
   own = λ p own. own;
-  brackets = brackets_of GoesOn Stops chain IsOwn (λ s p. quiet s _ (record { lines = refl; members = refl; started = refl; queue = refl })) (λ s p. quiet s _ (record { lines = refl; members = refl; started = refl; queue = refl })) (λ s p l. quiet s _ (record { lines = refl; members = refl; started = refl; queue = refl })) leaves_list;
+  brackets = brackets_of GoesOn Stops chain IsOwn Every (λ s p o. quiet s _ (record { lines = refl; members = refl; started = refl; queue = refl })) (λ s p o. quiet s _ (record { lines = refl; members = refl; started = refl; queue = refl })) (λ s p o l. quiet s _ (record { lines = refl; members = refl; started = refl; queue = refl })) (λ s p o l. leaves_list s p l);
   halts = halts;
   units = λ s n. quiet s _ (record { lines = refl; members = refl; started = refl; queue = refl });
   busy = λ s p. line_aside s (what.Busy p) refl;
-  prints = λ s p v. line_aside s (what.Print p v) refl;
+  prints = λ s p v o. line_aside s (what.Print (Own p) v) refl;
   polled = λ s p. quiet s _ (poll_quiet s p);
-  remainders = λ s rs. quiet s _ (record { lines = refl; members = refl; started = refl; queue = refl });
-  variables = λ s vs. quiet s _ (record { lines = refl; members = refl; started = refl; queue = refl });
+  remainder = λ s p r o. quiet s _ (record { lines = refl; members = refl; started = refl; queue = refl });
+  fresh = λ s p o. quiet s _ (record { lines = refl; members = refl; started = refl; queue = refl });
+  variables = λ s p vs n o. quiet s _ (record { lines = refl; members = refl; started = refl; queue = refl });
   sets = λ s t start interval owner there. keeps_set GoesOn Stops chain s _ t (λ callbacks. quiet s _ (record { lines = refl; members = refl; started = refl; queue = refl })) (λ u. quiet u _ (poll_quiet u Etimer));
   stops = λ s t. quiet s _ (record { lines = refl; members = refl; started = refl; queue = refl });
   purges = λ s p. quiet s _ (record { lines = refl; members = refl; started = refl; queue = refl });
@@ -206,7 +203,7 @@ steps = record {
   full = λ s t e. line_aside s (what.Full t e.number e.word) refl;
   posts = λ s t e f. posts_at s s t e (quiet_same s) f;
   sends = λ s v. joined s _ _ (quiet s _ (record { lines = refl; members = refl; started = refl; queue = refl })) (line_aside _ (what.Send s.sent v) refl);
-  starts = λ s p b h l. starts s p l;
+  starts = λ s p o b h l. starts s p l;
   ring = record {
     accepted = λ s a later p i r. posts_at s _ _ _ (record { lines = refl; members = refl; started = refl; queue = refl }) (λ q. absurd (grind (arith, nat_tests)));
     refused = λ s a later p i r. joined s _ _ (quiet s _ (record { lines = refl; members = refl; started = refl; queue = refl })) (line_aside _ (what.Full (One (Own p)) (system_number Packet) a.value) refl);
@@ -216,11 +213,11 @@ steps = record {
 }
 
 pub fits_other : (p : Proc) (number : ℕ) → (number == system_number Exit) ≡ false → FitsTarget (One p) number
-fits_other p number e = fits_no_exit GoesOn Stops chain IsOwn p number e
+fits_other p number e = fits_no_exit GoesOn Stops chain IsOwn Every p number e
 
 -- the calls of a process, and the runs of a thread
 abbrev pub AreRuns : Calls → Type 0
-AreRuns calls = AreLed GoesOn Stops chain IsOwn calls
+AreRuns calls = AreLed GoesOn Stops chain IsOwn Every calls
 
 pub calls_run : (k : ℕ) → AreRuns (calls_of k)
 calls_run k = calls_led GoesOn Stops chain IsOwn steps k

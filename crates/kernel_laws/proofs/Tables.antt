@@ -1,5 +1,5 @@
 -- How small changes of a state show in its tables.
-use Rattle.std.proofs.Common.{ℕ, ◌≡◌, ◌<◌, ◌≤◌, ◌==◌, ◌⊎◌, inl, inr, not, Bool, true, false, List, [], ◌∷◌, unwrap_or, slice_get, slice_set, length, refl, sym, ◌∙◌, arith}
+use Rattle.std.proofs.Common.{ℕ, ◌≡◌, ◌<◌, ◌≤◌, ◌==◌, nat_lt, ◌⊎◌, inl, inr, not, Bool, true, false, List, [], ◌∷◌, unwrap_or, slice_get, slice_set, length, refl, sym, ◌∙◌, arith}
 use Rattle.std.specs.List.{filter}
 use Rattle.std.proofs.lemmas.List.{get_or-set_same, get_or-set_other, length-set}
 use Rattle.std.proofs.lemmas.Option.{unwrap_or-slice_get, slice_get_past}
@@ -19,8 +19,11 @@ set_same xs i v d h = unwrap_or-slice_get (slice_set xs i v) i d ∙ get_or-set_
 pub set_other : {X : Type 0} (xs : List X) (i j : ℕ) (v d : X) → (j ≡ i → ⊥) → unwrap_or (slice_get (slice_set xs i v) j) d ≡ unwrap_or (slice_get xs j) d
 set_other xs i j v d h = unwrap_or-slice_get (slice_set xs i v) j d ∙ get_or-set_other xs i j v d h ∙ sym (unwrap_or-slice_get xs j d)
 
-dichotomy : (k n : ℕ) → (k < n) ⊎ (n ≤ k)
+pub dichotomy : (k n : ℕ) → (k < n) ⊎ (n ≤ k)
 dichotomy k n = grind arith
+
+pub below_of : (k n : ℕ) → nat_lt k n ≡ true → k < n
+below_of k n h = grind (arith, nat_tests)
 
 -- a value other than the default is an entry of the table
 pub is_entry : {X : Type 0} (xs : List X) (k : ℕ) (d : X) → (unwrap_or (slice_get xs k) d ≡ d → ⊥) → k < length xs

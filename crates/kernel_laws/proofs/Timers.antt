@@ -22,7 +22,7 @@ use Rattle.process_kernel.specs.Processes.{is_alive, process_state, with_needs_p
 use Rattle.kernel_laws.specs.Polled.{TellsPost, TellsOfPost, TimersAreTold}
 use Rattle.kernel_laws.proofs.Packets.{IfGoes, Offered, WritesOne, post_offers, goes_bind}
 use Rattle.kernel_laws.specs.Own.{IsOwn}
-use Rattle.kernel_laws.proofs.EachStep.{walk_timers_led, walks_led}
+use Rattle.kernel_laws.proofs.EachStep.{Every, walk_timers_led, walks_led}
 use Rattle.kernel_laws.proofs.Steps.{GoesOn, Stops, Reach, Reaches, chain, steps}
 
 -- a list without a number
@@ -40,6 +40,12 @@ less_by x k ks false e h later = let there : is_member x ks ≡ true = grind (ar
 less_without : (x : ℕ) (ks : List ℕ) → is_member x ks ≡ true → length (without_member x ks) < length ks
 less_without x [] h = absurd (cc)
 less_without x (k ∷ ks) h = less_by x k ks (k == x) refl h (less_without x ks)
+
+pub first_member : (x : ℕ) (ts : List ℕ) → is_member x (x ∷ ts) ≡ true
+first_member x ts = grind (arith, nat_tests)
+
+pub later_member : (j x : ℕ) (ts : List ℕ) → is_member j ts ≡ true → is_member j (x ∷ ts) ≡ true
+later_member j x ts h = grind (arith, nat_tests)
 
 pub further : (x k : ℕ) (ks : List ℕ) → is_member x (k ∷ ks) ≡ true → (x == k) ≡ false → is_member x ks ≡ true
 further x k ks h e = grind (arith, nat_tests)
@@ -166,12 +172,6 @@ module _ (id : ℕ) (owner : Proc) where
   abbrev AllListed : List ℕ → State → Type 0
   AllListed ts s = (j : ℕ) → is_member j ts ≡ true → is_member j s.timers.listed ≡ true
 
-  first_member : (x : ℕ) (ts : List ℕ) → is_member x (x ∷ ts) ≡ true
-  first_member x ts = grind (arith, nat_tests)
-
-  later_member : (j x : ℕ) (ts : List ℕ) → is_member j ts ≡ true → is_member j (x ∷ ts) ≡ true
-  later_member j x ts h = grind (arith, nat_tests)
-
   same_owner : (s : State) (few x : ℕ) (q : Proc) → Waits few s → (timer_at s.timers.timers x).owner ≡ Some q → (id == x) ≡ true → q ≡ owner
   same_owner s few x q w o e = let f : (timer_at s.timers.timers x).owner ≡ Some owner = subst (λ j. (timer_at s.timers.timers j).owner ≡ Some owner) (eqb-true id x e) w.owned in cc
 
@@ -191,7 +191,7 @@ module _ (id : ℕ) (owner : Proc) where
         later s w (further id x ts there (not_owned s _ x w o (id == x) refl)) (λ j h. all j (later_member j x ts h))
     due_tells s x ts (Some q) o w there all later =
         goes_bind Bool (Unit {0}) (Offered (One q) (system_number Timer) x s) (Tells s) (post_of s (One q) (told Timer x)) _ (post_offers s (One q) (told Timer x))
-        (λ full u h. offered few again (walk_timers again ts) goes_again again_tells (walk_timers_led GoesOn Stops chain IsOwn steps again goes_again ts) s u x q full h w (all x (first_member x ts)) (same_owner s _ x q w o)
+        (λ full u h. offered few again (walk_timers again ts) goes_again again_tells (walk_timers_led GoesOn Stops chain IsOwn Every steps again goes_again ts) s u x q full h w (all x (first_member x ts)) (same_owner s _ x q w o)
         (λ e. later (poll_of u Etimer) (waits_same (suc few) s _ (poll_timers u ∙ h.0.timers) (poll_moment u ∙ h.0.moment) w) (further id x ts there e) (λ j k. rw (poll_timers u ∙ h.0.timers) (all j (later_member j x ts k)))))
 
     walk_tells : (ts : List ℕ) (s : State) → Waits (suc few) s → is_member id ts ≡ true → AllListed ts s → IfGoes (Tells s) (walk_timers again ts s)
@@ -210,7 +210,7 @@ module _ (id : ℕ) (owner : Proc) where
 
   walks_tell : (few : ℕ) (s : State) → Waits few s → IfGoes (Tells s) (walks_of few s)
   walks_tell zero s w = none_waits s w (walks_of 0 s)
-  walks_tell (suc k) s w = walk_tells k (walks_of k) (walks_led GoesOn Stops chain IsOwn steps k) (walks_tell k) s.timers.listed s w w.listed (λ j h. h)
+  walks_tell (suc k) s w = walk_tells k (walks_of k) (walks_led GoesOn Stops chain IsOwn Every steps k) (walks_tell k) s.timers.listed s w w.listed (λ j h. h)
 
 passed : (s t : State) (e : Event) → is_system_event Poll e ≡ true → etimer_of s e ≡ Goes tt t → walks_of (length s.timers.listed) s ≡ Goes tt t
 unfolding etimer_of pass_of

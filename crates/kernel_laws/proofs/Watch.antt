@@ -1,10 +1,10 @@
 -- An invariant of each small step: etimer and the radio process can be polled, a poll that was requested still waits,
 -- and a timer that is set requests one.
-use Rattle.std.proofs.Common.{ℕ, ◌≡◌, ◌+◌, ◌<◌, inl, inr, ◌==◌, Bool, true, false, not, nat_lt, if◌then◌else◌, List, [], ◌∷◌, length, Some, refl, sym, ◌∙◌, subst, arith}
+use Rattle.std.proofs.Common.{ℕ, ◌≡◌, ◌+◌, ◌<◌, inl, inr, ◌==◌, Bool, true, false, not, if◌then◌else◌, List, [], ◌∷◌, length, Some, refl, sym, ◌∙◌, subst, arith}
 use Rattle.std.specs.List.{filter}
 use Rattle.std.proofs.lemmas.Bool.Decides.{nat_tests}
 use Rattle.program_tree.specs.declared.event.Proc.{Proc}
-use Rattle.program_tree.specs.declared.event.Proc.TheVariants.{Etimer, Radio}
+use Rattle.program_tree.specs.declared.event.Proc.TheVariants.{Own, Etimer, Radio}
 use Rattle.mote_timers.specs.Numbers.{is_member}
 use Rattle.mote_timers.specs.Timer.{is_due, is_owned_by}
 use Rattle.mote_timers.specs.TimerLists.{TimerLists, timer_at, stop_timer, purge_timers}
@@ -16,7 +16,7 @@ use Rattle.trace_lines.specs.declared.line.What.TheVariants as what
 use Rattle.process_kernel.specs.Members.{place_of}
 use Rattle.process_kernel.specs.State.{State}
 use Rattle.process_kernel.specs.Processes.{is_alive, process_state, process_needs_poll, with_state, with_exiting, with_needs_poll}
-use Rattle.process_kernel.specs.ProcessList.{exiting_of, unlisted_of}
+use Rattle.process_kernel.specs.ProcessList.{put_remainder, exiting_of, unlisted_of}
 use Rattle.process_kernel.specs.Posts.{poll_of}
 use Rattle.process_kernel.specs.TimerOperations.{timer_is_set}
 use Rattle.process_kernel.specs.Writes.{with_line}
@@ -25,9 +25,9 @@ use Rattle.kernel_laws.specs.Poll.{PollWaits, CanBePolled}
 use Rattle.kernel_laws.specs.Due.{IsDueFor, NoneIsDue, ForgetsNone}
 use Rattle.kernel_laws.proofs.Alive.{Alive, needs_poll_more, alive_still, alive_joined, alive_state, alive_exiting, alive_needs_poll, alive_longer, alive_shorter}
 use Rattle.kernel_laws.proofs.Steps.{any_or}
-use Rattle.kernel_laws.proofs.Tables.{set_same, set_other}
+use Rattle.kernel_laws.proofs.Tables.{set_same, set_other, below_of}
 use Rattle.kernel_laws.proofs.Timers.{other_timer}
-use Rattle.kernel_laws.proofs.EachStep.{Whatever, AreJoined, AreSteps, brackets_of, with_started}
+use Rattle.kernel_laws.proofs.EachStep.{Every, Whatever, AreJoined, AreSteps, brackets_of, with_started}
 
 -- an invariant of a step, with whether one process needs a poll
 pub record Watches (p : Proc) (s t : State) : Type 0 where
@@ -67,10 +67,6 @@ radio_system = omega arith
 pub waits_now : (p : Proc) (s : State) → CanBePolled p s → PollWaits p (poll_of s p)
 unfolding poll_of with_needs_poll
 waits_now p s c = rw (c.alive) (record { needs_poll = set_same s.needs_poll (place_of p) true false (below_of (place_of p) (length s.needs_poll) c.can_need_poll); poll_requested = refl })
-  where
-    below_of : (k n : ℕ) → nat_lt k n ≡ true → k < n
-    below_of k n h = grind (arith, nat_tests)
-
 -- timers that are left
 
 pub is_left : (f : ℕ → Bool) (k : ℕ) (ks : List ℕ) → is_member k (filter f ks) ≡ true → (is_member k ks ≡ true) × (f k ≡ true)
@@ -236,18 +232,20 @@ module _ (p : Proc) where
     due = λ is c n. inl n;
   }
 
-  pub steps : AreSteps (Watches p) Whatever chain IsOwn
+  pub steps : AreSteps (Watches p) Whatever chain IsOwn Every
+  unfolding put_remainder
   steps = record {
     own = λ q own. own;
-    brackets = brackets_of (Watches p) Whatever chain IsOwn (λ s q. watches_state s q Called refl) (λ s q. watches_state s q Running refl) watches_exiting
-        (λ s q own. watches_joined s _ _ (watches_shorter s q own) (watches_line _ (what.Leave q)));
+    brackets = brackets_of (Watches p) Whatever chain IsOwn Every (λ s q o. watches_state s q Called refl) (λ s q o. watches_state s q Running refl) (λ s q o own. watches_exiting s q own)
+        (λ s q o own. watches_joined s _ _ (watches_shorter s q own) (watches_line _ (what.Leave q)));
     halts = λ s. tt;
     units = λ s n. watches_still s _ (record { moment = refl; states = refl; needs_poll = refl; poll_requested = refl; members = refl; timers = refl });
     busy = λ s q. watches_line s (what.Busy q);
-    prints = λ s q v. watches_line s (what.Print q v);
+    prints = λ s q v o. watches_line s (what.Print (Own q) v);
     polled = watches_poll;
-    remainders = λ s rs. watches_still s _ (record { moment = refl; states = refl; needs_poll = refl; poll_requested = refl; members = refl; timers = refl });
-    variables = λ s vs. watches_still s _ (record { moment = refl; states = refl; needs_poll = refl; poll_requested = refl; members = refl; timers = refl });
+    remainder = λ s p r o. watches_still s _ (record { moment = refl; states = refl; needs_poll = refl; poll_requested = refl; members = refl; timers = refl });
+    fresh = λ s p o. watches_still s _ (record { moment = refl; states = refl; needs_poll = refl; poll_requested = refl; members = refl; timers = refl });
+    variables = λ s p vs n o. watches_still s _ (record { moment = refl; states = refl; needs_poll = refl; poll_requested = refl; members = refl; timers = refl });
     sets = λ s t start interval owner there. watches_set s _ t;
     stops = λ s t. watches_fewer s (stop_timer s.timers t) (others_due s.moment s.timers t);
     purges = λ s q. watches_fewer s (purge_timers s.timers q) (unpurged_due s.moment s.timers q);
@@ -256,7 +254,7 @@ module _ (p : Proc) where
     full = λ s t e. watches_line s (what.Full t e.number e.word);
     posts = λ s t e f. watches_still s _ (record { moment = refl; states = refl; needs_poll = refl; poll_requested = refl; members = refl; timers = refl });
     sends = λ s v. watches_still s _ (record { moment = refl; states = refl; needs_poll = refl; poll_requested = refl; members = refl; timers = refl });
-    starts = λ s q b h l. watches_started s q;
+    starts = λ s q o b h l. watches_started s q;
     ring = record {
       accepted = λ s a later q i r. watches_still s _ (record { moment = refl; states = refl; needs_poll = refl; poll_requested = refl; members = refl; timers = refl });
       refused = λ s a later q i r. watches_still s _ (record { moment = refl; states = refl; needs_poll = refl; poll_requested = refl; members = refl; timers = refl });

@@ -1,7 +1,6 @@
 -- A boot forgets no timer, and starts etimer and the radio process.
-use Rattle.std.proofs.Common.{ℕ, ◌≡◌, ◌+◌, ◌<◌, not, Bool, true, false, nat_lt, length, if◌then◌else◌, List, [], ◌∷◌, refl, sym, ◌∙◌, subst, arith, map}
+use Rattle.std.proofs.Common.{ℕ, ◌≡◌, ◌+◌, not, Bool, true, false, nat_lt, length, if◌then◌else◌, List, [], ◌∷◌, refl, sym, ◌∙◌, subst, map}
 use Rattle.std.proofs.lemmas.List.{length-set}
-use Rattle.std.proofs.lemmas.Bool.Decides.{nat_tests}
 use Rattle.program_tree.specs.declared.event.Proc.{Proc}
 use Rattle.program_tree.specs.declared.event.Proc.TheVariants.{Own, Etimer, Ctimer, Radio}
 use Rattle.program_tree.specs.declared.event.SystemEvent.TheVariants.{Init}
@@ -21,14 +20,11 @@ use Rattle.kernel_laws.specs.Due.{NoneIsDue, ForgetsNone}
 use Rattle.kernel_laws.specs.Poll.{CanBePolled}
 use Rattle.kernel_laws.proofs.Delivers.{first_start}
 use Rattle.kernel_laws.proofs.InStep as tables
-use Rattle.kernel_laws.proofs.Tables.{set_same}
+use Rattle.kernel_laws.proofs.Tables.{set_same, below_of}
 use Rattle.kernel_laws.proofs.Packets.{IfGoes, goes_bind}
-use Rattle.kernel_laws.proofs.EachStep.{Whoever, Whatever, Lead, fits_no_exit, start_led}
+use Rattle.kernel_laws.proofs.EachStep.{Every, Whoever, Whatever, Lead, fits_no_exit, start_all}
 use Rattle.kernel_laws.proofs.Watch.{Watches, chain, steps}
 use Rattle.kernel_laws.proofs.WatchedRuns.{Good, good_leads, AreWatched}
-
-below : (k n : ℕ) → nat_lt k n ≡ true → k < n
-below k n h = grind (arith, nat_tests)
 
 -- the process was put on the list
 enlisted : State → Proc → State
@@ -36,7 +32,7 @@ enlisted s p = with_line (with_fresh_process (with_state (record s { members = r
 
 enlisted_can : (s : State) → has_process s Etimer ≡ true → nat_lt 0 (length s.needs_poll) ≡ true → CanBePolled Etimer (enlisted s Etimer)
 unfolding enlisted with_state
-enlisted_can s there needs_poll = record { alive = rw (set_same s.states 0 Running Off (below 0 (length s.states) there)) refl; can_need_poll = needs_poll }
+enlisted_can s there needs_poll = record { alive = rw (set_same s.states 0 Running Off (below_of 0 (length s.states) there)) refl; can_need_poll = needs_poll }
 
 enlisted_room : (s : State) → has_process s Radio ≡ true → nat_lt 2 (length s.needs_poll) ≡ true → (has_process (enlisted s Etimer) Radio ≡ true) × (nat_lt 2 (length (enlisted s Etimer).needs_poll) ≡ true)
 unfolding enlisted with_state
@@ -74,7 +70,7 @@ pub record IsUnstarted (moment : ℕ) (s : State) : Type 0 where
 
 module _ (calls : Calls) (are : AreWatched calls) where
   start_good : (r : Bool) (moment : ℕ) (s : State) (p : Proc) → Good r moment s → IfGoes (Good r moment) (start_of calls s p)
-  start_good r moment s p g = good_leads _ r moment s _ g (start_led (Watches Etimer) Whatever (chain Etimer) IsOwn (steps Etimer) calls are.led s p) (start_led tables.KeepsStep Whatever tables.chain Whoever tables.steps calls are.kept s p)
+  start_good r moment s p g = good_leads _ r moment s _ g (start_all (Watches Etimer) Whatever (chain Etimer) IsOwn (steps Etimer) calls are.led s p) (start_all tables.KeepsStep Whatever tables.chain Whoever tables.steps calls are.kept s p)
 
   starts_good : (r : Bool) (moment : ℕ) (ps : List Proc) (s : State) → Good r moment s → IfGoes (Good r moment) (starts_of calls ps s)
   starts_good r moment [] s g = g
@@ -112,9 +108,9 @@ module _ (calls : Calls) (are : AreWatched calls) where
   first_good moment s h =
       let q = first_goes s h.busy h.there (rw (h.members) refl) in
       let room = enlisted_room s h.radio_state h.radio_can_need_poll in
-      let call = are.led.call (enlisted s Etimer) Etimer (told Init 0) (fits_no_exit (Watches Etimer) Whatever (chain Etimer) IsOwn Etimer (told Init 0).number refl) in
+      let call = are.led.call (enlisted s Etimer) Etimer (told Init 0) (fits_no_exit (Watches Etimer) Whatever (chain Etimer) IsOwn Every Etimer (told Init 0).number refl) in
       first_by moment s (enlisted s Etimer) _ h (enlisted_moment s) (enlisted_can s h.there h.can_need_poll) (enlisted_listed s) room.0 room.1
-      (subst (λ o. Lead (Watches Etimer) Whatever (Unit {0}) (enlisted s Etimer) o) (sym q) call) (start_led tables.KeepsStep Whatever tables.chain Whoever tables.steps calls are.kept s Etimer)
+      (subst (λ o. Lead (Watches Etimer) Whatever (Unit {0}) (enlisted s Etimer) o) (sym q) call) (start_all tables.KeepsStep Whatever tables.chain Whoever tables.steps calls are.kept s Etimer)
 
   -- the radio process
 
@@ -128,7 +124,7 @@ module _ (calls : Calls) (are : AreWatched calls) where
     where
       by : (b : Bool) → is_listed s Radio ≡ b → IfGoes (λ t. is_listed t Radio ≡ true) (if not b then calls.call (enlisted s Radio) Radio (told Init 0) else Goes tt s)
       by true e = e
-      by false e = still_listed (enlisted s Radio) _ (enlisted_radio s) (are.led.call (enlisted s Radio) Radio (told Init 0) (fits_no_exit (Watches Etimer) Whatever (chain Etimer) IsOwn Radio (told Init 0).number refl))
+      by false e = still_listed (enlisted s Radio) _ (enlisted_radio s) (are.led.call (enlisted s Radio) Radio (told Init 0) (fits_no_exit (Watches Etimer) Whatever (chain Etimer) IsOwn Every Radio (told Init 0).number refl))
 
   now_radio : (moment : ℕ) (o : Went) → IfGoes (Good false moment) o → IfGoes (λ t. is_listed t Radio ≡ true) o → IfGoes (Good true moment) o
   now_radio moment (Ends t) g l = tt

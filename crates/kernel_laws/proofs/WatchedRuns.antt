@@ -33,7 +33,7 @@ use Rattle.kernel_laws.proofs.Delivers.{polls_due_run}
 use Rattle.kernel_laws.proofs.InStep as tables
 use Rattle.kernel_laws.proofs.Packets.{IfGoes, goes_bind}
 use Rattle.kernel_laws.proofs.Timers.{goes_cases}
-use Rattle.kernel_laws.proofs.EachStep.{Whatever, Lead, AreLed, fits_no_exit, lead_from, lead_if, lead_goes}
+use Rattle.kernel_laws.proofs.EachStep.{Every, Whatever, Lead, AreLed, fits_no_exit, lead_from, lead_if, lead_goes}
 use Rattle.kernel_laws.proofs.Alive.{still_has}
 use Rattle.kernel_laws.proofs.PollTurns.{splits, walk_splits, other_led, before_led}
 use Rattle.kernel_laws.proofs.Watch.{Watches, chain, watches_still, watches_line, forgets_on}
@@ -128,7 +128,7 @@ pub record Comes (r : Bool) (moment : ℕ) (x : Member) (t : State) : Type 0 whe
 
 -- the properties of the calls that nest less deep
 pub record AreWatched (calls : Calls) : Type 0 where
-  pub led : AreLed (Watches Etimer) Whatever (chain Etimer) IsOwn calls
+  pub led : AreLed (Watches Etimer) Whatever (chain Etimer) IsOwn Every calls
   pub kept : tables.AreKept calls
   pub reach : AreRuns calls
   pub serves : (s : State) → is_running s Etimer ≡ true → CanBePolled Etimer s → IfGoes (Serves s) (calls.call s Etimer (told Poll 0))
@@ -143,7 +143,7 @@ module _ (calls : Calls) (are : AreWatched calls) where
 
   -- a poll is no exit
   pub fits_poll : (p : Proc) → FitsTarget (One p) (told Poll 0).number
-  fits_poll p = fits_no_exit (Watches Etimer) Whatever (chain Etimer) IsOwn p (told Poll 0).number refl
+  fits_poll p = fits_no_exit (Watches Etimer) Whatever (chain Etimer) IsOwn Every p (told Poll 0).number refl
 
   etimer_good : (r : Bool) (moment : ℕ) (s : State) → s.moment ≡ moment → Stands r s → IfGoes (Good r moment) (calls.call s Etimer (told Poll 0))
   etimer_good r moment s e h =

@@ -10,6 +10,7 @@ use Rattle.trace_lines.specs.declared.line.What.TheVariants as what
 use Rattle.process_kernel.specs.Mote.{has_room, with_packet, with_poll}
 use Rattle.process_kernel.specs.Given.{boot_given, run_given}
 use Rattle.kernel_laws.specs.Going.{IsNote}
+use Rattle.kernel_laws.proofs.Steps.{lines_joined}
 use Rattle.kernel_laws.proofs.Ring.{boot_tells_packets, run_tells_packets}
 use Rattle.mote_node.specs.Underway.{Underway, with_mote, with_lines, after}
 use Rattle.mote_node.specs.Arrivals.{received_line, lost_line, collision_line, hear, hear_each, took_some, hear_all, is_collision, with_collisions}
@@ -52,9 +53,6 @@ record Quiet (u v : Underway) : Type 0 where
   added : List Line
   wrote : v.lines ≡ u.lines ++ added
   none : notes_in added ≡ []
-
-lines_joined : (a b c x y : List Line) → b ≡ a ++ x → c ≡ b ++ y → c ≡ a ++ (x ++ y)
-lines_joined a b c x y e f = f ∙ ap (λ k. k ++ y) e ∙ append_assoc a x y
 
 quiet_same : (u : Underway) → Quiet u u
 quiet_same u = record { added = []; wrote = sym (append-nil u.lines); none = refl }

@@ -1,5 +1,5 @@
 -- Each step of a turn keeps the ring in step with the mote's lines.
-use Rattle.std.proofs.Common.{ℕ, ◌≡◌, ◌<◌, ◌≤◌, nat_lt, Bool, true, false, if◌then◌else◌, List, [], ◌∷◌, ◌++◌, length, Option, Some, None, refl, sym, ap, ◌∙◌, subst, append_assoc, append-nil, arith}
+use Rattle.std.proofs.Common.{ℕ, ◌≡◌, ◌≤◌, nat_lt, Bool, true, false, if◌then◌else◌, List, [], ◌∷◌, ◌++◌, length, Option, Some, None, refl, sym, ap, ◌∙◌, subst, append_assoc, append-nil, arith}
 use Rattle.std.proofs.lemmas.Bool.Decides.{nat_tests}
 use Rattle.program_tree.specs.declared.event.Proc.{Proc}
 use Rattle.program_tree.specs.Code.{Tree}
@@ -14,6 +14,7 @@ use Rattle.process_kernel.specs.Mote.{Mote, unbooted, with_packet, with_poll}
 use Rattle.process_kernel.specs.Given.{Given, boot_given, run_given}
 use Rattle.kernel_laws.specs.Polled.{Accepted, Refused, TellsPacket, TellEach, NoneLeft, TellsNext}
 use Rattle.kernel_laws.specs.Ring.{IsApart, RingRuns, NoneMore, Receives, Loses, Hands, Passes, GivesPackets}
+use Rattle.kernel_laws.proofs.Tables.{below_of}
 use Rattle.kernel_laws.proofs.Ring.{ring_runs_on, boot_tells_packets, run_tells_packets}
 use Rattle.mote_node.specs.Node.{Node, new_node}
 use Rattle.mote_node.specs.Underway.{Underway, with_mote, with_lines, after}
@@ -74,9 +75,6 @@ lines_go program before u m more h r e = record {
 held : (program : Tree) (u : Underway) (before : List Line) (h : Goes program before u) → u.mote.halted ≡ false → (more : List Line) (left : List Arrival) → RingRuns program.receiver u.mote.state.ring more left → RingRuns program.receiver h.ring.left more left
 held program u before h running more left r = subst (λ x. RingRuns program.receiver x more left) (h.ring.holds running) r
 
-below_of : (n : ℕ) → nat_lt n 8 ≡ true → n < 8
-below_of n e = grind (arith, nat_tests)
-
 above_of : (n : ℕ) → nat_lt n 8 ≡ false → 8 ≤ n
 above_of n e = grind (arith, nat_tests)
 
@@ -96,7 +94,7 @@ steps program before moment = record {
   collides = λ u a running h. lines_go program before u u.mote (collision_line moment a ∷ []) h (held program u before h running _ _ (Passes tt NoneMore)) refl;
   boots = λ u b h. boot_by program before moment u u.mote.halted refl h;
   booted = λ u b h. h;
-  accepts = λ u a running room h. lines_go program before u (with_packet u.mote a) (received_line moment a ∷ []) h (held program u before h running _ _ (Receives a (below_of (length u.mote.state.ring) room) NoneMore)) refl;
+  accepts = λ u a running room h. lines_go program before u (with_packet u.mote a) (received_line moment a ∷ []) h (held program u before h running _ _ (Receives a (below_of (length u.mote.state.ring) 8 room) NoneMore)) refl;
   loses = λ u a running full h. lines_go program before u u.mote (lost_line moment a ∷ []) h (held program u before h running _ _ (Loses (above_of (length u.mote.state.ring) full) NoneMore)) refl;
   polls = λ u p h. let same = poll_same u.mote.state p in record {
     ring = record { left = h.ring.left; runs = h.ring.runs; holds = λ q. same.0 ∙ h.ring.holds q };
