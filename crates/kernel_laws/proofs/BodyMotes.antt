@@ -14,7 +14,6 @@ use Rattle.trace_lines.specs.declared.line.What.{What}
 use Rattle.trace_lines.specs.declared.line.What.TheVariants as what
 use Rattle.process_kernel.specs.declared.process.ProcessState.{ProcessState}
 use Rattle.process_kernel.specs.declared.process.ProcessState.TheVariants.{Off, Running, Called}
-use Rattle.process_kernel.specs.declared.kernel.Ran.TheVariants as ran
 use Rattle.process_kernel.specs.Members.{place_of}
 use Rattle.process_kernel.specs.State.{State, Outcome, Ends, Goes}
 use Rattle.process_kernel.specs.Calls.{Calls, told}
@@ -22,7 +21,7 @@ use Rattle.process_kernel.specs.Call.{calls_of}
 use Rattle.process_kernel.specs.Run.{begun_of, kernel_of, most_units}
 use Rattle.process_kernel.specs.Boot.{boot_of}
 use Rattle.process_kernel.specs.Mote.{Mote, unbooted, with_poll, with_packet}
-use Rattle.process_kernel.specs.Given.{given, begun, unless_halted, boot_given, run_given}
+use Rattle.process_kernel.specs.Given.{given, begun, boot_given, run_given}
 use Rattle.kernel_laws.specs.Going.{IsNote}
 use Rattle.kernel_laws.specs.InStep.{AreInStep, state_at_place, exiting_at, listed_in}
 use Rattle.kernel_laws.specs.Traces.{KernelCall, RunAt, PollOf, Accepts, Notes, Traced, after_call, after_calls, booted_at}
@@ -30,7 +29,7 @@ use Rattle.kernel_laws.specs.Printed.{IsQuietApart, is_told_of, starts_and_print
 use Rattle.kernel_laws.specs.Telling.{Standing, standing_of, RestsAsTold, TellsSoFar, IsProcess, TellingIsOfLives, TellingIsOfLivesSoFar, NoLinesTellFirst, BootTells, RunTells, PollTells, PacketTells, NoteTells}
 use Rattle.kernel_laws.proofs.Resting.{numbered_listed, first_rests}
 use Rattle.kernel_laws.proofs.Standing.{IsQuiet, told_more, line_quiet, needs_poll_quiet, poll_quiet}
-use Rattle.kernel_laws.proofs.EachStep.{Lead, AreRunSteps, kernel_led, boot_led}
+use Rattle.kernel_laws.proofs.EachStep.{Lead, AreRunSteps, kernel_led, boot_led, unless_halts}
 use Rattle.kernel_laws.proofs.BodyCalls.{Keeps, Stops, chain, quiet_keeps, Leads, AreTold, start_led, calls_told}
 
 module _ (program : Tree) (mote p : ℕ) (code : Code) (is_code : slice_get program.codes p ≡ Some code) (apart : IsQuietApart code) where
@@ -103,22 +102,17 @@ module _ (program : Tree) (mote p : ℕ) (code : Code) where
     halted = λ off. absurd (cc);
   }
 
-  unless_told : (earlier : List Line) (m : Mote) (before : List Line) (sends : List Sent) (o : Outcome ℕ) (b : Bool) → m.halted ≡ b → TellsSoFar program mote p code (earlier ++ before) m
-      → (m.halted ≡ false → TellsSoFar program mote p code (earlier ++ (given o).lines) (given o).mote) → let g = unless_halted m before sends (given o) in TellsSoFar program mote p code (earlier ++ g.lines) g.mote
-  unless_told earlier m before sends o true e h k = subst (λ b. let g = if b then record { ran = ran.Halted; mote = m; lines = before; sends = sends } else given o in TellsSoFar program mote p code (earlier ++ g.lines) g.mote) (sym e) h
-  unless_told earlier m before sends o false e h k = subst (λ b. let g = if b then record { ran = ran.Halted; mote = m; lines = before; sends = sends } else given o in TellsSoFar program mote p code (earlier ++ g.lines) g.mote) (sym e) (k e)
-
 pub run_tells : RunTells
 unfolding run_given
 run_tells program mote p code earlier m moment before sends is h =
     let told = starts_and_prints (Own p) earlier in
-    unless_told program mote p code earlier m before sends _ m.halted refl h (λ on. given_told program mote p code earlier m moment before sends _ (h.going on) (run_leads program mote p code is.is_code is.quiet told (calls_of (most_units + 1)) (calls_told program mote p code told is.is_code is.quiet (most_units + 1)) (begun m moment before sends)))
+    unless_halts (λ g. TellsSoFar program mote p code (earlier ++ g.lines) g.mote) m before sends _ (λ off. h) (λ on. given_told program mote p code earlier m moment before sends _ (h.going on) (run_leads program mote p code is.is_code is.quiet told (calls_of (most_units + 1)) (calls_told program mote p code told is.is_code is.quiet (most_units + 1)) (begun m moment before sends)))
 
 pub boot_tells : BootTells
 unfolding boot_given
 boot_tells program mote p code earlier m moment before sends is h =
     let told = starts_and_prints (Own p) earlier in
-    unless_told program mote p code earlier m before sends _ m.halted refl h (λ on. given_told program mote p code earlier m moment before sends _ (h.going on) (boot_leads program mote p code is.is_code is.quiet told (calls_of (most_units + 1)) (calls_told program mote p code told is.is_code is.quiet (most_units + 1)) (begun m moment before sends)))
+    unless_halts (λ g. TellsSoFar program mote p code (earlier ++ g.lines) g.mote) m before sends _ (λ off. h) (λ on. given_told program mote p code earlier m moment before sends _ (h.going on) (boot_leads program mote p code is.is_code is.quiet told (calls_of (most_units + 1)) (calls_told program mote p code told is.is_code is.quiet (most_units + 1)) (begun m moment before sends)))
 
 pub poll_tells : PollTells
 unfolding with_poll

@@ -1,5 +1,5 @@
 -- A kernel run in which a poll of etimer waits polls it, and writes a line for each timer that is due then.
-use Rattle.std.proofs.Common.{ℕ, ◌<◌, suc, ◌≡◌, ◌+◌, inl, inr, nat_lt, Bool, true, false, if◌then◌else◌, List, [], ◌∷◌, ◌++◌, length, refl, sym, ap, ◌∙◌, subst, append_assoc, arith}
+use Rattle.std.proofs.Common.{ℕ, ◌<◌, suc, ◌≡◌, ◌+◌, inl, inr, nat_lt, true, false, List, [], ◌∷◌, ◌++◌, length, refl, sym, ap, ◌∙◌, subst, append_assoc, arith}
 use Rattle.std.proofs.Math.ListN.{replicate}
 use Rattle.std.proofs.lemmas.List.{append_cancel_left, length-replicate}
 use Rattle.std.proofs.lemmas.Bool.Decides.{nat_tests}
@@ -12,7 +12,6 @@ use Rattle.program_tree.specs.Events.{system_number}
 use Rattle.mote_timers.specs.TimerLists.{new_timers}
 use Rattle.trace_lines.specs.declared.line.Line.{Line}
 use Rattle.radio_packet.specs.declared.sent.Sent.{Sent}
-use Rattle.process_kernel.specs.declared.kernel.Ran.TheVariants as ran
 use Rattle.process_kernel.specs.State.{State, Outcome, Ends, Goes, ◌>>=◌}
 use Rattle.process_kernel.specs.Processes.{process_needs_poll, is_listed, has_process, with_needs_poll}
 use Rattle.process_kernel.specs.Calls.{Calls, told}
@@ -36,8 +35,7 @@ use Rattle.kernel_laws.proofs.Traces.{no_lines_first}
 use Rattle.kernel_laws.proofs.InStep as tables
 use Rattle.kernel_laws.proofs.Resting as resting
 use Rattle.kernel_laws.proofs.Stamps as stamps
-use Rattle.kernel_laws.proofs.StampedCalls as stamped
-use Rattle.kernel_laws.proofs.EachStep.{Whatever, Lead, lead_from, calls_led, polls_led, front_led}
+use Rattle.kernel_laws.proofs.EachStep.{Whatever, Lead, lead_from, calls_led, polls_led, front_led, unless_halts}
 use Rattle.kernel_laws.proofs.Watch.{Watches, chain, steps}
 use Rattle.kernel_laws.proofs.Passes.{Serves, call_serves}
 use Rattle.process_kernel.specs.declared.process.ProcessState.TheVariants.{Off}
@@ -132,11 +130,7 @@ abbrev LeavesGood : (moment : ℕ) → Given → Type 0
 LeavesGood moment g = g.mote.halted ≡ false → IsAtRest g.mote.state × ForgetsNone moment g.mote.state
 
 unless_good : (moment : ℕ) (m : Mote) (lines : List Line) (sends : List Sent) (g : Given) → LeavesGood moment g → LeavesGood moment (unless_halted m lines sends g)
-unless_good moment m lines sends g h = by m.halted refl
-  where
-    by : (b : Bool) → m.halted ≡ b → LeavesGood moment (if b then record { ran = ran.Halted; mote = m; lines = lines; sends = sends } else g)
-    by true e f = absurd (cc)
-    by false e f = h f
+unless_good moment m lines sends g h = unless_halts (LeavesGood moment) m lines sends g (λ e f. absurd (cc)) (λ e. h)
 
 pub run_forgets_none : RunForgetsNone
 unfolding run_given
@@ -230,7 +224,7 @@ record Polled (calls : Calls) (moment : ℕ) (s t : State) : Type 0 where
   comes : walk_polls calls (members_before Etimer s.members) s ≡ Goes tt at_turn
   tells : TellsDue moment at_turn s.lines t.lines
 
-module _ (calls : Calls) (are : AreWatched calls) (written : stamped.AreKept calls) where
+module _ (calls : Calls) (are : AreWatched calls) (written : stamps.AreKept calls) where
   still_needs_poll : (s u : State) → walk_polls calls (members_before Etimer s.members) s ≡ Goes tt u → process_needs_poll s Etimer ≡ true → process_needs_poll u Etimer ≡ true
   still_needs_poll s u e m = let h : Lead (Watches Etimer) Whatever (Unit {0}) s (Goes tt u) = subst (λ o. Lead (Watches Etimer) Whatever (Unit {0}) s o) e (before_led Etimer calls are.led s.members s) in h.leads.needs_poll m
 
@@ -290,7 +284,7 @@ given_polled : (moment : ℕ) (m : Mote) (lines : List Line) (sends : List Sent)
 unfolding begun_of
 given_polled moment m lines sends (Ends t) rest w e h = absurd (cc)
 given_polled moment m lines sends (Goes n t) rest w e h =
-    let p = run_polled (calls_of (most_units + 1)) all_watched (stamped.calls_kept (most_units + 1)) moment (begun m moment lines sends) t n (begun_moment m moment lines sends) (begun_stands m moment lines sends rest) (begun_waits w) e in
+    let p = run_polled (calls_of (most_units + 1)) all_watched (stamps.calls_kept (most_units + 1)) moment (begun m moment lines sends) t n (begun_moment m moment lines sends) (begun_stands m moment lines sends rest) (begun_waits w) e in
     record { at_turn = p.at_turn; comes = p.comes; tells = subst (λ l. TellsDue moment p.at_turn l t.lines) (begun_lines m moment lines sends) p.tells }
   where
     begun_waits : PollWaits Etimer m.state → PollWaits Etimer (begun m moment lines sends)

@@ -51,6 +51,11 @@ use Rattle.process_kernel.specs.Polls.{walk_polls, polls_of, polls_due_of, poll_
 use Rattle.process_kernel.specs.Delivery.{give_of, visit_of, walk_broadcast, deliver_to, deliver_of}
 use Rattle.process_kernel.specs.Run.{deliver_front, kernel_of}
 use Rattle.process_kernel.specs.Boot.{starts_of, boot_of}
+use Rattle.process_kernel.specs.Mote.{Mote}
+use Rattle.process_kernel.specs.Given.{Given, unless_halted}
+use Rattle.process_kernel.specs.declared.kernel.Ran.TheVariants as ran
+use Rattle.trace_lines.specs.declared.line.Line.{Line}
+use Rattle.radio_packet.specs.declared.sent.Sent.{Sent}
 use Rattle.kernel_laws.specs.Own.{IsOwn, FitsTarget}
 use Rattle.kernel_laws.proofs.Packets.{IfGoes, Handed, hand_tells}
 use Rattle.kernel_laws.proofs.Fits.{FitsOp, FitsStep, fits_advanced}
@@ -99,6 +104,14 @@ enlist_is s (Own p) = refl
 enlist_is s Etimer = refl
 enlist_is s Ctimer = refl
 enlist_is s Radio = refl
+
+-- A boot or a kernel run of a mote that has halted changes nothing.
+pub unless_halts : (P : Given → Type 0) (m : Mote) (lines : List Line) (sends : List Sent) (g : Given) → (m.halted ≡ true → P (record { ran = ran.Halted; mote = m; lines = lines; sends = sends })) → (m.halted ≡ false → P g) → P (unless_halted m lines sends g)
+unless_halts P m lines sends g h i = by m.halted refl
+  where
+    by : (b : Bool) → m.halted ≡ b → P (if b then record { ran = ran.Halted; mote = m; lines = lines; sends = sends } else g)
+    by true e = h e
+    by false e = i e
 
 -- Two relations from a state to a later one: one from which the kernel continues, and one in which the mote has halted.
 module _ (Keeps Stops : State → State → Type 0) where

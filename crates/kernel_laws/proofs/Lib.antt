@@ -19,7 +19,6 @@ pub mod PollTurns
 pub mod QuietThreads
 pub mod Resting
 pub mod Ring
-pub mod StampedCalls
 pub mod Stamps
 pub mod Standing
 pub mod Steps

@@ -20,8 +20,7 @@ use Rattle.process_kernel.specs.Posts.{poll_of}
 use Rattle.process_kernel.specs.Given.{Given, given, begun, boot_given, run_given}
 use Rattle.kernel_laws.specs.Seen.{seen_what, seen_lines, view_of}
 use Rattle.kernel_laws.specs.Going.{SystemStays, IsBlank, GoesWithAs, GoesWith, Adds, IsNote, IsInOrder}
-use Rattle.kernel_laws.proofs.Steps.{IsQuiet, quiet, view_quiet, poll_quiet}
-use Rattle.kernel_laws.proofs.Steps.{calls_run}
+use Rattle.kernel_laws.proofs.Steps.{IsQuiet, quiet, view_quiet, poll_quiet, calls_run}
 use Rattle.kernel_laws.proofs.Delivers.{machine_of, RestsAt, rests_behind, begun_run, begun_lines, begun_sound, boot_run, kernel_run}
 
 -- more lines of a mote that goes with its lines so far

@@ -12,7 +12,6 @@ use Rattle.mote_timers.specs.Timer.{unset, is_owned_by}
 use Rattle.mote_timers.specs.TimerLists.{TimerLists, timer_at, with_timer, stop_timer, purge_timers}
 use Rattle.trace_lines.specs.declared.line.Line.{Line}
 use Rattle.radio_packet.specs.declared.sent.Sent.{Sent}
-use Rattle.process_kernel.specs.declared.kernel.Ran.TheVariants as ran
 use Rattle.process_kernel.specs.State.{State, Outcome, Ends, Goes}
 use Rattle.process_kernel.specs.Processes.{is_alive, process_state, with_state, with_exiting, with_needs_poll}
 use Rattle.process_kernel.specs.ProcessList.{put_remainder, exiting_of, unlisted_of}
@@ -21,11 +20,11 @@ use Rattle.process_kernel.specs.TimerOperations.{has_timer, timer_is_set}
 use Rattle.process_kernel.specs.Writes.{halted_of}
 use Rattle.process_kernel.specs.Run.{begun_of, most_units}
 use Rattle.process_kernel.specs.Mote.{Mote}
-use Rattle.process_kernel.specs.Given.{given, begun, unless_halted, boot_given, run_given}
+use Rattle.process_kernel.specs.Given.{given, begun, boot_given, run_given}
 use Rattle.kernel_laws.specs.Due.{HaveOwners, BootKeepsOwners, RunKeepsOwners}
 use Rattle.kernel_laws.proofs.Timers.{further, other_timer}
 use Rattle.kernel_laws.proofs.Watch.{is_left}
-use Rattle.kernel_laws.proofs.EachStep.{Every, Whoever, Lead, AreJoined, AreSteps, AreRunSteps, keeps_set, brackets_of, boots_led, runs_led}
+use Rattle.kernel_laws.proofs.EachStep.{Every, Whoever, Lead, AreJoined, AreSteps, AreRunSteps, keeps_set, brackets_of, boots_led, runs_led, unless_halts}
 
 pub record Owns (s t : State) : Type 0 where
   pub owns : HaveOwners s.timers → HaveOwners t.timers
@@ -126,19 +125,12 @@ unfolding begun_of
 given_owns moment m lines sends (Ends t) k h = k.leads.owns h
 given_owns moment m lines sends (Goes a t) k h = k.leads.owns h
 
-unless_owns : (moment : ℕ) (m : Mote) (lines : List Line) (sends : List Sent) (o : Outcome ℕ) → Lead Owns Owns ℕ (begun m moment lines sends) o → HaveOwners m.state.timers → HaveOwners (unless_halted m lines sends (given o)).mote.state.timers
-unless_owns moment m lines sends o k h = by m.halted
-  where
-    by : (b : Bool) → HaveOwners (if b then record { ran = ran.Halted; mote = m; lines = lines; sends = sends } else given o).mote.state.timers
-    by true = h
-    by false = given_owns moment m lines sends o k h
-
 pub boot_keeps_owners : BootKeepsOwners
 unfolding boot_given
 boot_keeps_owners moment m lines sends h =
-    unless_owns moment m lines sends _ (boots_led Owns Owns chain steps run_steps (most_units + 1) (begun m moment lines sends)) h
+    unless_halts (λ g. HaveOwners g.mote.state.timers) m lines sends _ (λ e. h) (λ e. given_owns moment m lines sends _ (boots_led Owns Owns chain steps run_steps (most_units + 1) (begun m moment lines sends)) h)
 
 pub run_keeps_owners : RunKeepsOwners
 unfolding run_given
 run_keeps_owners moment m lines sends h =
-    unless_owns moment m lines sends _ (runs_led Owns Owns chain steps run_steps (most_units + 1) (begun m moment lines sends)) h
+    unless_halts (λ g. HaveOwners g.mote.state.timers) m lines sends _ (λ e. h) (λ e. given_owns moment m lines sends _ (runs_led Owns Owns chain steps run_steps (most_units + 1) (begun m moment lines sends)) h)

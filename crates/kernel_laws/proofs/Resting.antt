@@ -17,11 +17,11 @@ use Rattle.process_kernel.specs.Calls.{Calls}
 use Rattle.process_kernel.specs.Call.{call_of, calls_of}
 use Rattle.process_kernel.specs.Run.{begun_of, most_units}
 use Rattle.process_kernel.specs.Mote.{Mote, at_rest, unbooted, with_packet, with_poll}
-use Rattle.process_kernel.specs.Given.{Given, given, begun, boot_given, run_given}
+use Rattle.process_kernel.specs.Given.{given, begun, boot_given, run_given}
 use Rattle.kernel_laws.specs.InStep.{state_at_place, exiting_at, listed_in, AreInStep, IsInStep, IsIdle}
 use Rattle.kernel_laws.specs.Traces.{KernelCall, RunAt, PollOf, Accepts, Notes, Traced, after_call, after_calls, booted_at}
 use Rattle.kernel_laws.specs.Laws.{OnlyTheRunningAreCalled, CallsKeepStep, ListedAreRunning}
-use Rattle.kernel_laws.proofs.EachStep.{Whatever, runs_led, boots_led}
+use Rattle.kernel_laws.proofs.EachStep.{Whatever, runs_led, boots_led, unless_halts}
 use Rattle.kernel_laws.proofs.InStep.{Keeps, KeepsStep, Kept, IsStill, chain, keeps_still, poll_still, steps, run_steps, calls_kept}
 use Rattle.kernel_laws.proofs.Tables.{dichotomy}
 
@@ -59,21 +59,17 @@ given_rests : (s : State) (o : Outcome ℕ) → Rests s → Kept ℕ s o → Mot
 given_rests s (Ends t) r k h = absurd (cc)
 given_rests s (Goes a t) r k h = rests_still t (at_rest t) (record { states = refl; exiting = refl; members = refl }) (rests_keeps s t r (k.leads.kept r.step))
 
-unless_rests : (b : Bool) (f g : Given) → MoteRests f.mote → MoteRests g.mote → MoteRests (if b then f else g).mote
-unless_rests true f g h i = h
-unless_rests false f g h i = i
-
 begun_rests : (m : Mote) (moment : ℕ) → Rests m.state → Rests (begun m moment [] [])
 begun_rests m moment r = rests_begun _ moment (rests_still m.state _ (record { states = refl; exiting = refl; members = refl }) r)
 
-run_if : (m : Mote) (moment : ℕ) (h : Bool) → m.halted ≡ h → MoteRests m → MoteRests (run_given moment m [] []).mote
+run_rests : (m : Mote) (moment : ℕ) → MoteRests m → MoteRests (run_given moment m [] []).mote
 unfolding run_given
-run_if m moment true e r = rw e (λ f. absurd (cc))
-run_if m moment false e r = rw e (given_rests (begun m moment [] []) _ (begun_rests m moment (r e)) (runs_led KeepsStep Whatever chain steps run_steps (most_units + 1) _))
+run_rests m moment r =
+    unless_halts (λ g. MoteRests g.mote) m [] [] _ (λ e. r) (λ e. given_rests (begun m moment [] []) _ (begun_rests m moment (r e)) (runs_led KeepsStep Whatever chain steps run_steps (most_units + 1) _))
 
 call_rests : (t : Traced) (c : KernelCall) → MoteRests t.mote → MoteRests (after_call t c).mote
 unfolding with_poll with_packet
-call_rests t (RunAt moment) r = run_if t.mote moment t.mote.halted refl r
+call_rests t (RunAt moment) r = run_rests t.mote moment r
 call_rests t (PollOf p) r = λ h. rests_still t.mote.state _ (poll_still t.mote.state p) (r h)
 call_rests t (Accepts a) r = λ h. rests_still t.mote.state _ (record { states = refl; exiting = refl; members = refl }) (r h)
 call_rests t (Notes l n) r = noted t.mote.halted
@@ -109,7 +105,7 @@ unfolding boot_given
 boot_rests program mote queue moment =
     let m = unbooted program mote queue in
     let r = begun_rests m moment (first_rests program mote queue) in
-    unless_rests m.halted _ _ (λ h. first_rests program mote queue) (given_rests (begun m moment [] []) _ r (boots_led KeepsStep Whatever chain steps run_steps (most_units + 1) _))
+    unless_halts (λ g. MoteRests g.mote) m [] [] _ (λ e h. first_rests program mote queue) (λ e. given_rests (begun m moment [] []) _ r (boots_led KeepsStep Whatever chain steps run_steps (most_units + 1) _))
 
 idle_listed : (x : ProcessState) (e l : Bool) → AreInStep x e l → is_called_state x ≡ false → e ≡ false → is_running_state x ≡ l
 idle_listed Off e l h c q = sym q ∙ h

@@ -1,6 +1,6 @@
 -- Each small step of the kernel leaves the ring unchanged, except for the radio's poll, which writes a line for each
 -- packet.
-use Rattle.std.proofs.Common.{ℕ, ◌≡◌, ◌+◌, Bool, true, false, if◌then◌else◌, List, [], ◌∷◌, ◌++◌, Option, Some, None, refl, sym, ap, ◌∙◌, subst, append-nil}
+use Rattle.std.proofs.Common.{ℕ, ◌≡◌, ◌+◌, List, [], ◌∷◌, ◌++◌, Option, Some, None, refl, sym, ap, ◌∙◌, subst, append-nil}
 use Rattle.program_tree.specs.declared.event.Proc.{Proc}
 use Rattle.program_tree.specs.declared.event.Proc.TheVariants.{Own, Etimer}
 use Rattle.mote_timers.specs.TimerLists.{TimerLists}
@@ -17,7 +17,6 @@ use Rattle.process_kernel.specs.TimerOperations.{timer_is_set}
 use Rattle.process_kernel.specs.Writes.{with_line, halted_of}
 use Rattle.process_kernel.specs.Run.{begun_of, most_units}
 use Rattle.process_kernel.specs.Mote.{Mote}
-use Rattle.process_kernel.specs.declared.kernel.Ran.TheVariants as ran
 use Rattle.process_kernel.specs.Given.{given, begun, unless_halted, boot_given, run_given}
 use Rattle.std.specs.List.{All}
 use Rattle.std.proofs.lemmas.List.Elements.{All-nil, All-cons, All-append}
@@ -25,7 +24,7 @@ use Rattle.kernel_laws.specs.Going.{IsNote}
 use Rattle.kernel_laws.specs.Polled.{Accepted, Refused, TellsPacket}
 use Rattle.kernel_laws.specs.Ring.{IsApart, RingRuns, NoneMore, Receives, Loses, Hands, Passes, RingGoes, RingHalts, RingLeads, GivesPackets, CallsTellPackets, BootTellsPackets, RunTellsPackets}
 use Rattle.kernel_laws.proofs.Steps.{lines_joined}
-use Rattle.kernel_laws.proofs.EachStep.{Every, Whoever, Lead, AreJoined, AreSteps, AreRunSteps, keeps_poll, keeps_set, brackets_of, calls_led, runs_led, boots_led}
+use Rattle.kernel_laws.proofs.EachStep.{Every, Whoever, Lead, AreJoined, AreSteps, AreRunSteps, keeps_poll, keeps_set, brackets_of, calls_led, runs_led, boots_led, unless_halts}
 
 pub ring_runs_on : (receiver : Option ℕ) (a b c : List Arrival) (xs ys : List Line) → RingRuns receiver a xs b → RingRuns receiver b ys c → RingRuns receiver a (xs ++ ys) c
 ring_runs_on receiver a b c xs ys NoneMore r = r
@@ -210,11 +209,8 @@ given_packets moment m lines sends (Goes a t) h = let k = h.leads in record {
 }
 
 unless_packets : (moment : ℕ) (m : Mote) (lines : List Line) (sends : List Sent) (o : Outcome ℕ) → Rings ℕ (begun m moment lines sends) o → GivesPackets m lines (unless_halted m lines sends (given o))
-unless_packets moment m lines sends o h = by m.halted
-  where
-    by : (b : Bool) → GivesPackets m lines (if b then record { ran = ran.Halted; mote = m; lines = lines; sends = sends } else given o)
-    by true = record { added = []; wrote = sym (append-nil lines); left = m.state.ring; runs = NoneMore; hears_none = none_heard; holds = λ q. refl; program = refl }
-    by false = given_packets moment m lines sends o h
+unless_packets moment m lines sends o h =
+    unless_halts (GivesPackets m lines) m lines sends (given o) (λ e. record { added = []; wrote = sym (append-nil lines); left = m.state.ring; runs = NoneMore; hears_none = none_heard; holds = λ q. refl; program = refl }) (λ e. given_packets moment m lines sends o h)
 
 pub boot_tells_packets : BootTellsPackets
 unfolding boot_given

@@ -1,11 +1,12 @@
--- Each small step of the kernel writes lines and packets that are stamped with its moment.
+-- Each small step of the kernel writes lines and packets that are stamped with its moment, and so do calls, boots and
+-- kernel runs.
 use Rattle.std.proofs.Common.{ℕ, zero, suc, ◌≡◌, ◌+◌, Bool, true, false, if◌then◌else◌, List, [], ◌∷◌, length, refl, sym, ap, ◌∙◌, subst, arith, ◌++◌, append_assoc, append-nil}
 use Rattle.std.proofs.lemmas.List.{map-append, length-append}
 use Rattle.program_tree.specs.declared.event.Proc.{Proc}
 use Rattle.program_tree.specs.declared.event.Proc.TheVariants.{Own, Etimer}
 use Rattle.trace_lines.specs.declared.line.What.{What}
 use Rattle.trace_lines.specs.declared.line.What.TheVariants as what
-use Rattle.process_kernel.specs.State.{State, Outcome}
+use Rattle.process_kernel.specs.State.{State, Outcome, Ends, Goes}
 use Rattle.process_kernel.specs.Processes.{is_alive, process_state, with_state, with_exiting, with_needs_poll}
 use Rattle.process_kernel.specs.ProcessList.{put_remainder, exiting_of, unlisted_of}
 use Rattle.process_kernel.specs.Posts.{poll_of}
@@ -14,9 +15,16 @@ use Rattle.std.specs.List.{range_with_len}
 use Rattle.std.proofs.lemmas.List.Elements.{All-nil, All-cons, All-append}
 use Rattle.radio_packet.specs.declared.sent.Sent.{Sent}
 use Rattle.trace_lines.specs.declared.line.What.TheVariants.{Halt}
-use Rattle.kernel_laws.specs.Stamps.{PacketsBear, AreNumberedFrom, Stamped}
+use Rattle.kernel_laws.specs.Stamps.{PacketsBear, AreNumberedFrom, Stamped, state_after, GivesStamped}
 use Rattle.kernel_laws.proofs.Steps.{lines_joined}
-use Rattle.kernel_laws.proofs.EachStep.{Every, Whoever, Lead, AreJoined, AreSteps, AreRunSteps, keeps_set, brackets_of}
+use Rattle.kernel_laws.proofs.EachStep.{Every, Whoever, Lead, AreJoined, AreSteps, AreRunSteps, keeps_set, brackets_of, AreLed, calls_led, runs_led, boots_led, unless_halts}
+use Rattle.process_kernel.specs.Calls.{Calls}
+use Rattle.process_kernel.specs.Call.{calls_of}
+use Rattle.process_kernel.specs.Run.{begun_of, most_units}
+use Rattle.process_kernel.specs.Mote.{Mote}
+use Rattle.process_kernel.specs.Given.{given, begun, unless_halted, boot_given, run_given}
+use Rattle.trace_lines.specs.declared.line.Line.{Line}
+use Rattle.kernel_laws.specs.Laws.{CallsStamp, BootStamps, RunStamps}
 
 -- All that is written is stamped with the moment, and the moment stays.
 pub record Keeps (s t : State) : Type 0 where
@@ -196,3 +204,58 @@ run_steps = record {
   takes = λ s n p. keeps_line s (what.Take n p);
   drops = λ s n p. keeps_line s (what.Drop n p);
 }
+
+-- calls, boots and kernel runs
+
+left_by : (A : Type 0) (s : State) (o : Outcome A) → Kept s o → Keeps s (state_after o)
+left_by A s (Ends t) h = h.leads
+left_by A s (Goes a t) h = h.leads
+
+abbrev pub AreKept : Calls → Type 0
+AreKept calls = AreLed Keeps Keeps chain Whoever Every calls
+
+pub calls_kept : (k : ℕ) → AreKept (calls_of k)
+calls_kept k = calls_led Keeps Keeps chain Whoever steps k
+
+-- a boot or a run, whether the mote continues or halts
+given_stamped : (moment : ℕ) (m : Mote) (lines : List Line) (sends : List Sent) (o : Outcome ℕ) → Keeps (begun m moment lines sends) (state_after o) → GivesStamped moment m lines sends (given o)
+unfolding begun_of
+given_stamped moment m lines sends (Ends t) k = let h = k.stamped in record {
+  lines = h.lines;
+  wrote = h.wrote;
+  lines_bear = h.lines_bear;
+  sends = h.sends;
+  sent_on = h.sent_on;
+  packets_bear = h.packets_bear;
+  numbered = h.numbered;
+  counted = h.counted;
+  mote = h.mote;
+  program = h.program;
+}
+given_stamped moment m lines sends (Goes a t) k = let h = k.stamped in record {
+  lines = h.lines;
+  wrote = h.wrote;
+  lines_bear = h.lines_bear;
+  sends = h.sends;
+  sent_on = h.sent_on;
+  packets_bear = h.packets_bear;
+  numbered = h.numbered;
+  counted = h.counted;
+  mote = h.mote;
+  program = h.program;
+}
+
+unless_stamped : (moment : ℕ) (m : Mote) (lines : List Line) (sends : List Sent) (o : Outcome ℕ) → Kept (begun m moment lines sends) o → GivesStamped moment m lines sends (unless_halted m lines sends (given o))
+unless_stamped moment m lines sends o k =
+    unless_halts (GivesStamped moment m lines sends) m lines sends (given o) (λ e. stamped_still moment _ _ refl refl refl refl refl) (λ e. given_stamped moment m lines sends o (left_by ℕ _ o k))
+
+pub calls_stamp : CallsStamp
+calls_stamp depth s p e = let k = left_by (Unit {0}) s _ ((calls_kept depth).call s p e (λ q. tt)) in (k.stamped, k.moment)
+
+pub boot_stamps : BootStamps
+unfolding boot_given
+boot_stamps moment m lines sends = unless_stamped moment m lines sends _ (boots_led Keeps Keeps chain steps run_steps (most_units + 1) (begun m moment lines sends))
+
+pub run_stamps : RunStamps
+unfolding run_given
+run_stamps moment m lines sends = unless_stamped moment m lines sends _ (runs_led Keeps Keeps chain steps run_steps (most_units + 1) (begun m moment lines sends))

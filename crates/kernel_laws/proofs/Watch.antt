@@ -67,6 +67,7 @@ radio_system = omega arith
 pub waits_now : (p : Proc) (s : State) → CanBePolled p s → PollWaits p (poll_of s p)
 unfolding poll_of with_needs_poll
 waits_now p s c = rw (c.alive) (record { needs_poll = set_same s.needs_poll (place_of p) true false (below_of (place_of p) (length s.needs_poll) c.can_need_poll); poll_requested = refl })
+
 -- timers that are left
 
 pub is_left : (f : ℕ → Bool) (k : ℕ) (ks : List ℕ) → is_member k (filter f ks) ≡ true → (is_member k ks ≡ true) × (f k ≡ true)

@@ -27,8 +27,7 @@ use Rattle.kernel_laws.specs.Going.{SystemStays}
 use Rattle.kernel_laws.specs.InStep.{IsInStep, IsIdle}
 use Rattle.kernel_laws.specs.Due.{NoneIsDue, ForgetsNone}
 use Rattle.kernel_laws.specs.Poll.{CanBePolled, members_before}
-use Rattle.kernel_laws.proofs.Steps.{Reach}
-use Rattle.kernel_laws.proofs.Steps.{AreRuns}
+use Rattle.kernel_laws.proofs.Steps.{Reach, AreRuns}
 use Rattle.kernel_laws.proofs.Delivers.{polls_due_run}
 use Rattle.kernel_laws.proofs.InStep as tables
 use Rattle.kernel_laws.proofs.Packets.{IfGoes, goes_bind}

@@ -17,8 +17,7 @@ use Rattle.mote_node.specs.Arrivals.{received_line, lost_line, collision_line}
 use Rattle.mote_node.specs.Turn.{runs_of, turn_of}
 use Rattle.mote_node.specs.Laws.{TurnInput, Turns, Rests, Takes}
 use Rattle.kernel_laws.specs.Stamps.{LinesBear, PacketsBear, AreNumberedFrom, Stamped, with_output}
-use Rattle.kernel_laws.proofs.Stamps.{numbered_on, stamped_twice, stamped_still, poll_still}
-use Rattle.kernel_laws.proofs.StampedCalls.{boot_stamps, run_stamps}
+use Rattle.kernel_laws.proofs.Stamps.{numbered_on, stamped_twice, stamped_still, poll_still, boot_stamps, run_stamps}
 use Rattle.mote_laws.specs.Laws.{first_node}
 use Rattle.mote_laws.specs.Stamps.{TurnsStamp, packets_of, PacketsCountUp, TurnsNeverGoBack}
 use Rattle.mote_laws.proofs.EachTurn.{AreTurnSteps, runs_keep, net_turn_holds}

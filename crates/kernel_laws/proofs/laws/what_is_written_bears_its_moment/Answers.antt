@@ -1,4 +1,4 @@
-use Rattle.kernel_laws.proofs.StampedCalls.{boot_stamps, calls_stamp, run_stamps}
+use Rattle.kernel_laws.proofs.Stamps.{boot_stamps, calls_stamp, run_stamps}
 use Rattle.kernel_laws.proofs.laws.what_is_written_bears_its_moment.Goals as goal
 
 pub returns-clause-within : goal.returns-clause-within
