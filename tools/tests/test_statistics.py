@@ -97,7 +97,7 @@ class Estimates(unittest.TestCase):
         skewed = [1.0, 1.0, 0.99, 1.0, 1.0, 0.98, 1.0, 0.8, 1.0, 1.0]
         for values, is_said in (skewed, True), (skewed * 3, False), ([0.5, 0.6, 0.2, 0.1], False), (
                 [0.97, 0.98, 0.99, 1.0], False), ([1.0, 1.0, 0.0, 1.0] * 4, False):
-            rows = [{**row(1, seed, value), 'ratio': value} for seed, value in enumerate(values)]
+            rows: list[Row] = [{**row(1, seed, value), 'ratio': value} for seed, value in enumerate(values)]
             shown = shown_of(rows, Wish('ratio', 'period', show='mean'))
             line = '1 mean near 0 or 1 of fewer than 30 skewed runs'
             self.assertEqual(any(line in it for it in remarks(shown, Wish('ratio', 'period', show='mean'))), is_said)
@@ -430,15 +430,21 @@ class Command(unittest.TestCase):
         labels = re.findall(r'>([0-9.]+)</text>', (self.folder / 'a.svg').read_text())
         self.assertTrue({'0.1', '0.2', '0.5'} <= set(labels), labels)
 
-    def test_the_legend_is_beyond_the_axes(self) -> None:
+    def test_the_legend_is_above_the_axes_and_all_words_are_within_the_picture(self) -> None:
         interpreter_with(self, 'matplotlib')
-        self.plot('--measure', 'sent', '--against', 'period', '--by', 'density', '--show', 'mean', '-o', 'a.svg')
+        self.plot('--measure', 'sent', '--against', 'period', '--by', 'density', '--show', 'mean', '--threshold', '20',
+                  '-o', 'a.svg')
         picture = (self.folder / 'a.svg').read_text()
-        right = max(float(it) for it in re.findall(r'<use xlink:href="#\w+" x="([0-9.]+)" y="[0-9.]+" style="stroke',
-                                                   picture.partition('legend_1')[0]))
-        legend = re.search(r'translate\(([0-9.]+) [0-9.]+\)">density thin<|x="([0-9.]+)"[^>]*>density thin<', picture)
-        assert legend
-        self.assertGreater(float(legend[1] or legend[2]), right)
+        marks = [float(it) for it in re.findall(r'<use xlink:href="#\w+" x="[0-9.]+" y="([0-9.]+)" style="stroke',
+                                                picture.partition('legend_1')[0])]
+        words = re.findall(r'(?:x="([0-9.-]+)" y="([0-9.-]+)"|translate\(([0-9.-]+) ([0-9.-]+)\))[^>]*>([^<]+)</text>',
+                           picture)
+        places = {text: (float(x or other_x), float(y or other_y)) for x, y, other_x, other_y, text in words}
+        self.assertLess(places['density thin'][1], min(marks))
+        # (it has 460.8 by 302.4 points)
+        self.assertTrue(any(text.startswith('mean, and intervals') for text in places))
+        self.assertTrue(all(0 <= x <= 460.8 and 0 <= y <= 302.4 for x, y in places.values()), places)
+        self.assertLess(places["sent against period, over seed: means with intervals of 95 % by Student's t"][0], 10)
 
     def test_the_origin_of_a_picture(self) -> None:
         interpreter_with(self, 'matplotlib')

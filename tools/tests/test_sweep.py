@@ -4,6 +4,7 @@ from __future__ import annotations
 import contextlib
 import csv
 import gc
+import io
 import os
 import signal
 import sqlite3
@@ -11,6 +12,7 @@ import subprocess
 import sys
 import tempfile
 import time
+import tracemalloc
 import unittest
 from collections.abc import Callable, Iterator
 from pathlib import Path
@@ -29,7 +31,7 @@ from motesim.experiments.results import CsvFile, SqliteFile, cell, read_results
 from motesim.runner.run import Run
 from motesim.scenario import Scenario
 from motesim.judge.sentences import names_of
-from motesim.experiments.sweep import Sweeper
+from motesim.experiments.sweep import Sweeper, said
 from motesim.experiments.asked import sweep_of, values_of
 from skips import interpreter_with, need_program
 from stub import write_stub
@@ -321,7 +323,7 @@ class SweepTest(Bed):
             plan = Plan.read(self.folder / 'net.plan.toml')
             sweeper = Sweeper(sweep_of(plan, ['name=a,' + name], ['prints'], seconds), self.folder / (name + '.csv'))
             self.addCleanup(sweeper.file.close)
-            return run_job(next(sweeper.jobs([plan.with_given({'name': name})]))).fault
+            return run_job(next(sweeper.jobs([1]))).fault
 
     def test_the_limit_of_a_run_is_processor_time(self) -> None:
         self.assertEqual(self.fault_of_one('burn', 0.5, 10_000), 'no answer in 0.5 seconds of processor time')
@@ -348,7 +350,7 @@ class SweepTest(Bed):
             plan = Plan.read(self.folder / 'net.plan.toml')
             sweeper = Sweeper(sweep_of(plan, ['period=3'], ['python: mine.py:lines'], None), self.folder / 'a.csv')
             self.addCleanup(sweeper.file.close)
-            job = next(sweeper.jobs([plan.with_given({'period': 3})]))
+            job = next(sweeper.jobs([0]))
             result = run_job(job._replace(work=job.work._replace(folder='/nowhere')))
         self.assertEqual((result.measures, result.fault), ({'lines': 15}, ''))
 
@@ -424,8 +426,40 @@ class SweepTest(Bed):
             sweeper = Sweeper(sweep_of(plan, ['period=3'], ['prints'], None), self.folder / 'b.csv')
             self.addCleanup(sweeper.file.close)
             gc.enable()
-            run_job(next(sweeper.jobs([plan.with_given({'period': 3})])))
+            run_job(next(sweeper.jobs([0])))
         self.assertTrue(gc.isenabled())
+
+    def test_no_row_is_kept_in_memory(self) -> None:
+        """Each further run needs less than 100 bytes; a row kept as a dictionary needs more than 1,000."""
+        def results(jobs: Iterator[Job], processes: int, seconds: float) -> Iterator[Result]:
+            return (Result(job.place, {'prints': job.place}, '%016x' % job.place, '', '') for job in jobs)
+
+        peaks = {}
+        for kind in 'csv', 'sqlite':
+            for count in 200, 4_200:
+                with mock.patch.dict(os.environ, MOTESIM=str(self.stub)), mock.patch(
+                        'motesim.experiments.sweep.run_here', results), contextlib.redirect_stdout(io.StringIO()):
+                    asked = sweep_of(Plan.read(self.folder / 'net.plan.toml'), ['period=1..%d' % count], ['prints'], 9)
+                    sweeper = Sweeper(asked, self.folder / ('many%d.%s' % (count, kind)))
+                    gc.collect()
+                    tracemalloc.start()
+                    sweeper.keep(False, False)
+                    self.assertEqual((sweeper.run(1, None), said(sweeper, count)), (count, 0))
+                    peaks[count] = tracemalloc.get_traced_memory()[1]
+                    tracemalloc.stop()
+                    sweeper.file.close()
+            self.assertLess(peaks[4_200] - peaks[200], 100 * 4_000, kind)
+            rows = read_results(self.folder / ('many4200.%s' % kind))[1]
+            self.assertEqual([row['period'] for row in rows], list(range(1, 4_201)))
+
+    def test_rows_of_other_values_stay_behind_those_of_the_sweep(self) -> None:
+        for name in 'net.csv', 'net.sqlite':
+            words = '--vary', 'motes=2', '--measure', 'prints', '-o', name
+            for periods in '5,3,1', '4,3,2':
+                self.sweep('--vary', 'period=' + periods, *words)
+            found = [row['period'] for row in read_results(self.folder / name)[1]]
+            self.assertEqual(found, [4, 3, 2, 5, 1], name)
+            self.assertIn('3 runs, 0 of them now', self.sweep('--vary', 'period=1,3,5', *words).stdout)
 
     def test_two_sweeps_do_not_write_one_file(self) -> None:
         kinds: list[tuple[type[CsvFile] | type[SqliteFile], str]] = [(CsvFile, 'both.csv'), (SqliteFile,
@@ -434,7 +468,7 @@ class SweepTest(Bed):
             file = kind(self.folder / name, ['a'])
             with self.assertRaisesRegex(Fault, 'another sweep'):
                 kind(self.folder / name, ['a'])
-            file.replace([{'a': 1}])
+            file.keep([file.add({'a': 1})])
             with self.assertRaisesRegex(Fault, 'another sweep'):
                 kind(self.folder / name, ['a'])
             file.close()

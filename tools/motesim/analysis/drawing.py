@@ -22,6 +22,7 @@ MOST_TICKS = 12
 SIZE = 16.256, 10.668
 LEAST_SIDE, MOST_SIDE, INCH = 3, 100, 2.54
 POINTS = 72
+LEGEND_POINTS = 9
 # Colours that readers with colour blindness can distinguish (Okabe and Ito); lines differ by their marks too.
 COLOURS = ['#0072b2', '#d55e00', '#009e73', '#cc79a7', '#e69f00', '#56b4e9', '#000000']
 MARKS = ['o', 's', '^', 'D', 'v', 'P', 'X']
@@ -61,16 +62,15 @@ def _figure(pyplot: Any, wish: Wish) -> tuple[Any, Any]:
     return figure, axes
 
 
-def _words_around(figure: Any, axes: Any, wish: Wish, title: str, footer: str) -> None:
+def _words_around(figure: Any, wish: Wish, title: str, footer: str) -> None:
     """The title and the footer."""
     head = title if wish.title is None else wish.title
     if head:
-        axes.set_title(_folded(figure, head, 11 if wish.title else 9), loc='left', fontsize=11 if wish.title else 9)
+        points = 11 if wish.title else 9
+        figure.suptitle(_folded(figure, head, points), x=0.01, ha='left', fontsize=points)
     foot = footer if wish.footer is None else wish.footer
     if foot:
-        axes.annotate(_folded(figure, foot, 7), (1, 0), (0, -34), 'axes fraction', 'offset points', ha='right',
-                      va='top',
-                      fontsize=7, color='#555555')
+        figure.supxlabel(_folded(figure, foot, 7), x=0.99, ha='right', fontsize=7, color='#555555')
 
 
 def _folded(figure: Any, words: str, points: int) -> str:
@@ -231,7 +231,7 @@ def draw(shown: Shown, wish: Wish, path: Path) -> None:
         _draw_heat(figure, axes, shown, wish)
     else:
         _draw_curves(axes, shown, wish)
-    _words_around(figure, axes, wish, heading(shown, wish), _note(shown, wish))
+    _words_around(figure, wish, heading(shown, wish), _note(shown, wish))
     _save(figure, pyplot, path)
 
 
@@ -262,8 +262,16 @@ def _draw_curves(axes: Any, shown: Shown, wish: Wish) -> None:
     axes.grid(True, color='#dddddd', linewidth=0.6)
     axes.spines[['top', 'right']].set_visible(False)
     if wish.by:
-        # (outside, since inside it would hide bars)
-        axes.legend(frameon=False, loc='upper left', bbox_to_anchor=(1.01, 1.0), borderaxespad=0.0)
+        _legend(axes)
+
+
+def _legend(axes: Any) -> None:
+    """The legend, above the axes: in them it would hide bars."""
+    labels = axes.get_legend_handles_labels()[1]
+    width = axes.figure.get_figwidth() * POINTS * 0.85
+    columns = max(1, int(width / (LEGEND_POINTS * 0.6 * max(map(len, labels)) + 42)))
+    axes.legend(frameon=False, loc='lower left', bbox_to_anchor=(0.0, 1.0), borderaxespad=0.0, fontsize=LEGEND_POINTS,
+                ncols=min(columns, len(labels)), handlelength=2.4, columnspacing=1.4)
 
 
 def _draw_threshold(axes: Any, shown: Shown, wish: Wish) -> None:
@@ -299,7 +307,7 @@ def draw_differences(found: Sequence[Difference], wish: Wish, words: str, notes:
     _scale(axes, places, wish, is_scale)
     axes.set_xlabel(wish.x or wish.against)
     axes.set_ylabel(wish.y or 'difference of %s' % wish.measure)
-    _words_around(figure, axes, wish, words, '\n'.join(notes))
+    _words_around(figure, wish, words, '\n'.join(notes))
     axes.grid(True, color='#dddddd', linewidth=0.6)
     axes.spines[['top', 'right']].set_visible(False)
     _save(figure, pyplot, path)

@@ -4,6 +4,7 @@ A row is kept as soon as it exists. Values are texts in CSV; a number is one tha
 """
 from __future__ import annotations
 
+import contextlib
 import csv
 import fcntl
 import io
@@ -11,7 +12,8 @@ import os
 import re
 import sqlite3
 import time
-from collections.abc import Iterable, Mapping, Sequence
+from array import array
+from collections.abc import Generator, Iterable, Iterator, Mapping, Sequence
 from pathlib import Path
 from typing import IO
 
@@ -22,6 +24,8 @@ from motesim.experiments.measures import Cell
 Row = dict[str, Cell]
 SQLITE = ('.sqlite', '.sqlite3', '.db')
 NUMBER = re.compile(r'0|-?[1-9][0-9]*')
+# How many bits of a spot of CSV have the length of a row, and how much of a file is read at a time.
+LENGTH, PIECE = 24, 1 << 16
 # How long rows of SQLite wait at most until they are kept.
 SECONDS_OPEN = 0.5
 REAL = re.compile(r'-?[0-9]+(\.[0-9]+)?(e[-+][0-9]+)?')
@@ -47,41 +51,75 @@ def line_of(values: Iterable[Cell]) -> str:
 
 
 class CsvFile:
-    """Rows in a file of CSV. Each is written as a whole; what a broken end left of a last line is dropped."""
+    """Rows in a file of CSV. Each is written as a whole; what a broken end left of a last line is dropped.
+
+    A row is known by its spot: its first byte and its length, in one number. No row is kept in memory.
+    """
 
     def __init__(self, path: Path, columns: Sequence[str]) -> None:
         self.path, self.columns = path, list(columns)
         self.file = _locked(path)
-        if path.stat().st_size == 0:
+        self.size = path.stat().st_size
+        if self.size == 0:
             self._append(line_of(self.columns))
         else:
             self._drop_broken_end()
-        self.found, rows = read_csv(path)
-        self.rows: list[Row] = rows
+        self.found = columns_of_csv(path)
 
-    def _append(self, text: str) -> None:
+    def _append(self, text: str) -> int:
+        """Writes a text at the end; returns its spot."""
+        data = text.encode()
         try:
-            self.file.write(text.encode())
+            self.file.write(data)
             self.file.flush()
         except OSError as fault:
             raise Fault('%s: %s' % (self.path, fault.strerror)) from None
+        self.size += len(data)
+        return spot_of(self.size - len(data), self.size)
 
     def _drop_broken_end(self) -> None:
-        data = self.path.read_bytes()
-        if not data.endswith(b'\n'):
-            os.ftruncate(self.file.fileno(), data.rfind(b'\n') + 1)
-            if b'\n' not in data:
+        with open(self.path, 'rb') as file:
+            at, end = self.size, b''
+            while at and b'\n' not in end:
+                begin = max(0, at - PIECE)
+                file.seek(begin)
+                end, at = file.read(at - begin), begin
+        kept = at + end.rfind(b'\n') + 1
+        if kept < self.size:
+            os.ftruncate(self.file.fileno(), kept)
+            self.size = kept
+            if not kept:
                 self._append(line_of(self.columns))
 
-    def add(self, row: Mapping[str, Cell]) -> None:
-        self._append(line_of(row.get(name) for name in self.columns))
+    def add(self, row: Mapping[str, Cell]) -> int:
+        """Adds a row; returns its spot."""
+        return self._append(line_of(row.get(name) for name in self.columns))
 
-    def replace(self, rows: Sequence[Mapping[str, Cell]]) -> None:
-        """Replaces all rows by these."""
-        text = line_of(self.columns) + ''.join(line_of(row.get(name) for name in self.columns) for row in rows)
-        write_whole(self.path, [text.encode()])
-        old, self.file = self.file, _locked(self.path)
+    def rows(self) -> Iterator[tuple[int, Row]]:
+        """The rows with their spots, in the order of the file."""
+        return rows_of_csv(self.path)
+
+    def keep(self, spots: Iterable[int], is_last: bool = False) -> array[int]:
+        """Keeps only the rows of these spots, in this order; returns their new spots."""
+        head = line_of(self.columns).encode()
+        made, at = array('Q'), len(head)
+
+        def lines() -> Iterator[bytes]:
+            nonlocal at
+            yield head
+            with open(self.path, 'rb') as file:
+                for spot in spots:
+                    file.seek(spot >> LENGTH)
+                    text = file.read(spot & (1 << LENGTH) - 1).decode('utf-8')
+                    line = line_of(map(cell, next(csv.reader(io.StringIO(text, newline=''), strict=True)))).encode()
+                    made.append(spot_of(at, at + len(line)))
+                    at += len(line)
+                    yield line
+
+        write_whole(self.path, lines())
+        old, self.file, self.size = self.file, _locked(self.path), at
         old.close()
+        return made
 
     def close(self) -> None:
         self.file.close()
@@ -92,46 +130,61 @@ def quoted(name: str) -> str:
 
 
 class SqliteFile:
-    """Rows in the table `runs` of an SQLite file."""
+    """Rows in the table `runs` of an SQLite file. The spot of a row is its number there."""
 
     def __init__(self, path: Path, columns: Sequence[str]) -> None:
         self.path, self.columns = path, list(columns)
         self.lock, self.begun = _locked(path), 0.0
         try:
             self.base = sqlite3.connect(path, isolation_level=None)
-            names = ', '.join(map(quoted, self.columns))
-            self.base.execute('create table if not exists runs (%s)' % names)
-            self.found, self.rows = _read_table(self.base)
+            self.base.execute('create table if not exists runs (%s)' % self._names())
+            self.found = [it[0] for it in self.base.execute('select * from runs').description]
         except sqlite3.Error as fault:
             raise Fault('%s: %s' % (path, fault)) from None
 
-    def _insert(self, row: Mapping[str, Cell]) -> None:
-        marks = ', '.join('?' * len(self.columns))
-        self.base.execute('insert into runs values (%s)' % marks, [row.get(name) for name in self.columns])
+    def _names(self) -> str:
+        return ', '.join(map(quoted, self.columns))
 
-    def add(self, row: Mapping[str, Cell]) -> None:
+    def add(self, row: Mapping[str, Cell]) -> int:
         """Adds a row. Rows are kept together, some times a second: to keep each would last longer than a short run."""
         now = time.monotonic()
         try:
             if not self.base.in_transaction:
                 self.base.execute('begin')
                 self.begun = now
-            self._insert(row)
+            marks = ', '.join('?' * len(self.columns))
+            done = self.base.execute('insert into runs values (%s)' % marks, [row.get(name) for name in self.columns])
             if now > self.begun + SECONDS_OPEN:
                 self.base.execute('commit')
         except sqlite3.Error as fault:
             raise Fault('%s: %s' % (self.path, fault)) from None
+        return done.lastrowid or 0
 
-    def replace(self, rows: Sequence[Mapping[str, Cell]]) -> None:
+    def rows(self) -> Iterator[tuple[int, Row]]:
+        """The rows with their spots, in the order of the file."""
+        found = self.base.execute('select rowid, * from runs order by rowid')
+        names = [it[0] for it in found.description][1:]
+        return ((row[0], dict(zip(names, row[1:]))) for row in found)
+
+    def keep(self, spots: Iterable[int], is_last: bool = False) -> array[int]:
+        """Keeps only the rows of these spots, in this order; returns their new spots. `is_last` packs the file."""
+        made = array('Q')
         try:
             self._commit()
             self.base.execute('begin')
-            self.base.execute('delete from runs')
-            for row in rows:
-                self._insert(row)
+            self.base.execute('create table kept (%s)' % self._names())
+            for spot in spots:
+                done = self.base.execute('insert into kept select runs.* from runs join (select ? as spot) on '
+                                         'runs.rowid = spot', [spot])
+                made.append(done.lastrowid or 0)
+            self.base.execute('drop table runs')
+            self.base.execute('alter table kept rename to runs')
             self.base.execute('commit')
+            if is_last:
+                self.base.execute('vacuum')
         except sqlite3.Error as fault:
             raise Fault('%s: %s' % (self.path, fault)) from None
+        return made
 
     def _commit(self) -> None:
         if self.base.in_transaction:
@@ -167,24 +220,55 @@ def _read_table(base: sqlite3.Connection) -> tuple[list[str], list[Row]]:
     return names, [dict(zip(names, row)) for row in found]
 
 
-def read_csv(path: Path) -> tuple[list[str], list[Row]]:
-    """The columns and the rows of a file of CSV."""
+def spot_of(begin: int, end: int) -> int:
+    """The spot of a row of CSV."""
+    if end - begin >= 1 << LENGTH:
+        raise Fault('a row of results is longer than %d bytes' % (1 << LENGTH))
+    return begin << LENGTH | end - begin
+
+
+def _records(path: Path) -> Generator[tuple[int, int, list[str]], None, None]:
+    """The records of a file of CSV: the first byte of each, the byte behind it, and its values."""
+    at = 0
+
+    def lines(file: IO[bytes]) -> Iterator[str]:
+        nonlocal at
+        for line in file:
+            at += len(line)
+            yield line.decode('utf-8')
+
     try:
-        with open(path, encoding='utf-8', newline='') as file:
-            reader = csv.reader(file, strict=True)
-            columns: list[str] = next(reader, [])
-            rows: list[Row] = []
-            for values in reader:
-                if values == columns:
-                    # (the first line of another file that was added to this one)
-                    continue
-                if len(values) != len(columns):
-                    raise Fault('%s, line %d: %d values instead of %d' % (
-                        path, reader.line_num, len(values), len(columns)))
-                rows.append({name: cell(value) for name, value in zip(columns, values)})
-            return columns, rows
+        with open(path, 'rb') as file:
+            begin = 0
+            # (the reader asks for no more lines than the record has)
+            for values in csv.reader(lines(file), strict=True):
+                yield begin, at, values
+                begin = at
     except (csv.Error, UnicodeDecodeError) as fault:
         raise Fault('%s is no CSV: %s' % (path, fault)) from None
+
+
+def columns_of_csv(path: Path) -> list[str]:
+    """The columns of a file of CSV."""
+    with contextlib.closing(_records(path)) as records:
+        return next((values for _, _, values in records), [])
+
+
+def rows_of_csv(path: Path) -> Iterator[tuple[int, Row]]:
+    """The rows of a file of CSV with their spots; a line that is the first one again is none."""
+    columns: list[str] = []
+    for number, (begin, end, values) in enumerate(_records(path), 1):
+        if number == 1:
+            columns = values
+        elif values != columns:
+            if len(values) != len(columns):
+                raise Fault('%s, row %d: %d values instead of %d' % (path, number, len(values), len(columns)))
+            yield spot_of(begin, end), {name: cell(value) for name, value in zip(columns, values)}
+
+
+def read_csv(path: Path) -> tuple[list[str], list[Row]]:
+    """The columns and the rows of a file of CSV."""
+    return columns_of_csv(path), [row for _, row in rows_of_csv(path)]
 
 
 def is_sqlite(path: Path) -> bool:

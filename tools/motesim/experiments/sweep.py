@@ -4,12 +4,13 @@ from __future__ import annotations
 import argparse
 import contextlib
 import hashlib
+import itertools
 import subprocess
 import sys
+from array import array
 from collections import Counter
-from collections.abc import Iterator, Mapping, Sequence
+from collections.abc import Iterable, Iterator, Mapping
 from pathlib import Path
-from typing import Any
 
 from motesim.analysis.points import is_seed
 from motesim.experiments import packages
@@ -25,7 +26,8 @@ from motesim.experiments.progress import Progress
 from motesim.experiments.runs import Stopped, longest, run_by_dask, run_here
 from motesim.runner.versions import kit_version, program_version
 
-RowKey = tuple[str, ...]
+# The place of a row with values that the sweep doesn't have.
+OTHER = -1
 
 
 class Sweeper:
@@ -43,12 +45,25 @@ class Sweeper:
             'measures_sha256': hashlib.sha256(repr((sweep.measures, sorted(self.sources.items()))).encode()
                                               ).hexdigest()[:DIGITS]}
         self.path = path
+        # (of each parameter that varies the place of each value)
+        self.places = {name: {text_of_value(value): place for place, value in enumerate(values)}
+                       for name, values in sweep.vary.items()}
+        # The spot of each run's row in the file, or 0 for a missing one, and those of rows with other values.
+        self.spots, self.others = array('Q', bytes(8 * sweep.runs())), array('Q')
         self.file: CsvFile | SqliteFile = open_results(path, self.columns)
 
-    def key(self, given: Mapping[str, Any]) -> RowKey:
-        """The parameters in the form of a row."""
-        return tuple(text_of(given[name]) if type(given[name]) is not bool else text_of_value(given[name])
-                     for name in self.plan.parameters)
+    def place_of(self, row: Row) -> int | None:
+        """The place of a row in the order of the sweep; None for a row of other values."""
+        place = 0
+        for name, value in self.plan.parameters.items():
+            if name not in self.places and text_of(row[name]) != text_of_value(value):
+                return None
+        for name, places in self.places.items():
+            at = places.get(text_of(row[name]))
+            if at is None:
+                return None
+            place = place * len(places) + at
+        return place
 
     def plan_digest(self, given: Mapping[str, Value]) -> str:
         return self.plan.digest(given)[:DIGITS]
@@ -67,30 +82,49 @@ class Sweeper:
 
     def keep(self, is_renewed: bool, retries: bool) -> None:
         """Looks through the rows that are there. What others made is in the way, or is dropped."""
-        changes = [self.changed(row) for row in self.file.rows]
-        kept = [row for row, changed in zip(self.file.rows, changes) if not changed]
-        others = Counter(words for changed in changes for words in changed)
+        count = unchanged = 0
+        others: Counter[str] = Counter()
+        spots, places = array('Q'), array('q')
+        for spot, row in self.file.rows():
+            count += 1
+            changes = self.changed(row)
+            others.update(changes)
+            if changes:
+                continue
+            unchanged += 1
+            # (a run for which the machine had no time says nothing)
+            if str(row['fault'] or '').startswith(TOO_BUSY) or retries and (row['fault'] or lacks_measure(row)):
+                continue
+            place = self.place_of(row)
+            spots.append(spot)
+            places.append(OTHER if place is None else place)
         if others and not is_renewed:
             raise Fault('%s has %d rows from before a change of %s. --renew runs them again, and -o names another '
-                        'file' % (self.path, len(changes) - len(kept), ', and of '.join(others)))
-        # (a run for which the machine had no time says nothing)
-        kept = [row for row in kept if not str(row['fault'] or '').startswith(TOO_BUSY)]
-        if retries:
-            kept = [row for row in kept if not row['fault'] and not lacks_measure(row)]
-        if len(kept) < len(self.file.rows):
-            self.file.replace(kept)
-        self.rows = {self.key(row): row for row in kept}
+                        'file' % (self.path, count - unchanged, ', and of '.join(others)))
+        if len(spots) < count:
+            spots = self.file.keep(spots)
+        for spot, place in zip(spots, places):
+            if place == OTHER:
+                self.others.append(spot)
+            else:
+                self.spots[place] = spot
 
-    def missing(self) -> list[dict[str, Value]]:
-        return [given for given in self.sweep.given() if self.key(given) not in self.rows]
+    def left(self) -> int:
+        """The number of missing runs."""
+        return self.spots.count(0)
 
-    def jobs(self, missing: Sequence[Mapping[str, Value]]) -> Iterator[Job]:
-        """The missing runs; each is made when it begins."""
+    def missing(self) -> Iterator[int]:
+        """The places of the missing runs, as far as each is missing once its turn comes."""
+        return (place for place, spot in enumerate(self.spots) if not spot)
+
+    def jobs(self, places: Iterable[int]) -> Iterator[Job]:
+        """The runs of these places; each is made when it begins."""
         work = Work(self.plan.name, self.plan.text, str(self.plan.files.folder.resolve()), tuple(self.sweep.measures),
                     tuple(self.sources.items()), str(self.program), str(self.made['program_sha256']),
                     self.sweep.seconds, self.sweep.most_bytes)
-        return (Job(place, tuple(given.items()), self.files(given), work, self.is_first(given))
-                for place, given in enumerate(missing))
+        for place in places:
+            given = self.sweep.run_at(place)
+            yield Job(place, tuple(given.items()), self.files(given), work, self.is_first(given))
 
     def is_first(self, given: Mapping[str, Value]) -> bool:
         """Returns whether a run is the first of its treatment: the others differ from it only in seeds."""
@@ -113,32 +147,38 @@ class Sweeper:
 
     def run(self, processes: int, address: str | None) -> int:
         """Makes the missing runs; returns how many."""
-        missing = self.missing()
-        jobs = self.jobs(missing)
-        progress = Progress(len(missing))
-        if address and missing:
-            results = run_by_dask(jobs, len(missing), address)
+        count = self.left()
+        jobs = self.jobs(self.missing())
+        progress = Progress(count)
+        if address and count:
+            results = run_by_dask(jobs, count, address)
         else:
             most = longest(self.sweep.seconds, len(self.sweep.measures))
-            results = run_here(jobs, min(processes, len(missing)) or 1, most)
+            results = run_here(jobs, min(processes, count) or 1, most)
         try:
             for result in results:
-                given = missing[result.place]
-                row = self.row(given, result)
-                self.file.add(row)
-                self.rows[self.key(given)] = row
+                self.spots[result.place] = self.file.add(self.row(self.sweep.run_at(result.place), result))
                 progress.add(bool(result.fault))
         finally:
             progress.end()
-        if missing:
-            self.file.replace(self.in_order())
-        return len(missing)
+        if count:
+            self.in_order()
+        return count
 
-    def in_order(self) -> list[Row]:
-        """The rows in the order of the sweep, and then others."""
-        rows = dict(self.rows)
-        found = [rows.pop(key) for key in map(self.key, self.sweep.given()) if key in rows]
-        return found + list(rows.values())
+    def in_order(self) -> None:
+        """Writes the rows in the order of the sweep, and others behind them."""
+        spots = self.file.keep(itertools.chain(filter(None, self.spots), self.others), True)
+        first = len(self.spots) - self.left()
+        left = iter(spots[:first])
+        self.spots = array('Q', (next(left) if spot else 0 for spot in self.spots))
+        self.others = spots[first:]
+
+    def rows(self) -> Iterator[Row]:
+        """The rows of the sweep, in the order of the file."""
+        for spot, row in self.file.rows():
+            place = self.place_of(row)
+            if place is not None and self.spots[place] == spot:
+                yield row
 
 
 def lacks_measure(row: Row) -> bool:
@@ -152,20 +192,25 @@ def default_output(plan: str) -> Path:
 
 def said(sweeper: Sweeper, ran: int) -> int:
     """Reports the contents of the file; returns the status."""
-    rows = [sweeper.rows[key] for key in map(sweeper.key, sweeper.sweep.given()) if key in sweeper.rows]
-    faults = [row for row in rows if row['fault']]
-    print('%s: %d runs, %d of them now, %d with a fault' % (sweeper.path, len(rows), ran, len(faults)))
-    if faults:
-        print('the first fault: %s' % faults[0]['fault'])
-    warned = [row for row in rows if WARNING in str(row['note'] or '')]
-    if warned:
-        varied = ', '.join('%s = %s' % (name, text_of(warned[0][name])) for name in sweeper.sweep.vary)
+    counts: Counter[str] = Counter()
+    firsts: dict[str, Row] = {}
+    for row in sweeper.rows():
+        kinds = {'row': True, 'fault': bool(row['fault']), 'warned': WARNING in str(row['note'] or ''),
+                 'noted': lacks_measure(row)}
+        for kind in (kind for kind, is_so in kinds.items() if is_so):
+            counts[kind] += 1
+            firsts.setdefault(kind, row)
+    print('%s: %d runs, %d of them now, %d with a fault' % (sweeper.path, counts['row'], ran, counts['fault']))
+    if 'fault' in firsts:
+        print('the first fault: %s' % firsts['fault']['fault'])
+    if 'warned' in firsts:
+        first = firsts['warned']
+        varied = ', '.join('%s = %s' % (name, text_of(first[name])) for name in sweeper.sweep.vary)
         print('sweep: %d runs have a warning in the column note; the first (%s): %s' % (
-            len(warned), varied, str(warned[0]['note']).partition(WARNING)[2]), file=sys.stderr)
-    noted = [row for row in rows if lacks_measure(row)]
-    if noted:
-        print('%d runs lack a measure; the first: %s' % (len(noted), noted[0]['note']))
-    return 1 if faults or noted else 0
+            counts['warned'], varied, str(first['note']).partition(WARNING)[2]), file=sys.stderr)
+    if 'noted' in firsts:
+        print('%d runs lack a measure; the first: %s' % (counts['noted'], firsts['noted']['note']))
+    return 1 if counts['fault'] or counts['noted'] else 0
 
 
 def status_of(asked: argparse.Namespace) -> int:
@@ -183,8 +228,7 @@ def status_of(asked: argparse.Namespace) -> int:
     try:
         status = said(sweeper, sweeper.run(asked.jobs, asked.dask))
     except Stopped:
-        missing = len(sweeper.missing())
-        print('sweep: stopped with %d runs missing; the same command continues' % missing, file=sys.stderr)
+        print('sweep: stopped with %d runs missing; the same command continues' % sweeper.left(), file=sys.stderr)
         return INTERRUPTED
     finally:
         sweeper.file.close()
