@@ -44,15 +44,20 @@ class Case:
 
     def check_files(self) -> None:
         """Fails unless there is something to run and something to expect of it, each once."""
-        assert not self.path.is_file(), 'the file belongs to no case'
-        assert self.files.keys() & set(INPUTS), 'there is nothing to run'
-        assert not {'.toml', '.make'} <= self.files.keys(), 'there are both .toml and .make'
-        assert not {'.args', '.runs'} <= self.files.keys(), 'there are both .args and .runs'
-        has_expectation = bool(self.files.keys() & set(EXPECTED))
-        if 'table' in self.made:
-            assert self.made['table']() and not has_expectation, 'a table has to tell all that is expected'
-        else:
-            assert has_expectation or 'expected' in self.made, 'there is no expectation'
+        kinds = self.files.keys()
+        has_expectation = bool(kinds & set(EXPECTED))
+        faults = {
+            'the file belongs to no case': self.path.is_file(),
+            'there is nothing to run': not kinds & set(INPUTS),
+            'there are both .toml and .make': {'.toml', '.make'} <= kinds,
+            'there are both .args and .runs': {'.args', '.runs'} <= kinds,
+            'there is no expectation': not has_expectation and not self.made.keys() & {'expected', 'table'},
+            'a table has to tell all that is expected':
+                'table' in self.made and (has_expectation or not self.made['table']()),
+        }
+        for fault, is_so in faults.items():
+            if is_so:
+                pytest.fail(fault, pytrace=False)
 
     def runs(self) -> list[list[str]]:
         """The arguments of each run."""

@@ -7,8 +7,6 @@ the solution has to meet the expectations, and what students begin with must not
 from __future__ import annotations
 
 import re
-from collections.abc import Callable
-from functools import cache
 from pathlib import Path
 
 import pytest
@@ -23,8 +21,9 @@ EXPECTED = '.expect.toml'
 LESSON = TOP / 'examples/lesson'
 
 
-def readings_of_those_below(run: Run) -> None:
-    """Each mote sends its own reading from 300 on, and one for each mote below it; no sentence can say so."""
+def check_readings(run: Run) -> None:
+    """Fails unless each mote sends its own reading from 300 on, and one for each mote below it. No sentence can say
+    so."""
     assert run.scenario
     judge = Judge(run.report, run.scenario)
     below = {mote.number: 1 for mote in run.report.motes}
@@ -33,10 +32,6 @@ def readings_of_those_below(run: Run) -> None:
         sends = [line for line in mote.lines if line.kind == 'send' and line.at >= 300]
         assert len(sends) == below[mote.number], 'mote %d sends another number of readings' % mote.number
         below[parents[-1]] += below[mote.number]
-
-
-# The checks of an example besides its sentences.
-MORE: dict[str, Callable[[Run], None]] = {'collection_tree': readings_of_those_below}
 
 
 def quotes_of(page: str) -> list[tuple[str, str]]:
@@ -48,19 +43,9 @@ def quotes_of(page: str) -> list[tuple[str, str]]:
             block = None if block else line
         elif block in ('```', '```toml') and name:
             quotes.append((name, line))
-        elif not block and re.search(r'[\w.]+\.toml', line):
-            name = re.findall(r'([\w.]+)\.toml', line)[-1]
+        elif not block and (names := re.findall(r'([\w.]+)\.toml', line)):
+            name = names[-1]
     return quotes
-
-
-@cache
-def quotes_by_example() -> dict[str, list[tuple[str, str]]]:
-    """The lines that pages quote of each example, each with its page."""
-    found: dict[str, list[tuple[str, str]]] = {}
-    for page in PAGES:
-        for name, line in quotes_of((TOP / page).read_text('utf-8')):
-            found.setdefault(name, []).append((page, line))
-    return found
 
 
 def check_quotes(scenario: str, report: Report, quotes: list[tuple[str, str]]) -> None:
@@ -87,12 +72,12 @@ def pytest_generate_tests(metafunc: pytest.Metafunc) -> None:
 
 def test_example(example: Path) -> None:
     check_sentences(example, beside(example))
-    quotes, more = quotes_by_example().get(example.stem, []), MORE.get(example.stem)
-    if quotes or more:
-        run = read_run(example)
-        check_quotes(example.read_text('utf-8'), run.report, quotes)
-        if more:
-            more(run)
+    quotes = [(page, line) for page in PAGES for name, line in quotes_of((TOP / page).read_text('utf-8'))
+              if name == example.stem]
+    if quotes:
+        check_quotes(example.read_text('utf-8'), read_run(example).report, quotes)
+    if example.stem == 'collection_tree':
+        check_readings(read_run(example))
 
 
 def test_task_of_the_lesson(task: Path) -> None:

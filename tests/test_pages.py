@@ -26,7 +26,8 @@ from motesim.runner.programs import TOP
 BLOCK = re.compile(r'^```(?P<info>.*)\n(?P<text>(?:.*\n)*?)```$(?:\n+```\n(?P<shown>(?:.*\n)*?)```$)?', re.M)
 SAVED = re.compile(r'(?:toml|mote|python) ([a-z_.]+[.](?:toml|mote|py))')
 RUN = '#!/bin/sh\nexec "$MOTESIM" "$@"\n'
-SECONDS = 300
+# The seconds after which the commands of a block are ended, and the status of `timeout` then.
+SECONDS, TIMED_OUT = 300, 124
 
 
 def blocks_of(page: str) -> list[re.Match[str]]:
@@ -46,6 +47,8 @@ def printed_by(commands: str, folder: Path, program: Path) -> str:
     done = subprocess.run(['timeout', str(SECONDS), 'bash', '-c', commands], cwd=folder, env=environment,
                           stdin=subprocess.DEVNULL, stdout=subprocess.PIPE, stderr=subprocess.STDOUT)
     text = done.stdout.decode('utf-8', 'backslashreplace')
+    if done.returncode == TIMED_OUT:
+        text += '\nno end in %d seconds' % SECONDS
     return text if text.endswith('\n') or not text else text + '\n'
 
 

@@ -3,7 +3,6 @@ from __future__ import annotations
 
 import ast
 import os
-import subprocess
 import sys
 from pathlib import Path
 from typing import NoReturn
@@ -18,18 +17,18 @@ from project.unit_tests import interpreter
 FLAGS = ['-qq', '--no-header', '--tb=short', '-rN', '-p', 'no:cacheprovider']
 
 
-def check(module: Path) -> int:
-    """Tests the program with a module of tests/, which describes the arguments, and returns the status."""
+def check(module: Path) -> NoReturn:
+    """Tests the program with a module of tests/, which describes the arguments: this process becomes pytest's."""
     words = words_of(ast.get_docstring(ast.parse(module.read_text('utf-8'))))
     take_program(words)
-    words.add_argument('names', nargs='*', metavar='NAME', help='what to test; without a name, all')
+    words.add_argument('names', nargs='*', metavar='NAME', help='what to test (all)')
+    words.epilog = 'Other options are those of pytest, each in one word: -x, -kWORD.'
     asked, others = words.parse_known_args()
     python = interpreter()
     parallel = ['-n', str(os.cpu_count()), '--dist', 'loadgroup'] if has('xdist', python) else []
-    done = subprocess.run([python, '-B', '-m', 'pytest', *FLAGS, *parallel, *others, module,
-                           *('--name=%s' % name for name in asked.names)],
-                          env={**os.environ, 'MOTESIM': program_of(asked.program)})
-    return min(done.returncode, 1)
+    pytest = [python, '-B', '-m', 'pytest', *FLAGS, *parallel, str(module), *others]
+    os.execve(python, [*pytest, *('--name=' + it for it in asked.names)],
+              {**os.environ, 'MOTESIM': program_of(asked.program)})
 
 
 def main(module: str) -> NoReturn:

@@ -8,6 +8,7 @@ from __future__ import annotations
 
 import contextlib
 import fcntl
+import functools
 import os
 import shutil
 import signal
@@ -34,6 +35,7 @@ LEVELS = {FIRST: 0, FAST: 2}
 # seconds until it is tried again.
 PARTS, FAILED, SECONDS_TO_RETRY = 'parts', 'fast.failed', 600
 COMPILING = 'no program is built yet: compiling one, without proving it; this needs about a minute'
+WORK = {FIRST: COMPILING, FAST: 'compiling the optimized program'}
 # The megabytes that compiling needs on the disk.
 MEGABYTES = 100
 DISK_IS_FULL = 'the disk is full: compiling the program needs %d megabytes in %s' % (MEGABYTES, PROGRAMS)
@@ -42,19 +44,19 @@ MOST_KEPT = 6
 
 
 @contextlib.contextmanager
-def locked(name: str, line: Line | None) -> Iterator[bool]:
-    """Locks the work, and yields whether it is locked. With a line, waits for a process that has the lock."""
+def locked(name: str, waits: bool) -> Iterator[bool]:
+    """Locks the work, and yields whether it is locked: if another process has the lock, waits for it, or doesn't."""
     PROGRAMS.mkdir(parents=True, exist_ok=True)
     with open(PROGRAMS / (name + '.lock'), 'w', encoding='ascii') as lock:
+        is_locked = True
         try:
             fcntl.flock(lock, fcntl.LOCK_EX | fcntl.LOCK_NB)
         except BlockingIOError:
-            if line is None:
-                yield False
-                return
-            line.say('another run is compiling the program; this one waits for it')
-            fcntl.flock(lock, fcntl.LOCK_EX)
-        yield True
+            is_locked = waits
+            if waits:
+                Line(sys.stderr).say('another run is compiling the program; this one waits for it')
+                fcntl.flock(lock, fcntl.LOCK_EX)
+        yield is_locked
 
 
 @contextlib.contextmanager
@@ -66,18 +68,16 @@ def room(name: str) -> Iterator[Path]:
         yield Path(folder)
 
 
-def waited_for(ran: subprocess.Popen[str], line: Line | None, began: float) -> str:
+def waited_for(ran: subprocess.Popen[str], work: str, began: float) -> str:
     """The messages of a command, once it has ended; until then a terminal shows the time so far."""
+    line = Line(sys.stderr)
     while True:
         try:
             said, _ = ran.communicate(timeout=1)
-        except subprocess.TimeoutExpired:
-            if line:
-                line.renew('%s (%d s so far)' % (COMPILING, time.time() - began))
-        else:
-            if line:
-                line.end()
+            line.end()
             return said
+        except subprocess.TimeoutExpired:
+            line.renew('%s (%d s so far)' % (work, time.time() - began))
 
 
 def check_disk() -> None:
@@ -94,13 +94,10 @@ def check_made(said: str | None) -> None:
                     'the program was not compiled, as these lines say:\n%s' % said.rstrip())
 
 
-def make(name: str, line: Line | None) -> None:
+def make(name: str) -> None:
     """Makes a program, and keeps it once it is whole."""
     folder, began = compiled_folder(), time.time()
-
-    def wait(ran: subprocess.Popen[str]) -> str:
-        return waited_for(ran, line, began)
-
+    wait = functools.partial(waited_for, work=WORK[name], began=began)
     check_disk()
     with room(name) as work:
         parts = folder / PARTS
@@ -133,13 +130,13 @@ def clear_others() -> None:
 def make_first() -> None:
     """Makes the first program of these sources, unless one is there."""
     line = Line(sys.stderr)
-    with locked(FIRST, line):
+    with locked(FIRST, waits=True):
         if not any(is_program(compiled_folder() / it) for it in LEVELS):
             if not line.is_terminal:
                 line.say(COMPILING)
             if kit.another():
                 line.say(str(kit.another()))
-            make(FIRST, line)
+            make(FIRST)
             clear_others()
 
 
@@ -152,10 +149,10 @@ def is_wanted() -> bool:
 
 def make_fast() -> None:
     """Makes the fast program of these sources, unless it is there or another process makes one."""
-    with locked(FAST, None) as is_ours:
+    with locked(FAST, waits=False) as is_ours:
         if is_ours and is_wanted():
             try:
-                make(FAST, None)
+                make(FAST)
             except Fault as fault:
                 with contextlib.suppress(OSError):
                     (compiled_folder() / FAILED).write_text('%s\n' % fault, 'utf-8')

@@ -7,6 +7,7 @@ learn why there is no report. With --help the options of ./run come below the pr
 """
 from __future__ import annotations
 
+import contextlib
 import os
 import shutil
 import stat
@@ -15,7 +16,7 @@ import sys
 from pathlib import Path
 from typing import NoReturn
 
-from motesim.faults import OF_ALL
+from motesim.faults import OF_ALL, Fault
 from motesim.runner.programs import NOT_PROVED, hold, is_compiled, is_program, program_of_sources
 from motesim.version import VERSION
 from project.asked import Asked, asked_by
@@ -35,50 +36,37 @@ FAILED, MISUSED = 1, 2
 
 def say(line: str) -> None:
     # (a file's name has its own bytes)
-    sys.stderr.buffer.write(os.fsencode('%s: %s\n' % (NAME, line)))
+    sys.stderr.buffer.write(os.fsencode(line + '\n'))
     sys.stderr.flush()
-
-
-def fail(line: str) -> NoReturn:
-    say(line)
-    sys.exit(FAILED)
 
 
 def can_be_read(file: str) -> bool:
     return os.access(file, os.R_OK) and not os.path.isdir(file)
 
 
-def is_pipe(number: int) -> bool:
-    try:
-        return stat.S_ISFIFO(os.fstat(number).st_mode)
-    except OSError:
-        return False
+def is_piped() -> bool:
+    """Returns whether standard output is a pipe, which may be closed."""
+    with contextlib.suppress(OSError):
+        return stat.S_ISFIFO(os.fstat(1).st_mode)
+    return False
 
 
-def is_refused(file: str) -> bool:
-    """Returns whether a scenario has an error itself, and not only the pipe of its report, as a closed one."""
+def has_error(file: str) -> bool:
+    """Returns whether a scenario has an error."""
     # (it is needed only after an error)
     from motesim.scenario.faults import find_fault
-    try:
+    with contextlib.suppress(OSError):
         return find_fault(Path(file).read_bytes()) is not None
-    except OSError:
-        return False
+    return False
 
 
 def say_more(file: str | None) -> None:
-    """Says on a terminal how to learn why there is no report."""
-    if not (file and os.isatty(2)):
-        return
-    if not can_be_read(file):
-        say('there is no file %s that can be read' % file)
-    elif not is_pipe(1) or is_refused(file):
-        say('tools/explain %s says more' % file)
-
-
-def say_version(is_unproved: bool) -> NoReturn:
-    """Says which version this is: that of the tree, or of the program without a proof."""
-    print('motesim %s, compiled without a proof' % VERSION if is_unproved else OF_ALL)
-    sys.exit(0)
+    """Says on a terminal how to learn why there is no report, unless the pipe of the report may be the reason."""
+    if file and os.isatty(2):
+        if not can_be_read(file):
+            say('%s: there is no file %s that can be read' % (NAME, file))
+        elif not is_piped() or has_error(file):
+            say('%s: tools/explain %s says more' % (NAME, file))
 
 
 def say_help_of_run() -> None:
@@ -87,40 +75,27 @@ def say_help_of_run() -> None:
     print(HELP_OF_RUN, file=sys.stdout if os.isatty(1) else sys.stderr)
 
 
-def say_help() -> NoReturn:
-    print(HELP.read_text('utf-8'), end='', flush=True)
-    say_help_of_run()
-    sys.exit(0)
-
-
-def check_words(asked: Asked) -> None:
+def check_arguments(asked: Asked) -> None:
     """Ends if `motesim` would refuse the arguments, or couldn't read the file."""
     if asked.refusal:
-        sys.stderr.buffer.write(os.fsencode("error: %s\n\nFor more information, try '--help'.\n" % asked.refusal))
+        say("error: %s\n\nFor more information, try '--help'." % asked.refusal)
         sys.exit(MISUSED)
     if asked.file and not can_be_read(asked.file):
-        say('read fault')
+        say('%s: read fault' % NAME)
         say_more(asked.file)
         sys.exit(FAILED)
-
-
-def named_program(name: str) -> Path:
-    """The program that the environment variable MOTESIM names."""
-    if not is_program(Path(name)):
-        fail('there is no program %s (the environment variable MOTESIM names it)' % name)
-    return Path(name).resolve()
 
 
 def new_program() -> Path:
     """The program once it is compiled."""
     if not shutil.which('rt'):
-        fail("the program isn't built, and compiling it needs the Rattle kit: there is no command rt here")
+        raise Fault("the program isn't built, and compiling it needs the Rattle kit: there is no command rt here")
     # (standard input is the program's)
     if attend(TOP / 'tools/compile', [NAME], subprocess.DEVNULL):
         sys.exit(FAILED)
     found = program_of_sources(may_be_proved=False)
     if found is None:
-        fail('a source has changed while the program was compiled: try again')
+        raise Fault('a source has changed while the program was compiled: try again')
     return found
 
 
@@ -128,28 +103,36 @@ def program_for(asked: Asked) -> Path:
     """The binary for the arguments: one that exists handles them itself."""
     named = os.environ.get('MOTESIM')
     if named and not asked.is_unproved:
-        return named_program(named)
+        if not is_program(Path(named)):
+            raise Fault('there is no program %s (the environment variable MOTESIM names it)' % named)
+        return Path(named).resolve()
     found = program_of_sources(may_be_proved=not asked.is_unproved)
     if found is None:
         if asked.wants_help:
-            say_help()
-        check_words(asked)
+            print(HELP.read_text('utf-8'), end='', flush=True)
+            say_help_of_run()
+            sys.exit(0)
+        check_arguments(asked)
         found = new_program()
     if is_compiled(found) and not asked.wants_help:
-        say(NOT_PROVED)
+        say('%s: %s' % (NAME, NOT_PROVED))
     hold(found)
     if found.name == FIRST and shutil.which('rt'):
         start_fast()
     return found
 
 
-def run_words(program: Path, asked: Asked) -> NoReturn:
-    """Runs the words, with the lines more of a terminal."""
+def run(program: Path, asked: Asked) -> NoReturn:
+    """Runs the program, with the lines more of a terminal."""
+    words = [NAME, *asked.words]
     if asked.file is None and not asked.wants_help and os.isatty(0):
-        say('waiting for a scenario on standard input, which ends with Ctrl-D (./run FILE reads a file)')
-    if not (asked.wants_help or (asked.file and os.isatty(2))):
-        os.execv(program, [NAME, *asked.words])
-    status = attend(program, [NAME, *asked.words])
+        say('%s: waiting for a scenario on standard input, which ends with Ctrl-D (./run FILE reads a file)' % NAME)
+    try:
+        if not (asked.wants_help or asked.file and os.isatty(2)):
+            os.execv(program, words)
+        status = attend(program, words)
+    except OSError as fault:
+        raise Fault('%s: %s' % (program, fault.strerror)) from None
     if status == 0 and asked.wants_help:
         say_help_of_run()
     if status == FAILED:
@@ -161,9 +144,10 @@ def main() -> NoReturn:
     as_another_program()
     asked = asked_by(sys.argv[1:])
     if asked.words == ['--version']:
-        say_version(asked.is_unproved)
-    program = program_for(asked)
+        print('motesim %s, compiled without a proof' % VERSION if asked.is_unproved else OF_ALL)
+        sys.exit(0)
     try:
-        run_words(program, asked)
-    except OSError as fault:
-        fail('%s: %s' % (program, fault.strerror))
+        run(program_for(asked), asked)
+    except Fault as fault:
+        say('%s: %s' % (NAME, fault))
+        sys.exit(FAILED)

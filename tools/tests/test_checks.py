@@ -106,7 +106,7 @@ class Cases(Check):
         ]:
             for name, text in names.items():
                 self.put(name, text)
-            with self.assertRaisesRegex(AssertionError, why):
+            with self.assertRaisesRegex(BaseException, why):
                 case(self.room / 'a').check_files()
             for name in names:
                 (self.room / name).unlink()
@@ -273,10 +273,10 @@ class Examples(unittest.TestCase):
             check_quotes(SCENARIO, report, [('P', '305 send 1 2')])
 
     def test_each_mote_sends_the_readings_of_those_below_it(self) -> None:
-        readings, scenario = self.examples['readings_of_those_below'], Scenario.parse(SCENARIO)
-        readings(Run('r', Report.parse(REPORT), scenario))
+        check_readings, scenario = self.examples['check_readings'], Scenario.parse(SCENARIO)
+        check_readings(Run('r', Report.parse(REPORT), scenario))
         with self.assertRaisesRegex(AssertionError, 'mote 1 sends'):
-            readings(Run('r', Report.parse(REPORT.replace('304 send 1 2\n', '')), scenario))
+            check_readings(Run('r', Report.parse(REPORT.replace('304 send 1 2\n', '')), scenario))
 
 
 # A program that asks for memory three times; it says so if one is refused, except for the one in CALM.
