@@ -144,7 +144,7 @@ def is_wanted() -> bool:
     """Returns whether a fast binary would be used, and can be made now."""
     failed = compiled_folder() / FAILED
     has_failed = failed.is_file() and time.time() - failed.stat().st_mtime < SECONDS_TO_RETRY
-    return not (has_failed or is_program(compiled_folder() / FAST) or proved_program() or kit.is_proving(TOP))
+    return not (has_failed or is_program(compiled_folder() / FAST) or proved_program())
 
 
 def make_fast() -> None:

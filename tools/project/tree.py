@@ -9,7 +9,9 @@ from motesim.runner.programs import ALL_PARTS as PARTS
 from motesim.runner.programs import PROVED as PROGRAM
 from motesim.runner.programs import TOP, is_program, program_path
 
-__all__ = ['PARTS', 'PROGRAM', 'TOP', 'program_of', 'take_program']
+__all__ = ['PARTS', 'PROGRAM', 'SECONDS', 'TOP', 'program_of', 'take_program']
+# The processor seconds of each crate's proof, which tools/dev/gate_times writes.
+SECONDS = TOP / 'tools/project/crate_seconds.json'
 
 
 def take_program(words: argparse.ArgumentParser) -> None:

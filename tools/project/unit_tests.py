@@ -19,8 +19,8 @@ from project.tree import TOP
 
 TESTS = TOP / 'tools/tests'
 MINUTES = 30
-NO_PYTEST = ('the tests of the tools need pytest: on Debian `apt-get install python3-pytest python3-pytest-xdist` installs '
-             'it for %s (.ci/run installs all that the tests need)' % SYSTEM)
+NO_PYTEST = ('the tests of the tools need pytest: on Debian `apt-get install python3-pytest python3-pytest-xdist` '
+             'installs it for %s (.ci/run installs all that the tests need)' % SYSTEM)
 # No file is written into the tree; each line says which test failed, and why.
 FLAGS = ['-qq', '--no-header', '--tb=short', '-rN', '-p', 'no:cacheprovider', '-W',
          'ignore::pytest.PytestUnhandledThreadExceptionWarning']
@@ -34,17 +34,18 @@ def interpreter() -> str:
     return found
 
 
+def pytest(may_skip: Sequence[str]) -> list[str]:
+    """The words that call pytest."""
+    python = interpreter()
+    parallel = ['-n', str(os.cpu_count()), '--dist', 'loadscope'] if has('xdist', python) else []
+    return [python, '-B', '-m', 'pytest', *FLAGS, *parallel, *('--may-skip=' + it for it in may_skip)]
+
+
 def files_of(names: Sequence[str]) -> list[str]:
     chosen = [it.name for it in sorted(TESTS.glob('test_*.py')) if not names or any(name in it.stem for name in names)]
     if not chosen:
         raise Fault('no file of tests has a name with %s' % ', '.join(names))
     return chosen
-
-
-def words_for(python: str, may_skip: Sequence[str], files: Sequence[str]) -> list[str]:
-    """The words that call pytest."""
-    parallel = ['-n', str(os.cpu_count()), '--dist', 'loadscope'] if has('xdist', python) else []
-    return [python, '-B', '-m', 'pytest', *FLAGS, *parallel, *['--may-skip=' + it for it in may_skip], *files]
 
 
 @command('test_tools')
@@ -54,13 +55,13 @@ def main() -> int:
                        help='skip the tests that need it; without this option they fail')
     words.add_argument('names', nargs='*', metavar='NAME', help='a file of tools/tests, or a part of its name')
     asked = words.parse_args()
-    called = words_for(interpreter(), asked.may_skip, files_of(asked.names))
-    with subprocess.Popen(called, cwd=TESTS, stdin=subprocess.DEVNULL, start_new_session=True,
-                          env={**os.environ, 'PYTHONDONTWRITEBYTECODE': '1'}) as ran:
+    with subprocess.Popen([*pytest(asked.may_skip), *files_of(asked.names)], cwd=TESTS, stdin=subprocess.DEVNULL,
+                          start_new_session=True, env={**os.environ, 'PYTHONDONTWRITEBYTECODE': '1'}) as ran:
         try:
             return min(ran.wait(MINUTES * 60), 1)
-        except BaseException as fault:
-            os.killpg(ran.pid, signal.SIGKILL)
-            if isinstance(fault, subprocess.TimeoutExpired):
-                raise Fault('the tests did not end within %d minutes' % MINUTES) from None
-            raise
+        except subprocess.TimeoutExpired:
+            raise Fault('the tests did not end within %d minutes' % MINUTES) from None
+        finally:
+            # (also if this process is interrupted)
+            if ran.returncode is None:
+                os.killpg(ran.pid, signal.SIGKILL)

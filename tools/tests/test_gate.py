@@ -141,7 +141,7 @@ class UnitTests(unittest.TestCase):
         with tempfile.TemporaryDirectory() as room:
             shutil.copy(TOP / 'tools/tests/conftest.py', room)
             (Path(room) / 'test_page.py').write_text(text)
-            words = [it for it in unit_tests.words_for(unit_tests.interpreter(), may_skip, ['test_page.py'])]
+            words = [*unit_tests.pytest(may_skip), 'test_page.py']
             done = subprocess.run(words, cwd=room, capture_output=True, text=True, timeout=60)
         return done.stdout.splitlines(), done.returncode
 

@@ -22,16 +22,10 @@ class AtHand(unittest.TestCase):
         self.assertIn('`%s`' % LOGIC.split()[-1], (here.TOP / 'README.md').read_text('utf-8'))
 
     def test_it_has_all_that_is_taken(self) -> None:
-        self.assertEqual(kit.lacking_in(kit.rt()), [])
+        self.assertEqual(kit.lacking_in(kit.rt(), kit.TAKEN + kit.OF_MUTANTS), [])
 
     def test_a_check_reads_the_parts_that_the_tools_know(self) -> None:
-        self.assertEqual(kit.parts(), tree.PARTS)
-
-    def test_a_crate_that_leaves_the_processors_is_called_nicely(self) -> None:
-        kit._building()
-        for does in False, True:
-            kit.gives_way(does)
-            self.assertEqual(kit.guarded()[-1:] == ['nice'], does)
+        self.assertEqual(kit.rtlib().PARTS, tree.PARTS)
 
     def test_the_program_stands_on_the_crates_that_the_tools_find(self) -> None:
         from motesim.runner.programs import crates_of_program
@@ -48,7 +42,7 @@ class Others(unittest.TestCase):
                 self.assertIn(seen or 'None', str(kit.another()))
 
     def test_a_kit_that_lacks_a_part_is_told(self) -> None:
-        self.assertIn('rtlib.lock', kit.lacking_in(types.SimpleNamespace(rtlib=types.SimpleNamespace(PARTS=()))))
+        self.assertIn('rtlib.guarded', kit.lacking_in(types.SimpleNamespace(rtlib=types.SimpleNamespace(PARTS=())), kit.TAKEN))
 
     def test_no_kit_is_told(self) -> None:
         with mock.patch('project.kit.shutil.which', lambda name: None):

@@ -1,143 +1,90 @@
-"""The order in which ./prove proves crates, and its estimate."""
+"""That ./prove proves a copy of the program's crates, reports each, and can be interrupted; and its estimate."""
 from __future__ import annotations
 
 import contextlib
 import io
+import json
 import re
 import shutil
 import signal
 import subprocess
 import tempfile
-import types
 import unittest
-import unittest.mock
-from collections.abc import Sequence
-from concurrent.futures import Future
 from pathlib import Path
 from typing import Any
+from unittest import mock
 
-from here import TOP as TREE
-
-from project import kit, pace, progress, prove
+from here import TOP
+from motesim.runner.programs import crates_of_program
+from project import kit, progress, prove
+from project.tree import SECONDS
 from unbuilt_tree import Tree, until
 
 
-def crate(name: str, *below: Any) -> Any:
-    return types.SimpleNamespace(name=name, below=lambda: list(below))
-
-
-LOW, SIDE = crate('low'), crate('side')
-MIDDLE = crate('middle', LOW)
-TOP = crate('top', LOW, MIDDLE, SIDE)
-CRATES = [LOW, SIDE, MIDDLE, TOP]
-SECONDS = {'low': 100, 'side': 20, 'middle': 50, 'top': 30}
-NOTED = {'proof': SECONDS, 'minutes from nothing': {'2': 40, '4': 25}}
-
-
-def noted(test: Any) -> Any:
-    """Has these seconds noted during a test."""
-    return unittest.mock.patch.object(pace, 'kept', lambda: NOTED)(test)
-
-
-class Foretold(unittest.TestCase):
-    def test_a_chain_has_all_that_wait_for_a_crate(self) -> None:
-        self.assertEqual(pace.chains(CRATES, SECONDS), {'low': 180, 'side': 50, 'middle': 80, 'top': 30})
-
-    @noted
-    def test_a_proof_lasts_as_long_as_its_longest_chain_or_its_work(self) -> None:
-        self.assertEqual(pace.minutes_of(CRATES, CRATES, 4), 25)
-        self.assertAlmostEqual(pace.minutes_of([MIDDLE, TOP], CRATES, 4), 25 * 80 / 180)
-        self.assertAlmostEqual(pace.minutes_of([SIDE, MIDDLE], CRATES, 1), 40 * 70 / 200)
-        self.assertEqual(pace.minutes_of([], CRATES, 4), 0)
+class Estimate(unittest.TestCase):
+    def test_three_of_four_processors_are_busy(self) -> None:
+        with tempfile.NamedTemporaryFile('w') as file, mock.patch.object(prove, 'SECONDS', Path(file.name)):
+            json.dump({'low': 600, 'high': 1200}, file)
+            file.flush()
+            self.assertEqual(prove.minutes_for(['low', 'high'], 4), 10)
+            self.assertEqual(prove.minutes_for(['low'], 1), 10)
+            self.assertEqual(prove.minutes_for(['other'], 4), 1)
 
     def test_a_build_from_nothing_needs_what_the_readme_says(self) -> None:
-        measured = pace.minutes_from_nothing(4)
-        assert measured
-        numbers = re.search(r'(\d+) to (\d+) minutes\s+on\s+four', (TREE / 'README.md').read_text('utf-8'))
+        numbers = re.search(r'(\d+) to (\d+) minutes\s+on\s+four', (TOP / 'README.md').read_text('utf-8'))
         assert numbers
-        self.assertTrue(int(numbers[1]) <= measured <= int(numbers[2]))
+        self.assertTrue(int(numbers[1]) <= prove.minutes_for(crates_of_program(TOP), 4) <= int(numbers[2]))
 
-    def test_noted_seconds(self) -> None:
-        with tempfile.TemporaryDirectory() as room, unittest.mock.patch.object(pace, 'KEPT', Path(room) / 'kept.json'):
-            self.assertEqual((pace.kept(), pace.minutes_from_nothing(4)), ({}, None))
-            self.assertGreater(pace.minutes_of(CRATES, CRATES, 4), 0)
-            pace.keep({'low': 10.4, 'high': 20, 'none': 0})
-            self.assertEqual(pace.kept()['proof'], {'low': 10, 'high': 20})
-            self.assertEqual(pace.seconds_of(['low', 'high', 'other']), {'low': 10, 'high': 20, 'other': 15})
-
-    @noted
-    def test_the_nearest_number_of_processors_counts(self) -> None:
-        self.assertEqual([pace.minutes_from_nothing(it) for it in (1, 2, 4, 16)], [40, 40, 25, 25])
+    def test_all_crates_of_the_program_are_measured(self) -> None:
+        self.assertEqual(set(crates_of_program(TOP)) - set(json.loads(SECONDS.read_text('utf-8'))), set())
 
 
-class Proofs(unittest.TestCase):
-    """A proof of four crates by a stand-in for the kit."""
+class Copies(unittest.TestCase):
+    """A proof of two crates by a stand-in for the kit."""
 
     def setUp(self) -> None:
-        self.said = io.StringIO()
-        for module, name, value in (pace, 'kept', NOTED), (kit, 'free', 1000), (kit, 'need', 100):
-            patch = unittest.mock.patch.object(module, name, lambda *_, value=value: value)
-            patch.start()
-            self.addCleanup(patch.stop)
-        self.proof = prove.Proof(CRATES, [], 4, progress.Line(self.said, 'prove'), ' of about 25 minutes')
+        room = tempfile.TemporaryDirectory()
+        self.addCleanup(room.cleanup)
+        self.room = Path(room.name)
 
-    def asked(self, crate: Any, ready: list[Any], running: list[Any], done: Sequence[str] = ()) -> tuple[int, bool]:
-        self.proof.running = {Future(): prove.Running(it, 100) for it in running}
-        self.proof.proved.update(done)
-        return self.proof.jobs_of(crate, ready)
+    def test_it_has_the_crates_of_the_program_and_their_rows(self) -> None:
+        for name in 'low/src/lib.rt', 'low/must-fail/a.edit', 'low/out/rlib', 'tests/src/lib.rt':
+            path = self.room / 'crates' / name
+            path.parent.mkdir(parents=True)
+            path.write_text('')
+        (self.room / 'crates.txt').write_text('# all\nlow may_wait=1: std\ntests: low\n')
+        (self.room / 'HANDLES').write_text('Handles allowed: none.\n')
+        copy = self.room / 'copy'
+        for _ in range(2):
+            prove.copy_crates(self.room, ['low'], copy)
+        files = sorted(str(it.relative_to(copy)) for it in copy.rglob('*') if it.is_file())
+        self.assertEqual(files, ['HANDLES', 'crates.txt', 'crates/low/src/lib.rt'])
+        self.assertEqual((copy / 'crates.txt').read_text(), 'low may_wait=1: std\n')
 
-    def test_the_crate_that_all_wait_for_has_all_processors(self) -> None:
-        self.assertEqual(self.asked(LOW, [LOW, SIDE], []), (4, False))
-        self.assertEqual(self.asked(MIDDLE, [MIDDLE], [SIDE], ['low']), (4, False))
+    def proved(self, said: str, status: int) -> tuple[bool, str]:
+        """Returns whether all is proved if rt says this, and what ./prove says."""
+        def started(words: list[str], cwd: Path) -> Any:
+            return subprocess.Popen(['sh', '-c', 'printf "$0"; exit %d' % status, said], stdout=subprocess.PIPE,
+                                    text=True)
 
-    def test_another_one_has_a_part_of_the_idle_ones_and_gives_way(self) -> None:
-        self.assertEqual(self.asked(SIDE, [SIDE], [LOW]), (3, True))
-        self.assertEqual(self.asked(SIDE, [SIDE, MIDDLE], [LOW]), (1, True))
+        seen = io.StringIO()
+        with mock.patch.object(kit, 'started', started), mock.patch.object(prove, 'LOG', self.room / 'log'), \
+                contextlib.redirect_stderr(seen):
+            return prove.prove_copy(2), seen.getvalue()
 
-    def proved(self, *fails: str) -> tuple[bool, list[str]]:
-        """Returns whether the proof is well, and the crates in the order in which they were tried."""
-        tried: list[str] = []
+    def test_each_crate_has_a_line(self) -> None:
+        said = '== low\nfn low::f: proved\nrt: low proved\nrt: high is kept: an earlier run\n'
+        is_well, seen = self.proved(said, 0)
+        self.assertTrue(is_well)
+        self.assertRegex(seen, r'^prove: low is proved: 1 of 2, 0:\d\d\nprove: high is proved: 2 of 2, 0:\d\d\n$')
+        self.assertIn('fn low::f: proved\n', (self.room / 'log').read_text())
 
-        def work(crate: Any, jobs: int, gives_way: bool, began: float) -> bool:
-            tried.append(crate.name)
-            return crate.name not in fails
-        with tempfile.TemporaryDirectory() as room, unittest.mock.patch.object(prove, 'work', work):
-            log = Path(room) / 'build.log'
-            log.write_text('what the prover says\n')
-            with unittest.mock.patch.object(prove, 'log_of', lambda crate: log):
-                return self.proof.run(), tried
-
-    def test_each_crate_comes_after_those_below_it(self) -> None:
-        is_well, tried = self.proved()
-        self.assertEqual((is_well, sorted(tried)), (True, ['low', 'middle', 'side', 'top']))
-        self.assertEqual((tried[0], tried[-1]), ('low', 'top'))
-        self.assertIn('prove: top is proved: 4 of 4 proved, 0:00 of about 25 minutes\n', self.said.getvalue())
-
-    def test_nothing_begins_after_a_crate_that_is_not_proved(self) -> None:
-        is_well, tried = self.proved('middle')
-        self.assertEqual((is_well, 'top' in tried), (False, False))
-        self.assertIn('prove: middle is not proved', self.said.getvalue())
-        self.assertIn('what the prover says\n', self.said.getvalue())
-
-
-class Libraries(unittest.TestCase):
-    def test_a_library_that_is_proved_is_the_kits_own_until_a_source_changes(self) -> None:
-        with tempfile.TemporaryDirectory() as room:
-            low: Any = types.SimpleNamespace(rlib=room + '/out/rlib/low.rlib', stamp=lambda: 'sum',
-                                        words=lambda flags, keeps: ['words', *flags])
-            called: list[tuple[str, ...]] = []
-            status = 0
-
-            def call(*words: str) -> int:
-                called.append(words[1:])
-                return status
-
-            for status, is_stamped in [(1, False), (0, True), (1, False)]:
-                called.clear()
-                low.call = call
-                self.assertEqual(kit.write_rlib(low, ['--jobs', '2']), status)
-                self.assertEqual(called, [('build', 'words', '--jobs', '2', '--statements', '-o', low.rlib)])
-                self.assertEqual(Path(low.rlib).with_name('stamp').is_file(), is_stamped)
+    def test_what_is_not_proved_is_shown(self) -> None:
+        said = '== low\nrt: low proved\n== high\nfn high::f: no proof\nrt: high NOT PROVED\n'
+        is_well, seen = self.proved(said, 1)
+        self.assertFalse(is_well)
+        self.assertIn('prove: high is not proved:\n== high\nfn high::f: no proof\n', seen)
+        self.assertNotIn('== low', seen)
 
 
 @unittest.skipUnless(shutil.which('rt'), 'the command rt of the Rattle kit is not here')
@@ -147,12 +94,13 @@ class Proof(Tree):
     def setUp(self) -> None:
         super().setUp()
         (self.top / 'crates.txt').write_text('motesim:\n')
+        self.source.write_text('#![tactic(auto)]\n\nfn main() {}\n')
 
     def provers(self) -> list[str]:
         found = []
         for path in Path('/proc').glob('[0-9]*/cwd'):
             with contextlib.suppress(OSError):
-                if str(path.resolve()).startswith(str(self.top / 'crates')):
+                if str(path.resolve()).startswith(str(self.top / 'out')):
                     found.append(path.parent.name)
         return found
 
@@ -185,9 +133,13 @@ class Proof(Tree):
 
 
 class Lines(unittest.TestCase):
-    def test_a_line_fits(self) -> None:
-        self.assertEqual(progress.fitted('3 of 33 proved', 14), '3 of 33 proved')
-        self.assertEqual(progress.fitted('3 of 33 proved', 10), '3 of 33 ..')
+    def test_a_line_of_a_terminal_is_renewed_and_fits(self) -> None:
+        said = io.StringIO()
+        with mock.patch.object(said, 'isatty', lambda: True), mock.patch.dict('os.environ', TERM='xterm', COLUMNS='20'):
+            line = progress.Line(said)
+            line.renew('3 of 33 crates are proved')
+            line.end()
+        self.assertEqual(said.getvalue(), progress.RENEW + 'motesim: 3 of 33 cr' + progress.RENEW)
 
     def test_a_file_has_no_line_that_is_renewed(self) -> None:
         said = io.StringIO()

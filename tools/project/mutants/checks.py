@@ -1,25 +1,24 @@
 """Judges mutants of one crate: many in one check, and what that leaves undecided one by one.
 
-First a control: the copy of the crate without any edit, in which the same functions have to be proved. Then each group
-of mutants over that copy. A mutant that this doesn't decide is tried by itself, with the proofs of all that its
-functions call, or over the whole crate if any function may be refused.
+First a control: a check of the crate without any edit, which has to prove it. Each group of mutants is checked over
+what the control has kept, so that only the changed functions are proved again.
 """
 from __future__ import annotations
 
 import re
+import shutil
+import tempfile
 from collections.abc import Sequence
 from pathlib import Path
 from typing import NamedTuple
 
-from project.kit import Crate, checked, says_nothing
-from project.mutants.edits import Edit, texts_with
-from project.mutants.source import Function
-from project.mutants.stated import TRIES, blamed, copied, open_proofs
+from project.kit import Crate, checked, kept_by_check, linked, says_nothing
+from project.mutants.edits import Edit, together
 
 # The verdicts on a mutant. The prover refuses it for a goal of a contract; only for a loop's invariant; only because
 # an answer by hand no longer fits, or at a limit of its own: both leave open what the contract says. Or it is proved,
 # or nothing is known.
-CONTRACT, INVARIANT, ANSWER, LIMIT, NOT_REFUSED, UNKNOWN = (
+KINDS = CONTRACT, INVARIANT, ANSWER, LIMIT, NOT_REFUSED, UNKNOWN = (
     'contract', 'invariant', 'answer', 'limit', 'not refused', 'unknown')
 REFUSED, OPEN = (CONTRACT, INVARIANT), (ANSWER, LIMIT)
 # What a check notes of a goal that `search` did not prove, and how the log says it.
@@ -27,6 +26,9 @@ NOTES = {'allow values at which this goal is false': 'false', 'gave up at one of
 # The prover's words for a limit of its own, which it meets wherever it checks the same.
 LIMITS = re.compile(r'ran out of (stack|the (steps|memory))|outgrew the memory limit|stopped at the step limit')
 COULD_NOT_TELL = 'could not tell'
+# How the last line of a check begins that has got as far as a verdict.
+VERDICTS = 'logic=', 'rattle: no verdict'
+# Why a function isn't proved, if that isn't its own fault; and errors about names that an edit took away.
 NOT_OWN = re.compile(r'it calls|it passes|a call of|in `\S+`, of this cycle')
 OF_NAMES = re.compile(r'has no field|is not in scope|has no `|was not admitted')
 
@@ -38,53 +40,51 @@ class Verdict(NamedTuple):
     why: str = ''
 
 
-def is_of(name: str, path: str) -> bool:
-    """Returns whether a name that a check prints is that function's or of a closure in it, as c::m::fn::S::f::closure
-    is of S::f."""
-    return '::%s::' % path in '%s::' % name.replace('::fn::', '::')
-
-
 class Said(NamedTuple):
     """A check's messages on a function: the end of its line, the notes above it, and the errors in its own proof."""
     line: str
-    notes: str
-    errors: list[str]
+    notes: Sequence[str]
+    errors: Sequence[str]
 
 
-def proof_errors(lines: Sequence[str], name: str, cycle: str | None) -> list[str]:
-    """The errors in the files of a function's proof, or of the proof of its cycle of calls."""
-    *around, last = [re.escape(part) for part in name.split('::')[1:] if part != 'fn']
-    folder = '/'.join([*around, '(%s|[+]%s|[+]%s)' % (last, last, re.escape(cycle or last))])
-    error = re.compile(r'(\./)?proofs/%s/\S+:\d+:\d+: error: ' % folder)
-    return [line for line in lines if error.match(line) and 'was not admitted' not in line]
+def function_of(name: str) -> str:
+    """The function of a name that a check prints: f of c::m::S::f, and of the closure c::m::fn::S::f::closure in it."""
+    _, is_closure, path = name.partition('::fn::')
+    return next(it for it in path.split('::') if it[0].islower()) if is_closure else name.split('::')[-1]
 
 
-def refused_in(lines: Sequence[str], cycles: dict[str, str]) -> dict[str, Said]:
-    """A check's messages on each function that it refuses for more than what the function calls. `cycles` has the
-    cycle of calls of some functions, by their paths."""
+def proof_errors(lines: Sequence[str], name: str) -> list[str]:
+    """The errors in the files of a function's proof, or of the proof of its cycle of calls, in a folder +CYCLE."""
+    *around, last = [part for part in name.split('::')[1:] if part != 'fn']
+    folders = tuple('/'.join(['proofs', *around, it]) for it in (last + '/', '+'))
+    errors = (it.removeprefix('./') for it in lines if ': error: ' in it and 'was not admitted' not in it)
+    return [it for it in errors if it.startswith(folders)]
+
+
+def refused_in(lines: Sequence[str]) -> dict[str, Said]:
+    """A check's messages on each function that it refuses for more than what the function calls."""
     found: dict[str, Said] = {}
     notes: list[str] = []
     for line in lines:
-        told = re.match(r'fn (\S+): (.*)', line)
-        if not told:
+        result = re.match(r'fn (\S+): (.*)', line)
+        if not result:
             notes += [line] if line.startswith('note: ') else []
             continue
-        name, said = told.groups()
-        own = [it for it in re.split(r'; ', re.sub(r'^(not proved|no proof)[:;]? ?', '', said)) if it]
-        own = [it for it in own if not NOT_OWN.match(it)]
+        name, said = result.groups()
         if said.startswith(('not proved', 'no proof', COULD_NOT_TELL)):
-            cycle = next((it for path, it in cycles.items() if is_of(name, path)), None)
-            errors = proof_errors(lines, name, cycle)
+            reasons = re.sub(r'^(not proved|no proof)[:;]? ?', '', said).split('; ')
+            own = [it for it in reasons if it and not NOT_OWN.match(it)]
+            errors = proof_errors(lines, name)
             if own or errors or said == 'not proved':
-                found[name] = Said('; '.join(own), '\n'.join(notes), errors)
+                found[name] = Said('; '.join(own), notes, errors)
         notes = []
     return found
 
 
-def noted(goal: str, notes: str) -> str:
+def noted(goal: str, notes: Sequence[str]) -> str:
     """A goal with what the notes say of it."""
-    line = next((it for it in notes.split('\n') if '(`%s`)' % goal in it), '')
-    return goal + ''.join(' (%s)' % it for said, it in NOTES.items() if said in line)
+    note = next((it for it in notes if '(`%s`)' % goal in it), '')
+    return goal + ''.join(' (%s)' % it for said, it in NOTES.items() if said in note)
 
 
 def verdict_of(name: str, said: Said) -> Verdict:
@@ -94,85 +94,66 @@ def verdict_of(name: str, said: Said) -> Verdict:
         kind = INVARIANT if all('loop-' in it for it in goals) else CONTRACT
         return Verdict(kind, name, ', '.join(noted(it, said.notes) for it in goals))
     error = next((it for it in said.errors if not OF_NAMES.search(it)), next(iter(said.errors), said.line))
-    return Verdict(LIMIT if LIMITS.search(error) or said.line == COULD_NOT_TELL else ANSWER, name,
-                   error or 'not proved')
+    kind = LIMIT if LIMITS.search(error) or said.line == COULD_NOT_TELL else ANSWER
+    return Verdict(kind, name, error or 'not proved')
 
 
-def lines_of(crate: Crate, texts: dict[str, str], flags: Sequence[str]) -> list[str]:
-    """The lines of a check, or none if it doesn't get as far as the proofs."""
-    ran = checked(crate, texts, ['--jobs', '1', *flags])
-    lines = ran.stdout.rstrip('\n').split('\n')
-    reached = lines[-1].startswith(('only=', 'holes=', 'logic=', 'rattle: no verdict'))
-    return lines if reached and not says_nothing(ran.stdout, texts) else []
-
-
-def only(functions: Sequence[Function]) -> list[str]:
-    return [word for path in dict.fromkeys(it.path for it in functions) for word in ('--only', path)]
+def best(edit: Edit, refused: dict[str, Said]) -> Verdict:
+    """The verdict on a mutant, by the messages on its function, or of all if any may be refused."""
+    found = [verdict_of(name, said) for name, said in refused.items() if edit.function in (None, function_of(name))]
+    order = [*REFUSED, LIMIT, ANSWER]
+    return min(found, key=lambda it: order.index(it.kind), default=Verdict(NOT_REFUSED))
 
 
 class Trial:
-    """The checks of some mutants of a crate."""
+    """The checks of mutants of a crate."""
 
-    def __init__(self, crate: Crate, edits: Sequence[Edit]):
+    def __init__(self, crate: Crate):
         self.crate = crate
-        self.judged = list(dict.fromkeys(it for edit in edits for it in edit.functions))
-        self.cycles = {it.path: it.cycle for it in self.judged if it.cycle}
-        self.holes = open_proofs(crate, self.judged)
-        self.proved: set[str] = set()
+        self.kept: Path | None = None
 
-    def control(self) -> str:
-        """Checks the copy without an edit, and returns which of the functions it doesn't prove. Open proofs that a
-        check can't do with go back to what they were."""
-        for _ in range(TRIES):
-            with copied(self.crate, self.holes) as stated:
-                ran = checked(stated, {}, ['--jobs', '1', '--allow-holes', *only(self.judged)])
-            lacking = blamed(ran.stdout, self.holes)
-            for it in lacking:
-                del self.holes[it]
-            if not lacking:
-                break
-        good = re.findall(r'(?m)^fn (\S+): (?:proved|no holes|depends on a hole)', ran.stdout)
-        self.proved = {it.path for it in self.judged if any(is_of(name, it.path) for name in good)}
-        return ' '.join(it.path for it in self.judged if it.path not in self.proved)
+    def control(self, jobs: int) -> None:
+        """Checks the crate without an edit; if that isn't proved, nothing is known of any mutant."""
+        self.kept = kept_by_check(self.crate, jobs)
+
+    def forget(self, _jobs: int) -> None:
+        """Deletes what the control has kept."""
+        if self.kept:
+            shutil.rmtree(self.kept)
 
     def verdicts(self, group: Sequence[Edit]) -> dict[str, Verdict]:
         """The verdict on each mutant of a group."""
-        texts = texts_with(group, Path(self.crate.folder))
-        functions = [it for edit in group for it in edit.functions]
-        found: dict[str, Verdict] = {}
-        if functions and all(it.path in self.proved for it in functions):
-            with copied(self.crate, self.holes) as stated:
-                refused = refused_in(lines_of(stated, texts, ['--allow-holes', *only(functions)]), self.cycles)
-            for edit in group:
-                found.update({edit.name: it for it in [self.best(edit, refused)] if it.kind in REFUSED + OPEN})
-        for edit in group:
-            if edit.name not in found:
-                found[edit.name] = self.verdict(edit)
-        return found
+        if self.kept is None:
+            return {it.name: Verdict(UNKNOWN, '', "the crate without an edit isn't proved") for it in group}
+        found = self.verdicts_together(group, self.kept) if len(group) > 1 else {}
+        return {it.name: found.get(it.name) or self.verdict_alone(it, self.kept) for it in group}
 
-    def best(self, edit: Edit, refused: dict[str, Said]) -> Verdict:
-        """The verdict on a mutant, by the messages on its functions, or of all if any may be refused."""
-        paths = [it.path for it in edit.functions]
-        found = [verdict_of(name, said) for name, said in refused.items()
-                 if not paths or any(is_of(name, path) for path in paths)]
-        order = [*REFUSED, *reversed(OPEN)]
-        return min(found, key=lambda it: order.index(it.kind), default=Verdict(NOT_REFUSED))
+    def check(self, texts: dict[str, str], kept: Path) -> tuple[list[str], int]:
+        """The lines and the status of a check with these texts, over a copy of what the control has kept."""
+        with tempfile.TemporaryDirectory(prefix='mutants-') as room:
+            ran = checked(self.crate, texts, linked(kept, Path(room, 'kept')))
+        return ran.stdout.rstrip('\n').split('\n'), ran.returncode
 
-    def verdict(self, edit: Edit) -> Verdict:
-        """The verdict on a mutant by itself, over all proofs of the crate. The control is the proof of the crate."""
-        texts = texts_with([edit], Path(self.crate.folder))
-        for flags in ([only(edit.functions)] if edit.functions else []) + [[]]:
-            ran = checked(self.crate, texts, ['--jobs', '1', *flags])
-            # (status 2: a path fits no function)
-            if ran.returncode != 2:
-                break
-        lines = ran.stdout.rstrip('\n').split('\n')
-        found = self.best(edit, refused_in(lines, self.cycles))
-        if found.kind != NOT_REFUSED or ran.returncode == 0:
+    def verdicts_together(self, group: Sequence[Edit], kept: Path) -> dict[str, Verdict]:
+        """The verdicts on those mutants of a group that one check with all their edits decides."""
+        texts = together(group, self.crate)
+        lines, _ = self.check(texts, kept)
+        if says_nothing(lines, texts) or not lines[-1].startswith(VERDICTS):
+            return {}
+        refused = refused_in(lines)
+        found = {it.name: best(it, refused) for it in group}
+        return {name: verdict for name, verdict in found.items() if verdict.kind != NOT_REFUSED}
+
+    def verdict_alone(self, edit: Edit, kept: Path) -> Verdict:
+        """The verdict on a mutant by a check with its edit only."""
+        texts = together([edit], self.crate)
+        lines, status = self.check(texts, kept)
+        found = best(edit, refused_in(lines))
+        if found.kind != NOT_REFUSED or status == 0:
             return found
         limit = next((it for it in lines if LIMITS.search(it)), None)
         error = next((it for it in lines if ' error' in it), lines[0])
-        if ran.returncode == 3 or limit:
+        if status == 3 or limit:
             return Verdict(LIMIT, '', limit or lines[-1])
-        is_of_proofs = ran.returncode == 1 and not edit.functions and error.removeprefix('./').startswith('proofs/')
-        return Verdict(ANSWER if is_of_proofs and not says_nothing(ran.stdout, texts) else UNKNOWN, '', error)
+        is_of_proofs = status == 1 and not edit.function and error.removeprefix('./').startswith('proofs/')
+        return Verdict(ANSWER if is_of_proofs and not says_nothing(lines, texts) else UNKNOWN, '', error)

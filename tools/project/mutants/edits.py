@@ -1,101 +1,91 @@
 """The mutants of a crate: its edits, and which of them one check can judge."""
 from __future__ import annotations
 
-import difflib
+import os
 import re
+from collections import Counter
 from collections.abc import Sequence
-from functools import cache
 from pathlib import Path
 from typing import NamedTuple
 
-from project.kit import Crate, read_edit
-from project.mutants.source import Function, functions_in
+from project.kit import Crate, edited
 
 FOLDERS = ('must-fail', 'gate-bodies', 'wrong-bodies')
 # How many mutants one check judges at most.
 MOST = 12
-
-
-class Hunk(NamedTuple):
-    """The lines of a file that an edit removes, first and end, and those that it adds there."""
-    path: str
-    first: int
-    end: int
-    lines: list[str]
+HEAD = re.compile(r'( *)(?:pub(?:\([\w ]+\))? |const |unsafe |extern "C" )*fn (\w+)')
 
 
 class Edit(NamedTuple):
-    """A mutant: its name CRATE/NAME and its file; the functions that have to be refused, none if any may be; whether
-    it changes nothing but their bodies; and why it can't be applied."""
+    """A mutant: its name CRATE/NAME and its file; the name of the function that has to be refused, None if any may be;
+    whether a check may judge it with others; and why it can't be applied."""
     name: str
     file: Path
-    hunks: list[Hunk]
-    functions: list[Function]
-    is_inside: bool
+    function: str | None
+    may_share: bool
     trouble: str | None
 
 
-@cache
-def functions_of(file: Path, folder: Path) -> list[Function]:
-    """The functions of a file of a crate; none of a file that isn't code."""
-    path = file.relative_to(folder)
-    return functions_in(str(path), file.read_text('utf-8')) if path.parts[0] == 'src' else []
+def body_of(lines: Sequence[str], at: int, indent: str) -> range:
+    """The lines of the body of a function whose head begins at a line, in the layout of `rt fmt`."""
+    opening = next((it for it in range(at, len(lines)) if lines[it].endswith('{') and lines[it].startswith(indent)
+                    and not lines[it].startswith(indent + ' ')), len(lines))
+    return range(opening + 1, next((it for it in range(opening, len(lines)) if lines[it] == indent + '}'), opening))
 
 
-def hunks_between(path: str, old_text: str, new_text: str) -> list[Hunk]:
-    old, new = old_text.split('\n'), new_text.split('\n')
-    steps = difflib.SequenceMatcher(None, old, new, False).get_opcodes()
-    return [Hunk(path, first, end, new[start:stop]) for kind, first, end, start, stop in steps if kind != 'equal']
+def function_around(old: str, new: str) -> str | None:
+    """The name of the function in whose body all differences of two texts are."""
+    lines = old.split('\n')
+    first = os.path.commonprefix([old, new]).count('\n')
+    last = max(first, old.count('\n') - os.path.commonprefix([old[::-1], new[::-1]]).count('\n'))
+    for at in range(first - 1, -1, -1):
+        head = HEAD.match(lines[at])
+        body = body_of(lines, at, head[1]) if head else []
+        if head and first in body and last in body:
+            return head[2]
+    return None
 
 
-def function_around(hunk: Hunk, folder: Path) -> Function | None:
-    last = max(hunk.first, hunk.end - 1)
-    found = (it for it in functions_of(folder / hunk.path, folder) if it.first <= hunk.first and last <= it.last)
-    return next(found, None)
+def read(file: Path, crate: Crate, functions: Counter[str]) -> Edit:
+    """Reads the edit of a mutant. A line `refused: FUNCTION` names the function if more than its body changes. A check
+    may judge it with others if it changes one body only, of a function whose name no other one has."""
+    text = file.read_text('utf-8')
+    texts, trouble = edited(text, crate.folder)
+    around = [function_around(Path(crate.folder, path).read_text('utf-8'), new) for path, new in texts.items()]
+    named = re.findall(r'(?m)^refused: (?:\S*::)?(\w+)$', text)
+    function = around[0] if len(around) == 1 else None
+    may_share = function is not None and functions[function] == 1
+    return Edit('%s/%s' % (crate.name, file.stem), file, function or (named[0] if named else None), may_share, trouble)
 
 
-def read(file: Path, crate: Crate) -> Edit:
-    """Reads the edit of a mutant. A line `refused: FUNCTION` names a function if more than a body changes."""
-    folder, name = Path(crate.folder), '%s/%s' % (crate.name, file.stem)
-    texts, trouble = read_edit(str(file), crate.folder)
-    hunks = [it for path, text in (texts or {}).items()
-             for it in hunks_between(path, (folder / path).read_text('utf-8'), text)]
-    around = [function_around(it, folder) for it in hunks]
-    inside = [it for it in dict.fromkeys(around) if it]
-    if inside and None not in around:
-        return Edit(name, file, hunks, inside, True, trouble)
-    named = re.findall(r'(?m)^refused: (\S+)$', file.read_text('utf-8'))
-    return Edit(name, file, hunks, [Function(0, 0, path) for path in named], False, trouble)
-
-
-def edits_of(crate: Crate, folders: Sequence[str] = FOLDERS) -> list[Edit]:
-    """The mutants of a crate in these folders."""
-    return [read(file, crate) for folder in folders for file in sorted(Path(crate.folder, folder).glob('*.edit'))]
+def edits_of(crate: Crate) -> list[Edit]:
+    """The mutants of a crate."""
+    folder = Path(crate.folder)
+    lines = [line for file in (folder / 'src').rglob('*.rt') for line in file.read_text('utf-8').split('\n')]
+    functions = Counter(head[2] for head in map(HEAD.match, lines) if head)
+    return [read(file, crate, functions) for part in FOLDERS for file in sorted((folder / part).glob('*.edit'))]
 
 
 def groups(edits: Sequence[Edit]) -> list[list[Edit]]:
-    """Lists of mutants that one check can judge: no two change one function, or functions of one cycle of calls. A
-    mutant that changes more than bodies is in no list with others."""
-    found: list[tuple[list[Edit], set[str]]] = []
-    alone = [[it] for it in edits if not it.is_inside and not it.trouble]
+    """Lists of mutants that one check can judge: no two of a list change one function."""
+    shared: list[dict[str, Edit]] = []
+    alone = [[it] for it in edits if not it.may_share and not it.trouble]
     for edit in edits:
-        if not edit.is_inside or edit.trouble:
-            continue
-        keys = {it.cycle or it.path for it in edit.functions}
-        fits = next((it for it in found if len(it[0]) < MOST and not keys & it[1]), None)
-        if fits is None:
-            found.append(([edit], keys))
-        else:
-            fits[0].append(edit)
-            fits[1].update(keys)
-    return [group for group, _ in found] + alone
+        if edit.function and edit.may_share and not edit.trouble:
+            group = next((it for it in shared if len(it) < MOST and edit.function not in it), None)
+            if group is None:
+                group = {}
+                shared.append(group)
+            group[edit.function] = edit
+    return [list(group.values()) for group in shared] + alone
 
 
-def texts_with(group: Sequence[Edit], folder: Path) -> dict[str, str]:
-    """The texts of the files that these edits change, with all of them."""
-    texts: dict[str, list[str]] = {}
-    hunks = [hunk for edit in group for hunk in edit.hunks]
-    for path, first, end, lines in sorted(hunks, key=lambda hunk: (hunk.path, -hunk.first)):
-        changed = texts.setdefault(path, (folder / path).read_text('utf-8').split('\n'))
-        changed[first:end] = lines
-    return {path: '\n'.join(lines) for path, lines in texts.items()}
+def together(group: Sequence[Edit], crate: Crate) -> dict[str, str]:
+    """The texts of a crate's files with the edits of a group, without those that can't be applied after others."""
+    all_edits, texts = '', {}
+    for edit in group:
+        longer = all_edits + edit.file.read_text('utf-8') + '\n'
+        changed, trouble = edited(longer, crate.folder)
+        if not trouble:
+            all_edits, texts = longer, changed
+    return texts

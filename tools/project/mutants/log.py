@@ -22,7 +22,7 @@ KEPT = TOP / 'log/wrong_bodies.tsv'
 HEAD = '# written by tools/dev/wrong_bodies: mutant, day, what it came to, function, goals or error, digest\n'
 # How a line begins that is a comment only.
 COMMENTS = {'.rt': b'//', '.antt': b'--', '.txt': b'#'}
-MOST = 100
+MOST_LETTERS = 100
 
 
 class Tried(NamedTuple):
@@ -43,8 +43,8 @@ def sum_of(folder: Path, parts: Iterable[str]) -> bytes:
     found = hashlib.sha256()
     for path in sorted(it for part in parts for it in [folder / part, *(folder / part).rglob('*')]):
         if path.is_file() and '__pycache__' not in path.parts:
-            found.update(b'%s %s\n' % (str(path.relative_to(folder)).encode(),
-                                       hashlib.sha256(without_comments(path)).digest()))
+            name, text = str(path.relative_to(folder)).encode(), hashlib.sha256(without_comments(path)).digest()
+            found.update(b'%s %s\n' % (name, text))
     return found.digest()
 
 
@@ -61,7 +61,7 @@ def noted() -> dict[str, Tried]:
     """The rows of the log, by CRATE/NAME."""
     rows = KEPT.read_text('utf-8').splitlines() if KEPT.is_file() else []
     cells = [it.split('\t') for it in rows if it.count('\t') == 5 and not it.startswith('#')]
-    return {name: Tried(day, Verdict(*verdict), sum_) for name, day, *verdict, sum_ in cells}
+    return {name: Tried(day, Verdict(*verdict), digest) for name, day, *verdict, digest in cells}
 
 
 def is_there(name: str) -> bool:
@@ -70,13 +70,14 @@ def is_there(name: str) -> bool:
     return any((TOP / 'crates' / crate).glob('*/%s.edit' % edit))
 
 
-def note(found: Mapping[str, tuple[Verdict, str]]) -> None:
+def note(found: Mapping[str, Verdict], digests: Mapping[str, str]) -> None:
     """Notes what mutants came to today, and the digests of what they were tried over. Mutants that are gone are
     forgotten."""
+    today = time.strftime('%Y-%m-%d')
     kept = {name: it for name, it in noted().items() if is_there(name)}
-    kept.update((name, Tried(time.strftime('%Y-%m-%d'), *it)) for name, it in found.items())
-    rows = ['\t'.join([name, it.day, it.verdict.kind, it.verdict.function, ' '.join(it.verdict.why[:MOST].split()),
-                       it.digest]) + '\n' for name, it in sorted(kept.items())]
+    kept |= {name: Tried(today, verdict, digests[name]) for name, verdict in found.items()}
+    rows = ['\t'.join([name, day, kind, function, ' '.join(why[:MOST_LETTERS].split()), digest]) + '\n'
+            for name, (day, (kind, function, why), digest) in sorted(kept.items())]
     KEPT.parent.mkdir(exist_ok=True)
     KEPT.write_text(HEAD + ''.join(rows), 'utf-8')
 
