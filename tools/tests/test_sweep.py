@@ -452,6 +452,18 @@ class SweepTest(Bed):
             rows = read_results(self.folder / ('many4200.%s' % kind))[1]
             self.assertEqual([row['period'] for row in rows], list(range(1, 4_201)))
 
+    def test_rows_that_a_spreadsheet_wrote_are_written_plainly(self) -> None:
+        path = self.folder / 'net.csv'
+        for written in 'a,b\r\n1,"x"\r\n"2",""\r\n3,"y, z"\r\n', 'a,b\n1,x\n2,\n3,"y, z"\n':
+            path.write_bytes(written.encode())
+            file = CsvFile(path, ['a', 'b'])
+            spots = [spot for spot, _ in file.rows()]
+            file.keep(file.keep(spots[::-1]))
+            spots = [file.add({'a': 4, 'b': None}), *(spot for spot, _ in file.rows())]
+            file.close()
+            self.assertEqual(spots[0], spots[-1])
+            self.assertEqual(path.read_bytes(), b'a,b\n3,"y, z"\n2,\n1,x\n4,\n')
+
     def test_rows_of_other_values_stay_behind_those_of_the_sweep(self) -> None:
         for name in 'net.csv', 'net.sqlite':
             words = '--vary', 'motes=2', '--measure', 'prints', '-o', name

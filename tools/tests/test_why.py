@@ -541,6 +541,15 @@ class Runs(unittest.TestCase):
             words = [it.words for _, its in misses(asker, missing) for it in its]
             self.assertTrue(any('`print data`' in it and 'was never reached' in it for it in words), words)
 
+    def test_the_caller_that_waits_is_named(self) -> None:
+        asker = Asker(self.run_of('lesson/start.toml'))
+        missing = asker.about('mote 3 prints hops 2')
+        assert isinstance(missing, Missing)
+        words = [it.words for _, its in misses(asker, missing) for it in its]
+        self.assertIn('hops waits at line 19: `yield_until is(msg)` since 0, and nothing called it since; line 11: '
+                      '`synch hops msg data` would have, and was never reached, since wave waits at line 10: '
+                      '`yield_until is(packet)` since 0', words)
+
     def test_the_if_that_led_to_a_statement(self) -> None:
         found = self.run_of('flooding.toml')
         for question, led in (('mote 6 prints flood 1', ', in line 20: `if (is(packet) && (data > newest))`'),

@@ -110,8 +110,11 @@ class CsvFile:
             with open(self.path, 'rb') as file:
                 for spot in spots:
                     file.seek(spot >> LENGTH)
-                    text = file.read(spot & (1 << LENGTH) - 1).decode('utf-8')
-                    line = line_of(map(cell, next(csv.reader(io.StringIO(text, newline=''), strict=True)))).encode()
+                    line = file.read(spot & (1 << LENGTH) - 1)
+                    # (a spreadsheet may have written it with other quotes and ends of lines)
+                    if b'"' in line or b'\r' in line:
+                        text = io.StringIO(line.decode('utf-8'), newline='')
+                        line = line_of(next(csv.reader(text, strict=True))).encode()
                     made.append(spot_of(at, at + len(line)))
                     at += len(line)
                     yield line

@@ -110,6 +110,16 @@ class Callers:
         return self.told([one for one in found if one != waits and not any(
             here.at > since for here in self.reached(one))], 0)
 
+    def waiting(self, process: int) -> str:
+        """The place at which a process waits, as the reason for which it reached nothing behind it."""
+        ends = [it for it in self.ends if it.frame.process == process]
+        if not ends or not ends[-1].waits or not ends[-1].waits[-1]:
+            return ''
+        waits = ends[-1].waits[-1]
+        here = self.reached(waits)
+        return ', since %s waits at %s since %d' % (
+            self.program.processes[process].name, in_words(self.program, waits), here[-1].at if here else 0)
+
     def told(self, numbers: Sequence[int], depth: int) -> str:
         """Statements that would have called, each with how often it was reached and what kept the mote from it."""
         found = []
@@ -119,6 +129,7 @@ class Callers:
             if here:
                 words += 'reached last at %d%s' % (here[-1].at, self.reason(number, depth + 1))
             else:
-                words += 'never reached%s' % self.reason(number, depth + 1)
+                words += 'never reached%s' % (self.reason(number, depth + 1) or self.waiting(
+                    self.program.statement(number).process))
             found.append(words)
         return ''.join('; ' + words for words in found)
