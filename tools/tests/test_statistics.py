@@ -457,8 +457,10 @@ class Command(unittest.TestCase):
             'a.svg'))
         self.assertEqual(found['SHA-256 of the results'],
                          hashlib.sha256((self.folder / 'net.csv').read_bytes()).hexdigest())
-        self.assertEqual((found['rows'], found['bootstrap']),
-                         ('15', '2,000 draws with replacement, by SplitMix64 with the seed 1'))
+        self.assertEqual((found['rows'], found['parameters']), ('15', 'period density seed'))
+        self.plot(*words, '--show', 'mean', '--interval', 'bootstrap')
+        self.assertIn('note,"bootstrap: 2,000 draws with replacement, by SplitMix64 with the seed 1"\n',
+                      (self.folder / 'a.origin.csv').read_text())
 
     def test_treatments_are_not_mixed(self) -> None:
         self.plot('--measure', 'sent', '--against', 'period', status=2)

@@ -8,15 +8,15 @@ import hashlib
 from collections.abc import Sequence
 from pathlib import Path
 
-from motesim.analysis.estimates import DRAWN
 from motesim.analysis.points import parameters_of
 from motesim.experiments.measures import Cell
 from motesim.experiments.results import Row, line_of, text_of
 from motesim.version import VERSION
 
 # The columns of results that say what made a row, each with its name here.
-OF_ROWS = {'plan': 'plan', 'plan_sha256': 'SHA-256 of the plan', 'program': 'motesim',
-           'program_sha256': 'SHA-256 of motesim', 'kit': 'proved with', 'measures_sha256': 'SHA-256 of the measures'}
+OF_ROWS = {'plan': 'plan', 'plan_sha256': 'SHA-256 of the plan, 16 digits', 'program': 'motesim',
+           'program_sha256': 'SHA-256 of motesim, 16 digits', 'kit': 'proved with',
+           'measures_sha256': 'SHA-256 of the measures, 16 digits'}
 # How many values of a column are listed.
 MOST = 8
 
@@ -41,5 +41,5 @@ def origin_of(command: str, files: Sequence[Path], rows: Sequence[Row], notes: S
         values = list(dict.fromkeys(text_of(row.get(column)) for row in rows if row.get(column) is not None))
         more = [] if len(values) <= MOST else ['and %d more' % (len(values) - MOST)]
         lines += [(name, value) for value in values[:MOST] + more]
-    lines += [('bootstrap', DRAWN), *(('note', it) for it in notes)]
+    lines += [('note', it) for it in notes]
     return line_of(['what', 'value']) + ''.join(map(line_of, lines))
