@@ -7,14 +7,10 @@ import sys
 from pathlib import Path
 from typing import NoReturn
 
-from motesim.experiments.packages import has
 from motesim.faults import command
 from motesim.words import words_of
 from project.tree import TOP, program_of, take_program
-from project.unit_tests import interpreter
-
-# No file is written into the tree; only what fails is shown.
-FLAGS = ['-qq', '--no-header', '--tb=short', '-rN', '-p', 'no:cacheprovider']
+from project.unit_tests import pytest
 
 
 def check(module: Path) -> NoReturn:
@@ -24,11 +20,8 @@ def check(module: Path) -> NoReturn:
     words.add_argument('names', nargs='*', metavar='NAME', help='what to test (all)')
     words.epilog = 'Other options are those of pytest, each in one word: -x, -kWORD.'
     asked, others = words.parse_known_args()
-    python = interpreter()
-    parallel = ['-n', str(os.cpu_count()), '--dist', 'loadgroup'] if has('xdist', python) else []
-    pytest = [python, '-B', '-m', 'pytest', *FLAGS, *parallel, str(module), *others]
-    os.execve(python, [*pytest, *('--name=' + it for it in asked.names)],
-              {**os.environ, 'MOTESIM': program_of(asked.program)})
+    called = [*pytest(together='group'), str(module), *others, *('--name=' + it for it in asked.names)]
+    os.execve(called[0], called, {**os.environ, 'MOTESIM': program_of(asked.program)})
 
 
 def main(module: str) -> NoReturn:

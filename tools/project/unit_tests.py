@@ -19,8 +19,8 @@ from project.tree import TOP
 
 TESTS = TOP / 'tools/tests'
 MINUTES = 30
-NO_PYTEST = ('the tests of the tools need pytest: on Debian `apt-get install python3-pytest python3-pytest-xdist` '
-             'installs it for %s (.ci/run installs all that the tests need)' % SYSTEM)
+NO_PYTEST = ('the tests need pytest: on Debian `apt-get install python3-pytest python3-pytest-xdist` installs it for %s '
+             '(.ci/run installs all that the tests need)' % SYSTEM)
 # No file is written into the tree; each line says which test failed, and why.
 FLAGS = ['-qq', '--no-header', '--tb=short', '-rN', '-p', 'no:cacheprovider', '-W',
          'ignore::pytest.PytestUnhandledThreadExceptionWarning']
@@ -34,10 +34,10 @@ def interpreter() -> str:
     return found
 
 
-def pytest(may_skip: Sequence[str]) -> list[str]:
-    """The words that call pytest."""
+def pytest(may_skip: Sequence[str] = (), together: str = 'scope') -> list[str]:
+    """The words that call pytest. The tests of a class, or of another `scope` or `group`, run in one process."""
     python = interpreter()
-    parallel = ['-n', str(os.cpu_count()), '--dist', 'loadscope'] if has('xdist', python) else []
+    parallel = ['-n', str(os.cpu_count()), '--dist', 'load' + together] if has('xdist', python) else []
     return [python, '-B', '-m', 'pytest', *FLAGS, *parallel, *('--may-skip=' + it for it in may_skip)]
 
 
