@@ -19,8 +19,8 @@ from project.tree import TOP
 
 TESTS = TOP / 'tools/tests'
 MINUTES = 30
-NO_PYTEST = ('the tests need pytest: on Debian `apt-get install python3-pytest python3-pytest-xdist` installs it for %s '
-             '(.ci/run installs all that the tests need)' % SYSTEM)
+NO_PYTEST = ('the tests need pytest: on Debian `apt-get install python3-pytest python3-pytest-xdist` installs it '
+             'for %s (.ci/run installs all that the tests need)' % SYSTEM)
 # No file is written into the tree; each line says which test failed, and why.
 FLAGS = ['-qq', '--no-header', '--tb=short', '-rN', '-p', 'no:cacheprovider', '-W',
          'ignore::pytest.PytestUnhandledThreadExceptionWarning']
