@@ -209,13 +209,13 @@ module _ (program : Tree) (mote p : ℕ) (code : Code) (earlier : List Line) whe
     brackets = each.brackets_of Keeps Stops chain Whoever Others (λ s q o. quiet_keeps s _ (state_quiet p s q Called (is_other q o))) (λ s q o. quiet_keeps s _ (state_quiet p s q Running (is_other q o)))
         (λ s q o l. quiet_keeps s _ (exiting_quiet p s q (is_other q o))) (λ s q o l. quiet_keeps s _ (leave_quiet p s q (is_other q o)));
     halts = λ s. quiet_stops s _ (halted_quiet p s);
-    units = λ s n. quiet_keeps s _ refl;
+    units = λ s n l. quiet_keeps s _ refl;
     busy = λ s q. quiet_keeps s _ (line_quiet p s (what.Busy q) refl);
     prints = λ s q v o. quiet_keeps s _ (print_quiet p s q v o);
     polled = λ s q. quiet_keeps s _ (poll_quiet p s q);
     remainder = λ s q r o. quiet_keeps s _ (remainder_quiet p s q r o);
     fresh = λ s q o. quiet_keeps s _ (body_quiet p s q o);
-    variables = λ s q vs n o. quiet_keeps s _ (variables_quiet p s q vs n o);
+    variables = λ s q vs n o l. quiet_keeps s _ (variables_quiet p s q vs n o);
     sets = λ s t start interval owner there. each.keeps_set Keeps Stops chain s _ t (λ callbacks. quiet_keeps s _ refl) (λ u. quiet_keeps u _ (poll_quiet p u Etimer));
     stops = λ s t. quiet_keeps s _ refl;
     purges = λ s q. quiet_keeps s _ refl;

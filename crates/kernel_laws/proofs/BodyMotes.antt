@@ -54,7 +54,7 @@ module _ (program : Tree) (mote p : ℕ) (code : Code) (is_code : slice_get prog
     }
 
     run_leads : (s : State) → Lead K S ℕ s (kernel_of calls s)
-    run_leads s = kernel_led K S (chain program mote p code earlier) run_steps calls are.call s
+    run_leads s = kernel_led K S (chain program mote p code earlier) calls run_steps are.call s
 
     boot_leads : (s : State) → Lead K S ℕ s (boot_of calls s)
     boot_leads s = boot_led K S (chain program mote p code earlier) calls (start_led program mote p code earlier is_code apart calls are) s

@@ -138,7 +138,7 @@ module _ (calls : Calls) (are : AreRuns calls) where
   pub polls_due_run : (s : State) → Reach (Unit {0}) s (polls_due_of calls s)
   unfolding with_needs_poll
   polls_due_run s =
-      polls_due_led GoesOn Stops chain (λ t. quiet t _ (record { lines = refl; members = refl; started = refl; queue = refl })) (λ t p. quiet t _ (record { lines = refl; members = refl; started = refl; queue = refl })) calls
+      polls_due_led GoesOn Stops chain calls (λ t. quiet t _ (record { lines = refl; members = refl; started = refl; queue = refl })) (λ t p. quiet t _ (record { lines = refl; members = refl; started = refl; queue = refl }))
       (λ t p. are.call t p _ (fits_other p _ refl)) s
 
   -- the line of an event that reaches a process, and the call that follows it

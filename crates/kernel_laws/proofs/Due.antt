@@ -255,8 +255,8 @@ module _ (calls : Calls) (are : AreWatched calls) (written : stamps.AreKept call
       record {
         at_turn = a.midst;
         comes = a.first;
-        tells = tells_within moment s a.midst b.midst t (adds_by _ s a.midst tt _ a.first (polls_led stamps.Keeps stamps.Keeps stamps.chain stamps.run_steps.unrequested stamps.run_steps.cleared calls (λ v q. written.call v q _ (λ x. tt)) (members_before Etimer s.members) s)) i
-            (adds_by _ b.midst t tt _ b.second (polls_led stamps.Keeps stamps.Keeps stamps.chain stamps.run_steps.unrequested stamps.run_steps.cleared calls (λ v q. written.call v q _ (λ x. tt)) k.after b.midst)) (served moment a.midst b.midst c.now_is c.stands call i);
+        tells = tells_within moment s a.midst b.midst t (adds_by _ s a.midst tt _ a.first (polls_led stamps.Keeps stamps.Keeps stamps.chain calls stamps.run_steps.unrequested stamps.run_steps.cleared (λ v q. written.call v q _ (λ x. tt)) (members_before Etimer s.members) s)) i
+            (adds_by _ b.midst t tt _ b.second (polls_led stamps.Keeps stamps.Keeps stamps.chain calls stamps.run_steps.unrequested stamps.run_steps.cleared (λ v q. written.call v q _ (λ x. tt)) k.after b.midst)) (served moment a.midst b.midst c.now_is c.stands call i);
       }
 
   tells_on : (moment : ℕ) (u s t v : State) → TellsDue moment u s.lines t.lines → Adds t v → TellsDue moment u s.lines v.lines
@@ -274,7 +274,7 @@ module _ (calls : Calls) (are : AreWatched calls) (written : stamps.AreKept call
       let a = through _ _ _ _ _ _ goes in
       let b = through _ _ _ _ _ _ a.second in
       let p = polled moment (record s { poll_requested = false }) a.midst e (unrequested true s h) w.needs_poll (sym (polls_are calls s w.poll_requested) ∙ a.first) in
-      let i = adds_by _ a.midst b.midst tt _ b.first (front_led stamps.Keeps stamps.Keeps stamps.chain stamps.run_steps calls (λ v q e. written.call v q e (λ x. tt)) a.midst.queue.events a.midst) in
+      let i = adds_by _ a.midst b.midst tt _ b.first (front_led stamps.Keeps stamps.Keeps stamps.chain calls stamps.run_steps (λ v q e. written.call v q e (λ x. tt)) a.midst.queue.events a.midst) in
       let last : b.midst.lines ≡ t.lines = cc in
       record { at_turn = p.at_turn; comes = p.comes; tells = subst (λ l. TellsDue moment p.at_turn s.lines l) last (tells_on moment p.at_turn (record s { poll_requested = false }) a.midst b.midst p.tells i) }
 

@@ -1,6 +1,6 @@
 -- An invariant of each small step of the kernel is one of each call, however deep calls nest, and of each boot and
 -- kernel run. A call and an exit are brackets around the steps within them.
-use Rattle.std.proofs.Common.{ℕ, zero, suc, ◌≡◌, Bool, true, false, not, ◌&&◌, ◌||◌, ◌==◌, nat_lt, if◌then◌else◌, List, [], ◌∷◌, Option, Some, None, slice_get, slice_set, refl, sym, ap, ◌∙◌, subst, ◌++◌, ◌+◌, ◌-◌, ◌^◌, nat_le, length, arith, map}
+use Rattle.std.proofs.Common.{ℕ, zero, suc, ◌≡◌, Bool, true, false, not, ◌&&◌, ◌||◌, ◌==◌, nat_lt, if◌then◌else◌, List, [], ◌∷◌, Option, Some, None, slice_get, slice_set, refl, sym, ap, ◌∙◌, subst, ◌++◌, ◌+◌, ◌-◌, ◌^◌, ◌≤◌, nat_le, length, arith, map}
 use Rattle.std.proofs.lemmas.Bool.Decides.{nat_tests}
 use Rattle.program_tree.specs.declared.event.Proc.{Proc}
 use Rattle.program_tree.specs.declared.event.Proc.TheVariants.{Own, Etimer, Ctimer, Radio}
@@ -23,6 +23,8 @@ use Rattle.protothread.specs.declared.step.Op.TheVariants as op
 use Rattle.protothread.specs.declared.step.Step.{Step}
 use Rattle.protothread.specs.declared.step.Step.TheVariants as step
 use Rattle.protothread.specs.Remainder.{Remainder, fresh_of}
+use Rattle.protothread.specs.Step.{PaysFor}
+use Rattle.protothread.proofs.Units.{costs}
 use Rattle.radio_packet.specs.declared.arrival.Arrival.{Arrival}
 use Rattle.trace_lines.specs.declared.line.What.TheVariants as what
 use Rattle.process_kernel.specs.declared.process.ProcessState.TheVariants.{Running, Called}
@@ -105,6 +107,14 @@ enlist_is s Etimer = refl
 enlist_is s Ctimer = refl
 enlist_is s Radio = refl
 
+stepped_fits : (variables : Option (List ℕ)) (s : State) (code : Code) (r : Remainder) (p : ℕ) (e : Event) → FitsStep (stepped_with variables s code r p e).step
+stepped_fits (Some variables) s code r p e = fits_advanced code e (looks_of s) r variables s.units
+stepped_fits None s code r p e = tt
+
+pub all_fits : (s : State) (code : Code) (r : Remainder) (p : ℕ) (e : Event) → FitsStep (stepped_of s code r p e).step
+unfolding stepped_of
+all_fits s code r p e = stepped_fits _ s code r p e
+
 -- A boot or a kernel run of a mote that has halted changes nothing.
 pub unless_halts : (P : Given → Type 0) (m : Mote) (lines : List Line) (sends : List Sent) (g : Given) → (m.halted ≡ true → P (record { ran = ran.Halted; mote = m; lines = lines; sends = sends })) → (m.halted ≡ false → P g) → P (unless_halted m lines sends g)
 unless_halts P m lines sends g h i = by m.halted refl
@@ -151,10 +161,6 @@ module _ (Keeps Stops : State → State → Type 0) where
     lead_knowing A B P s (Ends t) f h k go = record { leads = h.leads }
     lead_knowing A B P s (Goes a t) f h k go = lead_from B s t (f a t) h.leads (go a t k)
 
-    pub bind_nested : (A B C : Type 0) (s : State) (o : Outcome A) (h : A → State → Outcome B) (g : B → State → Outcome C) → Lead C s ((o >>= h) >>= g) → Lead C s (o >>= λ a t. (h a t >>= g))
-    bind_nested A B C s (Ends t) h g r = r
-    bind_nested A B C s (Goes a t) h g r = r
-
     pub bind_twice : (A B C : Type 0) (s : State) (o : Outcome A) (h : A → State → Outcome B) (g : B → State → Outcome C) → Lead C s (o >>= λ a t. (h a t >>= g)) → Lead C s ((o >>= h) >>= g)
     bind_twice A B C s (Ends t) h g r = r
     bind_twice A B C s (Goes a t) h g r = r
@@ -166,10 +172,6 @@ module _ (Keeps Stops : State → State → Type 0) where
     pub lead_cases : (A : Type 0) (s : State) (b : Bool) (o p : Outcome A) → (b ≡ true → Lead A s o) → (b ≡ false → Lead A s p) → Lead A s (if b then o else p)
     lead_cases A s true o p h i = h refl
     lead_cases A s false o p h i = i refl
-
-    pub lead_option : (A X : Type 0) (s : State) (x : Option X) (o : Outcome A) (f : X → Outcome A) → Lead A s o → ((y : X) → Lead A s (f y)) → Lead A s (elim x [ None ↦ o | Some y ↦ f y ])
-    lead_option A X s None o f h i = h
-    lead_option A X s (Some y) o f h i = i y
 
     pub lead_goes : (A : Type 0) (s : State) (a : A) (t : State) → Keeps s t → Lead A s (Goes a t)
     lead_goes A s a t h = record { leads = h }
@@ -184,6 +186,60 @@ module _ (Keeps Stops : State → State → Type 0) where
     pub keeps_cases : (s : State) (b : Bool) (t u : State) → (b ≡ true → Keeps s t) → (b ≡ false → Keeps s u) → Keeps s (if b then t else u)
     keeps_cases s true t u h i = h refl
     keeps_cases s false t u h i = i refl
+
+    -- a property of all states
+    abbrev Anywhere : State → Type 0
+    Anywhere s = Unit {0}
+
+    anywhere : (s t : State) → Keeps s t → Anywhere s → Anywhere t
+    anywhere s t k x = tt
+
+    single : (A : Type 0) (s : State) (o : Outcome A) → Leads s o → Lead A s o
+    single A s o h = record { leads = h }
+
+    -- A rule over two sets of calls: it leads as over one, and from a state of which this holds the outcomes are the same.
+    module _ (Holds : State → Type 0) where
+      pub record Both (A : Type 0) (s : State) (o q : Outcome A) : Type 0 where
+        pub leads : Leads s o
+        pub same : Holds s → o ≡ q
+
+      pub both_plain : (A : Type 0) (s : State) (o : Outcome A) → Lead A s o → Both A s o o
+      both_plain A s o h = record { leads = h.leads; same = λ x. refl }
+
+      both_still : (A : Type 0) (s : State) (a : A) → Both A s (Goes a s) (Goes a s)
+      both_still A s a = both_plain A s (Goes a s) (lead_still A s a)
+
+      both_goes : (A : Type 0) (s : State) (a : A) (t : State) → Keeps s t → Both A s (Goes a t) (Goes a t)
+      both_goes A s a t h = both_plain A s (Goes a t) (lead_goes A s a t h)
+
+      both_if : (A : Type 0) (s : State) (b : Bool) (o p o' p' : Outcome A) → Both A s o o' → Both A s p p' → Both A s (if b then o else p) (if b then o' else p')
+      both_if A s true o p o' p' h i = h
+      both_if A s false o p o' p' h i = i
+
+      both_cases : (A : Type 0) (s : State) (b : Bool) (o p o' p' : Outcome A) → (b ≡ true → Both A s o o') → (b ≡ false → Both A s p p') → Both A s (if b then o else p) (if b then o' else p')
+      both_cases A s true o p o' p' h i = h refl
+      both_cases A s false o p o' p' h i = i refl
+
+      both_option : (A X : Type 0) (s : State) (x : Option X) (o o' : Outcome A) (f g : X → Outcome A) → Both A s o o' → ((y : X) → Both A s (f y) (g y)) → Both A s (elim x [ None ↦ o | Some y ↦ f y ]) (elim x [ None ↦ o' | Some y ↦ g y ])
+      both_option A X s None o o' f g h i = h
+      both_option A X s (Some y) o o' f g h i = i y
+
+      both_nested : (A B C : Type 0) (s : State) (o q : Outcome A) (f f' : A → State → Outcome B) (g g' : B → State → Outcome C) → Both C s ((o >>= f) >>= g) ((q >>= f') >>= g') → Both C s (o >>= λ a t. (f a t >>= g)) (q >>= λ a t. (f' a t >>= g'))
+      both_nested A B C s (Ends t) (Ends u) f f' g g' r = r
+      both_nested A B C s (Ends t) (Goes b u) f f' g g' r = r
+      both_nested A B C s (Goes a t) (Ends u) f f' g g' r = r
+      both_nested A B C s (Goes a t) (Goes b u) f f' g g' r = r
+
+      module _ (on : (s t : State) → Keeps s t → Holds s → Holds t) where
+        both_from : (A : Type 0) (s t : State) (o q : Outcome A) → Keeps s t → Both A t o q → Both A s o q
+        both_from A s t o q h i = record { leads = from_leads A s t o h i.leads; same = λ x. i.same (on s t h x) }
+
+        both_bind : (A B : Type 0) (s : State) (o q : Outcome A) (f g : A → State → Outcome B) → Both A s o q → ((a : A) (t : State) → Both B t (f a t) (g a t)) → Both B s (o >>= f) (q >>= g)
+        both_bind A B s (Ends t) q f g h go = record { leads = h.leads; same = λ x. ap (λ y. y >>= g) (h.same x) }
+        both_bind A B s (Goes a t) q f g h go = record {
+          leads = from_leads B s t (f a t) h.leads (go a t).leads;
+          same = λ x. (go a t).same (on s t h.leads x) ∙ ap (λ y. y >>= g) (h.same x);
+        }
 
     -- A post, a packet and a timer that is set, if what they are made of is a step.
 
@@ -229,17 +285,17 @@ module _ (Keeps Stops : State → State → Type 0) where
           (λ u t h. empty_led receiver later t h.0.ring (ap (λ p. p.receiver) h.0.program ∙ r))
 
     -- the polls, if a call with POLL is made of steps
-    module _ (unrequested : (s : State) → Keeps s (record s { poll_requested = false })) (cleared : (s : State) (p : Proc) → Keeps s (with_needs_poll s p false)) (calls : Calls)
-        (polled : (s : State) (p : Proc) → Lead (Unit {0}) s (calls.call s p (told Poll 0))) where
-      pub polls_led : (ms : List Member) (s : State) → Lead (Unit {0}) s (walk_polls calls ms s)
+    module _ (Holds : State → Type 0) (on : (s t : State) → Keeps s t → Holds s → Holds t) (unrequested : (s : State) → Keeps s (record s { poll_requested = false })) (cleared : (s : State) (p : Proc) → Keeps s (with_needs_poll s p false))
+        (a b : Calls) (polled : (s : State) (p : Proc) → Both Holds (Unit {0}) s (a.call s p (told Poll 0)) (b.call s p (told Poll 0))) where
+      pub polls_both : (ms : List Member) (s : State) → Both Holds (Unit {0}) s (walk_polls a ms s) (walk_polls b ms s)
       unfolding poll_turn_of
-      polls_led [] s = lead_still _ s tt
-      polls_led (m ∷ ms) s =
-          lead_bind _ _ s _ _ (lead_if _ s _ _ _ (lead_from _ s _ _ (cleared s m.process) (polled _ m.process)) (lead_still _ s tt)) (λ a t. polls_led ms t)
+      polls_both [] s = both_still Holds _ s tt
+      polls_both (m ∷ ms) s =
+          both_bind Holds on _ _ s _ _ _ _ (both_if Holds _ s _ _ _ _ _ (both_from Holds on _ s _ _ _ (cleared s m.process) (polled _ m.process)) (both_still Holds _ s tt)) (λ a t. polls_both ms t)
 
-      pub polls_due_led : (s : State) → Lead (Unit {0}) s (polls_due_of calls s)
+      pub polls_due_both : (s : State) → Both Holds (Unit {0}) s (polls_due_of a s) (polls_due_of b s)
       unfolding polls_due_of polls_of
-      polls_due_led s = lead_if _ s s.poll_requested _ _ (lead_from _ s _ _ (unrequested s) (polls_led s.members _)) (lead_still _ s tt)
+      polls_due_both s = both_if Holds _ s s.poll_requested _ _ _ _ (both_from Holds on _ s _ _ _ (unrequested s) (polls_both s.members _)) (both_still Holds _ s tt)
 
     -- the steps of boots and kernel runs outside any call
     pub record AreRunSteps : Type 0 where
@@ -250,43 +306,70 @@ module _ (Keeps Stops : State → State → Type 0) where
       pub drops : (s : State) (serial : ℕ) (p : Proc) → Keeps s (with_line s (what.Drop serial p))
 
     -- boots and kernel runs, if each call is made of steps
-    module _ (steps : AreRunSteps) (calls : Calls) (called : (s : State) (p : Proc) (e : Event) → Lead (Unit {0}) s (calls.call s p e)) where
-      due_polls_led : (s : State) → Lead (Unit {0}) s (polls_due_of calls s)
-      due_polls_led s = polls_due_led steps.unrequested steps.cleared calls (λ t p. called t p _) s
+    module _ (Holds : State → Type 0) (on : (s t : State) → Keeps s t → Holds s → Holds t) (steps : AreRunSteps) (a b : Calls)
+        (called : (s : State) (p : Proc) (e : Event) → Both Holds (Unit {0}) s (a.call s p e) (b.call s p e)) where
+      due_polls_both : (s : State) → Both Holds (Unit {0}) s (polls_due_of a s) (polls_due_of b s)
+      due_polls_both s = polls_due_both Holds on steps.unrequested steps.cleared a b (λ t p. called t p _) s
 
-      pub give_led : (s : State) (x : Posted) (p : Proc) (there : Bool) → Lead (Unit {0}) s (give_of calls s x p there)
+      pub give_both : (s : State) (x : Posted) (p : Proc) (there : Bool) → Both Holds (Unit {0}) s (give_of a s x p there) (give_of b s x p there)
       unfolding give_of write_of
-      give_led s x p there =
-          lead_if _ s there _ _ (lead_from _ s _ _ (steps.takes s x.serial p) (called _ p x.event)) (lead_goes _ s tt _ (steps.drops s x.serial p))
+      give_both s x p there =
+          both_if Holds _ s there _ _ _ _ (both_from Holds on _ s _ _ _ (steps.takes s x.serial p) (called _ p x.event)) (both_goes Holds _ s tt _ (steps.drops s x.serial p))
 
-      walk_broadcast_led : (x : Posted) (ms : List Member) (s : State) → Lead (Unit {0}) s (walk_broadcast calls x ms s)
+      walk_broadcast_both : (x : Posted) (ms : List Member) (s : State) → Both Holds (Unit {0}) s (walk_broadcast a x ms s) (walk_broadcast b x ms s)
       unfolding visit_of
-      walk_broadcast_led x [] s = lead_still _ s tt
-      walk_broadcast_led x (m ∷ ms) s =
-          lead_bind _ _ s _ _ (lead_bind _ _ s _ _ (due_polls_led s) (λ a t. give_led t x m.process (is_on_list t m))) (λ a t. walk_broadcast_led x ms t)
+      walk_broadcast_both x [] s = both_still Holds _ s tt
+      walk_broadcast_both x (m ∷ ms) s =
+          both_bind Holds on _ _ s _ _ _ _ (both_bind Holds on _ _ s _ _ _ _ (due_polls_both s) (λ a t. give_both t x m.process (is_on_list t m))) (λ a t. walk_broadcast_both x ms t)
 
-      target_led : (target : Target) (s : State) (x : Posted) → Lead (Unit {0}) s (deliver_to target calls s x)
-      target_led (One p) s x = give_led s x p (is_listed s p)
-      target_led ToEach s x = walk_broadcast_led x s.members s
+      target_both : (target : Target) (s : State) (x : Posted) → Both Holds (Unit {0}) s (deliver_to target a s x) (deliver_to target b s x)
+      target_both (One p) s x = give_both s x p (is_listed s p)
+      target_both ToEach s x = walk_broadcast_both x s.members s
 
-      pub front_led : (q : List Posted) (s : State) → Lead (Unit {0}) s (deliver_front calls q s)
+      pub front_both : (q : List Posted) (s : State) → Both Holds (Unit {0}) s (deliver_front a q s) (deliver_front b q s)
       unfolding deliver_of
-      front_led [] s = lead_still _ s tt
-      front_led (x ∷ q) s = lead_from _ s _ _ (steps.front s) (target_led x.target _ x)
+      front_both [] s = both_still Holds _ s tt
+      front_both (x ∷ q) s = both_from Holds on _ s _ _ _ (steps.front s) (target_both x.target _ x)
 
-      pub kernel_led : (s : State) → Lead ℕ s (kernel_of calls s)
+      pub kernel_both : (s : State) → Both Holds ℕ s (kernel_of a s) (kernel_of b s)
       unfolding kernel_of
-      kernel_led s =
-          lead_bind _ _ s _ _ (due_polls_led s) (λ a t. lead_bind _ _ t _ _ (front_led t.queue.events t) (λ b u. lead_still _ u _))
+      kernel_both s =
+          both_bind Holds on _ _ s _ _ _ _ (due_polls_both s) (λ a t. both_bind Holds on _ _ t _ _ _ _ (front_both t.queue.events t) (λ b u. both_still Holds _ u _))
 
-    pub starts_led : (calls : Calls) → ((s : State) (p : Proc) → Lead (Unit {0}) s (start_of calls s p)) → (ps : List Proc) (s : State) → Lead (Unit {0}) s (starts_of calls ps s)
-    starts_led calls started [] s = lead_still _ s tt
-    starts_led calls started (p ∷ ps) s = lead_bind _ _ s _ _ (started s p) (λ a t. starts_led calls started ps t)
+    module _ (Holds : State → Type 0) (on : (s t : State) → Keeps s t → Holds s → Holds t) (a b : Calls) (started : (s : State) (p : Proc) → Both Holds (Unit {0}) s (start_of a s p) (start_of b s p)) where
+      starts_both : (ps : List Proc) (s : State) → Both Holds (Unit {0}) s (starts_of a ps s) (starts_of b ps s)
+      starts_both [] s = both_still Holds _ s tt
+      starts_both (p ∷ ps) s = both_bind Holds on _ _ s _ _ _ _ (started s p) (λ u t. starts_both ps t)
 
-    pub boot_led : (calls : Calls) → ((s : State) (p : Proc) → Lead (Unit {0}) s (start_of calls s p)) → (s : State) → Lead ℕ s (boot_of calls s)
-    unfolding boot_of
-    boot_led calls started s =
-        lead_bind _ _ s _ _ (starts_led calls started (Etimer ∷ Ctimer ∷ Radio ∷ map Own s.program.autostart) s) (λ a t. lead_still _ t _)
+      pub boot_both : (s : State) → Both Holds ℕ s (boot_of a s) (boot_of b s)
+      unfolding boot_of
+      boot_both s = both_bind Holds on _ _ s _ _ _ _ (starts_both (Etimer ∷ Ctimer ∷ Radio ∷ map Own s.program.autostart) s) (λ u t. both_still Holds _ t _)
+
+    -- over one set of calls
+    module _ (calls : Calls) where
+      pub polls_led : ((s : State) → Keeps s (record s { poll_requested = false })) → ((s : State) (p : Proc) → Keeps s (with_needs_poll s p false)) → ((s : State) (p : Proc) → Lead (Unit {0}) s (calls.call s p (told Poll 0)))
+          → (ms : List Member) (s : State) → Lead (Unit {0}) s (walk_polls calls ms s)
+      polls_led unrequested cleared polled ms s = single _ s _ (polls_both Anywhere anywhere unrequested cleared calls calls (λ t p. both_plain Anywhere _ t _ (polled t p)) ms s).leads
+
+      pub polls_due_led : ((s : State) → Keeps s (record s { poll_requested = false })) → ((s : State) (p : Proc) → Keeps s (with_needs_poll s p false)) → ((s : State) (p : Proc) → Lead (Unit {0}) s (calls.call s p (told Poll 0)))
+          → (s : State) → Lead (Unit {0}) s (polls_due_of calls s)
+      polls_due_led unrequested cleared polled s = single _ s _ (polls_due_both Anywhere anywhere unrequested cleared calls calls (λ t p. both_plain Anywhere _ t _ (polled t p)) s).leads
+
+      pub boot_led : ((s : State) (p : Proc) → Lead (Unit {0}) s (start_of calls s p)) → (s : State) → Lead ℕ s (boot_of calls s)
+      boot_led started s = single _ s _ (boot_both Anywhere anywhere calls calls (λ t p. both_plain Anywhere _ t _ (started t p)) s).leads
+
+      module _ (steps : AreRunSteps) (called : (s : State) (p : Proc) (e : Event) → Lead (Unit {0}) s (calls.call s p e)) where
+        called_twice : (s : State) (p : Proc) (e : Event) → Both Anywhere (Unit {0}) s (calls.call s p e) (calls.call s p e)
+        called_twice s p e = both_plain Anywhere _ s _ (called s p e)
+
+        pub give_led : (s : State) (x : Posted) (p : Proc) (there : Bool) → Lead (Unit {0}) s (give_of calls s x p there)
+        give_led s x p there = single _ s _ (give_both Anywhere anywhere steps calls calls called_twice s x p there).leads
+
+        pub front_led : (q : List Posted) (s : State) → Lead (Unit {0}) s (deliver_front calls q s)
+        front_led q s = single _ s _ (front_both Anywhere anywhere steps calls calls called_twice q s).leads
+
+        pub kernel_led : (s : State) → Lead ℕ s (kernel_of calls s)
+        kernel_led s = single _ s _ (kernel_both Anywhere anywhere steps calls calls called_twice s).leads
 
     -- which processes may be exited, and which of the program's own are looked at
     module _ (Leaves : Proc → Type 0) (Ours : ℕ → Type 0) where
@@ -324,13 +407,13 @@ module _ (Keeps Stops : State → State → Type 0) where
         pub own : (p : Proc) → IsOwn p → Leaves p
         pub brackets : AreBrackets
         pub halts : (s : State) → Stops s (halted_of s)
-        pub units : (s : State) (n : ℕ) → Keeps s (record s { units = n })
+        pub units : (s : State) (n : ℕ) → n ≤ s.units → Keeps s (record s { units = n })
         pub busy : (s : State) (p : Proc) → Keeps s (with_line s (what.Busy p))
         pub prints : (s : State) (p v : ℕ) → Ours p → Keeps s (with_line s (what.Print (Own p) v))
         pub polled : (s : State) (p : Proc) → Keeps s (poll_of s p)
         pub remainder : (s : State) (p : ℕ) (r : Remainder) → Ours p → Keeps s (put_remainder s p r)
         pub fresh : (s : State) (p : ℕ) → Ours p → Keeps s (with_fresh_body s p)
-        pub variables : (s : State) (p : ℕ) (vs : List ℕ) (units : ℕ) → Ours p → Keeps s (record s { variables = slice_set s.variables p vs; units = units })
+        pub variables : (s : State) (p : ℕ) (vs : List ℕ) (units : ℕ) → Ours p → units ≤ s.units → Keeps s (record s { variables = slice_set s.variables p vs; units = units })
         pub sets : (s : State) (timer start interval : ℕ) (owner : Proc) → has_timer s timer ≡ true
             → Keeps s (timer_is_set (record s { timers = with_timer s.timers timer (record { start = start; interval = interval; owner = Some owner }) }) timer)
         pub stops : (s : State) (timer : ℕ) → Keeps s (record s { timers = stop_timer s.timers timer })
@@ -356,6 +439,12 @@ module _ (Keeps Stops : State → State → Type 0) where
         pub run : (s : State) (code : Code) (r : Remainder) (p : ℕ) (e : Event) → Ours p → Lead Answer s (calls.run s code r p e)
         pub callback : (s : State) (code : Code) (p : ℕ) (e : Event) → slice_get s.program.codes p ≡ Some code → Lead Answer s (calls.run s code (fresh_of code (Callback e.word)) p e)
 
+      -- and over two sets of calls
+      pub record AreBoth (Holds : State → Type 0) (a b : Calls) : Type 0 where
+        pub call : (s : State) (p : Proc) (e : Event) → Fits p e.number → Both Holds (Unit {0}) s (a.call s p e) (b.call s p e)
+        pub run : (s : State) (code : Code) (r : Remainder) (p : ℕ) (e : Event) → Ours p → Both Holds Answer s (a.run s code r p e) (b.run s code r p e)
+        pub callback : (s : State) (code : Code) (p : ℕ) (e : Event) → slice_get s.program.codes p ≡ Some code → Both Holds Answer s (a.run s code (fresh_of code (Callback e.word)) p e) (b.run s code (fresh_of code (Callback e.word)) p e)
+
       -- the conditions of an operation of the current process
       abbrev pub Allowed : (current : ℕ) → Op → Type 0
       Allowed current (op.Synch p e w) = Fits p e
@@ -375,7 +464,7 @@ module _ (Keeps Stops : State → State → Type 0) where
 
         pub spend_led : (s : State) → Lead (Unit {0}) s (spend_of s)
         unfolding spend_of
-        spend_led s = lead_if _ s (s.units == 0) _ _ (lead_halts _ s) (lead_goes _ s tt _ (steps.units s _))
+        spend_led s = lead_if _ s (s.units == 0) _ _ (lead_halts _ s) (lead_goes _ s tt _ (steps.units s _ (omega arith)))
 
         pub post_led : (s : State) (t : Target) (e : Event) → FitsTarget t e.number → Lead Bool s (post_of s t e)
         post_led s t e f = lead_post s t e (steps.halts s) (steps.full s t e) (steps.posts s t e f)
@@ -418,8 +507,13 @@ module _ (Keeps Stops : State → State → Type 0) where
         unfolding signal_of
         signalled_kept s k = steps.semaphores s _
 
+        pays_less : (x : Step) (before after : ℕ) → PaysFor x before after → after ≤ before
+        pays_less (step.Op o) before after h = omega (arith, h)
+        pays_less (step.Done a) before after h = h
+        pays_less step.Runaway before after h = h
+
         stepped_as : (variables : Option (List ℕ)) (s : State) (code : Code) (r : Remainder) (p : ℕ) (e : Event) → Ours p → Keeps s (stepped_with variables s code r p e).state
-        stepped_as (Some variables) s code r p e o = steps.variables s p _ _ o
+        stepped_as (Some variables) s code r p e o = steps.variables s p _ _ o (pays_less _ _ _ (costs code e (looks_of s) r variables s.units))
         stepped_as None s code r p e o = chain.same s
 
         stepped_kept : (s : State) (code : Code) (r : Remainder) (p : ℕ) (e : Event) → Ours p → Keeps s (stepped_of s code r p e).state
@@ -427,7 +521,7 @@ module _ (Keeps Stops : State → State → Type 0) where
         stepped_kept s code r p e o = stepped_as _ s code r p e o
 
         answered_as : (variables : Option (List ℕ)) (s : State) (r : Remainder) (p answer : ℕ) → Ours p → Lead Remainder s (answered_with variables s r p answer)
-        answered_as (Some variables) s r p answer o = lead_goes _ s _ _ (steps.variables s p _ s.units o)
+        answered_as (Some variables) s r p answer o = lead_goes _ s _ _ (steps.variables s p _ s.units o (omega arith))
         answered_as None s r p answer o = lead_still _ s r
 
         answers_led : (s : State) (r : Remainder) (p : ℕ) (full : Bool) → Ours p → Lead Remainder s (answer_of s r p full)
@@ -460,107 +554,108 @@ module _ (Keeps Stops : State → State → Type 0) where
         unfolding radio_of
         radio_led s e = lead_if _ s (is_system_event Poll e) _ _ (empty_led steps.ring s.program.receiver s.ring s refl refl) (lead_still _ s tt)
 
-        module _ (calls : Calls) (are : AreLed calls) where
-          pub walk_led : (e : Event) → (is_system_event Exit e) ≡ false → (p : Proc) (ms : List Member) (s : State) → Lead (Unit {0}) s (walk_of calls e p ms s)
-          walk_led e f p [] s = lead_still _ s tt
-          walk_led e f p (m ∷ ms) s =
-              lead_bind _ _ s _ _ (lead_if _ s _ _ _ (are.call s m.process e (fits_no_exit m.process e.number f)) (lead_still _ s tt)) (λ a t. walk_led e f p ms t)
+        module _ (Holds : State → Type 0) (on : (s t : State) → Keeps s t → Holds s → Holds t) (opens : (s : State) (p : Proc) → Holds s → Holds (with_state s p Called)) (exits : (s : State) (p : Proc) → Holds s → Holds (exiting_of s p))
+            (a b : Calls) (are : AreBoth Holds a b) where
+          walk_both : (e : Event) → (is_system_event Exit e) ≡ false → (p : Proc) (ms : List Member) (s : State) → Both Holds (Unit {0}) s (walk_of a e p ms s) (walk_of b e p ms s)
+          walk_both e f p [] s = both_still Holds _ s tt
+          walk_both e f p (m ∷ ms) s =
+              both_bind Holds on _ _ s _ _ _ _ (both_if Holds _ s _ _ _ _ _ (are.call s m.process e (fits_no_exit m.process e.number f)) (both_still Holds _ s tt)) (λ a t. walk_both e f p ms t)
 
-          handler_led : (s : State) (code : Code) (p : ℕ) (e : Event) → Ours p → Lead (Unit {0}) s (handler_of calls s code p e)
+          handler_both : (s : State) (code : Code) (p : ℕ) (e : Event) → Ours p → Both Holds (Unit {0}) s (handler_of a s code p e) (handler_of b s code p e)
           unfolding handler_of
-          handler_led s code p e o =
-              lead_if _ s (is_system_event Poll e) _ _ (lead_bind _ _ s _ _ (are.run s code (fresh_of code OnPoll) p e o) (λ a t. lead_still _ t tt))
-              (lead_if _ s (is_system_event Exit e) _ _ (lead_bind _ _ s _ _ (are.run s code (fresh_of code OnExit) p e o) (λ a t. lead_still _ t tt)) (lead_still _ s tt))
+          handler_both s code p e o =
+              both_if Holds _ s (is_system_event Poll e) _ _ _ _ (both_bind Holds on _ _ s _ _ _ _ (are.run s code (fresh_of code OnPoll) p e o) (λ a t. both_still Holds _ t tt))
+              (both_if Holds _ s (is_system_event Exit e) _ _ _ _ (both_bind Holds on _ _ s _ _ _ _ (are.run s code (fresh_of code OnExit) p e o) (λ a t. both_still Holds _ t tt)) (both_still Holds _ s tt))
 
-          resume_led : (s : State) (code : Code) (p : ℕ) (e : Event) → Ours p → Lead PtState s (resume_of calls s code p e)
+          resume_both : (s : State) (code : Code) (p : ℕ) (e : Event) → Ours p → Both Holds PtState s (resume_of a s code p e) (resume_of b s code p e)
           unfolding resume_of
-          resume_led s code p e o =
-              lead_bind _ _ s _ _ (lead_from _ s (with_fresh_body s p) _ (steps.fresh s p o) (are.run _ code _ p e o)) (λ a t. lead_goes _ t _ _ (steps.remainder t p _ o))
+          resume_both s code p e o =
+              both_bind Holds on _ _ s _ _ _ _ (both_from Holds on _ s (with_fresh_body s p) _ _ (steps.fresh s p o) (are.run _ code _ p e o)) (λ a t. both_goes Holds _ t _ _ (steps.remainder t p _ o))
 
-          own_led : (s : State) (p : ℕ) (e : Event) → Ours p → Lead PtState s (own_of calls s p e)
+          own_both : (s : State) (p : ℕ) (e : Event) → Ours p → Both Holds PtState s (own_of a s p e) (own_of b s p e)
           unfolding own_of
-          own_led s p e o =
-              lead_option PtState Code s (slice_get s.program.codes p) (Goes Ended s) (λ code. handler_of calls s code p e >>= λ u t. resume_of calls t code p e) (lead_still _ s Ended) (λ code. lead_bind _ _ s _ _ (handler_led s code p e o) (λ u t. resume_led t code p e o))
+          own_both s p e o =
+              both_option Holds PtState Code s (slice_get s.program.codes p) (Goes Ended s) (Goes Ended s) (λ code. handler_of a s code p e >>= λ u t. resume_of a t code p e) (λ code. handler_of b s code p e >>= λ u t. resume_of b t code p e) (both_still Holds _ s Ended) (λ code. both_bind Holds on _ _ s _ _ _ _ (handler_both s code p e o) (λ u t. resume_both t code p e o))
 
-          code_led : (s : State) (e : Event) (p : ℕ) (code : Option Code) → slice_get s.program.codes p ≡ code → Lead (Unit {0}) s (elim code [ None ↦ Goes tt s | Some c ↦ calls.run s c (fresh_of c (Callback e.word)) p e >>= λ _ s1. Goes tt s1 ])
-          code_led s e p None is = lead_still _ s tt
-          code_led s e p (Some c) is = lead_bind _ _ s _ _ (are.callback s c p e is) (λ a t. lead_still _ t tt)
+          code_both : (s : State) (e : Event) (p : ℕ) (code : Option Code) → slice_get s.program.codes p ≡ code → Both Holds (Unit {0}) s (elim code [ None ↦ Goes tt s | Some c ↦ a.run s c (fresh_of c (Callback e.word)) p e >>= λ _ s1. Goes tt s1 ]) (elim code [ None ↦ Goes tt s | Some c ↦ b.run s c (fresh_of c (Callback e.word)) p e >>= λ _ s1. Goes tt s1 ])
+          code_both s e p None is = both_still Holds _ s tt
+          code_both s e p (Some c) is = both_bind Holds on _ _ s _ _ _ _ (are.callback s c p e is) (λ a t. both_still Holds _ t tt)
 
-          callback_led : (s : State) (e : Event) → Lead (Unit {0}) s (callback_of calls s e)
+          callback_both : (s : State) (e : Event) → Both Holds (Unit {0}) s (callback_of a s e) (callback_of b s e)
           unfolding callback_of
-          callback_led s e =
-              lead_option (Unit {0}) TimerOfProgram s (slice_get s.program.timers e.word) (Goes tt s) _ (lead_still _ s tt) (λ t. code_led s e t.process (slice_get s.program.codes t.process) refl)
+          callback_both s e =
+              both_option Holds (Unit {0}) TimerOfProgram s (slice_get s.program.timers e.word) (Goes tt s) (Goes tt s) _ _ (both_still Holds _ s tt) (λ t. code_both s e t.process (slice_get s.program.codes t.process) refl)
 
-          ctimer_led : (s : State) (e : Event) → Lead (Unit {0}) s (ctimer_of calls s e)
+          ctimer_both : (s : State) (e : Event) → Both Holds (Unit {0}) s (ctimer_of a s e) (ctimer_of b s e)
           unfolding ctimer_of
-          ctimer_led s e =
-              lead_if _ s (is_system_event Timer e && waits_for s e.word) _ _ (lead_from _ s _ _ (steps.callbacks s _) (callback_led _ e)) (lead_still _ s tt)
+          ctimer_both s e =
+              both_if Holds _ s (is_system_event Timer e && waits_for s e.word) _ _ _ _ (both_from Holds on _ s _ _ _ (steps.callbacks s _) (callback_both _ e)) (both_still Holds _ s tt)
 
-          react_led : (s : State) (p : Proc) (e : Event) → IsOurs p → Lead PtState s (react_of calls s p e)
+          react_both : (s : State) (p : Proc) (e : Event) → IsOurs p → Both Holds PtState s (react_of a s p e) (react_of b s p e)
           unfolding react_of
-          react_led s (Own p) e o = own_led s p e o
-          react_led s Etimer e o = lead_bind _ _ s _ _ (etimer_led s e) (λ u t. lead_still _ t Yielded)
-          react_led s Ctimer e o = lead_bind _ _ s _ _ (ctimer_led s e) (λ u t. lead_still _ t Yielded)
-          react_led s Radio e o = lead_bind _ _ s _ _ (radio_led s e) (λ u t. lead_still _ t Yielded)
+          react_both s (Own p) e o = own_both s p e o
+          react_both s Etimer e o = both_bind Holds on _ _ s _ _ _ _ (both_plain Holds _ _ _ (etimer_led s e)) (λ u t. both_still Holds _ t Yielded)
+          react_both s Ctimer e o = both_bind Holds on _ _ s _ _ _ _ (ctimer_both s e) (λ u t. both_still Holds _ t Yielded)
+          react_both s Radio e o = both_bind Holds on _ _ s _ _ _ _ (both_plain Holds _ _ _ (radio_led s e)) (λ u t. both_still Holds _ t Yielded)
 
-          last_run_led : (s : State) (p : Proc) → IsOurs p → Lead (Unit {0}) s (last_run_of calls s p)
+          last_run_both : (s : State) (p : Proc) → IsOurs p → Both Holds (Unit {0}) s (last_run_of a s p) (last_run_of b s p)
           unfolding last_run_of
-          last_run_led s p o = lead_bind _ _ s _ _ (spend_led s) (λ u t. lead_bind _ _ t _ _ (react_led t p _ o) (λ a v. lead_still _ v tt))
+          last_run_both s p o = both_bind Holds on _ _ s _ _ _ _ (both_plain Holds _ _ _ (spend_led s)) (λ u t. both_bind Holds on _ _ t _ _ _ _ (react_both t p _ o) (λ a v. both_still Holds _ v tt))
 
           -- the walk and the last run of a process that is being exited
-          exiting_led : (s : State) (p f : Proc) (ms : List Member) → IsOurs p → Lead (Unit {0}) s (walk_of calls (told Exited (process_number p)) p ms s >>= λ _ t. if is_same p f then Goes tt t else last_run_of calls t p)
-          exiting_led s p f ms o = lead_bind _ _ s _ _ (walk_led (told Exited (process_number p)) refl p ms s) (λ a t. lead_if _ t (is_same p f) _ _ (lead_still _ t tt) (last_run_led t p o))
+          exiting_both : (s : State) (p f : Proc) (ms : List Member) → IsOurs p → Both Holds (Unit {0}) s (walk_of a (told Exited (process_number p)) p ms s >>= λ _ t. if is_same p f then Goes tt t else last_run_of a t p) (walk_of b (told Exited (process_number p)) p ms s >>= λ _ t. if is_same p f then Goes tt t else last_run_of b t p)
+          exiting_both s p f ms o = both_bind Holds on _ _ s _ _ _ _ (walk_both (told Exited (process_number p)) refl p ms s) (λ a t. both_if Holds _ t (is_same p f) _ _ _ _ (both_still Holds _ t tt) (last_run_both t p o))
 
-          left_led : (s t : State) (p : Proc) (o : Went) → Lead (Unit {0}) t o → ((u : State) → Keeps t u → Keeps s (without_process u p)) → ((u : State) → Stops t u → Stops s u) → Lead (Unit {0}) s (o >>= λ _ u. leave_of u p)
+          left_led : (s t : State) (p : Proc) (o : Went) → Leads t o → ((u : State) → Keeps t u → Keeps s (without_process u p)) → ((u : State) → Stops t u → Stops s u) → Leads s (o >>= λ _ u. leave_of u p)
           unfolding leave_of write_of
-          left_led s t p (Ends u) h kept stopped = record { leads = stopped u h.leads }
-          left_led s t p (Goes a u) h kept stopped = record { leads = kept u h.leads }
+          left_led s t p (Ends u) h kept stopped = stopped u h
+          left_led s t p (Goes a u) h kept stopped = kept u h
 
           -- an exit that began in a state t, and that is a step from s on
-          leaves_led : (s t : State) (p f : Proc) (ms : List Member) → IsOurs p → ((u : State) → Keeps t u → Keeps s (without_process u p)) → ((u : State) → Stops t u → Stops s u)
-              → Lead (Unit {0}) s (walk_of calls (told Exited (process_number p)) p ms t >>= λ _ u. ((if is_same p f then Goes tt u else last_run_of calls u p) >>= λ _ v. leave_of v p))
-          leaves_led s t p f ms o kept stopped =
-              bind_nested (Unit {0}) (Unit {0}) (Unit {0}) s (walk_of calls (told Exited (process_number p)) p ms t) (λ _ u. if is_same p f then Goes tt u else last_run_of calls u p) (λ _ v. leave_of v p)
-              (left_led s t p _ (exiting_led t p f ms o) kept stopped)
+          leaves_both : (s t : State) (p f : Proc) (ms : List Member) → IsOurs p → (Holds s → Holds t) → ((u : State) → Keeps t u → Keeps s (without_process u p)) → ((u : State) → Stops t u → Stops s u)
+              → Both Holds (Unit {0}) s (walk_of a (told Exited (process_number p)) p ms t >>= λ _ u. ((if is_same p f then Goes tt u else last_run_of a u p) >>= λ _ v. leave_of v p)) (walk_of b (told Exited (process_number p)) p ms t >>= λ _ u. ((if is_same p f then Goes tt u else last_run_of b u p) >>= λ _ v. leave_of v p))
+          leaves_both s t p f ms o holds kept stopped =
+              both_nested Holds (Unit {0}) (Unit {0}) (Unit {0}) s (walk_of a (told Exited (process_number p)) p ms t) (walk_of b (told Exited (process_number p)) p ms t) (λ _ u. if is_same p f then Goes tt u else last_run_of a u p) (λ _ u. if is_same p f then Goes tt u else last_run_of b u p) (λ _ v. leave_of v p) (λ _ v. leave_of v p)
+              (let h = exiting_both t p f ms o in record { leads = left_led s t p _ h.leads kept stopped; same = λ x. ap (λ y. y >>= λ _ v. leave_of v p) (h.same (holds x)) })
 
-          pub exit_led : (s : State) (p f : Proc) → IsOurs p → Leaves p → is_busy s p ≡ false → Lead (Unit {0}) s (exit_of calls s p f)
+          pub exit_both : (s : State) (p f : Proc) → IsOurs p → Leaves p → is_busy s p ≡ false → Both Holds (Unit {0}) s (exit_of a s p f) (exit_of b s p f)
           unfolding exit_of
-          exit_led s p f o l b =
-              lead_cases _ s (is_listed s p) _ _ (λ i. leaves_led s (exiting_of s p) p f s.members o (λ u k. steps.brackets.exit s u p o l b i k) (λ u k. steps.brackets.exit_stops s u p o l b i k)) (λ i. lead_still _ s tt)
+          exit_both s p f o l b =
+              both_cases Holds _ s (is_listed s p) _ _ _ _ (λ i. leaves_both s (exiting_of s p) p f s.members o (exits s p) (λ u k. steps.brackets.exit s u p o l b i k) (λ u k. steps.brackets.exit_stops s u p o l b i k)) (λ i. both_still Holds _ s tt)
 
-          both : (b c : Bool) → (b && not c) ≡ true → (b ≡ true) × (c ≡ false)
-          both true false e = (refl, refl)
-          both true true e = absurd (cc)
-          both false c e = absurd (cc)
+          parts : (b c : Bool) → (b && not c) ≡ true → (b ≡ true) × (c ≡ false)
+          parts true false e = (refl, refl)
+          parts true true e = absurd (cc)
+          parts false c e = absurd (cc)
 
-          pub start_led : (s : State) (p : Proc) → IsOurs p → Lead (Unit {0}) s (start_of calls s p)
+          pub start_both : (s : State) (p : Proc) → IsOurs p → Both Holds (Unit {0}) s (start_of a s p) (start_of b s p)
           unfolding start_of
-          start_led s p o =
-              lead_cases _ s (is_busy s p) _ _ (λ b. busy_led s p) (λ b. lead_cases _ s (has_process s p && not (is_listed s p)) _ _ (λ l.
-              let h = both (has_process s p) _ l in
-              lead_bind _ _ s _ _ (enlist_led s p o b h.0 h.1) (λ a t. are.call t p _ (fits_no_exit p _ refl))) (λ l. lead_still _ s tt))
+          start_both s p o =
+              both_cases Holds _ s (is_busy s p) _ _ _ _ (λ b. both_plain Holds _ s _ (busy_led s p)) (λ b. both_cases Holds _ s (has_process s p && not (is_listed s p)) _ _ _ _ (λ l.
+              let h = parts (has_process s p) _ l in
+              both_bind Holds on _ _ s _ _ _ _ (both_plain Holds _ _ _ (enlist_led s p o b h.0 h.1)) (λ a t. are.call t p _ (fits_no_exit p _ refl))) (λ l. both_still Holds _ s tt))
 
-          pub kill_led : (s : State) (p : Proc) (current : ℕ) → IsOurs p → Leaves p → Lead (Unit {0}) s (kill_of calls s p current)
+          pub kill_both : (s : State) (p : Proc) (current : ℕ) → IsOurs p → Leaves p → Both Holds (Unit {0}) s (kill_of a s p current) (kill_of b s p current)
           unfolding kill_of
-          kill_led s p current o l = lead_cases _ s (is_busy s p) _ _ (λ b. busy_led s p) (λ b. exit_led s p (Own current) o l b)
+          kill_both s p current o l = both_cases Holds _ s (is_busy s p) _ _ _ _ (λ b. both_plain Holds _ s _ (busy_led s p)) (λ b. exit_both s p (Own current) o l b)
 
           -- the operations of a thread, if each start and each kill is made of steps
-          module _ (started : (s : State) (p : Proc) → Lead (Unit {0}) s (start_of calls s p)) (killed : (s : State) (p : Proc) (current : ℕ) → Leaves p → Lead (Unit {0}) s (kill_of calls s p current)) where
-            pub act_led : (s : State) (current : ℕ) (o : Op) → Allowed current o → Lead (Unit {0}) s (act_of calls s current o)
+          module _ (started : (s : State) (p : Proc) → Both Holds (Unit {0}) s (start_of a s p) (start_of b s p)) (killed : (s : State) (p : Proc) (current : ℕ) → Leaves p → Both Holds (Unit {0}) s (kill_of a s p current) (kill_of b s p current)) where
+            pub act_both : (s : State) (current : ℕ) (o : Op) → Allowed current o → Both Holds (Unit {0}) s (act_of a s current o) (act_of b s current o)
             unfolding act_of write_of
-            act_led s current (op.Post t e w) f = lead_still _ s tt
-            act_led s current (op.Synch p e w) f = are.call s p _ f
-            act_led s current (op.Poll p) f = lead_goes _ s tt _ (steps.polled s p)
-            act_led s current (op.Start p) f = started s p
-            act_led s current (op.Kill p) f = killed s p current f
-            act_led s current (op.Set t n) f = lead_goes _ s tt _ (sets_kept s t n current)
-            act_led s current (op.Reset t) f = lead_goes _ s tt _ (resets_kept s t current)
-            act_led s current (op.RestartTimer t) f = lead_goes _ s tt _ (restarts_kept s t current)
-            act_led s current (op.Stop t) f = lead_goes _ s tt _ (stops_kept s t)
-            act_led s current (op.Send v) f = send_led s v
-            act_led s current (op.Print v) f = record { leads = steps.prints s current v f }
-            act_led s current (op.Take k) f = lead_goes _ s tt _ (taken_kept s k)
-            act_led s current (op.Signal k) f = lead_goes _ s tt _ (signalled_kept s k)
+            act_both s current (op.Post t e w) f = both_still Holds _ s tt
+            act_both s current (op.Synch p e w) f = are.call s p _ f
+            act_both s current (op.Poll p) f = both_goes Holds _ s tt _ (steps.polled s p)
+            act_both s current (op.Start p) f = started s p
+            act_both s current (op.Kill p) f = killed s p current f
+            act_both s current (op.Set t n) f = both_goes Holds _ s tt _ (sets_kept s t n current)
+            act_both s current (op.Reset t) f = both_goes Holds _ s tt _ (resets_kept s t current)
+            act_both s current (op.RestartTimer t) f = both_goes Holds _ s tt _ (restarts_kept s t current)
+            act_both s current (op.Stop t) f = both_goes Holds _ s tt _ (stops_kept s t)
+            act_both s current (op.Send v) f = both_plain Holds _ s _ (send_led s v)
+            act_both s current (op.Print v) f = both_goes Holds _ s tt _ (steps.prints s current v f)
+            act_both s current (op.Take k) f = both_goes Holds _ s tt _ (taken_kept s k)
+            act_both s current (op.Signal k) f = both_goes Holds _ s tt _ (signalled_kept s k)
 
             allowed : (current : ℕ) (x : Op) → FitsOp x → Ours current → Allowed current x
             allowed current (op.Synch p e w) f o = λ q. steps.own p (f q)
@@ -568,68 +663,97 @@ module _ (Keeps Stops : State → State → Type 0) where
             allowed current (op.Print v) f o = o
             allowed current x f o = tt
 
-            perform_led : (s : State) (code : Code) (r : Remainder) (current : ℕ) (x : Op) → FitsOp x → Ours current → Lead Remainder s (perform_of calls s r current x)
+            perform_both : (s : State) (code : Code) (r : Remainder) (current : ℕ) (x : Op) → FitsOp x → Ours current → Both Holds Remainder s (perform_of a s r current x) (perform_of b s r current x)
             unfolding perform_of
-            perform_led s code r current (op.Post to e w) f o = lead_bind _ _ s _ _ (post_led s to _ f) (λ full t. answers_led t r current full o)
-            perform_led s code r current x f o = lead_bind _ _ s _ _ (act_led s current x (allowed current x f o)) (λ a t. lead_still _ t r)
+            perform_both s code r current (op.Post to e w) f o = both_bind Holds on _ _ s _ _ _ _ (both_plain Holds _ _ _ (post_led s to _ f)) (λ full t. both_plain Holds _ t _ (answers_led t r current full o))
+            perform_both s code r current x f o = both_bind Holds on _ _ s _ _ _ _ (act_both s current x (allowed current x f o)) (λ a t. both_still Holds _ t r)
 
-            step_led : (code : Code) (p : ℕ) (e : Event) (x : Step) (r : Remainder) (s : State) → FitsStep x → Ours p → Lead Answer s (after_step calls code p e x r s)
-            step_led code p e (step.Op x) r s f o = lead_bind _ _ s _ _ (perform_led s code r p x f o) (λ r1 t. are.run t code r1 p e o)
-            step_led code p e (step.Done answer) r s f o = lead_still _ s _
-            step_led code p e step.Runaway r s f o = lead_halts _ s
+            pub step_both : (code : Code) (p : ℕ) (e : Event) (x : Step) (r : Remainder) (s : State) → FitsStep x → Ours p → Both Holds Answer s (after_step a code p e x r s) (after_step b code p e x r s)
+            step_both code p e (step.Op x) r s f o = both_bind Holds on _ _ s _ _ _ _ (perform_both s code r p x f o) (λ r1 t. are.run t code r1 p e o)
+            step_both code p e (step.Done answer) r s f o = both_still Holds _ s _
+            step_both code p e step.Runaway r s f o = both_plain Holds _ s _ (lead_halts _ s)
 
-            stepped_fits : (variables : Option (List ℕ)) (s : State) (code : Code) (r : Remainder) (p : ℕ) (e : Event) → FitsStep (stepped_with variables s code r p e).step
-            stepped_fits (Some variables) s code r p e = fits_advanced code e (looks_of s) r variables s.units
-            stepped_fits None s code r p e = tt
-
-            all_fits : (s : State) (code : Code) (r : Remainder) (p : ℕ) (e : Event) → FitsStep (stepped_of s code r p e).step
-            unfolding stepped_of
-            all_fits s code r p e = stepped_fits _ s code r p e
-
-            pub one_run_led : (s : State) (code : Code) (r : Remainder) (p : ℕ) (e : Event) → Ours p → Lead Answer s (run_of calls s code r p e)
+            pub one_run_both : (s : State) (code : Code) (r : Remainder) (p : ℕ) (e : Event) → Ours p → Both Holds Answer s (run_of a s code r p e) (run_of b s code r p e)
             unfolding run_of
-            one_run_led s code r p e o = lead_from _ s _ _ (stepped_kept s code r p e o) (step_led code p e _ _ _ (all_fits s code r p e) o)
+            one_run_both s code r p e o = both_from Holds on _ s _ _ _ (stepped_kept s code r p e o) (step_both code p e _ _ _ (all_fits s code r p e) o)
 
           -- a call that has come from s to t
-          answered_led : (s t : State) (p : Proc) (b : Bool) → IsOurs p → is_running s p ≡ true → (b ≡ true → Leaves p) → Keeps (with_state s p Called) t → Lead (Unit {0}) s (answered calls t p b)
+          answered_both : (s t : State) (p : Proc) (ends : Bool) → IsOurs p → is_running s p ≡ true → (ends ≡ true → Leaves p) → Keeps (with_state s p Called) t → Both Holds (Unit {0}) s (answered a t p ends) (answered b t p ends)
           unfolding answered exit_of
-          answered_led s t p true o r l k =
-              lead_cases _ s (is_listed t p) _ _ (λ i. leaves_led s (exiting_of t p) p p t.members o (λ u h. steps.brackets.last s t u p o (l refl) r k i h) (λ u h. steps.brackets.last_stops s t u p o (l refl) r k i h))
-              (λ i. record { leads = steps.brackets.gone s t p o r k i })
-          answered_led s t p false o r l k = lead_goes _ s tt _ (steps.brackets.call s t p o r k)
+          answered_both s t p true o r l k =
+              both_cases Holds _ s (is_listed t p) _ _ _ _ (λ i. leaves_both s (exiting_of t p) p p t.members o (λ x. exits t p (on _ t k (opens s p x))) (λ u h. steps.brackets.last s t u p o (l refl) r k i h) (λ u h. steps.brackets.last_stops s t u p o (l refl) r k i h))
+              (λ i. both_goes Holds _ s tt t (steps.brackets.gone s t p o r k i))
+          answered_both s t p false o r l k = both_goes Holds _ s tt _ (steps.brackets.call s t p o r k)
 
           -- a process of the program reacts, and its answer decides the next step
-          reacted_led : (s : State) (p : ℕ) (e : Event) (x : Outcome PtState) → Ours p → is_running s (Own p) ≡ true → Lead PtState (with_state s (Own p) Called) x
-              → Lead (Unit {0}) s (x >>= λ answer t. answered calls t (Own p) (has_ended answer || is_system_event Exit e))
-          reacted_led s p e (Ends t) o r h = record { leads = steps.brackets.call_stops s t (Own p) o r h.leads }
-          reacted_led s p e (Goes a t) o r h = answered_led s t (Own p) _ o r (λ q. steps.own (Own p) tt) h.leads
+          reacted_both : (s : State) (p : ℕ) (e : Event) (x y : Outcome PtState) → Ours p → is_running s (Own p) ≡ true → Both Holds PtState (with_state s (Own p) Called) x y
+              → Both Holds (Unit {0}) s (x >>= λ answer t. answered a t (Own p) (has_ended answer || is_system_event Exit e)) (y >>= λ answer t. answered b t (Own p) (has_ended answer || is_system_event Exit e))
+          reacted_both s p e (Ends t) y o r h = record { leads = steps.brackets.call_stops s t (Own p) o r h.leads; same = λ z. ap (λ w. w >>= λ answer t. answered b t (Own p) (has_ended answer || is_system_event Exit e)) (h.same (opens s (Own p) z)) }
+          reacted_both s p e (Goes c t) y o r h =
+              let k = answered_both s t (Own p) (has_ended c || is_system_event Exit e) o r (λ q. steps.own (Own p) tt) h.leads in
+              record { leads = k.leads; same = λ z. k.same z ∙ ap (λ w. w >>= λ answer t. answered b t (Own p) (has_ended answer || is_system_event Exit e)) (h.same (opens s (Own p) z)) }
 
           -- a system process yields, and leaves only if it is exited
-          system_led : (s : State) (p : Proc) (e : Event) (x : Went) → IsOurs p → is_running s p ≡ true → Fits p e.number → Lead (Unit {0}) (with_state s p Called) x
-              → Lead (Unit {0}) s ((x >>= λ _ t. Goes Yielded t) >>= λ answer t. answered calls t p (has_ended answer || is_system_event Exit e))
-          system_led s p e (Ends t) o r f h = record { leads = steps.brackets.call_stops s t p o r h.leads }
-          system_led s p e (Goes a t) o r f h = answered_led s t p _ o r (λ q. f (grind (arith, nat_tests))) h.leads
+          abbrev yields : Calls → Proc → Event → Went → Went
+          yields calls p e x = (x >>= λ _ t. Goes Yielded t) >>= λ answer t. answered calls t p (has_ended answer || is_system_event Exit e)
 
-          called_led : (s : State) (p : Proc) (e : Event) → IsOurs p → is_running s p ≡ true → Fits p e.number
-              → Lead (Unit {0}) s (react_of calls (with_state s p Called) p e >>= λ answer t. answered calls t p (has_ended answer || is_system_event Exit e))
+          system_both : (s : State) (p : Proc) (e : Event) (x y : Went) → IsOurs p → is_running s p ≡ true → Fits p e.number → Both Holds (Unit {0}) (with_state s p Called) x y → Both Holds (Unit {0}) s (yields a p e x) (yields b p e y)
+          system_both s p e (Ends t) y o r f h = record { leads = steps.brackets.call_stops s t p o r h.leads; same = λ z. ap (yields b p e) (h.same (opens s p z)) }
+          system_both s p e (Goes c t) y o r f h =
+              let k = answered_both s t p (is_system_event Exit e) o r (λ q. f (grind (arith, nat_tests))) h.leads in
+              record { leads = k.leads; same = λ z. k.same z ∙ ap (yields b p e) (h.same (opens s p z)) }
+
+          pub called_both : (s : State) (p : Proc) (e : Event) → IsOurs p → is_running s p ≡ true → Fits p e.number
+              → Both Holds (Unit {0}) s (react_of a (with_state s p Called) p e >>= λ answer t. answered a t p (has_ended answer || is_system_event Exit e)) (react_of b (with_state s p Called) p e >>= λ answer t. answered b t p (has_ended answer || is_system_event Exit e))
           unfolding react_of
-          called_led s (Own p) e o r f = reacted_led s p e _ o r (own_led _ p e o)
-          called_led s Etimer e o r f = system_led s Etimer e _ o r f (etimer_led _ e)
-          called_led s Ctimer e o r f = system_led s Ctimer e _ o r f (ctimer_led _ e)
-          called_led s Radio e o r f = system_led s Radio e _ o r f (radio_led _ e)
+          called_both s (Own p) e o r f = reacted_both s p e _ _ o r (own_both _ p e o)
+          called_both s Etimer e o r f = system_both s Etimer e _ _ o r f (both_plain Holds _ _ _ (etimer_led _ e))
+          called_both s Ctimer e o r f = system_both s Ctimer e _ _ o r f (ctimer_both _ e)
+          called_both s Radio e o r f = system_both s Radio e _ _ o r f (both_plain Holds _ _ _ (radio_led _ e))
 
-          spent_led : (s : State) (p : Proc) (e : Event) (none : Bool) → IsOurs p → is_running s p ≡ true → Fits p e.number
-              → Lead (Unit {0}) s ((if none then Ends (halted_of s) else Goes (tt {0}) (record s { units = s.units - 1 })) >>= λ _ t. react_of calls (with_state t p Called) p e >>= λ answer u. answered calls u p (has_ended answer || is_system_event Exit e))
-          spent_led s p e true o r f = lead_halts _ s
-          spent_led s p e false o r f = lead_from _ s _ _ (steps.units s _) (called_led _ p e o r f)
+          spent_both : (s : State) (p : Proc) (e : Event) (none : Bool) → IsOurs p → is_running s p ≡ true → Fits p e.number
+              → Both Holds (Unit {0}) s ((if none then Ends (halted_of s) else Goes (tt {0}) (record s { units = s.units - 1 })) >>= λ _ t. react_of a (with_state t p Called) p e >>= λ answer u. answered a u p (has_ended answer || is_system_event Exit e)) ((if none then Ends (halted_of s) else Goes (tt {0}) (record s { units = s.units - 1 })) >>= λ _ t. react_of b (with_state t p Called) p e >>= λ answer u. answered b u p (has_ended answer || is_system_event Exit e))
+          spent_both s p e true o r f = both_plain Holds _ s _ (lead_halts _ s)
+          spent_both s p e false o r f = both_from Holds on _ s _ _ _ (steps.units s _ (omega arith)) (called_both _ p e o r f)
+
+          pub call_both : (s : State) (p : Proc) (e : Event) → IsOurs p → Fits p e.number → Both Holds (Unit {0}) s (call_of a s p e) (call_of b s p e)
+          unfolding call_of spend_of
+          call_both s p e o f = both_cases Holds _ s (is_running s p) _ _ _ _ (λ r. spent_both s p e _ o r f) (λ r. both_still Holds _ s tt)
+
+        -- over one set of calls
+        module _ (calls : Calls) (are : AreLed calls) where
+          twice : AreBoth Anywhere calls calls
+          twice = record {
+            call = λ s p e f. both_plain Anywhere _ s _ (are.call s p e f);
+            run = λ s code r p e o. both_plain Anywhere _ s _ (are.run s code r p e o);
+            callback = λ s code p e is. both_plain Anywhere _ s _ (are.callback s code p e is);
+          }
+
+          pub start_led : (s : State) (p : Proc) → IsOurs p → Lead (Unit {0}) s (start_of calls s p)
+          start_led s p o = single _ s _ (start_both Anywhere anywhere (λ t q x. tt) (λ t q x. tt) calls calls twice s p o).leads
+
+          pub kill_led : (s : State) (p : Proc) (current : ℕ) → IsOurs p → Leaves p → Lead (Unit {0}) s (kill_of calls s p current)
+          kill_led s p current o l = single _ s _ (kill_both Anywhere anywhere (λ t q x. tt) (λ t q x. tt) calls calls twice s p current o l).leads
 
           pub call_led : (s : State) (p : Proc) (e : Event) → IsOurs p → Fits p e.number → Lead (Unit {0}) s (call_of calls s p e)
-          unfolding call_of spend_of
-          call_led s p e o f = lead_cases _ s (is_running s p) _ _ (λ r. spent_led s p e _ o r f) (λ r. lead_still _ s tt)
+          call_led s p e o f = single _ s _ (call_both Anywhere anywhere (λ t q x. tt) (λ t q x. tt) calls calls twice s p e o f).leads
+
+          module _ (started : (s : State) (p : Proc) → Lead (Unit {0}) s (start_of calls s p)) (killed : (s : State) (p : Proc) (current : ℕ) → Leaves p → Lead (Unit {0}) s (kill_of calls s p current)) where
+            starts_twice : (s : State) (p : Proc) → Both Anywhere (Unit {0}) s (start_of calls s p) (start_of calls s p)
+            starts_twice s p = both_plain Anywhere _ s _ (started s p)
+
+            kills_twice : (s : State) (p : Proc) (current : ℕ) → Leaves p → Both Anywhere (Unit {0}) s (kill_of calls s p current) (kill_of calls s p current)
+            kills_twice s p current l = both_plain Anywhere _ s _ (killed s p current l)
+
+            pub act_led : (s : State) (current : ℕ) (x : Op) → Allowed current x → Lead (Unit {0}) s (act_of calls s current x)
+            act_led s current x f = single _ s _ (act_both Anywhere anywhere (λ t q y. tt) (λ t q y. tt) calls calls twice starts_twice kills_twice s current x f).leads
+
+            pub one_run_led : (s : State) (code : Code) (r : Remainder) (p : ℕ) (e : Event) → Ours p → Lead Answer s (run_of calls s code r p e)
+            one_run_led s code r p e o = single _ s _ (one_run_both Anywhere anywhere (λ t q y. tt) (λ t q y. tt) calls calls twice starts_twice kills_twice s code r p e o).leads
 
     -- if all processes are looked at
     module _ (Leaves : Proc → Type 0) (steps : AreSteps Leaves Every) where
-      ours : (p : Proc) → IsOurs Leaves Every p
+      pub ours : (p : Proc) → IsOurs Leaves Every p
       ours (Own p) = tt
       ours Etimer = tt
       ours Ctimer = tt
@@ -656,7 +780,7 @@ module _ (Keeps Stops : State → State → Type 0) where
       called_at s p e = (calls_led Whoever steps depth).call s p e (λ q. tt)
 
       pub runs_led : (s : State) → Lead ℕ s (kernel_of (calls_of depth) s)
-      runs_led s = kernel_led run_steps (calls_of depth) called_at s
+      runs_led s = kernel_led (calls_of depth) run_steps called_at s
 
       pub boots_led : (s : State) → Lead ℕ s (boot_of (calls_of depth) s)
       boots_led s = boot_led (calls_of depth) (start_all Whoever steps (calls_of depth) (calls_led Whoever steps depth)) s

@@ -116,7 +116,7 @@ module _ (calls : Calls) (are : AreHeard calls) where
       let call = sym (turn_calls Radio calls u k.member k.is_it (w.radio.there k.member k.is_it k.holds) (w.needs_poll needs_poll)) ∙ b.first in
       let running = cleared_runs u (runs_now (process_state u Radio) (w.radio.can q.can).alive (i.busy.called 2 ∙ h.idle.called 2)) in
       let none : b.midst.ring ≡ [] = subst (IfGoes (λ v. v.ring ≡ [])) call (are.empties (with_needs_poll u Radio false) running) in
-      empty_by _ b.midst t tt _ b.second (polls_led RingGoes RingHalts ring.chain ring.run_steps.unrequested ring.run_steps.cleared calls (λ v q. are.rings.call v q _ (λ x. tt)) k.after b.midst) none
+      empty_by _ b.midst t tt _ b.second (polls_led RingGoes RingHalts ring.chain calls ring.run_steps.unrequested ring.run_steps.cleared (λ v q. are.rings.call v q _ (λ x. tt)) k.after b.midst) none
 
   run_emptied : (s t : State) (n : ℕ) → Stands true s → PollWaits Radio s → kernel_of calls s ≡ Goes n t → t.ring ≡ []
   unfolding kernel_of
@@ -125,7 +125,7 @@ module _ (calls : Calls) (are : AreHeard calls) where
       let b = through _ _ _ _ _ _ a.second in
       let none = polled (record s { poll_requested = false }) a.midst (unrequested true s h) w.needs_poll (sym (polls_are calls s w.poll_requested) ∙ a.first) in
       let last : b.midst.ring ≡ t.ring = cc in
-      sym last ∙ empty_by _ a.midst b.midst tt _ b.first (front_led RingGoes RingHalts ring.chain ring.run_steps calls (λ v q e. are.rings.call v q e (λ x. tt)) a.midst.queue.events a.midst) none
+      sym last ∙ empty_by _ a.midst b.midst tt _ b.first (front_led RingGoes RingHalts ring.chain calls ring.run_steps (λ v q e. are.rings.call v q e (λ x. tt)) a.midst.queue.events a.midst) none
 
 given_emptied : (moment : ℕ) (m : Mote) (lines : List Line) (sends : List Sent) (o : Outcome ℕ) → IsAtRest m.state → PollWaits Radio m.state → kernel_of (calls_of (most_units + 1)) (begun m moment lines sends) ≡ o → (given o).mote.halted ≡ false → (given o).mote.state.ring ≡ []
 unfolding begun_of

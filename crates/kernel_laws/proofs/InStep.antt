@@ -277,13 +277,13 @@ steps = record {
   own = λ p own. tt;
   brackets = brackets;
   halts = λ s. tt;
-  units = λ s n. steps_still s _ (record { states = refl; exiting = refl; members = refl });
+  units = λ s n l. steps_still s _ (record { states = refl; exiting = refl; members = refl });
   busy = λ s p. steps_still s _ (record { states = refl; exiting = refl; members = refl });
   prints = λ s p v o. steps_still s _ (record { states = refl; exiting = refl; members = refl });
   polled = λ s p. steps_still s _ (poll_still s p);
   remainder = λ s p r o. steps_still s _ (record { states = refl; exiting = refl; members = refl });
   fresh = λ s p o. steps_still s _ (record { states = refl; exiting = refl; members = refl });
-  variables = λ s p vs n o. steps_still s _ (record { states = refl; exiting = refl; members = refl });
+  variables = λ s p vs n o l. steps_still s _ (record { states = refl; exiting = refl; members = refl });
   sets = λ s t start interval owner there. keeps_set KeepsStep Whatever chain s _ t (λ callbacks. steps_still s _ (record { states = refl; exiting = refl; members = refl })) (λ u. steps_still u _ (poll_still u Etimer));
   stops = λ s t. steps_still s _ (record { states = refl; exiting = refl; members = refl });
   purges = λ s p. steps_still s _ (record { states = refl; exiting = refl; members = refl });
@@ -322,7 +322,7 @@ pub calls_kept : (k : ℕ) → AreKept (calls_of k)
 calls_kept k = calls_led KeepsStep Whatever chain Whoever steps k
 
 pub polls_kept : (calls : Calls) → AreKept calls → (ms : List Member) (s : State) → Kept (Unit {0}) s (walk_polls calls ms s)
-polls_kept calls are ms s = polls_led KeepsStep Whatever chain run_steps.unrequested run_steps.cleared calls (λ t p. are.call t p _ (λ q. tt)) ms s
+polls_kept calls are ms s = polls_led KeepsStep Whatever chain calls run_steps.unrequested run_steps.cleared (λ t p. are.call t p _ (λ q. tt)) ms s
 
 pub give_kept : (calls : Calls) → AreKept calls → (s : State) (x : Posted) (p : Proc) (there : Bool) → Kept (Unit {0}) s (give_of calls s x p there)
-give_kept calls are s x p there = give_led KeepsStep Whatever chain run_steps calls (λ t q e. are.call t q e (λ z. tt)) s x p there
+give_kept calls are s x p there = give_led KeepsStep Whatever chain calls run_steps (λ t q e. are.call t q e (λ z. tt)) s x p there

@@ -25,7 +25,6 @@ pub mod Steps
 pub mod Tables
 pub mod Timers
 pub mod Traces
-pub mod Units
 pub mod Untold
 pub mod Watch
 pub mod WatchedBoot

@@ -86,13 +86,13 @@ steps = record {
   own = λ p own. tt;
   brackets = brackets_of Owns Owns chain Whoever Every (λ s p o. owns_still s _ refl) (λ s p o. owns_still s _ refl) (λ s p o l. owns_still s _ refl) (λ s p o l. owns_still s _ refl);
   halts = λ s. owns_still s _ refl;
-  units = λ s n. owns_still s _ refl;
+  units = λ s n l. owns_still s _ refl;
   busy = λ s p. owns_still s _ refl;
   prints = λ s p v o. owns_still s _ refl;
   polled = λ s p. owns_still s _ (poll_timers s p);
   remainder = λ s p r o. owns_still s _ refl;
   fresh = λ s p o. owns_still s _ refl;
-  variables = λ s p vs n o. owns_still s _ refl;
+  variables = λ s p vs n o l. owns_still s _ refl;
   sets = sets_own;
   stops = λ s t. record { owns = owned_stopped s.timers t };
   purges = λ s p. record { owns = owned_purged s.timers p };

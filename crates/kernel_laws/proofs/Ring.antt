@@ -141,13 +141,13 @@ steps = record {
       (λ s p o. goes_still s _ (record { lines = refl; ring = refl; program = refl })) (λ s p o. goes_still s _ (record { lines = refl; ring = refl; program = refl }))
       (λ s p o l. goes_still s _ (record { lines = refl; ring = refl; program = refl })) (λ s p o l. goes_apart s _ (what.Leave p) (record { lines = refl; ring = refl; program = refl }) tt (λ h. h));
   halts = λ s. halts_from s s refl refl;
-  units = λ s n. goes_still s _ (record { lines = refl; ring = refl; program = refl });
+  units = λ s n l. goes_still s _ (record { lines = refl; ring = refl; program = refl });
   busy = λ s p. line_apart s (what.Busy p) tt (λ h. h);
   prints = λ s p v o. line_apart s (what.Print (Own p) v) tt (λ h. h);
   polled = polls_still;
   remainder = λ s p r o. goes_still s _ (record { lines = refl; ring = refl; program = refl });
   fresh = λ s p o. goes_still s _ (record { lines = refl; ring = refl; program = refl });
-  variables = λ s p vs n o. goes_still s _ (record { lines = refl; ring = refl; program = refl });
+  variables = λ s p vs n o l. goes_still s _ (record { lines = refl; ring = refl; program = refl });
   sets = λ s t start interval owner there. sets_still s _ t;
   stops = λ s t. goes_still s _ (record { lines = refl; ring = refl; program = refl });
   purges = λ s p. goes_still s _ (record { lines = refl; ring = refl; program = refl });

@@ -171,13 +171,13 @@ steps = record {
   brackets = brackets_of Keeps Keeps chain Whoever Every (λ s p o. keeps_still s _ (record { lines = refl; sends = refl; sent = refl; moment = refl; mote = refl; program = refl })) (λ s p o. keeps_still s _ (record { lines = refl; sends = refl; sent = refl; moment = refl; mote = refl; program = refl }))
       (λ s p o l. keeps_still s _ (record { lines = refl; sends = refl; sent = refl; moment = refl; mote = refl; program = refl })) (λ s p o l. keeps_written s _ (what.Leave p) (record { lines = refl; sends = refl; sent = refl; moment = refl; mote = refl; program = refl }));
   halts = λ s. keeps_line s Halt;
-  units = λ s n. keeps_still s _ (record { lines = refl; sends = refl; sent = refl; moment = refl; mote = refl; program = refl });
+  units = λ s n l. keeps_still s _ (record { lines = refl; sends = refl; sent = refl; moment = refl; mote = refl; program = refl });
   busy = λ s p. keeps_line s (what.Busy p);
   prints = λ s p v o. keeps_line s (what.Print (Own p) v);
   polled = λ s p. keeps_still s _ (poll_still s p);
   remainder = λ s p r o. keeps_still s _ (record { lines = refl; sends = refl; sent = refl; moment = refl; mote = refl; program = refl });
   fresh = λ s p o. keeps_still s _ (record { lines = refl; sends = refl; sent = refl; moment = refl; mote = refl; program = refl });
-  variables = λ s p vs n o. keeps_still s _ (record { lines = refl; sends = refl; sent = refl; moment = refl; mote = refl; program = refl });
+  variables = λ s p vs n o l. keeps_still s _ (record { lines = refl; sends = refl; sent = refl; moment = refl; mote = refl; program = refl });
   sets = λ s t start interval owner there. keeps_set Keeps Keeps chain s _ t (λ callbacks. keeps_still s _ (record { lines = refl; sends = refl; sent = refl; moment = refl; mote = refl; program = refl })) (λ u. keeps_still u _ (poll_still u Etimer));
   stops = λ s t. keeps_still s _ (record { lines = refl; sends = refl; sent = refl; moment = refl; mote = refl; program = refl });
   purges = λ s p. keeps_still s _ (record { lines = refl; sends = refl; sent = refl; moment = refl; mote = refl; program = refl });

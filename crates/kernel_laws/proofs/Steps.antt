@@ -1,5 +1,5 @@
 -- Each small step of the kernel is a run of the delivery machine, in the midst of any walk.
-use Rattle.std.proofs.Common.{ℕ, ◌≡◌, ◌+◌, ◌||◌, ◌==◌, not, Bool, true, false, cond, if◌then◌else◌, List, [], ◌∷◌, ◌++◌, refl, sym, ap, subst, ◌∙◌, append_assoc, append-nil, arith, map}
+use Rattle.std.proofs.Common.{ℕ, ◌≡◌, ◌||◌, ◌==◌, not, Bool, true, false, cond, if◌then◌else◌, List, [], ◌∷◌, ◌++◌, refl, sym, ap, subst, ◌∙◌, append_assoc, append-nil, arith, map}
 use Rattle.std.proofs.lemmas.List.{map-append}
 use Rattle.std.specs.List.{filter}
 use Rattle.std.proofs.lemmas.List.Elements.{All-nil, All-push}
@@ -188,13 +188,13 @@ steps = record {
   own = λ p own. own;
   brackets = brackets_of GoesOn Stops chain IsOwn Every (λ s p o. quiet s _ (record { lines = refl; members = refl; started = refl; queue = refl })) (λ s p o. quiet s _ (record { lines = refl; members = refl; started = refl; queue = refl })) (λ s p o l. quiet s _ (record { lines = refl; members = refl; started = refl; queue = refl })) (λ s p o l. leaves_list s p l);
   halts = halts;
-  units = λ s n. quiet s _ (record { lines = refl; members = refl; started = refl; queue = refl });
+  units = λ s n l. quiet s _ (record { lines = refl; members = refl; started = refl; queue = refl });
   busy = λ s p. line_aside s (what.Busy p) refl;
   prints = λ s p v o. line_aside s (what.Print (Own p) v) refl;
   polled = λ s p. quiet s _ (poll_quiet s p);
   remainder = λ s p r o. quiet s _ (record { lines = refl; members = refl; started = refl; queue = refl });
   fresh = λ s p o. quiet s _ (record { lines = refl; members = refl; started = refl; queue = refl });
-  variables = λ s p vs n o. quiet s _ (record { lines = refl; members = refl; started = refl; queue = refl });
+  variables = λ s p vs n o l. quiet s _ (record { lines = refl; members = refl; started = refl; queue = refl });
   sets = λ s t start interval owner there. keeps_set GoesOn Stops chain s _ t (λ callbacks. quiet s _ (record { lines = refl; members = refl; started = refl; queue = refl })) (λ u. quiet u _ (poll_quiet u Etimer));
   stops = λ s t. quiet s _ (record { lines = refl; members = refl; started = refl; queue = refl });
   purges = λ s p. quiet s _ (record { lines = refl; members = refl; started = refl; queue = refl });

@@ -240,13 +240,13 @@ module _ (p : Proc) where
     brackets = brackets_of (Watches p) Whatever chain IsOwn Every (λ s q o. watches_state s q Called refl) (λ s q o. watches_state s q Running refl) (λ s q o own. watches_exiting s q own)
         (λ s q o own. watches_joined s _ _ (watches_shorter s q own) (watches_line _ (what.Leave q)));
     halts = λ s. tt;
-    units = λ s n. watches_still s _ (record { moment = refl; states = refl; needs_poll = refl; poll_requested = refl; members = refl; timers = refl });
+    units = λ s n l. watches_still s _ (record { moment = refl; states = refl; needs_poll = refl; poll_requested = refl; members = refl; timers = refl });
     busy = λ s q. watches_line s (what.Busy q);
     prints = λ s q v o. watches_line s (what.Print (Own q) v);
     polled = watches_poll;
     remainder = λ s p r o. watches_still s _ (record { moment = refl; states = refl; needs_poll = refl; poll_requested = refl; members = refl; timers = refl });
     fresh = λ s p o. watches_still s _ (record { moment = refl; states = refl; needs_poll = refl; poll_requested = refl; members = refl; timers = refl });
-    variables = λ s p vs n o. watches_still s _ (record { moment = refl; states = refl; needs_poll = refl; poll_requested = refl; members = refl; timers = refl });
+    variables = λ s p vs n o l. watches_still s _ (record { moment = refl; states = refl; needs_poll = refl; poll_requested = refl; members = refl; timers = refl });
     sets = λ s t start interval owner there. watches_set s _ t;
     stops = λ s t. watches_fewer s (stop_timer s.timers t) (others_due s.moment s.timers t);
     purges = λ s q. watches_fewer s (purge_timers s.timers q) (unpurged_due s.moment s.timers q);
