@@ -77,7 +77,7 @@ def copy_crates(top: Path, crates: Sequence[str], copy: Path) -> None:
 def prove_copy(number: int) -> bool:
     """Proves the crates of the copy, so many, and builds the program there. Returns whether all are proved."""
     proved, said, began = 0, '', time.monotonic()
-    with open(LOG, 'w', encoding='utf-8') as log, kit.started(['rt', 'ci'], cwd=COPY) as running:
+    with open(LOG, 'w', buffering=1, encoding='utf-8') as log, kit.started(['rt', 'ci'], cwd=COPY) as running:
         assert running.stdout
         for line in running.stdout:
             log.write(line)

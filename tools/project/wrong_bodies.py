@@ -133,7 +133,7 @@ def judge_all(chosen: Chosen, crates: dict[str, kit.Crate]) -> dict[str, Verdict
     tasks: dict[Any, kit.Task] = {}
     found: dict[str, Verdict] = {}
     for name, edits in chosen.items():
-        crate, trial = crates[name], Trial(crates[name])
+        crate, trial = crates[name], Trial(crates[name], [it for it in edits if not it.trouble])
         judged = {(name, 'edits', number): partial(judge, trial, group) for number, group in enumerate(groups(edits))}
         if judged:
             tasks[name, 'seed'] = kit.Task(crate, [], trial.control)

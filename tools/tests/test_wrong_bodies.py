@@ -188,14 +188,15 @@ class Trials(unittest.TestCase):
 
     def verdicts(self, said: dict[str, str], *edits: Edit) -> dict[str, str]:
         """The kinds of the verdicts, from the lines of checks by the names of their edits."""
-        def checked(crate: Any, texts: dict[str, str], kept: Path) -> Any:
+        def checked(crate: Any, texts: dict[str, str], flags: list[str], kept: Path) -> Any:
+            self.assertEqual(flags[3::2], [{'a': 'one', 'b': 'two'}[it] for it in texts])
             lines = said[' '.join(texts)]
             return SimpleNamespace(stdout=lines + 'logic=proved', returncode=0 if 'no proof' not in lines else 1)
         with mock.patch.object(checks, 'checked', checked), \
                 mock.patch.object(checks, 'linked', lambda kept, to: to), \
                 mock.patch.object(checks, 'says_nothing', lambda lines, texts: False), \
                 mock.patch.object(checks, 'together', lambda group, crate: {str(it.file): '' for it in group}):
-            found = self.trial(Path('kept')).verdicts(edits)
+            found = self.trial(Path('kept'), *edits).verdicts(edits)
         return {name: it.kind for name, it in found.items()}
 
     def test_a_check_judges_many(self) -> None:
@@ -211,16 +212,27 @@ class Trials(unittest.TestCase):
     def test_a_check_without_a_verdict_on_the_function_is_unknown(self) -> None:
         self.assertEqual(self.verdicts({'a': 'x.rt:1:1: error: no proof\n'}, self.ONE), {'low/a': checks.UNKNOWN})
 
-    def trial(self, kept: Path | None) -> checks.Trial:
+    def trial(self, kept: Path | None, *edits: Edit) -> checks.Trial:
         """A trial whose control keeps this, or isn't proved."""
-        trial = checks.Trial(SimpleNamespace())
-        with mock.patch.object(checks, 'kept_by_check', lambda crate, jobs: kept):
+        trial = checks.Trial(SimpleNamespace(), edits or [self.ONE])
+        with mock.patch.object(checks, 'kept_by_check', lambda crate, flags: kept):
             trial.control(1)
         return trial
 
     def test_nothing_is_known_if_the_control_is_not_proved(self) -> None:
         found = self.trial(None).verdicts([self.ONE, self.TWO])
         self.assertEqual([it.kind for it in found.values()], [checks.UNKNOWN] * 2)
+
+    def test_the_control_checks_the_changed_functions_or_the_whole_crate(self) -> None:
+        whole, tried = self.ONE._replace(name='low/c', may_share=False), []
+
+        def kept(crate: Any, flags: list[str]) -> Path | None:
+            tried.append(flags[2:])
+            return None
+        for edits in [self.ONE, self.TWO], [self.ONE, whole]:
+            with mock.patch.object(checks, 'kept_by_check', kept):
+                checks.Trial(SimpleNamespace(), edits).control(1)
+        self.assertEqual(tried, [['--only', 'one', '--only', 'two'], [], []])
 
     def test_what_the_control_keeps_is_deleted(self) -> None:
         with tempfile.TemporaryDirectory() as room:

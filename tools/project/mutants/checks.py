@@ -1,7 +1,8 @@
 """Judges mutants of one crate: many in one check, and what that leaves undecided one by one.
 
-First a control: a check of the crate without any edit, which has to prove it. Each group of mutants is checked over
-what the control has kept, so that only the changed functions are proved again.
+First a control: a check without any edit of the functions that are changed and of what they call, or of the whole
+crate, which has to prove them. Each group of mutants is checked over what the control has kept, so that only the
+changed functions are proved again.
 """
 from __future__ import annotations
 
@@ -27,7 +28,7 @@ NOTES = {'allow values at which this goal is false': 'false', 'gave up at one of
 LIMITS = re.compile(r'ran out of (stack|the (steps|memory))|outgrew the memory limit|stopped at the step limit')
 COULD_NOT_TELL = 'could not tell'
 # How the last line of a check begins that has got as far as a verdict.
-VERDICTS = 'logic=', 'rattle: no verdict'
+VERDICTS = 'logic=', 'only=', 'rattle: no verdict'
 # Why a function isn't proved, if that isn't its own fault; and errors about names that an edit took away.
 NOT_OWN = re.compile(r'it calls|it passes|a call of|in `\S+`, of this cycle')
 OF_NAMES = re.compile(r'has no field|is not in scope|has no `|was not admitted')
@@ -105,16 +106,28 @@ def best(edit: Edit, refused: dict[str, Said]) -> Verdict:
     return min(found, key=lambda it: order.index(it.kind), default=Verdict(NOT_REFUSED))
 
 
+def only(edits: Sequence[Edit]) -> list[str]:
+    """The words for a check of the changed functions and of what they call; none for a check of the whole crate."""
+    if not all(it.may_share for it in edits):
+        return []
+    return [word for name in dict.fromkeys(str(it.function) for it in edits) for word in ('--only', name)]
+
+
 class Trial:
     """The checks of mutants of a crate."""
 
-    def __init__(self, crate: Crate):
+    def __init__(self, crate: Crate, edits: Sequence[Edit]):
         self.crate = crate
+        self.only = only(edits)
         self.kept: Path | None = None
 
     def control(self, jobs: int) -> None:
         """Checks the crate without an edit; if that isn't proved, nothing is known of any mutant."""
-        self.kept = kept_by_check(self.crate, jobs)
+        self.kept = kept_by_check(self.crate, ['--jobs', str(jobs), *self.only])
+        if self.kept is None and self.only:
+            # (a name may fit several functions)
+            self.only = []
+            self.kept = kept_by_check(self.crate, ['--jobs', str(jobs)])
 
     def forget(self, _jobs: int) -> None:
         """Deletes what the control has kept."""
@@ -128,16 +141,17 @@ class Trial:
         found = self.verdicts_together(group, self.kept) if len(group) > 1 else {}
         return {it.name: found.get(it.name) or self.verdict_alone(it, self.kept) for it in group}
 
-    def check(self, texts: dict[str, str], kept: Path) -> tuple[list[str], int]:
-        """The lines and the status of a check with these texts, over a copy of what the control has kept."""
+    def check(self, edits: Sequence[Edit], texts: dict[str, str], kept: Path) -> tuple[list[str], int]:
+        """The lines and the status of a check with these edits, over a copy of what the control has kept."""
+        words = only(edits) if self.only else []
         with tempfile.TemporaryDirectory(prefix='mutants-') as room:
-            ran = checked(self.crate, texts, linked(kept, Path(room, 'kept')))
+            ran = checked(self.crate, texts, ['--jobs', '1', *words], linked(kept, Path(room, 'kept')))
         return ran.stdout.rstrip('\n').split('\n'), ran.returncode
 
     def verdicts_together(self, group: Sequence[Edit], kept: Path) -> dict[str, Verdict]:
         """The verdicts on those mutants of a group that one check with all their edits decides."""
         texts = together(group, self.crate)
-        lines, _ = self.check(texts, kept)
+        lines, _ = self.check(group, texts, kept)
         if says_nothing(lines, texts) or not lines[-1].startswith(VERDICTS):
             return {}
         refused = refused_in(lines)
@@ -147,7 +161,7 @@ class Trial:
     def verdict_alone(self, edit: Edit, kept: Path) -> Verdict:
         """The verdict on a mutant by a check with its edit only."""
         texts = together([edit], self.crate)
-        lines, status = self.check(texts, kept)
+        lines, status = self.check([edit], texts, kept)
         found = best(edit, refused_in(lines))
         if found.kind != NOT_REFUSED or status == 0:
             return found
