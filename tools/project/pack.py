@@ -6,7 +6,8 @@ folder: nothing is installed, and nothing is fetched from a network.
 
     tar xzf motesim-VERSION.tar.gz && cd motesim-VERSION && ./run examples/flooding.toml
 
-The archive has the proved `motesim` of these sources, if ./prove has built it; the page PROVED.md then describes the
+The archive has the proved `motesim` of these sources, if ./prove has built it (or the one that the environment variable
+MOTESIM names); the page PROVED.md then describes the
 proof and the kit. Otherwise it has one that is compiled without a proof; tools/pack and the archive's ./run say so.
 The same tree and binary yield the same archive, byte for byte.
 """
@@ -16,6 +17,7 @@ import gzip
 import hashlib
 import importlib
 import io
+import os
 import re
 import subprocess
 import sys
@@ -23,7 +25,7 @@ import tarfile
 from pathlib import Path
 
 from motesim.faults import Fault, command
-from motesim.runner.programs import COMPILED, TOP, is_proved, program_of_sources
+from motesim.runner.programs import COMPILED, TOP, is_proved, program_of_sources, program_path
 from motesim.version import KIT, VERSION
 from motesim.words import words_of
 from project import compile as compiling
@@ -31,6 +33,8 @@ from project import kit
 
 # What goes into the archive besides the program: files, and folders with all that git knows in them.
 PARTS = ('CHANGES.md', 'CITATION.cff', 'LICENSE', 'docs/use', 'examples', 'tools/contiki_host', 'tools/motesim')
+
+NAMED = 'The maker of the archive chose the program by its path: no proof of it is known.'
 
 
 def template(name: str) -> str:
@@ -48,7 +52,9 @@ def commit() -> str:
 
 
 def program() -> Path:
-    """The proved program of these sources; without one, the fast one that is compiled without a proof."""
+    """The program that MOTESIM names, or the proved one of these sources; else the fast one, compiled without a proof."""
+    if os.environ.get('MOTESIM'):
+        return program_path()
     found = program_of_sources()
     if found is None or found.name == compiling.FIRST:
         print('pack: the optimized program is being compiled first, which lasts some minutes',
@@ -102,7 +108,7 @@ def files(program: Path) -> dict[str, tuple[bytes, int]]:
              'digest': hashlib.sha256(built).hexdigest(),
              'tools': '\n'.join('- `tools/%s`: %s' % it for it in tools.items()),
              'proof': 'PROVED.md says what was proved of this program.' if is_proved(program) else
-                      'The program is compiled, not proved.'}
+                      NAMED if os.environ.get('MOTESIM') else 'The program is compiled, not proved.'}
     pages = {'README.md': (template('readme') % about).encode(), **licenses()}
     if is_proved(program):
         pages['PROVED.md'] = (template('proved') % about).encode()
@@ -137,7 +143,9 @@ def main() -> int:
     path = asked.output or Path(folder + '.tar.gz')
     data = archive(folder, packed)
     path.write_bytes(data)
-    which = 'the proved program' if is_proved(packed) else 'a program that is compiled, not proved (./prove proves it)'
+    which = 'the proved program' if is_proved(packed) else (
+        'the program that MOTESIM names, of which no proof is known here' if os.environ.get('MOTESIM') else
+        'a program that is compiled, not proved (./prove proves it)')
     print('%s: %.1f MB, with %s' % (path, len(data) / 1e6, which))
     print('Students unpack it by: tar xzf %s && cd %s && ./run examples/flooding.toml' % (path.name, folder))
     return 0

@@ -2,6 +2,7 @@
 import contextlib
 import hashlib
 import io
+import os
 import shutil
 import subprocess
 import sys
@@ -34,6 +35,13 @@ program = "p"
 
 
 class Pack(unittest.TestCase):
+    def setUp(self) -> None:
+        """Without a program that the environment names, unless a test names one."""
+        here = mock.patch.dict(os.environ)
+        here.start()
+        self.addCleanup(here.stop)
+        os.environ.pop('MOTESIM', None)
+
     def test_an_archive_runs_by_itself(self) -> None:
         with tempfile.TemporaryDirectory() as room:
             program = write_stub(Path(room))
@@ -81,6 +89,18 @@ class Pack(unittest.TestCase):
                 compiling, 'make_fast') as made:
             self.assertEqual(pack.program(), TOP / 'proved-x/motesim')
             made.assert_not_called()
+
+    def test_the_program_that_the_environment_names_is_packed(self) -> None:
+        with tempfile.TemporaryDirectory() as room:
+            program = write_stub(Path(room))
+            with mock.patch.dict(os.environ, {'MOTESIM': str(program)}):
+                self.assertEqual(pack.program(), program)
+                with mock.patch.object(pack, 'licenses', dict):
+                    readme = pack.files(program)['README.md'][0].decode()
+                self.assertIn(pack.NAMED, readme)
+            with mock.patch.dict(os.environ, {'MOTESIM': str(program) + '.gone'}), self.assertRaisesRegex(
+                    Fault, 'there is no program .* MOTESIM names it'):
+                pack.program()
 
     def test_without_one_the_fast_program_is_made_and_packed(self) -> None:
         found = [TOP / 'compiled-x/first', TOP / 'compiled-x/fast']
