@@ -13,7 +13,6 @@ from __future__ import annotations
 
 import re
 import textwrap
-from dataclasses import dataclass, field
 from pathlib import Path
 
 from motesim.faults import Fault, command
@@ -27,14 +26,6 @@ CONSTANTS = 'TheConstants'
 MARKS = Marks('<!-- the files: written by tools/dev/headline_files -->', '<!-- end of the files -->')
 # An import, with its name if that is of a form that is known.
 IMPORT = re.compile(r'^(?:pub )?use (?:([\w.]+?)(?:\.\{| as |\.?$))?', re.M)
-
-
-@dataclass
-class Rests:
-    """The files on which the headline rests, each with those that it imports; libraries; the types of each source."""
-    files: dict[Path, list[Path]] = field(default_factory=dict)
-    libraries: set[str] = field(default_factory=set)
-    types: dict[Path, set[str]] = field(default_factory=dict)
 
 
 def crates_of(top: Path) -> list[str]:
@@ -59,40 +50,43 @@ def modules_of(top: Path) -> dict[str, Path]:
     return found
 
 
-def rests_of(top: Path) -> Rests:
-    """The headline's files, and all on which they rest."""
-    rests, left = Rests(), sorted(top.glob(HEADLINE))
-    if not left:
-        raise Fault('there is no %s' % HEADLINE)
-    modules, crates = modules_of(top), crates_of(top)
-    while left:
-        path = left.pop()
-        if path not in rests.files:
-            rests.files[path] = []
-            for name in IMPORT.findall(path.read_text('utf-8')):
-                note_import(path, name, modules, crates, rests)
-            left += rests.files[path]
-    return rests
+class Rests:
+    """The files on which the headline rests, each with those that it imports; libraries; the types of each source."""
 
+    def __init__(self, top: Path):
+        self.crates, self.modules = crates_of(top), modules_of(top)
+        self.files: dict[Path, list[Path]] = {}
+        self.libraries: set[str] = set()
+        self.types: dict[Path, set[str]] = {}
+        left = sorted(top.glob(HEADLINE))
+        if not left:
+            raise Fault('there is no %s' % HEADLINE)
+        while left:
+            path = left.pop()
+            if path not in self.files:
+                self.files[path] = []
+                for name in IMPORT.findall(path.read_text('utf-8')):
+                    self.note_import(path, name)
+                left += self.files[path]
 
-def note_import(path: Path, name: str, modules: dict[str, Path], crates: list[str], rests: Rests) -> None:
-    """Notes what a file imports: another one of specs/, a type of a source, or a library."""
-    if not name:
-        raise Fault('%s has an import of a form that is not known' % path)
-    library, *words = name.split('.')
-    if library != 'Rattle' or words[0] not in crates:
-        rests.libraries.add(words[0] if library == 'Rattle' else library)
-        return
-    # (the last words may name parts of the file)
-    prefixes = ['.'.join(['Rattle', *words[:end]]) for end in range(len(words), 0, -1)]
-    module = next((it for it in prefixes if it in modules), None)
-    if module is None:
-        raise Fault('%s imports %s, of which there is no file' % (path, name))
-    if modules[module].suffix == '.rt':
-        part = name[len(module) + 1:].partition('.')[0]
-        rests.types.setdefault(modules[module], set()).add(part)
-    elif modules[module] not in rests.files[path]:
-        rests.files[path].append(modules[module])
+    def note_import(self, path: Path, name: str) -> None:
+        """Notes what a file imports: another one of specs/, a type of a source, or a library."""
+        if not name:
+            raise Fault('%s has an import of a form that is not known' % path)
+        library, *words = name.split('.')
+        if library != 'Rattle' or words[0] not in self.crates:
+            self.libraries.add(words[0] if library == 'Rattle' else library)
+            return
+        # (the last words may name parts of the file)
+        prefixes = ['.'.join(['Rattle', *words[:end]]) for end in range(len(words), 0, -1)]
+        module = next((it for it in prefixes if it in self.modules), None)
+        if module is None:
+            raise Fault('%s imports %s, of which there is no file' % (path, name))
+        file, part = self.modules[module], name[len(module) + 1:].partition('.')[0]
+        if file.suffix == '.rt':
+            self.types.setdefault(file, set()).add(part)
+        elif file not in self.files[path]:
+            self.files[path].append(file)
 
 
 def from_the_top(files: dict[Path, list[Path]]) -> list[Path]:
@@ -142,14 +136,14 @@ def section(top: Path, crate: str, files: dict[Path, list[Path]]) -> list[str]:
 
 def listed(top: Path) -> str:
     """The whole list, as the page has it."""
-    rests, by_crate = rests_of(top), dict[str, dict[Path, list[Path]]]()
+    rests, by_crate = Rests(top), dict[str, dict[Path, list[Path]]]()
     for path, below in rests.files.items():
         by_crate.setdefault(crate_of(top, path), {})[path] = below
     rows = ['', 'The list has %s with %s, in %s.' % (
         number_of(len(rests.files), 'file'), number_of(lines_of(*rests.files), 'line'),
         number_of(len(by_crate), 'crate')),
         'All `specs/` together have %d files.' % len(list(top.glob('crates/*/specs/**/*.antt'))), '']
-    crates = crates_of(top)[::-1]
+    crates = rests.crates[::-1]
     for crate in crates:
         rows += section(top, crate, by_crate[crate]) if crate in by_crate else []
     rows += ['**Types of sources** that these files name: %d, in %d sources' % (

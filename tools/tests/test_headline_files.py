@@ -122,10 +122,9 @@ class Lists(unittest.TestCase):
 
 class ThisTree(unittest.TestCase):
     def test_the_headline_rests_on_files_that_come_behind_it(self) -> None:
-        rests = headline.rests_of(here.TOP)
-        crates = headline.crates_of(here.TOP)
+        rests = headline.Rests(here.TOP)
         self.assertGreater(len(rests.files), 20)
-        places = {path: crates.index(headline.crate_of(here.TOP, path)) for path in rests.files}
+        places = {path: rests.crates.index(headline.crate_of(here.TOP, path)) for path in rests.files}
         for path, below in rests.files.items():
             for it in below:
                 self.assertLessEqual(places[it], places[path])
