@@ -115,6 +115,15 @@ pub all_fits : (s : State) (code : Code) (r : Remainder) (p : ℕ) (e : Event) �
 unfolding stepped_of
 all_fits s code r p e = stepped_fits _ s code r p e
 
+-- a poll is requested, or nothing happens
+pub polled_or_not : (P : State → Type 0) (s : State) (p : Proc) → P (record (with_needs_poll s p true) { poll_requested = true }) → P s → P (poll_of s p)
+unfolding poll_of
+polled_or_not P s p h i = by (is_alive (process_state s p))
+  where
+    by : (b : Bool) → P (if b then record (with_needs_poll s p true) { poll_requested = true } else s)
+    by true = h
+    by false = i
+
 -- A boot or a kernel run of a mote that has halted changes nothing.
 pub unless_halts : (P : Given → Type 0) (m : Mote) (lines : List Line) (sends : List Sent) (g : Given) → (m.halted ≡ true → P (record { ran = ran.Halted; mote = m; lines = lines; sends = sends })) → (m.halted ≡ false → P g) → P (unless_halted m lines sends g)
 unless_halts P m lines sends g h i = by m.halted refl
@@ -168,10 +177,6 @@ module _ (Keeps Stops : State → State → Type 0) where
     pub lead_if : (A : Type 0) (s : State) (b : Bool) (o p : Outcome A) → Lead A s o → Lead A s p → Lead A s (if b then o else p)
     lead_if A s true o p h i = h
     lead_if A s false o p h i = i
-
-    pub lead_cases : (A : Type 0) (s : State) (b : Bool) (o p : Outcome A) → (b ≡ true → Lead A s o) → (b ≡ false → Lead A s p) → Lead A s (if b then o else p)
-    lead_cases A s true o p h i = h refl
-    lead_cases A s false o p h i = i refl
 
     pub lead_goes : (A : Type 0) (s : State) (a : A) (t : State) → Keeps s t → Lead A s (Goes a t)
     lead_goes A s a t h = record { leads = h }
@@ -254,8 +259,7 @@ module _ (Keeps Stops : State → State → Type 0) where
     lead_send s v halts sent = lead_if _ s (nat_le (2 ^ 62) s.sent) _ _ (record { leads = halts }) (record { leads = sent })
 
     pub keeps_poll : (s : State) (p : Proc) → Keeps s (record (with_needs_poll s p true) { poll_requested = true }) → Keeps s (poll_of s p)
-    unfolding poll_of
-    keeps_poll s p polled = keeps_if s (is_alive (process_state s p)) _ s polled (chain.same s)
+    keeps_poll s p polled = polled_or_not (Keeps s) s p polled (chain.same s)
 
     pub keeps_set : (s : State) (timers : TimerLists) (timer : ℕ) → ((callbacks : List ℕ) → Keeps s (record s { timers = timers; callbacks = callbacks })) → ((t : State) → Keeps t (poll_of t Etimer))
         → Keeps s (timer_is_set (record s { timers = timers }) timer)

@@ -1,5 +1,5 @@
 -- Each call keeps the process list and the states of the processes in step, and leaves those busy that were.
-use Rattle.std.proofs.Common.{ℕ, ◌≡◌, ◌<◌, Bool, true, false, ◌||◌, inl, inr, if◌then◌else◌, List, ◌∷◌, slice_set, length, refl, sym, ap, ◌∙◌, subst}
+use Rattle.std.proofs.Common.{ℕ, ◌≡◌, ◌<◌, Bool, true, false, ◌||◌, inl, inr, List, ◌∷◌, slice_set, length, refl, sym, ap, ◌∙◌, subst}
 use Rattle.std.proofs.lemmas.List.{length-set}
 use Rattle.program_tree.specs.declared.event.Proc.{Proc}
 use Rattle.program_tree.specs.declared.event.Proc.TheVariants.{Etimer}
@@ -9,7 +9,7 @@ use Rattle.process_kernel.specs.declared.process.ProcessState.TheVariants.{Off, 
 use Rattle.process_kernel.specs.declared.process.Member.{Member}
 use Rattle.process_kernel.specs.Members.{place_of}
 use Rattle.process_kernel.specs.State.{State, Outcome}
-use Rattle.process_kernel.specs.Processes.{is_alive, process_state, has_process, is_busy, is_running, is_running_state, is_called_state, at_process, with_state, with_exiting, with_needs_poll}
+use Rattle.process_kernel.specs.Processes.{process_state, has_process, is_busy, is_running, is_running_state, is_called_state, at_process, with_state, with_exiting, with_needs_poll}
 use Rattle.process_kernel.specs.ProcessList.{put_remainder, exiting_of, unlisted_of}
 use Rattle.process_kernel.specs.Calls.{Calls}
 use Rattle.process_kernel.specs.Call.{calls_of}
@@ -17,7 +17,7 @@ use Rattle.process_kernel.specs.Polls.{walk_polls}
 use Rattle.process_kernel.specs.Delivery.{give_of}
 use Rattle.process_kernel.specs.Posts.{poll_of}
 use Rattle.kernel_laws.specs.InStep.{state_at_place, exiting_at, listed_in, AreInStep, IsInStep, IsAsBusy}
-use Rattle.kernel_laws.proofs.EachStep.{Every, Whoever, Whatever, Lead, AreJoined, AreBrackets, AreSteps, AreRunSteps, AreLed, with_started, without_process, keeps_set, calls_led, polls_led, give_led}
+use Rattle.kernel_laws.proofs.EachStep.{Every, Whoever, Whatever, Lead, AreJoined, AreBrackets, AreSteps, AreRunSteps, AreLed, with_started, without_process, keeps_set, calls_led, polls_led, give_led, polled_or_not}
 use Rattle.kernel_laws.proofs.Tables.{set_same, set_other, is_entry, is_equal, left_out, left_in, first_listed, others_listed, DiffersAt, in_step_but, state_differs, exiting_differs, differs_twice, state_set, exiting_set, below_of}
 
 -- in step, and as busy as before
@@ -61,12 +61,8 @@ steps_still : (s t : State) → IsStill s t → KeepsStep s t
 steps_still s t q = record { kept = keeps_still s t q }
 
 pub poll_still : (s : State) (p : Proc) → IsStill s (poll_of s p)
-unfolding poll_of with_needs_poll
-poll_still s p = by (is_alive (process_state s p))
-  where
-    by : (b : Bool) → IsStill s (if b then record (with_needs_poll s p true) { poll_requested = true } else s)
-    by true = record { states = refl; exiting = refl; members = refl }
-    by false = still s
+unfolding with_needs_poll
+poll_still s p = polled_or_not (IsStill s) s p (record { states = refl; exiting = refl; members = refl }) (still s)
 
 -- consequences of being in step
 

@@ -13,7 +13,7 @@ use Rattle.mote_timers.specs.TimerLists.{TimerLists, timer_at, with_timer, stop_
 use Rattle.trace_lines.specs.declared.line.Line.{Line}
 use Rattle.radio_packet.specs.declared.sent.Sent.{Sent}
 use Rattle.process_kernel.specs.State.{State, Outcome, Ends, Goes}
-use Rattle.process_kernel.specs.Processes.{is_alive, process_state, with_state, with_exiting, with_needs_poll}
+use Rattle.process_kernel.specs.Processes.{with_state, with_exiting, with_needs_poll}
 use Rattle.process_kernel.specs.ProcessList.{put_remainder, exiting_of, unlisted_of}
 use Rattle.process_kernel.specs.Posts.{poll_of}
 use Rattle.process_kernel.specs.TimerOperations.{has_timer, timer_is_set}
@@ -24,7 +24,7 @@ use Rattle.process_kernel.specs.Given.{given, begun, boot_given, run_given}
 use Rattle.kernel_laws.specs.Due.{HaveOwners, BootKeepsOwners, RunKeepsOwners}
 use Rattle.kernel_laws.proofs.Timers.{further, other_timer}
 use Rattle.kernel_laws.proofs.Watch.{is_left}
-use Rattle.kernel_laws.proofs.EachStep.{Every, Whoever, Lead, AreJoined, AreSteps, AreRunSteps, keeps_set, brackets_of, boots_led, runs_led, unless_halts}
+use Rattle.kernel_laws.proofs.EachStep.{Every, Whoever, Lead, AreJoined, AreSteps, AreRunSteps, keeps_set, brackets_of, boots_led, runs_led, unless_halts, polled_or_not}
 
 pub record Owns (s t : State) : Type 0 where
   pub owns : HaveOwners s.timers → HaveOwners t.timers
@@ -67,12 +67,8 @@ unfolding purge_timers
 owned_purged l p h j listed = h j (is_left (λ k. not (is_owned_by p (timer_at l.timers k))) j l.listed listed).0
 
 pub poll_timers : (s : State) (p : Proc) → (poll_of s p).timers ≡ s.timers
-unfolding poll_of with_needs_poll
-poll_timers s p = by (is_alive (process_state s p))
-  where
-    by : (b : Bool) → (if b then record (with_needs_poll s p true) { poll_requested = true } else s).timers ≡ s.timers
-    by true = refl
-    by false = refl
+unfolding with_needs_poll
+poll_timers s p = polled_or_not (λ t. t.timers ≡ s.timers) s p refl refl
 
 sets_own : (s : State) (timer start interval : ℕ) (owner : Proc) → has_timer s timer ≡ true → Owns s (timer_is_set (record s { timers = with_timer s.timers timer (record { start = start; interval = interval; owner = Some owner }) }) timer)
 sets_own s timer start interval owner there =

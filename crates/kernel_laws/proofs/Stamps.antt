@@ -1,13 +1,13 @@
 -- Each small step of the kernel writes lines and packets that are stamped with its moment, and so do calls, boots and
 -- kernel runs.
-use Rattle.std.proofs.Common.{ℕ, zero, suc, ◌≡◌, ◌+◌, Bool, true, false, if◌then◌else◌, List, [], ◌∷◌, length, refl, sym, ap, ◌∙◌, subst, arith, ◌++◌, append_assoc, append-nil}
+use Rattle.std.proofs.Common.{ℕ, zero, suc, ◌≡◌, ◌+◌, List, [], ◌∷◌, length, refl, sym, ap, ◌∙◌, subst, arith, ◌++◌, append_assoc, append-nil}
 use Rattle.std.proofs.lemmas.List.{map-append, length-append}
 use Rattle.program_tree.specs.declared.event.Proc.{Proc}
 use Rattle.program_tree.specs.declared.event.Proc.TheVariants.{Own, Etimer}
 use Rattle.trace_lines.specs.declared.line.What.{What}
 use Rattle.trace_lines.specs.declared.line.What.TheVariants as what
 use Rattle.process_kernel.specs.State.{State, Outcome, Ends, Goes}
-use Rattle.process_kernel.specs.Processes.{is_alive, process_state, with_state, with_exiting, with_needs_poll}
+use Rattle.process_kernel.specs.Processes.{with_state, with_exiting, with_needs_poll}
 use Rattle.process_kernel.specs.ProcessList.{put_remainder, exiting_of, unlisted_of}
 use Rattle.process_kernel.specs.Posts.{poll_of}
 use Rattle.process_kernel.specs.Writes.{with_line, halted_of}
@@ -17,7 +17,7 @@ use Rattle.radio_packet.specs.declared.sent.Sent.{Sent}
 use Rattle.trace_lines.specs.declared.line.What.TheVariants.{Halt}
 use Rattle.kernel_laws.specs.Stamps.{PacketsBear, AreNumberedFrom, Stamped, state_after, GivesStamped}
 use Rattle.kernel_laws.proofs.Steps.{lines_joined}
-use Rattle.kernel_laws.proofs.EachStep.{Every, Whoever, Lead, AreJoined, AreSteps, AreRunSteps, keeps_set, brackets_of, AreLed, calls_led, runs_led, boots_led, unless_halts}
+use Rattle.kernel_laws.proofs.EachStep.{Every, Whoever, Lead, AreJoined, AreSteps, AreRunSteps, keeps_set, brackets_of, AreLed, calls_led, runs_led, boots_led, unless_halts, polled_or_not}
 use Rattle.process_kernel.specs.Calls.{Calls}
 use Rattle.process_kernel.specs.Call.{calls_of}
 use Rattle.process_kernel.specs.Run.{begun_of, most_units}
@@ -136,12 +136,8 @@ keeps_written s u w q = keeps_twice s u _ (keeps_still s u q) (keeps_line u w)
 -- steps without output
 
 pub poll_still : (s : State) (p : Proc) → IsStill s (poll_of s p)
-unfolding poll_of with_needs_poll
-poll_still s p = by (is_alive (process_state s p))
-  where
-    by : (b : Bool) → IsStill s (if b then record (with_needs_poll s p true) { poll_requested = true } else s)
-    by true = record { lines = refl; sends = refl; sent = refl; moment = refl; mote = refl; program = refl }
-    by false = still s
+unfolding with_needs_poll
+poll_still s p = polled_or_not (IsStill s) s p (record { lines = refl; sends = refl; sent = refl; moment = refl; mote = refl; program = refl }) (still s)
 
 -- packets
 

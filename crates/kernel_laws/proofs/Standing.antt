@@ -18,14 +18,15 @@ use Rattle.process_kernel.specs.declared.process.ProcessState.{ProcessState}
 use Rattle.process_kernel.specs.declared.process.ProcessState.TheVariants.{Off, Running}
 use Rattle.process_kernel.specs.Members.{place_of, is_same}
 use Rattle.process_kernel.specs.State.{State, Outcome, Ends, Goes}
-use Rattle.process_kernel.specs.Processes.{is_alive, process_state, at_process, with_state, with_exiting, with_needs_poll}
+use Rattle.process_kernel.specs.Processes.{process_state, at_process, with_state, with_exiting, with_needs_poll}
 use Rattle.process_kernel.specs.ProcessList.{put_remainder, fresh_at, with_fresh_body, with_fresh_process, enlist_of, exiting_of, unlisted_of, leave_of}
-use Rattle.process_kernel.specs.Posts.{post_of, poll_of, send_of}
+use Rattle.process_kernel.specs.Posts.{post_of, poll_of}
 use Rattle.process_kernel.specs.Writes.{with_line, write_of, halted_of}
 use Rattle.kernel_laws.specs.Printed.{is_told_of, starts_and_prints}
 use Rattle.kernel_laws.specs.Telling.{standing_of}
 use Rattle.kernel_laws.proofs.Steps.{others_stay}
 use Rattle.kernel_laws.proofs.Tables.{set_other, is_equal}
+use Rattle.kernel_laws.proofs.EachStep.{polled_or_not}
 
 -- tables
 
@@ -126,17 +127,13 @@ module _ (p : ℕ) where
   unfolding exiting_of
   exiting_quiet s q n = exiting_set_quiet (with_state s q Off) q true n ∙ state_quiet s q Off n
 
-  pub quiet_if : (s : State) (b : Bool) (t u : State) → IsQuiet s t → IsQuiet s u → IsQuiet s (if b then t else u)
-  quiet_if s true t u h i = h
-  quiet_if s false t u h i = i
-
   pub needs_poll_quiet : (s : State) (q : Proc) (b : Bool) → IsQuiet s (with_needs_poll s q b)
   unfolding with_needs_poll
   needs_poll_quiet s q b = refl
 
   pub poll_quiet : (s : State) (q : Proc) → IsQuiet s (poll_of s q)
-  unfolding poll_of with_needs_poll
-  poll_quiet s q = quiet_if s (is_alive (process_state s q)) _ s refl refl
+  unfolding with_needs_poll
+  poll_quiet s q = polled_or_not (λ t. IsQuiet s t) s q refl refl
 
   pub variables_quiet : (s : State) (q : ℕ) (vs : List ℕ) (n : ℕ) → (q ≡ p → ⊥) → IsQuiet s (record s { variables = slice_set s.variables q vs; units = n })
   variables_quiet s q vs n other = ap (λ k. record (standing_of p s) { vars = k }) (get_set_other s.variables q p vs (λ e. other (sym e)))
@@ -184,9 +181,3 @@ module _ (p : ℕ) where
   post_quiet s t e =
       always_if (λ u. IsQuiet s u) (nat_le (2 ^ 62) s.queue.accepted) _ _ (halted_quiet s)
       (always_if (λ u. IsQuiet s u) (nat_le s.queue.capacity (length s.queue.events)) _ _ (line_quiet s _ refl) (line_quiet (record s { queue = with_posted s.queue t e }) _ refl))
-
-  pub send_quiet : (s : State) (v : ℕ) → Always (λ t. IsQuiet s t) (send_of s v)
-  unfolding send_of write_of
-  send_quiet s v =
-      always_if (λ t. IsQuiet s t) (nat_le (2 ^ 62) s.sent) _ _ (halted_quiet s)
-      (line_quiet (record s { sends = s.sends ++ record { at = s.moment; sender = s.mote; number = s.sent; value = v } ∷ []; sent = s.sent + 1 }) _ refl)

@@ -1,5 +1,5 @@
 -- Each small step of the kernel is a run of the delivery machine, in the midst of any walk.
-use Rattle.std.proofs.Common.{ℕ, ◌≡◌, ◌||◌, ◌==◌, not, Bool, true, false, cond, if◌then◌else◌, List, [], ◌∷◌, ◌++◌, refl, sym, ap, subst, ◌∙◌, append_assoc, append-nil, arith, map}
+use Rattle.std.proofs.Common.{ℕ, ◌≡◌, ◌||◌, ◌==◌, not, Bool, true, false, cond, List, [], ◌∷◌, ◌++◌, refl, sym, ap, subst, ◌∙◌, append_assoc, append-nil, arith, map}
 use Rattle.std.proofs.lemmas.List.{map-append}
 use Rattle.std.specs.List.{filter}
 use Rattle.std.proofs.lemmas.List.Elements.{All-nil, All-push}
@@ -22,7 +22,7 @@ use Rattle.trace_lines.specs.declared.line.What.TheVariants as what
 use Rattle.process_kernel.specs.declared.process.Member.{Member}
 use Rattle.process_kernel.specs.Members.{place_of, is_same, stands_in}
 use Rattle.process_kernel.specs.State.{State, Outcome, Goes}
-use Rattle.process_kernel.specs.Processes.{is_alive, process_state, is_listed, with_state, with_exiting, with_needs_poll}
+use Rattle.process_kernel.specs.Processes.{is_listed, with_state, with_exiting, with_needs_poll}
 use Rattle.process_kernel.specs.ProcessList.{put_remainder, enlist_of, exiting_of, unlisted_of}
 use Rattle.process_kernel.specs.Posts.{poll_of}
 use Rattle.process_kernel.specs.Writes.{with_line, halted_of}
@@ -31,7 +31,7 @@ use Rattle.process_kernel.specs.Call.{calls_of}
 use Rattle.kernel_laws.specs.Own.{IsOwn, FitsTarget}
 use Rattle.kernel_laws.specs.Seen.{seen_what, seen_lines, seen_target, seen_member, seen_posted, view_of}
 use Rattle.kernel_laws.specs.Going.{SystemStays}
-use Rattle.kernel_laws.proofs.EachStep.{Every, Leads, Lead, AreJoined, AreSteps, AreLed, with_event, with_started, without_process, enlist_is, keeps_set, brackets_of, fits_no_exit, calls_led}
+use Rattle.kernel_laws.proofs.EachStep.{Every, Leads, Lead, AreJoined, AreSteps, AreLed, with_event, with_started, without_process, enlist_is, keeps_set, brackets_of, fits_no_exit, calls_led, polled_or_not}
 
 -- the later state is reached by lines that are a run of the machine, whatever walk is under way
 pub record GoesOn (s t : State) : Type 0 where
@@ -62,10 +62,6 @@ pub record IsQuiet (s t : State) : Type 0 where
 
 pub quiet_same : (s : State) → IsQuiet s s
 quiet_same s = record { lines = refl; members = refl; started = refl; queue = refl }
-
-pub quiet_if : (s : State) (b : Bool) (t u : State) → IsQuiet s t → IsQuiet s u → IsQuiet s (if b then t else u)
-quiet_if s true t u h i = h
-quiet_if s false t u h i = i
 
 pub view_quiet : (s t : State) → IsQuiet s t → view_of s ≡ view_of t
 view_quiet s t q = rw (q.members, q.started, q.queue) refl
@@ -121,8 +117,8 @@ halts s = record { added = record { at = s.moment; what = what.Halt } ∷ []; wr
 -- steps that change nothing that the delivery sees
 
 pub poll_quiet : (s : State) (p : Proc) → IsQuiet s (poll_of s p)
-unfolding poll_of with_needs_poll
-poll_quiet s p = quiet_if s (is_alive (process_state s p)) _ s (record { lines = refl; members = refl; started = refl; queue = refl }) (quiet_same s)
+unfolding with_needs_poll
+poll_quiet s p = polled_or_not (IsQuiet s) s p (record { lines = refl; members = refl; started = refl; queue = refl }) (quiet_same s)
 
 -- the process list
 

@@ -1,5 +1,5 @@
 -- Each step of a turn keeps the ring in step with the mote's lines.
-use Rattle.std.proofs.Common.{ℕ, ◌≡◌, ◌≤◌, nat_lt, Bool, true, false, if◌then◌else◌, List, [], ◌∷◌, ◌++◌, length, Option, Some, None, refl, sym, ap, ◌∙◌, subst, append_assoc, append-nil, arith}
+use Rattle.std.proofs.Common.{ℕ, ◌≡◌, ◌≤◌, nat_lt, Bool, true, false, List, [], ◌∷◌, ◌++◌, length, Option, Some, None, refl, sym, ap, ◌∙◌, subst, append_assoc, append-nil, arith}
 use Rattle.std.proofs.lemmas.Bool.Decides.{nat_tests}
 use Rattle.program_tree.specs.declared.event.Proc.{Proc}
 use Rattle.program_tree.specs.Code.{Tree}
@@ -8,7 +8,7 @@ use Rattle.trace_lines.specs.declared.line.Line.{Line}
 use Rattle.trace_lines.specs.declared.line.What.{What}
 use Rattle.trace_lines.specs.declared.line.What.TheVariants as what
 use Rattle.process_kernel.specs.State.{State}
-use Rattle.process_kernel.specs.Processes.{is_alive, process_state, with_needs_poll}
+use Rattle.process_kernel.specs.Processes.{with_needs_poll}
 use Rattle.process_kernel.specs.Posts.{poll_of}
 use Rattle.process_kernel.specs.Mote.{Mote, unbooted, with_packet, with_poll}
 use Rattle.process_kernel.specs.Given.{Given, boot_given, run_given}
@@ -25,6 +25,7 @@ use Rattle.mote_node.specs.Laws.{Turns, Rests, Takes}
 use Rattle.mote_laws.specs.Laws.{first_node}
 use Rattle.mote_laws.specs.Ring.{GoesWithRing, RingGoesWithLines, received_of, received_in, AreAmong, AllPassed, Another, ThisOne}
 use Rattle.mote_laws.proofs.EachTurn.{AreTurnSteps, net_turn_holds}
+use Rattle.kernel_laws.proofs.EachStep.{polled_or_not}
 
 -- along the lines before the turn and those of the turn so far, the ring changes to the mote's contents
 record Goes (program : Tree) (before : List Line) (u : Underway) : Type 0 where
@@ -79,12 +80,8 @@ above_of : (n : ℕ) → nat_lt n 8 ≡ false → 8 ≤ n
 above_of n e = grind (arith, nat_tests)
 
 pub poll_same : (s : State) (p : Proc) → ((poll_of s p).ring ≡ s.ring) × ((poll_of s p).program ≡ s.program)
-unfolding poll_of with_needs_poll
-poll_same s p = by (is_alive (process_state s p))
-  where
-    by : (b : Bool) → ((if b then record (with_needs_poll s p true) { poll_requested = true } else s).ring ≡ s.ring) × ((if b then record (with_needs_poll s p true) { poll_requested = true } else s).program ≡ s.program)
-    by true = (refl, refl)
-    by false = (refl, refl)
+unfolding with_needs_poll
+poll_same s p = polled_or_not (λ t. (t.ring ≡ s.ring) × (t.program ≡ s.program)) s p (refl, refl) (refl, refl)
 
 -- turns
 
