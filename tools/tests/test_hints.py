@@ -305,6 +305,9 @@ class Warnings(unittest.TestCase):
             found = self.explained('a.toml', mark + '// mine\nprocess a;\ncode a { body { prnt 1; } }\n')
             self.assertRegex(found, r'a\.toml is the text of a program, and no scenario\. Hint: .*`\[programs\]`.*'
                                     r'The program has an error, too: .*line 3: .*Did you mean `print`\?')
+        data = b'process a;\ncode a { body { } }\n'
+        self.assertEqual(explain.explanation('the text', data, 'motesim: scenario fault 1')[0],
+                         'the text is the text of a program, and no scenario.')
         self.assertNotIn('an error', self.explained('a.mote', 'process a;\ncode a { body { print 1; } }\n'))
         plan = 'end = 9\nmedium = { range = 9, base = 2, per = 9 }\n[places]\nrule = "line"\ncount = 2\nstep = 5\n'
         found = self.explained('a.plan.toml', plan)

@@ -176,6 +176,8 @@ def explanation(name: str, data: bytes, line: str) -> list[str]:
     if fault is None or fault.message != what:
         # (as of memory, and of texts that only Python reads as TOML)
         return wrapped(rule_of(what)) + ['This tool does not know its place.']
+    if begins_as_program(data):
+        return program_instead(name, data)
     text = data.decode('utf-8', 'replace')
     if fault.program:
         return of_program(name, text, str(fault.path[1]), fault.program)
