@@ -6,9 +6,9 @@ folder: nothing is installed, and nothing is fetched from a network.
 
     tar xzf motesim-VERSION.tar.gz && cd motesim-VERSION && ./run examples/flooding.toml
 
-The archive has the proved `motesim` of these sources, if ./prove has built it (or the one that the environment variable
-MOTESIM names); the page PROVED.md then describes the
-proof and the kit. Otherwise it has one that is compiled without a proof; tools/pack and the archive's ./run say so.
+The archive has the program that the environment variable MOTESIM names, or else the proved `motesim` of these sources,
+if ./prove has built it; the page PROVED.md then describes the proof and the kit. Otherwise it has one that is compiled
+without a proof; tools/pack and the archive's ./run say so.
 The same tree and binary yield the same archive, byte for byte.
 """
 from __future__ import annotations
@@ -33,7 +33,6 @@ from project import kit
 
 # What goes into the archive besides the program: files, and folders with all that git knows in them.
 PARTS = ('CHANGES.md', 'CITATION.cff', 'LICENSE', 'docs/use', 'examples', 'tools/contiki_host', 'tools/motesim')
-
 NAMED = 'The maker of the archive chose the program by its path: no proof of it is known.'
 
 
