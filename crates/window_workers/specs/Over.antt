@@ -29,6 +29,10 @@ lines_of ended = flat_map (λ one. one.log.items) ended
 abbrev pub logs_of : List Ended → List Sent
 logs_of ended = flat_map (λ one. packets_in one.log.items) ended
 
+-- the lines of several logs, one log's after another's
+abbrev pub lines_in : List (Vec LogLine Global) → List LogLine
+lines_in logs = flat_map (λ log. log.items) logs
+
 -- by moment, then sender, then number of their packets
 abbrev pub is_sooner_line : LogLine → LogLine → Bool
 is_sooner_line a b = is_sooner a.sent b.sent

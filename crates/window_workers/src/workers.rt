@@ -36,7 +36,8 @@ use worker_cut::Cut;
 use worker_window::Gate;
 
 /// The workers' report at the end, and their inboxes. `of` is the worker of each mote.
-fn make_report(
+fn make_report<R: Threads + Wait + Sync>(
+    rt: &R,
     alloc: Global,
     net: &Net,
     of: &[u16],
@@ -48,7 +49,7 @@ fn make_report(
     ensures pairs { IfOk result (λ r. r.1.items ≡ zip group.inboxes.items group.takers.items) }
     ensures settled { IfOk result (λ r. Each (λ pair. IsSettled pair.0 pair.1) r.1.items) }
     ensures crossed { IfOk result (λ r. AllCrossed (net_of net.now) of.now (report_of r.0) r.1.items) }
-    ensures err { IfErr result (λ e. e ≡ RunError.Memory) }
+    ensures err { IfErr result (IsAnswerTo None) }
 {
     // Called only for its clause `no_fault`, which the proof needs.
     let _ahead = net.medium().lookahead(net.end());
@@ -63,7 +64,7 @@ fn make_report(
     };
     let ended = end_all(alloc, shares)?;
     let left = left_of_all(&ended, &pairs)?;
-    let (medium, rest) = medium_log(alloc, ended)?;
+    let (medium, rest) = medium_log(rt, alloc, ended)?;
     let traces = joined_traces(alloc, of, rest)?;
     let report = Report {
         traces,
@@ -156,7 +157,7 @@ where
         return Err(RunError::Memory);
     };
     let group = run_by_kind(rt, alloc, net, of, cut.longest, sync, gate, group)?;
-    make_report(alloc, net, of, group)
+    make_report(rt, alloc, net, of, group)
 }
 
 /// The report of a net, by this many workers, each in threads of its own: that of the run on one thread, whatever the

@@ -1,4 +1,4 @@
-use Rattle.std.proofs.Common.{◌≡◌, ◌+◌, ◌<◌, length, map, None, sym, ap, ◌∙◌, subst, arith}
+use Rattle.std.proofs.Common.{◌≡◌, ◌+◌, ◌<◌, length, map, None, sym, ap, ◌∙◌, subst}
 use Rattle.std.specs.List.{sum_by, AllByRecursion as Each}
 use Rattle.mote_net.specs.Net.{net_of}
 use Rattle.net_agenda.proofs.Systems.{system_is}
@@ -16,12 +16,12 @@ use Rattle.window_workers.proofs.Pairs.{each_zip, firsts}
 use Rattle.window_workers.proofs.workers.make_report.Goals as goal
 
 pub left_of_all-requires : goal.left_of_all-requires
-left_of_all-requires c =
+left_of_all-requires g c =
     subst (Each (λ (pair : Pair). IsSettled pair.0 pair.1)) (sym (c.deref-2.ensures.value ∙ c.in-Ok.ensures))
     (each_zip IsSettled c.args.group.inboxes.items c.args.group.takers.items c.requires.settled)
 
 pub joined_traces-requires-clause-workers : goal.joined_traces-requires-clause-workers
-joined_traces-requires-clause-workers c =
+joined_traces-requires-clause-workers g c =
     let n = net_of c.args.net.now in
     let fault : medium_fault n.radio ≡ None = ap medium_fault (sym c.medium.ensures.value) ∙ c.lookahead-ahead.ensures.no_fault in
     let placed : length n.radio.places ≡ length n.motes = ap (λ (r : Radio). length r.places) (sym c.medium.ensures.value) ∙ c.medium.ensures.placed in
@@ -29,7 +29,7 @@ joined_traces-requires-clause-workers c =
     (workers_there n (system_is n fault placed) c.args.of.now c.args.group c.requires c.in_ok-ended.ended.items c.in_ok-ended.ensures)
 
 pub joined_traces-requires-clause-places : goal.joined_traces-requires-clause-places
-joined_traces-requires-clause-places c =
+joined_traces-requires-clause-places g c =
     let n = net_of c.args.net.now in
     let fault : medium_fault n.radio ≡ None = ap medium_fault (sym c.medium.ensures.value) ∙ c.lookahead-ahead.ensures.no_fault in
     let placed : length n.radio.places ≡ length n.motes = ap (λ (r : Radio). length r.places) (sym c.medium.ensures.value) ∙ c.medium.ensures.placed in
@@ -37,7 +37,7 @@ joined_traces-requires-clause-places c =
     (all_places n (system_is n fault placed) c.args.of.now c.args.group c.requires c.in_ok-ended.ended.items c.in_ok-ended.ensures)
 
 pub returns-clause-report : goal.returns-clause-report
-returns-clause-report c =
+returns-clause-report g c =
     let n = net_of c.args.net.now in
     let fault : medium_fault n.radio ≡ None = ap medium_fault (sym c.medium.ensures.value) ∙ c.lookahead-ahead.ensures.no_fault in
     let placed : length n.radio.places ≡ length n.motes = ap (λ (r : Radio). length r.places) (sym c.medium.ensures.value) ∙ c.medium.ensures.placed in
@@ -49,18 +49,18 @@ returns-clause-report c =
     (subst (λ l. sum_by (λ (one : Ended). one.left) l + sum_by (λ (pair : Pair). length (gathered_by pair.1)) c.deref-2.result.now ≡ c.in_ok-left.left + sum_by (λ (pair : Pair). length (taken_by pair.1)) c.deref-2.result.now) c.deref.ensures.value c.in_ok-left.ensures))
 
 pub returns-clause-inboxes : goal.returns-clause-inboxes
-returns-clause-inboxes c = ap (map (λ (pair : Pair). pair.0)) c.in-Ok.ensures ∙ firsts IsSettled c.args.group.inboxes.items c.args.group.takers.items c.requires.settled
+returns-clause-inboxes g c = ap (map (λ (pair : Pair). pair.0)) c.in-Ok.ensures ∙ firsts IsSettled c.args.group.inboxes.items c.args.group.takers.items c.requires.settled
 
 pub returns-clause-settled : goal.returns-clause-settled
-returns-clause-settled c =
+returns-clause-settled g c =
     subst (Each (λ (pair : Pair). IsSettled pair.0 pair.1)) (sym c.in-Ok.ensures)
     (each_zip IsSettled c.args.group.inboxes.items c.args.group.takers.items c.requires.settled)
 
 pub returns-clause-crossed : goal.returns-clause-crossed
-returns-clause-crossed c =
+returns-clause-crossed g c =
     let n = net_of c.args.net.now in
     let fault : medium_fault n.radio ≡ None = ap medium_fault (sym c.medium.ensures.value) ∙ c.lookahead-ahead.ensures.no_fault in
     let placed : length n.radio.places ≡ length n.motes = ap (λ (r : Radio). length r.places) (sym c.medium.ensures.value) ∙ c.medium.ensures.placed in
     let r : Report = record { traces = c.in_ok-traces.traces; medium = c.in_ok-medium.medium; left = c.in_ok-left.left } in
     subst (AllCrossed n c.args.of.now (report_of r)) (sym c.in-Ok.ensures)
-    (all_crossed n fault placed c.args.of.now c.args.group c.requires c.in_ok-ended.ended.items c.in_ok-ended.ensures (report_of r) (returns-clause-report c))
+    (all_crossed n fault placed c.args.of.now c.args.group c.requires c.in_ok-ended.ended.items c.in_ok-ended.ensures (report_of r) (returns-clause-report g c))
