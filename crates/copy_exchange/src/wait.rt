@@ -14,7 +14,7 @@ use std::time::Duration;
 // Bounds of the spin budget: fruitless looks per window before the worker sleeps.
 const LEAST_LOOKS: u32 = 32;
 
-const MOST_LOOKS: u32 = 1024;
+const MOST_LOOKS: u32 = 4096;
 
 // The longest that it sleeps before it reads the flag again.
 const NAP_MILLIS: u64 = 10;
@@ -29,7 +29,7 @@ pub struct Waiting {
 }
 
 impl Waiting {
-    /// The state before the first window, in which the worker may look 1,024 times before it sleeps.
+    /// The state before the first window, in which the worker may look 4,096 times before it sleeps.
     pub fn new() -> Waiting {
         Waiting {
             looks: MOST_LOOKS,

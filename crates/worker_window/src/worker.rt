@@ -100,6 +100,10 @@ where
     ensures ends { IfOk result (λ done. MayEndAs slots.entry.items done.items) }
     ensures refused { IfErr result (λ reason. reason ≢ Stopped) }
 {
+    // Without a mote there is nothing to poll, so no executor is made.
+    if slots.is_empty() {
+        return Ok(slots);
+    }
     let worker = ShareWindow { alloc, slots, room };
     match block_on(rt, worker) {
         Ok(Ok(done)) => Ok(done),
