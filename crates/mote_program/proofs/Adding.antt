@@ -1,25 +1,23 @@
 -- Tokens that are added one after another.
-use Rattle.std.proofs.Common.{◌≡◌, ℕ, zero, suc, ◌+◌, ◌<◌, ◌≤◌, List, [], ◌∷◌, ◌++◌, map, length, drop, get_or, Option}
-use Rattle.std.proofs.Common.{Some, None, Result, Ok, Err, refl, ap, sym, ◌∙◌, append_assoc, arith}
+use Rattle.std.proofs.Common.{◌≡◌, ℕ, suc, ◌+◌, ◌<◌, ◌≤◌, List, [], ◌∷◌, ◌++◌, map, length, drop, get_or, Option, Some}
+use Rattle.std.proofs.Common.{None, refl, ap, sym, ◌∙◌, append_assoc, arith}
 use Rattle.std.specs.List.{flat_map, zip}
-use Rattle.std.specs.Prelude.{IfOk, OnOk}
+use Rattle.std.proofs.lemmas.Slice.Zip.{length-zip, get_or-zip}
 use Rattle.std.proofs.lemmas.List.{map-append, append-nil, drop_all, length-map, get_or-map}
 use Rattle.std.proofs.Math.Seq.{drop-cons}
 use Rattle.program_tree.specs.Shapes.{Name}
-use Rattle.mote_program.specs.Spelled.{expression_tokens, statement_tokens, items_tokens, block_tokens}
-use Rattle.mote_program.specs.Spelled.{action_tokens}
-use Rattle.program_tree.specs.Tokens as token
 use Rattle.program_tree.specs.Tokens.{Token, token_of}
-use Rattle.program_tree.specs.Tree.{Class, statement_of, statement_map, body_of, body_map}
-use Rattle.program_tree.specs.Tree.{action_of, action_map}
+use Rattle.program_tree.specs.Tree.{Class, statement_of, statement_map, body_of, body_map, action_of, action_map}
 use Rattle.program_tree.specs.Tree.{expression_of, expression_map, block_of}
-use Rattle.program_tree.specs.declared.keyword.Keyword.TheVariants as word
 use Rattle.program_tree.specs.declared.tree.Block.{Block}
 use Rattle.program_tree.specs.declared.tree.Expr.{Expr}
 use Rattle.program_tree.specs.declared.tree.Stmt.{Stmt, Do, If, While}
 use Rattle.program_tree.specs.declared.tree.Action.{Action}
-use Rattle.program_tree.proofs.TreeLaws.{branch_of-If, while_of-While, does_of-Do}
 use Rattle.program_tree.specs.declared.token.Token.{Token as TokenRead}
+use Rattle.program_tree.specs.Tokens as token
+use Rattle.program_tree.specs.declared.keyword.Keyword.TheVariants as word
+use Rattle.mote_program.specs.Spelled.{expression_tokens, statement_tokens, items_tokens, block_tokens, action_tokens}
+use Rattle.program_tree.proofs.TreeLaws.{branch_of-If, while_of-While, does_of-Do}
 
 pub mapped : (old new more : List TokenRead) → new ≡ old ++ more → map token_of new ≡ map token_of old
     ++ map token_of more
@@ -42,26 +40,13 @@ pub no_more : {X : Type 0} (F : X → List Token) (xs : List X) (i : ℕ) (new a
 no_more F xs i new all h so_far = sym (append-nil new) ∙ ap (λ ys. new ++ flat_map F ys) (sym (drop_all i xs h))
     ∙ so_far
 
-pub zip_at : {X Y : Type 0} (xs : List X) (ys : List Y) (i : ℕ) (x : X) (y : Y) → i < length xs → i < length ys
-    → get_or (zip xs ys) i (x, y) ≡ (get_or xs i x, get_or ys i y)
-zip_at [] ys i x y h k = absurd (omega arith)
-zip_at (a ∷ xs) [] i x y h k = absurd (omega arith)
-zip_at (a ∷ xs) (b ∷ ys) zero x y h k = refl
-zip_at (a ∷ xs) (b ∷ ys) (suc i) x y h k = zip_at xs ys i x y (omega arith) (omega arith)
-
-pub zip_length : {X Y : Type 0} (xs : List X) (ys : List Y) → length ys ≡ length xs → length (zip xs ys) ≡ length xs
-zip_length [] [] e = refl
-zip_length [] (b ∷ ys) e = refl
-zip_length (a ∷ xs) [] e = absurd (omega arith)
-zip_length (a ∷ xs) (b ∷ ys) e = let k : length ys ≡ length xs = omega arith in ap suc (zip_length xs ys k)
-
 -- one name with its item
 pub one_pair : {X Y : Type 0} (F : X × Y → List Token) (xs : List X) (ys : List Y) (i : ℕ) (x : X) (y : Y)
     (mid new all : List Token) → length ys ≡ length xs → i < length xs → mid ++ flat_map F (drop i (zip xs ys)) ≡ all
     → new ≡ mid ++ F (get_or xs i x, get_or ys i y) → new ++ flat_map F (drop (i + 1) (zip xs ys)) ≡ all
 one_pair F xs ys i x y mid new all e h so_far more =
-    one_more F (zip xs ys) i (x, y) mid new all (omega (arith, zip_length xs ys e)) so_far
-    (more ∙ ap (λ p. mid ++ F p) (sym (zip_at xs ys i x y h (omega arith))))
+    one_more F (zip xs ys) i (x, y) mid new all (omega (arith, length-zip xs ys)) so_far
+    (more ∙ ap (λ p. mid ++ F p) (sym (get_or-zip xs ys i (x, y) h (omega arith))))
 
 -- the statements of a block
 pub block_flat : (f : Class → ℕ → Name) (ss : List Stmt) → items_tokens (body_map f (body_of (map statement_of ss)))
@@ -72,22 +57,12 @@ block_flat f (s ∷ ss) =
     ∙ sym (append_assoc (statement_tokens (statement_map f (statement_of s)))
     (flat_map (λ s. statement_tokens (statement_map f (statement_of s))) ss) (token.CloseBrace ∷ []))
 
-pub on_ok : {T E P Q : Type 0} (r : Result T E) → (P → Q) → OnOk r P → OnOk r Q
-on_ok (Ok x) f h = f h
-on_ok (Err e) f h = tt
-
 module _ (f : Class → ℕ → Name) (e : Expr) (a : Block) (t0 t1 t2 : List Token) where
   pub if_added : (s : Stmt) (o : Option Block) → s ≡ If e a o → o ≡ None
       → t1 ≡ t0 ++ ((token.Keyword word.If ∷ []) ++ expression_tokens (expression_map f (expression_of e)))
       → t2 ≡ t1 ++ block_tokens (body_map f (block_of a))
       → t2 ≡ t0 ++ statement_tokens (statement_map f (statement_of s))
-  if_added s o same none h k =
-      let x : List Token = expression_tokens (expression_map f (expression_of e)) in
-      let y : List Token = block_tokens (body_map f (block_of a)) in
-      k ∙ ap (λ ts. ts ++ y) h ∙ append_assoc t0 (token.Keyword word.If ∷ x) y
-      ∙ ap (λ ts. t0 ++ (token.Keyword word.If ∷ (x ++ ts))) (sym (append-nil y))
-      ∙ ap (λ z. t0 ++ statement_tokens (statement_map f z))
-      (sym (ap statement_of (same ∙ ap (If e a) none) ∙ branch_of-If e a None))
+  if_added s o same none h k = rw (k, h, same, none, branch_of-If e a None) (simp (append_assoc, append-nil))
 
   pub else_added : (s : Stmt) (o : Option Block) (b : Block) (t3 t4 : List Token) → s ≡ If e a o → o ≡ Some b
       → t1 ≡ t0 ++ ((token.Keyword word.If ∷ []) ++ expression_tokens (expression_map f (expression_of e)))
@@ -95,26 +70,13 @@ module _ (f : Class → ℕ → Name) (e : Expr) (a : Block) (t0 t1 t2 : List To
       → t3 ≡ t2 ++ (token.Keyword word.Else ∷ []) → t4 ≡ t3 ++ block_tokens (body_map f (block_of b))
       → t4 ≡ t0 ++ statement_tokens (statement_map f (statement_of s))
   else_added s o b t3 t4 same some h k l m =
-      let x : List Token = expression_tokens (expression_map f (expression_of e)) in
-      let y : List Token = block_tokens (body_map f (block_of a)) in
-      let z : List Token = block_tokens (body_map f (block_of b)) in
-      m ∙ ap (λ ts. ts ++ z) (l ∙ ap (λ ts. ts ++ (token.Keyword word.Else ∷ []))
-      (k ∙ ap (λ ts. ts ++ y) h ∙ append_assoc t0 (token.Keyword word.If ∷ x) y))
-      ∙ append_assoc (t0 ++ (token.Keyword word.If ∷ (x ++ y))) (token.Keyword word.Else ∷ []) z
-      ∙ append_assoc t0 (token.Keyword word.If ∷ (x ++ y)) (token.Keyword word.Else ∷ z)
-      ∙ ap (λ ts. t0 ++ (token.Keyword word.If ∷ ts)) (append_assoc x y (token.Keyword word.Else ∷ z))
-      ∙ ap (λ q. t0 ++ statement_tokens (statement_map f q))
-      (sym (ap statement_of (same ∙ ap (If e a) some) ∙ branch_of-If e a (Some b)))
+      rw (m, l, k, h, same, some, branch_of-If e a (Some b)) (simp append_assoc)
 
   pub while_added : (s : Stmt) → s ≡ While e a → t1 ≡ t0
       ++ ((token.Keyword word.While ∷ []) ++ expression_tokens (expression_map f (expression_of e)))
       → t2 ≡ t1 ++ block_tokens (body_map f (block_of a))
       → t2 ≡ t0 ++ statement_tokens (statement_map f (statement_of s))
-  while_added s same h k =
-      let x : List Token = expression_tokens (expression_map f (expression_of e)) in
-      let y : List Token = block_tokens (body_map f (block_of a)) in
-      k ∙ ap (λ ts. ts ++ y) h ∙ append_assoc t0 (token.Keyword word.While ∷ x) y
-      ∙ ap (λ z. t0 ++ statement_tokens (statement_map f z)) (sym (ap statement_of same ∙ while_of-While e a))
+  while_added s same h k = rw (k, h, same, while_of-While e a) (simp append_assoc)
 
 -- a block none of whose statements is added yet
 pub block_begun : (f : Class → ℕ → Name) (ss : List Stmt) (old new : List Token) → new ≡ old ++ (token.OpenBrace ∷ [])
@@ -163,10 +125,6 @@ one_number f F ns i d mid new all h so_far more =
     one_more F (map f ns) i [] mid new all (omega (arith, length-map ns f)) so_far
     (more ∙ ap (λ x. mid ++ F x) (sym (get_or-map f ns i d [] h)))
 
-pub if_ok : {T E : Type 0} {P Q : T → Type 0} (r : Result T E) → ((x : T) → P x → Q x) → IfOk r P → IfOk r Q
-if_ok (Ok x) f h = f x h
-if_ok (Err e) f h = tt
-
 -- one name with the meaning of its item
 pub one_item : {X Y : Type 0} (F : Name × Y → List Token) (names : List Name) (g : X → Y) (xs : List X) (i : ℕ)
     (n : Name) (x : X) (mid new all : List Token) → length xs ≡ length names → i < length names → get_or names i [] ≡ n
@@ -187,15 +145,10 @@ mapped_at h xs i x l same = ap h same ∙ sym (get_or-map h xs i x (h x) l)
 pub two_added : (t0 t1 t2 a b : List Token) → t1 ≡ t0 ++ a → t2 ≡ t1 ++ b → t2 ≡ t0 ++ (a ++ b)
 two_added t0 t1 t2 a b h k = k ∙ ap (λ ts. ts ++ b) h ∙ append_assoc t0 a b
 
-pub three_added : (t0 t1 t2 t3 a b c : List Token) → t1 ≡ t0 ++ a → t2 ≡ t1 ++ b → t3 ≡ t2 ++ c
-    → t3 ≡ t0 ++ (a ++ (b ++ c))
-three_added t0 t1 t2 t3 a b c h k l = two_added t0 t1 t3 a (b ++ c) h (two_added t1 t2 t3 b c k l)
-
 pub four_added : (t0 t1 t2 t3 t4 a b c d : List Token) → t1 ≡ t0 ++ a → t2 ≡ t1 ++ b → t3 ≡ t2 ++ c → t4 ≡ t3 ++ d
     → t4 ≡ t0 ++ (a ++ (b ++ (c ++ d)))
-four_added t0 t1 t2 t3 t4 a b c d h k l m = two_added t0 t1 t4 a (b ++ (c ++ d)) h (three_added t1 t2 t3 t4 b c d k l m)
+four_added t0 t1 t2 t3 t4 a b c d h k l m = rw (m, l, k, h) (simp append_assoc)
 
 pub five_added : (t0 t1 t2 t3 t4 t5 a b c d e : List Token) → t1 ≡ t0 ++ a → t2 ≡ t1 ++ b → t3 ≡ t2 ++ c → t4 ≡ t3 ++ d
     → t5 ≡ t4 ++ e → t5 ≡ t0 ++ (a ++ (b ++ (c ++ (d ++ e))))
-five_added t0 t1 t2 t3 t4 t5 a b c d e h k l m n =
-    two_added t0 t1 t5 a (b ++ (c ++ (d ++ e))) h (four_added t1 t2 t3 t4 t5 b c d e k l m n)
+five_added t0 t1 t2 t3 t4 t5 a b c d e h k l m n = rw (n, m, l, k, h) (simp append_assoc)

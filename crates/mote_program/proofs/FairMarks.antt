@@ -1,8 +1,6 @@
 -- In a program's marks numbers play the part of numbers, and no `=` follows `!`.
 use Rattle.std.proofs.Common.{List, [], ◌∷◌, Option, Some, None, refl}
-use Rattle.program_tree.specs.Forms as form
-use Rattle.program_tree.specs.Forms.{Operand, Form, ends, tells, takes, values, Beginning, action, beginning}
-use Rattle.program_tree.specs.EventNames as event
+use Rattle.program_tree.specs.Forms.{Operand, Form, ends, tells, takes, values}
 use Rattle.program_tree.specs.EventNames.{CastEvent, SentEvent, AnyEvent}
 use Rattle.program_tree.specs.Grammar.{Context, inner, at_body, at_simple, at_thread, Mark, tokens, sign, key, named}
 use Rattle.program_tree.specs.Grammar.{new, leaving, cast_mark, sent_mark, any_mark, operand_mark, into_marks}
@@ -12,14 +10,15 @@ use Rattle.program_tree.specs.Grammar.{etimer_marks, ctimer_marks, thread_marks,
 use Rattle.program_tree.specs.Grammar.{content_marks, code_marks, codes_marks, starting_marks, autostart_marks}
 use Rattle.program_tree.specs.Grammar.{receiver_marks, process_marks, program_marks}
 use Rattle.program_tree.specs.Shapes.{Name, OperandShape, FormShape, Valued, Named, CodeShape, ProgramShape}
-use Rattle.program_tree.specs.Tokens as token
 use Rattle.program_tree.specs.Tokens.{Token}
-use Rattle.program_tree.specs.Tree.{a_semaphore, a_process, a_timer, a_thread, Expression, number, is, fired, expired}
-use Rattle.program_tree.specs.Tree.{gone, running, count, negation, binary, Action, assign, print, send, wait_until}
-use Rattle.program_tree.specs.Tree.{wait_while, yield, yield_until, spawn, restart, exit, pause, acquire, signal, post}
-use Rattle.program_tree.specs.Tree.{broadcast, synch, poll, start, kill, set, reset, restart_timer, stop, Statement}
-use Rattle.program_tree.specs.Tree.{does, branch, while, Body, end, next, Otherwise, nothing, otherwise}
+use Rattle.program_tree.specs.Tree.{a_process, a_timer, Expression, number, is, fired, expired, gone, running, count}
+use Rattle.program_tree.specs.Tree.{negation, binary, Action, assign, print, send, wait_until, wait_while, yield}
+use Rattle.program_tree.specs.Tree.{yield_until, restart, exit, pause, post, broadcast, synch, set, Statement, does}
+use Rattle.program_tree.specs.Tree.{branch, while, Body, end, next, Otherwise, nothing, otherwise}
 use Rattle.program_tree.specs.declared.keyword.Keyword.{Keyword}
+use Rattle.program_tree.specs.Forms as form
+use Rattle.program_tree.specs.EventNames as event
+use Rattle.program_tree.specs.Tokens as token
 use Rattle.program_tree.specs.declared.keyword.Keyword.TheVariants as word
 use Rattle.mote_program.proofs.LexedAgain.{NoEquals}
 use Rattle.mote_program.proofs.OwnTokens.{PlaysItsPart, AreFair}
@@ -97,19 +96,6 @@ action_fair c (send e) ms h = (tt, tt, form_fair c (values ends) (e, tt) ms h)
 action_fair c (wait_until e) ms h = (tt, tt, form_fair c (values ends) (e, tt) ms h)
 action_fair c (wait_while e) ms h = (tt, tt, form_fair c (values ends) (e, tt) ms h)
 action_fair c (yield_until e) ms h = (tt, tt, form_fair c (values ends) (e, tt) ms h)
-action_fair c yield ms h = (tt, tt, form_fair c ends tt ms h)
-action_fair c restart ms h = (tt, tt, form_fair c ends tt ms h)
-action_fair c exit ms h = (tt, tt, form_fair c ends tt ms h)
-action_fair c pause ms h = (tt, tt, form_fair c ends tt ms h)
-action_fair c (spawn t) ms h = (tt, tt, form_fair c (takes (form.name a_thread) ends) (t, tt) ms h)
-action_fair c (acquire t) ms h = (tt, tt, form_fair c (takes (form.name a_semaphore) ends) (t, tt) ms h)
-action_fair c (signal t) ms h = (tt, tt, form_fair c (takes (form.name a_semaphore) ends) (t, tt) ms h)
-action_fair c (poll t) ms h = (tt, tt, form_fair c (takes (form.name a_process) ends) (t, tt) ms h)
-action_fair c (start t) ms h = (tt, tt, form_fair c (takes (form.name a_process) ends) (t, tt) ms h)
-action_fair c (kill t) ms h = (tt, tt, form_fair c (takes (form.name a_process) ends) (t, tt) ms h)
-action_fair c (reset t) ms h = (tt, tt, form_fair c (takes (form.name a_timer) ends) (t, tt) ms h)
-action_fair c (restart_timer t) ms h = (tt, tt, form_fair c (takes (form.name a_timer) ends) (t, tt) ms h)
-action_fair c (stop t) ms h = (tt, tt, form_fair c (takes (form.name a_timer) ends) (t, tt) ms h)
 action_fair c (post p e w i) ms h = (
   tt,
   tt,
@@ -124,6 +110,11 @@ action_fair c (synch p e w) ms h = (
       (p, (e, (w, tt))) ms h,
 )
 action_fair c (set t e) ms h = (tt, tt, form_fair c (takes (form.name a_timer) (values ends)) (t, (e, tt)) ms h)
+action_fair c yield ms h = (tt, tt, (tt, tt, h))
+action_fair c restart ms h = (tt, tt, (tt, tt, h))
+action_fair c exit ms h = (tt, tt, (tt, tt, h))
+action_fair c pause ms h = (tt, tt, (tt, tt, h))
+action_fair c a ms h = (tt, tt, (tt, tt, (tt, tt, h)))
 
 mutual
   statement_fair : (c : Context) (s : Statement Name) (ms : List Mark) → AreFair ms → AreFair (statement_marks c s ms)

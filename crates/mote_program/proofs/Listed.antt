@@ -3,18 +3,15 @@
 use Rattle.std.proofs.Common.{◌≡◌, List, [], ◌∷◌, ◌++◌, refl, Option, Some, None, option_map}
 use Rattle.std.specs.List.{AllByRecursion}
 use Rattle.std.proofs.lemmas.List.Elements.{recursion_from_All}
-use Rattle.program_tree.specs.EventNames as event
 use Rattle.program_tree.specs.EventNames.{CastEvent, SentEvent, AnyEvent, cast_map, sent_map, any_map}
-use Rattle.program_tree.specs.Tree.{Class, an_event, a_semaphore, a_process, a_variable, a_timer, a_thread, Expression}
-use Rattle.program_tree.specs.Tree.{variable, is, fired, expired, gone, running, count, negation, binary, Action}
-use Rattle.program_tree.specs.Tree.{assign, print, send, wait_until, wait_while, yield_until, spawn, acquire, signal}
-use Rattle.program_tree.specs.Tree.{post, broadcast, synch, poll, start, kill, set, reset, restart_timer, stop}
+use Rattle.program_tree.specs.Tree.{Class, an_event, a_variable, Expression, is, negation, binary, Action, assign}
+use Rattle.program_tree.specs.Tree.{print, send, wait_until, wait_while, yield_until, post, broadcast, synch, set}
 use Rattle.program_tree.specs.Tree.{Statement, does, branch, while, Body, end, next, Otherwise, nothing, otherwise}
 use Rattle.program_tree.specs.Tree.{expression_map, action_map, statement_map, body_map, otherwise_map}
+use Rattle.program_tree.specs.EventNames as event
 use Rattle.mote_program.specs.NameLaws.{EachNameIsListed}
-use Rattle.mote_program.specs.Named.{named_by_cast, named_by_sent, named_by_any, named_by_expression}
-use Rattle.mote_program.specs.Named.{named_by_into, named_by_action, named_by_statement, named_by_block}
-use Rattle.mote_program.specs.Named.{named_by_otherwise}
+use Rattle.mote_program.specs.Named.{named_by_cast, named_by_sent, named_by_any, named_by_expression, named_by_into}
+use Rattle.mote_program.specs.Named.{named_by_action, named_by_statement, named_by_block, named_by_otherwise}
 
 left : {X : Type 0} (P : X → Type 0) (xs ys : List X) → AllByRecursion P (xs ++ ys) → AllByRecursion P xs
 left P [] ys h = tt
@@ -38,60 +35,43 @@ module _ {A B : Type 0} (f g : Class → A → B) where
   back xs ys h = right (Same f g) xs ys h
 
   cast_same : (e : CastEvent A) → Agree f g (named_by_cast e) → cast_map (f an_event) e ≡ cast_map (g an_event) e
-  cast_same (event.declared x) h = let p : f an_event x ≡ g an_event x = h.0 in cc p
   cast_same event.continue h = refl
-  cast_same event.msg h = refl
-  cast_same event.«com» h = refl
-  cast_same event.packet h = refl
+  cast_same e h = cc
 
   sent_same : (e : SentEvent A) → Agree f g (named_by_sent e) → sent_map (f an_event) e ≡ sent_map (g an_event) e
-  sent_same (event.cast e) h = let p = cast_same e h in cc p
+  sent_same (event.cast e) h = cc (cast_same e h)
   sent_same event.exit h = refl
 
   any_same : (e : AnyEvent A) → Agree f g (named_by_any e) → any_map (f an_event) e ≡ any_map (g an_event) e
-  any_same (event.sent e) h = let p = sent_same e h in cc p
-  any_same event.init h = refl
-  any_same event.poll h = refl
-  any_same event.exited h = refl
-  any_same event.timer h = refl
+  any_same (event.sent e) h = cc (sent_same e h)
+  any_same e h = refl
 
   expression_same : (e : Expression A) → Agree f g (named_by_expression e) → expression_map f e ≡ expression_map g e
-  expression_same (variable x) h = let p : f a_variable x ≡ g a_variable x = h.0 in cc p
-  expression_same (is e) h = let p = any_same e h in cc p
-  expression_same (fired t) h = let p : f a_timer t ≡ g a_timer t = h.0 in cc p
-  expression_same (expired t) h = let p : f a_timer t ≡ g a_timer t = h.0 in cc p
-  expression_same (gone x) h = let p : f a_process x ≡ g a_process x = h.0 in cc p
-  expression_same (running x) h = let p : f a_process x ≡ g a_process x = h.0 in cc p
-  expression_same (count s) h = let p : f a_semaphore s ≡ g a_semaphore s = h.0 in cc p
-  expression_same (negation e) h = let p = expression_same e h in cc p
+  expression_same (is e) h = cc (any_same e h)
+  expression_same (negation e) h = cc (expression_same e h)
   expression_same (binary o a b) h =
       let p = expression_same a (front (named_by_expression a) (named_by_expression b) h) in
       let q = expression_same b (back (named_by_expression a) (named_by_expression b) h) in
       cc (p, q)
-  expression_same e h = refl
+  expression_same e h = cc
 
   into_same : (i : Option A) → Agree f g (named_by_into i) → option_map (f a_variable) i ≡ option_map (g a_variable) i
   into_same None h = refl
-  into_same (Some x) h = let p : f a_variable x ≡ g a_variable x = h.0 in cc p
+  into_same (Some x) h = cc
 
   action_same : (a : Action A) → Agree f g (named_by_action a) → action_map f a ≡ action_map g a
-  action_same (assign x e) h = let p : f a_variable x ≡ g a_variable x = h.0 in let q = expression_same e h.1 in
-      cc (p, q)
-  action_same (print e) h = let p = expression_same e h in cc p
-  action_same (send e) h = let p = expression_same e h in cc p
-  action_same (wait_until e) h = let p = expression_same e h in cc p
-  action_same (wait_while e) h = let p = expression_same e h in cc p
-  action_same (yield_until e) h = let p = expression_same e h in cc p
-  action_same (spawn t) h = let p : f a_thread t ≡ g a_thread t = h.0 in cc p
-  action_same (acquire s) h = let p : f a_semaphore s ≡ g a_semaphore s = h.0 in cc p
-  action_same (signal s) h = let p : f a_semaphore s ≡ g a_semaphore s = h.0 in cc p
+  action_same (assign x e) h = cc (expression_same e h.1)
+  action_same (print e) h = cc (expression_same e h)
+  action_same (send e) h = cc (expression_same e h)
+  action_same (wait_until e) h = cc (expression_same e h)
+  action_same (wait_while e) h = cc (expression_same e h)
+  action_same (yield_until e) h = cc (expression_same e h)
   action_same (post x e w i) h =
-      let p : f a_process x ≡ g a_process x = h.0 in
       let rest = back (named_by_sent e) (named_by_expression w ++ named_by_into i) h.1 in
       let q = sent_same e (front (named_by_sent e) (named_by_expression w ++ named_by_into i) h.1) in
       let r = expression_same w (front (named_by_expression w) (named_by_into i) rest) in
       let s = into_same i (back (named_by_expression w) (named_by_into i) rest) in
-      cc (p, q, r, s)
+      cc (q, r, s)
   action_same (broadcast e w i) h =
       let rest = back (named_by_cast e) (named_by_expression w ++ named_by_into i) h in
       let q = cast_same e (front (named_by_cast e) (named_by_expression w ++ named_by_into i) h) in
@@ -99,22 +79,15 @@ module _ {A B : Type 0} (f g : Class → A → B) where
       let s = into_same i (back (named_by_expression w) (named_by_into i) rest) in
       cc (q, r, s)
   action_same (synch x e w) h =
-      let p : f a_process x ≡ g a_process x = h.0 in
       let q = sent_same e (front (named_by_sent e) (named_by_expression w) h.1) in
       let r = expression_same w (back (named_by_sent e) (named_by_expression w) h.1) in
-      cc (p, q, r)
-  action_same (poll x) h = let p : f a_process x ≡ g a_process x = h.0 in cc p
-  action_same (start x) h = let p : f a_process x ≡ g a_process x = h.0 in cc p
-  action_same (kill x) h = let p : f a_process x ≡ g a_process x = h.0 in cc p
-  action_same (set t e) h = let p : f a_timer t ≡ g a_timer t = h.0 in let q = expression_same e h.1 in cc (p, q)
-  action_same (reset t) h = let p : f a_timer t ≡ g a_timer t = h.0 in cc p
-  action_same (restart_timer t) h = let p : f a_timer t ≡ g a_timer t = h.0 in cc p
-  action_same (stop t) h = let p : f a_timer t ≡ g a_timer t = h.0 in cc p
-  action_same a h = refl
+      cc (q, r)
+  action_same (set t e) h = cc (expression_same e h.1)
+  action_same a h = cc
 
   mutual
     statement_same : (s : Statement A) → Agree f g (named_by_statement s) → statement_map f s ≡ statement_map g s
-    statement_same (does a) h = let p = action_same a h in cc p
+    statement_same (does a) h = cc (action_same a h)
     statement_same (branch e a o) h =
         let rest = back (named_by_expression e) (named_by_block a ++ named_by_otherwise o) h in
         let p = expression_same e (front (named_by_expression e) (named_by_block a ++ named_by_otherwise o) h) in
@@ -135,7 +108,7 @@ module _ {A B : Type 0} (f g : Class → A → B) where
 
     otherwise_same : (o : Otherwise A) → Agree f g (named_by_otherwise o) → otherwise_map f o ≡ otherwise_map g o
     otherwise_same nothing h = refl
-    otherwise_same (otherwise b) h = let p = block_same b h in cc p
+    otherwise_same (otherwise b) h = cc (block_same b h)
 
 pub each_name_is_listed : EachNameIsListed
 each_name_is_listed f g b h = block_same f g b (recursion_from_All (Same f g) (named_by_block b) h)

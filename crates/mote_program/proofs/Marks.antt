@@ -4,8 +4,8 @@ use Rattle.std.proofs.Common.{not, ◌&&◌, ◌||◌, IsTrue}
 use Rattle.std.proofs.lemmas.List.{map-append}
 use Rattle.program_tree.specs.Faults.{Scope, nothing_yet, with_role, with_begun, scope_after, scope_from, scope_of}
 use Rattle.program_tree.specs.Faults.{is_own, role_breaks, begun_breaks, IsProgram}
-use Rattle.program_tree.specs.Grammar.{Role, plain, new, uses, spawns, starts, value, opens, leaves, Begun}
-use Rattle.program_tree.specs.Grammar.{none_begins, statement, wait, Mark, tokens, program_marks}
+use Rattle.program_tree.specs.Grammar.{Role, new, uses, spawns, starts, leaves, Begun, none_begins, Mark, tokens}
+use Rattle.program_tree.specs.Grammar.{program_marks}
 use Rattle.program_tree.specs.InScope.{Names, with_new, outside, is_a, is_in_scope}
 use Rattle.program_tree.specs.Shapes.{ProgramShape}
 use Rattle.program_tree.specs.Tree.{a_process, a_thread}
@@ -30,18 +30,11 @@ AreSound n (m ∷ ms) = KeepsRole n m.role × AreSound (names_after n m.role) ms
 
 begun_names : (s : Scope) (b : Begun) → (with_begun s b).names ≡ s.names
 begun_names s none_begins = refl
-begun_names s statement = refl
-begun_names s wait = refl
+begun_names s b = refl
 
 role_names : (s : Scope) (r : Role) → (with_role s r).names ≡ names_after s.names r
 role_names s (new k x) = refl
-role_names s (starts x) = refl
-role_names s leaves = refl
-role_names s plain = refl
-role_names s (uses k x) = refl
-role_names s (spawns own x) = refl
-role_names s (value n) = refl
-role_names s (opens l) = refl
+role_names s r = refl
 
 after_push : (s : Scope) (ms : List Mark) (m : Mark) → (scope_from s (ms ++ m ∷ [])).names
     ≡ names_after (scope_from s ms).names m.role
@@ -65,11 +58,7 @@ keeps : (s : Scope) (r : Role) → (role_breaks UnknownName s r ≡ true → ⊥
 keeps s (uses c x) h k = one_of (is_in_scope s.names x) (is_a s.names c x) h k
 keeps s (spawns own x) h k = thread_of (is_in_scope s.names x) (is_a s.names a_thread x) (is_own own x) h k
 keeps s (starts x) h k = one_of (is_in_scope s.names x) (is_a s.names a_process x) h k
-keeps s plain h k = tt
-keeps s (new c x) h k = tt
-keeps s (value n) h k = tt
-keeps s (opens l) h k = tt
-keeps s leaves h k = tt
+keeps s r h k = tt
 
 broken_so : (a b : Bool) → a ≡ true → IsTrue (a || b)
 broken_so true b e = refl

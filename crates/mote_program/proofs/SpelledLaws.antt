@@ -7,45 +7,36 @@ use Rattle.std.proofs.lemmas.List.{append-nil, length-map}
 use Rattle.std.specs.Coded.{Coded-set, coded_list, coded_ℕ}
 use Rattle.program_tree.specs.Canonical.{canonical_text}
 use Rattle.program_tree.specs.Code.{Tree}
-use Rattle.program_tree.specs.Grammar.{Context, inner, at_body, at_simple, at_thread, Mark, tokens, sign, key, named}
-use Rattle.program_tree.specs.Grammar.{new, leaving, into_marks, expression_marks, action_marks, statement_marks}
-use Rattle.program_tree.specs.Grammar.{items_marks, else_marks, block_marks, event_marks, semaphore_marks}
-use Rattle.program_tree.specs.Grammar.{variable_marks, etimer_marks, ctimer_marks, thread_marks, handler_marks}
-use Rattle.program_tree.specs.Grammar.{body_marks, code_marks, codes_marks, starting_marks, autostart_marks}
-use Rattle.program_tree.specs.Grammar.{receiver_marks, process_marks, program_marks}
+use Rattle.program_tree.specs.Grammar.{Context, inner, at_simple, at_thread, Mark, tokens, sign, into_marks}
+use Rattle.program_tree.specs.Grammar.{expression_marks, action_marks, statement_marks, items_marks, else_marks}
+use Rattle.program_tree.specs.Grammar.{block_marks, event_marks, semaphore_marks, variable_marks, etimer_marks}
+use Rattle.program_tree.specs.Grammar.{ctimer_marks, thread_marks, handler_marks, body_marks, code_marks, codes_marks}
+use Rattle.program_tree.specs.Grammar.{starting_marks, autostart_marks, receiver_marks, process_marks, program_marks}
 use Rattle.program_tree.specs.Numbers.{named_of, codes_of, program_names}
 use Rattle.program_tree.specs.Made.{IsOfText, WasRead}
 use Rattle.program_tree.specs.ShapeOf.{names_of_tree, code_shape, codes_of_tree, no_code, shape_of, tokens_of_tree}
 use Rattle.program_tree.specs.ShapeOf.{text_of_tree}
 use Rattle.program_tree.specs.Shapes.{Name, Valued, Named, CodeShape, ProgramShape}
+use Rattle.program_tree.specs.Tree.{Expression, negation, binary, Action, assign, print, send, wait_until, wait_while}
+use Rattle.program_tree.specs.Tree.{yield_until, post, broadcast, synch, set, Statement, does, branch, while, Body}
+use Rattle.program_tree.specs.Tree.{end, next, Otherwise, nothing, otherwise}
+use Rattle.program_tree.specs.declared.keyword.Keyword.{Keyword}
+use Rattle.program_tree.specs.Tokens as token
+use Rattle.program_tree.specs.declared.keyword.Keyword.TheVariants as word
 use Rattle.mote_program.specs.Spelled.{cast_token, sent_token, expression_tokens, into_tokens, action_tokens}
 use Rattle.mote_program.specs.Spelled.{statement_tokens, items_tokens, else_tokens, listed_tokens, valued_tokens}
 use Rattle.mote_program.specs.Spelled.{named_tokens, handler_tokens, declared_tokens, runs_tokens, code_tokens}
 use Rattle.mote_program.specs.Spelled.{comma_tokens, autostart_tokens, receiver_tokens, head_tokens, spelled_tokens}
-use Rattle.program_tree.specs.Tokens as token
-use Rattle.program_tree.specs.Tokens.{Token}
-use Rattle.program_tree.specs.Tree.{a_process, Expression, negation, binary, Action, assign, print, send, wait_until}
-use Rattle.program_tree.specs.Tree.{wait_while, yield_until, post, broadcast, synch, set, Statement, does, branch}
-use Rattle.program_tree.specs.Tree.{while, Body, end, next, Otherwise, nothing, otherwise}
-use Rattle.program_tree.specs.declared.keyword.Keyword.{Keyword}
-use Rattle.program_tree.specs.declared.keyword.Keyword.TheVariants as word
 use Rattle.program_tree.proofs.CountLaws.{length-codes_in}
 
 pub expression_spelled : (c : Context) (e : Expression Name) (ms : List Mark) → tokens (expression_marks c e ms)
     ≡ expression_tokens e ++ tokens ms
 expression_spelled c (negation e) ms = ap (λ ts. token.Bang ∷ ts) (expression_spelled (inner c) e ms)
 expression_spelled c (binary o a b) ms =
-    let front : tokens (expression_marks c (binary o a b) ms)
-    ≡ token.Open ∷ (expression_tokens a ++ (token.Op o ∷ (expression_tokens b ++ (token.Close ∷ tokens ms)))) =
-    ap (λ ts. token.Open ∷ ts) (expression_spelled (inner c) a
-    (sign (token.Op o) ∷ expression_marks (inner c) b (sign token.Close ∷ ms)))
-    ∙ ap (λ ts. token.Open ∷ (expression_tokens a ++ (token.Op o ∷ ts)))
-    (expression_spelled (inner c) b (sign token.Close ∷ ms)) in
-    front
-    ∙ ap (λ ts. token.Open ∷ (expression_tokens a ++ (token.Op o ∷ ts)))
-    (sym (append_assoc (expression_tokens b) (token.Close ∷ []) (tokens ms)))
-    ∙ ap (λ ts. token.Open ∷ ts) (sym (append_assoc (expression_tokens a)
-    (token.Op o ∷ (expression_tokens b ++ (token.Close ∷ []))) (tokens ms)))
+    rw (
+      expression_spelled (inner c) a (sign (token.Op o) ∷ expression_marks (inner c) b (sign token.Close ∷ ms)),
+      expression_spelled (inner c) b (sign token.Close ∷ ms),
+    ) (simp append_assoc)
 expression_spelled c e ms = refl
 
 into_spelled : (i : Option Name) (ms : List Mark) → tokens (into_marks i ms) ≡ into_tokens i ++ tokens ms
@@ -55,13 +46,11 @@ into_spelled (Some x) ms = refl
 ended : (c : Context) (e : Expression Name) (ms : List Mark)
     → tokens (expression_marks c e (sign token.Semicolon ∷ ms)) ≡ (expression_tokens e ++ (token.Semicolon ∷ []))
     ++ tokens ms
-ended c e ms = expression_spelled c e (sign token.Semicolon ∷ ms)
-    ∙ sym (append_assoc (expression_tokens e) (token.Semicolon ∷ []) (tokens ms))
+ended c e ms = simp (expression_spelled, append_assoc)
 
 told_end : (c : Context) (e : Expression Name) (i : Option Name) (ms : List Mark)
     → tokens (expression_marks c e (into_marks i ms)) ≡ (expression_tokens e ++ into_tokens i) ++ tokens ms
-told_end c e i ms = expression_spelled c e (into_marks i ms) ∙ ap (λ ts. expression_tokens e ++ ts) (into_spelled i ms)
-    ∙ sym (append_assoc (expression_tokens e) (into_tokens i) (tokens ms))
+told_end c e i ms = simp (expression_spelled, into_spelled, append_assoc)
 
 action_spelled : (c : Context) (a : Action Name) (ms : List Mark) → tokens (action_marks c a ms) ≡ action_tokens a
     ++ tokens ms
@@ -84,24 +73,19 @@ mutual
       ≡ statement_tokens s ++ tokens ms
   statement_spelled c (does a) ms = action_spelled c a ms
   statement_spelled c (branch e a o) ms =
-      ap (λ ts. token.Keyword word.If ∷ ts) (expression_spelled c e (block_marks c a (else_marks c o ms)))
-      ∙ ap (λ ts. token.Keyword word.If ∷ (expression_tokens e ++ (token.OpenBrace ∷ ts)))
-      (items_spelled (inner c) a (else_marks c o ms) ∙ ap (λ ts. items_tokens a ++ ts) (else_spelled c o ms)
-      ∙ sym (append_assoc (items_tokens a) (else_tokens o) (tokens ms)))
-      ∙ ap (λ ts. token.Keyword word.If ∷ ts) (sym (append_assoc (expression_tokens e)
-      ((token.OpenBrace ∷ items_tokens a) ++ else_tokens o) (tokens ms)))
+      rw (
+        expression_spelled c e (block_marks c a (else_marks c o ms)),
+        items_spelled (inner c) a (else_marks c o ms),
+        else_spelled c o ms,
+      ) (simp append_assoc)
   statement_spelled c (while e a) ms =
-      ap (λ ts. token.Keyword word.While ∷ ts) (expression_spelled c e (block_marks c a ms))
-      ∙ ap (λ ts. token.Keyword word.While ∷ (expression_tokens e ++ (token.OpenBrace ∷ ts)))
-      (items_spelled (inner c) a ms)
-      ∙ ap (λ ts. token.Keyword word.While ∷ ts) (sym
-      (append_assoc (expression_tokens e) (token.OpenBrace ∷ items_tokens a) (tokens ms)))
+      rw (expression_spelled c e (block_marks c a ms), items_spelled (inner c) a ms) (simp append_assoc)
 
   items_spelled : (c : Context) (b : Body Name) (ms : List Mark) → tokens (items_marks c b ms) ≡ items_tokens b
       ++ tokens ms
   items_spelled c end ms = refl
-  items_spelled c (next s b) ms = statement_spelled c s (items_marks c b ms) ∙ ap (λ ts. statement_tokens s ++ ts)
-      (items_spelled c b ms) ∙ sym (append_assoc (statement_tokens s) (items_tokens b) (tokens ms))
+  items_spelled c (next s b) ms =
+      rw (statement_spelled c s (items_marks c b ms), items_spelled c b ms) (simp append_assoc)
 
   else_spelled : (c : Context) (o : Otherwise Name) (ms : List Mark) → tokens (else_marks c o ms) ≡ else_tokens o
       ++ tokens ms
@@ -137,19 +121,13 @@ ctimers_spelled : (bs : List Named) (ms : List Mark)
     → tokens (ctimer_marks bs ms) ≡ flat_map (named_tokens word.Ctimer) bs ++ tokens ms
 ctimers_spelled [] ms = refl
 ctimers_spelled (b ∷ bs) ms =
-    ap (λ ts. token.Keyword word.Ctimer ∷ token.Name b.0 ∷ token.OpenBrace ∷ ts)
-    (items_spelled (inner at_simple) b.1 (ctimer_marks bs ms) ∙ ap (λ ts. items_tokens b.1 ++ ts)
-    (ctimers_spelled bs ms) ∙ sym (append_assoc (items_tokens b.1) (flat_map (named_tokens word.Ctimer) bs)
-    (tokens ms)))
+    rw (items_spelled (inner at_simple) b.1 (ctimer_marks bs ms), ctimers_spelled bs ms) (simp append_assoc)
 
 threads_spelled : (bs : List Named) (ms : List Mark)
     → tokens (thread_marks bs ms) ≡ flat_map (named_tokens word.Thread) bs ++ tokens ms
 threads_spelled [] ms = refl
 threads_spelled (b ∷ bs) ms =
-    ap (λ ts. token.Keyword word.Thread ∷ token.Name b.0 ∷ token.OpenBrace ∷ ts)
-    (items_spelled (inner (at_thread b.0)) b.1 (thread_marks bs ms) ∙ ap (λ ts. items_tokens b.1 ++ ts)
-    (threads_spelled bs ms) ∙ sym (append_assoc (items_tokens b.1) (flat_map (named_tokens word.Thread) bs)
-    (tokens ms)))
+    rw (items_spelled (inner (at_thread b.0)) b.1 (thread_marks bs ms), threads_spelled bs ms) (simp append_assoc)
 
 handler_spelled : (k : Keyword) (b : Option (Body Name)) (ms : List Mark) → tokens (handler_marks k b ms)
     ≡ handler_tokens k b ++ tokens ms
@@ -159,50 +137,31 @@ handler_spelled k (Some b) ms = ap (λ ts. token.Keyword k ∷ token.OpenBrace �
 body_spelled : (b : Body Name) (ms : List Mark)
     → tokens (body_marks b ms) ≡ (token.Keyword word.Body
     ∷ ((token.OpenBrace ∷ items_tokens b) ++ (token.CloseBrace ∷ []))) ++ tokens ms
-body_spelled b ms = ap (λ ts. token.Keyword word.Body ∷ token.OpenBrace ∷ ts)
-    (items_spelled (inner at_body) b (leaving ∷ ms)
-    ∙ sym (append_assoc (items_tokens b) (token.CloseBrace ∷ []) (tokens ms)))
+body_spelled b ms = simp (items_spelled, append_assoc)
 
 runs_spelled : (c : CodeShape) (ms : List Mark)
     → tokens (handler_marks word.OnPoll c.on_poll (handler_marks word.OnExit c.on_exit (body_marks c.body ms)))
     ≡ runs_tokens c ++ tokens ms
-runs_spelled c ms =
-    let b : List Token = token.Keyword word.Body ∷ ((token.OpenBrace ∷ items_tokens c.body)
-    ++ (token.CloseBrace ∷ [])) in
-    handler_spelled word.OnPoll c.on_poll (handler_marks word.OnExit c.on_exit (body_marks c.body ms))
-    ∙ ap (λ ts. handler_tokens word.OnPoll c.on_poll ++ ts)
-    (handler_spelled word.OnExit c.on_exit (body_marks c.body ms)
-    ∙ ap (λ ts. handler_tokens word.OnExit c.on_exit ++ ts) (body_spelled c.body ms)
-    ∙ sym (append_assoc (handler_tokens word.OnExit c.on_exit) b (tokens ms)))
-    ∙ sym (append_assoc (handler_tokens word.OnPoll c.on_poll) (handler_tokens word.OnExit c.on_exit ++ b) (tokens ms))
+runs_spelled c ms = simp (handler_spelled, body_spelled, append_assoc)
 
 declared_spelled : (c : CodeShape) (ms : List Mark)
     → tokens (variable_marks c.variables (etimer_marks c.etimers (ctimer_marks c.ctimers (thread_marks c.threads ms))))
     ≡ declared_tokens c ++ tokens ms
 declared_spelled c ms =
-    let v : List Token = flat_map (valued_tokens word.Var) c.variables in
-    let e : List Token = flat_map (listed_tokens word.Etimer) c.etimers in
-    let t : List Token = flat_map (named_tokens word.Ctimer) c.ctimers in
-    let h : List Token = flat_map (named_tokens word.Thread) c.threads in
-    variables_spelled c.variables (etimer_marks c.etimers (ctimer_marks c.ctimers (thread_marks c.threads ms)))
-    ∙ ap (λ ts. v ++ ts) (etimers_spelled c.etimers (ctimer_marks c.ctimers (thread_marks c.threads ms))
-    ∙ ap (λ ts. e ++ ts) (ctimers_spelled c.ctimers (thread_marks c.threads ms)
-    ∙ ap (λ ts. t ++ ts) (threads_spelled c.threads ms) ∙ sym (append_assoc t h (tokens ms)))
-    ∙ sym (append_assoc e (t ++ h) (tokens ms)))
-    ∙ sym (append_assoc v (e ++ (t ++ h)) (tokens ms))
+    simp (variables_spelled, etimers_spelled, ctimers_spelled, threads_spelled, append_assoc)
 
 code_spelled : (p : Name × CodeShape) (ms : List Mark) → tokens (code_marks p ms) ≡ code_tokens p ++ tokens ms
 code_spelled p ms =
-    ap (λ ts. token.Keyword word.Code ∷ token.Name p.0 ∷ token.OpenBrace ∷ ts)
-    (declared_spelled p.1 (handler_marks word.OnPoll p.1.on_poll
-    (handler_marks word.OnExit p.1.on_exit (body_marks p.1.body ms))) ∙ ap (λ ts. declared_tokens p.1 ++ ts)
-    (runs_spelled p.1 ms) ∙ sym (append_assoc (declared_tokens p.1) (runs_tokens p.1) (tokens ms)))
+    rw (
+      declared_spelled p.1 (handler_marks word.OnPoll p.1.on_poll
+          (handler_marks word.OnExit p.1.on_exit (body_marks p.1.body ms))),
+      runs_spelled p.1 ms,
+    ) (simp append_assoc)
 
 codes_spelled : (ps : List (Name × CodeShape)) (ms : List Mark) → tokens (codes_marks ps ms) ≡ flat_map code_tokens ps
     ++ tokens ms
 codes_spelled [] ms = refl
-codes_spelled (p ∷ ps) ms = code_spelled p (codes_marks ps ms) ∙ ap (λ ts. code_tokens p ++ ts) (codes_spelled ps ms)
-    ∙ sym (append_assoc (code_tokens p) (flat_map code_tokens ps) (tokens ms))
+codes_spelled (p ∷ ps) ms = rw (code_spelled p (codes_marks ps ms), codes_spelled ps ms) (simp append_assoc)
 
 line_spelled : (ps : List (Name × CodeShape)) (ms : List Mark)
     → tokens (process_marks ps ms) ≡ (flat_map comma_tokens (named_of ps) ++ (token.Semicolon ∷ [])) ++ tokens ms
@@ -228,27 +187,15 @@ program_spelled : (p : ProgramShape) (names : List Name) → names ≡ p.first.0
     → tokens (program_marks p []) ≡ head_tokens p.events p.semaphores names p.autostart p.receiver
     ++ flat_map code_tokens (p.first ∷ p.others)
 program_spelled p names same =
-    let m4 : List Mark = codes_marks (p.first ∷ p.others) [] in
-    let m3 : List Mark = receiver_marks p.receiver m4 in
-    let m2 : List Mark = autostart_marks p.autostart m3 in
-    let k : List Token = flat_map code_tokens (p.first ∷ p.others) in
-    let r : List Token = receiver_tokens p.receiver in
-    let a : List Token = autostart_tokens p.autostart in
-    let l : List Token = flat_map comma_tokens (named_of p.others) ++ (token.Semicolon ∷ []) in
-    let s : List Token = flat_map (valued_tokens word.Semaphore) p.semaphores in
-    let e : List Token = flat_map (listed_tokens word.Event) p.events in
-    let m1 : List Mark = key word.Process ∷ named p.first.0 (new a_process p.first.0) ∷ process_marks p.others m2 in
-    let codes : tokens m4 ≡ k = codes_spelled (p.first ∷ p.others) [] ∙ append-nil k in
-    let after : tokens m2 ≡ (a ++ r) ++ k = autostart_spelled p.autostart m3
-    ∙ ap (λ ts. a ++ ts) (receiver_spelled p.receiver m4 ∙ ap (λ ts. r ++ ts) codes) ∙ sym (append_assoc a r k) in
-    let line : tokens (process_marks p.others m2) ≡ (l ++ (a ++ r)) ++ k =
-    line_spelled p.others m2 ∙ ap (λ ts. l ++ ts) after ∙ sym (append_assoc l (a ++ r) k) in
-    let first : List Token → List Token = λ ts. token.Keyword word.Process ∷ token.Name p.first.0 ∷ ts in
-    events_spelled p.events (semaphore_marks p.semaphores m1)
-    ∙ ap (λ ts. e ++ ts) (semaphores_spelled p.semaphores m1 ∙ ap (λ ts. s ++ first ts) line
-    ∙ sym (append_assoc s (first (l ++ (a ++ r))) k))
-    ∙ sym (append_assoc e (s ++ first (l ++ (a ++ r))) k)
-    ∙ ap (λ ns. head_tokens p.events p.semaphores ns p.autostart p.receiver ++ k) (sym same)
+    rw (same, codes_spelled (p.first ∷ p.others) []) (simp (
+      events_spelled,
+      semaphores_spelled,
+      line_spelled,
+      autostart_spelled,
+      receiver_spelled,
+      append_assoc,
+      append-nil,
+    ))
 
 head_tail : {A : Type 0} (zs : List A) (d : A) → 0 < length zs → get_or zs 0 d ∷ drop 1 zs ≡ zs
 head_tail [] d h = absurd (omega arith)

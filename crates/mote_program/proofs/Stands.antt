@@ -3,7 +3,6 @@ use Rattle.std.proofs.Common.{◌≡◌, ℕ, ◌+◌, List, [], ◌∷◌, ◌+
 use Rattle.std.proofs.Common.{option_map}
 use Rattle.std.specs.List.{All}
 use Rattle.std.proofs.lemmas.List.Elements.{All-nil, All-cons, All-append}
-use Rattle.program_tree.specs.EventNames as event
 use Rattle.program_tree.specs.EventNames.{CastEvent, SentEvent, AnyEvent}
 use Rattle.program_tree.specs.Grammar.{Context, inner, Mark, sign, opening, cast_mark, sent_mark, any_mark, into_marks}
 use Rattle.program_tree.specs.Grammar.{expression_marks, action_marks, statement_marks, items_marks, else_marks}
@@ -12,17 +11,15 @@ use Rattle.program_tree.specs.InScope.{Names, is_a}
 use Rattle.program_tree.specs.Names.{place_of}
 use Rattle.program_tree.specs.Shapes.{Name}
 use Rattle.program_reader.specs.Steps.{look, Finds, is_own_thread}
-use Rattle.program_tree.specs.Tokens as token
-use Rattle.program_tree.specs.Tree as tree
 use Rattle.program_tree.specs.Tree.{Class, an_event, a_semaphore, a_process, a_variable, a_timer, a_thread, Expression}
-use Rattle.program_tree.specs.Tree.{number, variable, sender, moment, mote, is, fired, expired, gone, running, count}
-use Rattle.program_tree.specs.Tree.{negation, binary, Action, assign, print, send, wait_until, wait_while, yield}
-use Rattle.program_tree.specs.Tree.{yield_until, spawn, restart, exit, pause, acquire, signal, post, broadcast, synch}
-use Rattle.program_tree.specs.Tree.{poll, start, kill, set, reset, restart_timer, stop, Statement, does, branch, while}
-use Rattle.program_tree.specs.Tree.{Body, end, next, Otherwise, nothing, otherwise}
-use Rattle.mote_program.specs.Named.{named_by_cast, named_by_sent, named_by_any, named_by_expression}
-use Rattle.mote_program.specs.Named.{named_by_into, named_by_action, named_by_statement, named_by_block}
-use Rattle.mote_program.specs.Named.{named_by_otherwise}
+use Rattle.program_tree.specs.Tree.{variable, is, fired, expired, gone, running, count, negation, binary, Action}
+use Rattle.program_tree.specs.Tree.{assign, print, send, wait_until, wait_while, yield_until, spawn, acquire, signal}
+use Rattle.program_tree.specs.Tree.{post, broadcast, synch, poll, start, kill, set, reset, restart_timer, stop}
+use Rattle.program_tree.specs.Tree.{Statement, does, branch, while, Body, end, next, Otherwise, nothing, otherwise}
+use Rattle.program_tree.specs.EventNames as event
+use Rattle.program_tree.specs.Tokens as token
+use Rattle.mote_program.specs.Named.{named_by_cast, named_by_sent, named_by_any, named_by_expression, named_by_into}
+use Rattle.mote_program.specs.Named.{named_by_action, named_by_statement, named_by_block, named_by_otherwise}
 use Rattle.mote_program.proofs.Marks.{AreSound}
 
 -- a name of its class that isn't that of the thread that is being read
@@ -38,12 +35,8 @@ some_place None e = absurd cc
 some_place (Some i) e = (i, refl)
 
 placed : (n : Names) (k : Class) (x : Name) → is_a n k x ≡ true → (i : ℕ) × (look n k x ≡ Some i)
-placed n an_event x e = some_place _ e
-placed n a_semaphore x e = some_place _ e
-placed n a_process x e = some_place _ e
-placed n a_variable x e = some_place _ e
 placed n a_timer x e = let q = some_place (place_of n.timers x) e in (_, ap (option_map (λ i. n.first_timer + i)) q.1)
-placed n a_thread x e = some_place _ e
+placed n k x e = some_place _ e
 
 pub stands : (n : Names) (own : Option Name) (k : Class) (x : Name) → is_a n k x ≡ true → is_own_thread own k x ≡ false
     → Stands n own (k, x)
@@ -67,11 +60,8 @@ module _ (n : Names) where
 
   cast_stands : (own : Option Name) (e : CastEvent Name) (after : List Mark) → AreSound n (cast_mark e ∷ after)
       → Stand n own (named_by_cast e) after
-  cast_stands own event.continue after h = (none own, h.1)
-  cast_stands own event.msg after h = (none own, h.1)
-  cast_stands own event.«com» after h = (none own, h.1)
-  cast_stands own event.packet after h = (none own, h.1)
   cast_stands own (event.declared x) after h = (one own an_event x h.0 refl, h.1)
+  cast_stands own e after h = (none own, h.1)
 
   sent_stands : (own : Option Name) (e : SentEvent Name) (after : List Mark) → AreSound n (sent_mark e ∷ after)
       → Stand n own (named_by_sent e) after
@@ -81,19 +71,11 @@ module _ (n : Names) where
   any_stands : (own : Option Name) (e : AnyEvent Name) (after : List Mark) → AreSound n (any_mark e ∷ after)
       → Stand n own (named_by_any e) after
   any_stands own (event.sent e) after h = sent_stands own e after h
-  any_stands own event.init after h = (none own, h.1)
-  any_stands own event.poll after h = (none own, h.1)
-  any_stands own event.exited after h = (none own, h.1)
-  any_stands own event.timer after h = (none own, h.1)
+  any_stands own e after h = (none own, h.1)
 
   expression_stands : (c : Context) (e : Expression Name) (after : List Mark) → AreSound n (expression_marks c e after)
       → Stand n c.thread (named_by_expression e) after
-  expression_stands c (number v) after h = (none c.thread, h.1)
   expression_stands c (variable x) after h = (one c.thread a_variable x h.0 refl, h.1)
-  expression_stands c tree.word after h = (none c.thread, h.1)
-  expression_stands c sender after h = (none c.thread, h.1)
-  expression_stands c moment after h = (none c.thread, h.1)
-  expression_stands c mote after h = (none c.thread, h.1)
   expression_stands c (is e) after h = let q = any_stands c.thread e (sign token.Close ∷ after) h.1.1 in (q.0, q.1.1)
   expression_stands c (fired t) after h = (one c.thread a_timer t h.1.1.0 refl, h.1.1.1.1)
   expression_stands c (expired t) after h = (one c.thread a_timer t h.1.1.0 refl, h.1.1.1.1)
@@ -106,6 +88,7 @@ module _ (n : Names) where
       (sign token.Close ∷ after)) h.1 in
       let right = expression_stands (inner c) b (sign token.Close ∷ after) left.1.1 in
       (both c.thread (named_by_expression a) (named_by_expression b) left.0 right.0, right.1.1)
+  expression_stands c e after h = (none c.thread, h.1)
 
   into_stands : (own : Option Name) (i : Option Name) (after : List Mark) → AreSound n (into_marks i after)
       → Stand n own (named_by_into i) after
@@ -135,12 +118,8 @@ module _ (n : Names) where
   action_stands c (send e) after h = last_stands c e after h.1
   action_stands c (wait_until e) after h = last_stands c e after h.1
   action_stands c (wait_while e) after h = last_stands c e after h.1
-  action_stands c yield after h = (none c.thread, h.1.1)
   action_stands c (yield_until e) after h = last_stands c e after h.1
   action_stands c (spawn t) after h = (one c.thread a_thread t h.1.0.0 h.1.0.1, h.1.1.1)
-  action_stands c restart after h = (none c.thread, h.1.1)
-  action_stands c exit after h = (none c.thread, h.1.1)
-  action_stands c pause after h = (none c.thread, h.1.1)
   action_stands c (acquire s) after h = (one c.thread a_semaphore s h.1.0 refl, h.1.1.1)
   action_stands c (signal s) after h = (one c.thread a_semaphore s h.1.0 refl, h.1.1.1)
   action_stands c (post p e w i) after h =
@@ -163,6 +142,7 @@ module _ (n : Names) where
   action_stands c (reset t) after h = (one c.thread a_timer t h.1.0 refl, h.1.1.1)
   action_stands c (restart_timer t) after h = (one c.thread a_timer t h.1.0 refl, h.1.1.1)
   action_stands c (stop t) after h = (one c.thread a_timer t h.1.0 refl, h.1.1.1)
+  action_stands c a after h = (none c.thread, h.1.1)
 
   mutual
     statement_stands : (c : Context) (s : Statement Name) (after : List Mark) → AreSound n (statement_marks c s after)

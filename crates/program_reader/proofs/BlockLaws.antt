@@ -1,82 +1,76 @@
 -- Blocks with names of their own, `onpoll`, `onexit` and the body.
-use Rattle.std.proofs.Common.{◌≡◌, ◌≤◌, ◌<◌, ◌+◌, nat_lt, ℕ, suc, List, [], ◌∷◌, ◌++◌, length, drop, Bool, true, false}
-use Rattle.std.proofs.Common.{◌&&◌, Some, None, refl, ap, sym, subst, ◌∙◌, append_assoc, arith, slice_index_or}
-use Rattle.std.proofs.lemmas.Bool.{lt-ltb, ltb-true, ltb-false}
+use Rattle.std.proofs.Common.{◌≡◌, ◌≤◌, ◌<◌, ◌+◌, nat_lt, ℕ, suc, List, [], ◌∷◌, ◌++◌, length, Bool, true, false, Some}
+use Rattle.std.proofs.Common.{None, refl, ap, sym, subst, ◌∙◌, append_assoc, arith, slice_index_or, map}
+use Rattle.std.proofs.lemmas.Bool.{lt-ltb, ltb-true, ltb-false, and_from, and_parts}
 use Rattle.std.proofs.lemmas.List.{map-append, append-nil, length-append}
 use Rattle.std.specs.Str.{bytes_eq}
 use Rattle.program_reader.specs.CodeParts.{IsNamedBlock, HasBlocks, ReadsBlocks, ReadsHandler, ReadsBody, IsNumbered}
 use Rattle.program_reader.specs.CodeParts.{AllNumbered, written, all_written}
 use Rattle.program_tree.specs.Faults.{Scope}
-use Rattle.program_tree.specs.Grammar.{Context, Mark, tokens, at_simple, at_thread, at_body, block_marks, ctimer_marks}
-use Rattle.program_tree.specs.Grammar.{thread_marks}
+use Rattle.program_tree.specs.Grammar.{Context, Mark, tokens, at_simple, at_thread, at_body, block_marks}
 use Rattle.program_reader.specs.Head.{with_names, with_all, IsNew}
 use Rattle.program_tree.specs.InScope.{Names, with_new}
-use Rattle.program_reader.specs.Machine as machine
 use Rattle.program_reader.specs.Machine.{Symbol, Pending, Verdict, tell, fault, fault_or, first, unfit_at, new_name}
-use Rattle.program_reader.specs.Machine.{new_thread, from_ctimers, from_threads, from_on_poll, from_on_exit}
-use Rattle.program_reader.specs.Machine.{from_body}
+use Rattle.program_reader.specs.Machine.{new_thread, from_on_poll, from_on_exit, from_body}
 use Rattle.program_tree.specs.Names.{place_of}
 use Rattle.program_tree.specs.Numbers.{named_of}
 use Rattle.program_tree.specs.Scope.{Within, block_fits, threads_fit, earlier_threads}
 use Rattle.program_tree.specs.Shapes.{Name, Named}
-use Rattle.program_reader.specs.Steps.{Reads, Extends, Finds, Fits}
-use Rattle.program_tree.specs.Tokens as token
+use Rattle.program_reader.specs.Steps.{Reads, Extends, Finds, Fits, fixed, scope_of}
+use Rattle.program_reader.specs.declared.scope.Scope.{Scope as ScopeRead}
+use Rattle.program_tree.specs.FlatBlock.{tree_in}
+use Rattle.program_tree.specs.declared.flat_block.FlatBlock.{FlatBlock}
 use Rattle.program_tree.specs.Tokens.{Token}
-use Rattle.program_tree.specs.Tree.{Class, a_timer, a_thread, Body, height, size, IsWithinLimits}
+use Rattle.program_tree.specs.Tree.{Class, a_thread, Body, height, size, IsWithinLimits}
 use Rattle.program_tree.specs.declared.keyword.Keyword.{Keyword}
+use Rattle.program_reader.specs.Machine as machine
+use Rattle.program_tree.specs.Tokens as token
 use Rattle.program_tree.specs.declared.keyword.Keyword.TheVariants as word
-use Rattle.program_reader.proofs.ExtendLaws.{extends_new, extends_on, all_numbered_on, all_numbered-append}
+use Rattle.program_reader.proofs.ExtendLaws.{fixed_names, fixed_starting, extends_new, extends_on, all_numbered_on}
+use Rattle.program_reader.proofs.ExtendLaws.{all_numbered-append}
 use Rattle.program_reader.proofs.HeadLaws.{new_goes}
-use Rattle.program_reader.proofs.ListLaws.{with_all-append, keyword_then, shorter_from}
+use Rattle.program_reader.proofs.ListLaws.{with_all-append, shorter_behind}
 use Rattle.program_tree.proofs.NameLaws.{place_below, name_at, bytes_same}
-use Rattle.program_reader.proofs.Stages.{no_ctimers, no_threads, no_on_poll, no_on_exit}
+use Rattle.program_reader.proofs.Stages.{no_on_poll, no_on_exit}
 
 pub within_limits : (b : Body ℕ) (before after : ℕ) → height b ≤ 32 → size b + before ≤ after → after ≤ 4096
     → IsWithinLimits b
 within_limits b before after h k l = record { shallow = h; small = omega arith }
 
-pub ctimer_read : (s m s' : Scope) (x : Name) (t : Body ℕ) (old m0 new : List Token) → IsNew a_timer s m x old m0
-    → Reads m s' (machine.block at_simple) (λ n ms. block_marks at_simple (written n t) ms) m0 new
-    → s'.names ≡ m.names → s'.starting ≡ m.starting → IsNumbered m.names t
-    → IsNamedBlock a_timer (λ f. new_name a_timer ∷ machine.block at_simple ∷ f) (λ y. at_simple) t s s' old new
-ctimer_read s m s' x t old m0 new r k names starting numbered = record {
-  name = x;
-  added = names ∙ ap (λ z. z.names) r.added;
-  starting = starting ∙ ap (λ z. z.starting) r.added;
-  numbered = subst (λ z. IsNumbered z t) (sym names) numbered;
-  spelled = λ n e ms h. r.spelled ∙ ap (λ ts. token.Name x ∷ ts) (k.spelled n (subst (λ z. Extends z n) names e) ms h);
-  goes_on = λ f. new_goes a_timer s m x old m0 (machine.block at_simple ∷ f) r ∙ k.goes_on f;
-}
+-- a name and its block
+pub block_read : {c : Class} {y : Pending → Pending} {place : Name → Context} {x : Name} {t : Body ℕ}
+    {old m0 new : List Token} (s : Scope) (a b : ScopeRead) → IsNew c s (scope_of a) x old m0
+    → Reads (scope_of a) (scope_of b) (machine.block (place x)) (λ n ms. block_marks (place x) (written n t) ms) m0 new
+    → fixed b ≡ fixed a → IsNumbered (scope_of a).names t
+    → ((f : Pending) → tell s (y f) old ≡ tell (scope_of a) (machine.block (place x) ∷ f) m0)
+    → IsNamedBlock c y place t s (scope_of b) old new
+block_read {x = x} {t = t} s a b r k e numbered steps =
+    let names = fixed_names b a e in
+    record {
+      name = x;
+      added = names ∙ ap (λ z. z.names) r.added;
+      starting = fixed_starting b a e ∙ ap (λ z. z.starting) r.added;
+      numbered = subst (λ z. IsNumbered z t) (sym names) numbered;
+      spelled = λ n e ms h. r.spelled ∙ ap (λ ts. token.Name x ∷ ts)
+          (k.spelled n (subst (λ z. Extends z n) names e) ms h);
+      goes_on = λ f. steps f ∙ k.goes_on f;
+    }
 
 pub ruleset ctimer_steps = (within_limits, new_goes)
 
 -- threads
 
-thread_goes : (s m : Scope) (x : Name) (old m0 : List Token) (f : Pending) → IsNew a_thread s m x old m0
+pub thread_goes : (s m : Scope) (x : Name) (old m0 : List Token) (f : Pending) → IsNew a_thread s m x old m0
     → tell s (new_thread ∷ f) old ≡ tell m (machine.block (at_thread x) ∷ f) m0
 thread_goes s m x old m0 f r =
     ap (tell s (new_thread ∷ f)) r.spelled ∙ ap (λ o. fault_or o (suc (length m0))
     (tell (with_names s (with_new s.names a_thread x)) (machine.block (at_thread x) ∷ f) m0)) r.sound
     ∙ ap (λ z. tell z (machine.block (at_thread x) ∷ f) m0) (sym r.added)
 
-pub thread_read : (s m s' : Scope) (x : Name) (t : Body ℕ) (old m0 new : List Token) → IsNew a_thread s m x old m0
-    → Reads m s' (machine.block (at_thread x)) (λ n ms. block_marks (at_thread x) (written n t) ms) m0 new
-    → s'.names ≡ m.names → s'.starting ≡ m.starting → IsNumbered m.names t
-    → IsNamedBlock a_thread (λ f. new_thread ∷ f) at_thread t s s' old new
-thread_read s m s' x t old m0 new r k names starting numbered = record {
-  name = x;
-  added = names ∙ ap (λ z. z.names) r.added;
-  starting = starting ∙ ap (λ z. z.starting) r.added;
-  numbered = subst (λ z. IsNumbered z t) (sym names) numbered;
-  spelled = λ n e ms h. r.spelled ∙ ap (λ ts. token.Name x ∷ ts) (k.spelled n (subst (λ z. Extends z n) names e) ms h);
-  goes_on = λ f. thread_goes s m x old m0 f r ∙ k.goes_on f;
-}
-
 pub thread_fails : (s : Scope) (f : Pending) (old : List Token) (v : Verdict)
     → ((more : Pending) → tell s (new_name a_thread ∷ more) old ≡ v) → tell s (new_thread ∷ f) old ≡ v
-thread_fails s f [] v h = h []
 thread_fails s f (token.Name x ∷ ts) v h = h (machine.block (at_thread x) ∷ f)
-thread_fails s f (t ∷ ts) v h = h []
+thread_fails s f ts v h = h []
 
 pub thread_block_fails : (s m : Scope) (x : Name) (f : Pending) (old m0 : List Token) (v : Verdict)
     → IsNew a_thread s m x old m0 → ((more : Pending) → tell m (machine.block (at_thread x) ∷ more) m0 ≡ v)
@@ -129,17 +123,15 @@ no_blocks c y marks s old = record {
   goes_on = λ f. refl;
 }
 
-pub one_block : (c : Class) (y : Symbol) (g : Pending → Pending) (place : Name → Context) (k : Keyword)
-    (marks : List Named → List Mark → List Mark) (trees trees' : List (Body ℕ)) (t : Body ℕ) (s m s' : Scope)
-    (old rest m0 new : List Token)
-    → HasBlocks c y marks trees s m old rest → first rest ≡ Some (token.Keyword k) → m0 ≡ drop 1 rest
+pub one_block : {c : Class} {y : Symbol} {g : Pending → Pending} {place : Name → Context} {k : Keyword}
+    {marks : List Named → List Mark → List Mark} {trees trees' : List (Body ℕ)} {t : Body ℕ} {s m s' : Scope}
+    {old rest m0 new : List Token} → HasBlocks c y marks trees s m old rest → rest ≡ token.Keyword k ∷ m0
     → IsNamedBlock c g place t m s' m0 new → trees' ≡ trees ++ t ∷ []
     → ((x : Name) (b : Body Name) (more : List Named) (ms : List Mark) → tokens (marks ((x, b) ∷ more) ms)
     ≡ token.Keyword k ∷ token.Name x ∷ tokens (block_marks (place x) b (marks more ms)))
     → ((f : Pending) → tell m (y ∷ f) (token.Keyword k ∷ m0) ≡ tell m (g (y ∷ f)) m0)
     → HasBlocks c y marks trees' s s' old new
-one_block c y g place k marks trees trees' t s m s' old rest m0 new h is from r push spells steps =
-    let split : rest ≡ token.Keyword k ∷ m0 = keyword_then (token.Keyword k) rest m0 is from in
+one_block {c} {y} {g} {place} {k} {marks} {trees} {trees'} {t} {s} {m} {s'} h split r push spells steps =
     let grown : Extends m.names s'.names = subst (λ z. Extends m.names z) (sym r.added)
     (extends_new m.names c r.name) in
     record {
@@ -161,11 +153,11 @@ one_block c y g place k marks trees trees' t s m s' old rest m0 new h is from r 
       goes_on = λ f. h.goes_on f ∙ ap (tell m (y ∷ f)) split ∙ steps f ∙ r.goes_on (y ∷ f);
     }
 
-pub all_blocks : (c : Class) (y z : Symbol) (marks : List Named → List Mark → List Mark) (trees : List (Body ℕ))
-    (s s' : Scope) (old rest new : List Token) → HasBlocks c y marks trees s s' old rest
+pub all_blocks : {c : Class} {y z : Symbol} {marks : List Named → List Mark → List Mark} {trees : List (Body ℕ)}
+    {s s' : Scope} {old rest new : List Token} → HasBlocks c y marks trees s s' old rest
     → ((ms : List Mark) → marks [] ms ≡ ms) → ((f : Pending) → tell s' (y ∷ f) rest ≡ tell s' (z ∷ f) rest)
     → new ≡ rest → ReadsBlocks c y z marks trees s s' old new
-all_blocks c y z marks trees s s' old rest new h none passed same = record {
+all_blocks {z = z} {marks = marks} {s' = s'} h none passed same = record {
   items = h.items;
   blocks = h.blocks;
   added = h.added;
@@ -176,72 +168,25 @@ all_blocks c y z marks trees s s' old rest new h none passed same = record {
   goes_on = λ f. h.goes_on f ∙ passed f ∙ ap (tell s' (z ∷ f)) (sym same);
 }
 
-pub ctimer_more : (trees trees' : List (Body ℕ)) (t : Body ℕ) (s m s' : Scope) (old rest m0 new : List Token)
-    → HasBlocks a_timer from_ctimers ctimer_marks trees s m old rest → first rest ≡ Some (token.Keyword word.Ctimer)
-    → m0 ≡ drop 1 rest
-    → IsNamedBlock a_timer (λ f. new_name a_timer ∷ machine.block at_simple ∷ f) (λ x. at_simple) t m s' m0 new
-    → trees' ≡ trees ++ t ∷ [] → HasBlocks a_timer from_ctimers ctimer_marks trees' s s' old new
-ctimer_more trees trees' t s m s' old rest m0 new h is from r push =
-    one_block a_timer from_ctimers (λ f. new_name a_timer ∷ machine.block at_simple ∷ f) (λ x. at_simple) word.Ctimer
-    ctimer_marks trees trees' t s m s' old rest m0 new h is from r push (λ x b more ms. refl) (λ f. refl)
+pub blocks_fail : {c : Class} {y : Symbol} {marks : List Named → List Mark → List Mark} {trees : List (Body ℕ)}
+    {s m : Scope} {old rest m0 : List Token} {k : Keyword} {v : Verdict} (more : Pending)
+    → HasBlocks c y marks trees s m old rest → rest ≡ token.Keyword k ∷ m0
+    → tell m (y ∷ more) (token.Keyword k ∷ m0) ≡ v → tell s (y ∷ more) old ≡ v
+blocks_fail {y = y} {m = m} more h split e = h.goes_on more ∙ ap (tell m (y ∷ more)) split ∙ e
 
-pub ctimer_all : (trees : List (Body ℕ)) (s s' : Scope) (old rest new : List Token)
-    → HasBlocks a_timer from_ctimers ctimer_marks trees s s' old rest
-    → (first rest ≡ Some (token.Keyword word.Ctimer) → ⊥) → new ≡ rest
-    → ReadsBlocks a_timer from_ctimers from_threads ctimer_marks trees s s' old new
-ctimer_all trees s s' old rest new h other same = all_blocks a_timer from_ctimers from_threads ctimer_marks trees s s'
-    old rest new h (λ ms. refl) (λ f. no_ctimers s' f rest other) same
+pub pushed : (bs bs' : List FlatBlock) (b : FlatBlock) → bs' ≡ bs ++ b ∷ []
+    → map tree_in bs' ≡ map tree_in bs ++ tree_in b ∷ []
+pushed bs bs' b e = ap (map tree_in) e ∙ map-append tree_in bs (b ∷ [])
 
-pub ctimers_fail : (trees : List (Body ℕ)) (s m : Scope) (old rest m0 : List Token) (v : Verdict) (more : Pending)
-    → HasBlocks a_timer from_ctimers ctimer_marks trees s m old rest → first rest ≡ Some (token.Keyword word.Ctimer)
-    → m0 ≡ drop 1 rest
-    → ((more : Pending) → tell m (new_name a_timer ∷ machine.block at_simple ∷ more) m0 ≡ v)
-    → tell s (from_ctimers ∷ more) old ≡ v
-ctimers_fail trees s m old rest m0 v more h is from e =
-    h.goes_on more ∙ ap (tell m (from_ctimers ∷ more)) (keyword_then (token.Keyword word.Ctimer) rest m0 is from)
-    ∙ e (from_ctimers ∷ more)
-
-pub ruleset ctimers_steps = (no_blocks, shorter_from)
-
-pub thread_more : (trees trees' : List (Body ℕ)) (t : Body ℕ) (s m s' : Scope) (old rest m0 new : List Token)
-    → HasBlocks a_thread from_threads thread_marks trees s m old rest → first rest ≡ Some (token.Keyword word.Thread)
-    → m0 ≡ drop 1 rest
-    → IsNamedBlock a_thread (λ f. new_thread ∷ f) at_thread t m s' m0 new → trees' ≡ trees ++ t ∷ []
-    → HasBlocks a_thread from_threads thread_marks trees' s s' old new
-thread_more trees trees' t s m s' old rest m0 new h is from r push =
-    one_block a_thread from_threads (λ f. new_thread ∷ f) at_thread word.Thread thread_marks trees trees' t s m s' old
-    rest m0 new h is from r push (λ x b more ms. refl) (λ f. refl)
-
-pub thread_all : (trees : List (Body ℕ)) (s s' : Scope) (old rest new : List Token)
-    → HasBlocks a_thread from_threads thread_marks trees s s' old rest
-    → (first rest ≡ Some (token.Keyword word.Thread) → ⊥) → new ≡ rest
-    → ReadsBlocks a_thread from_threads from_on_poll thread_marks trees s s' old new
-thread_all trees s s' old rest new h other same = all_blocks a_thread from_threads from_on_poll thread_marks trees s s'
-    old rest new h (λ ms. refl) (λ f. no_threads s' f rest other) same
-
-pub threads_fail : (trees : List (Body ℕ)) (s m : Scope) (old rest m0 : List Token) (v : Verdict) (more : Pending)
-    → HasBlocks a_thread from_threads thread_marks trees s m old rest → first rest ≡ Some (token.Keyword word.Thread)
-    → m0 ≡ drop 1 rest
-    → ((more : Pending) → tell m (new_thread ∷ more) m0 ≡ v) → tell s (from_threads ∷ more) old ≡ v
-threads_fail trees s m old rest m0 v more h is from e =
-    h.goes_on more ∙ ap (tell m (from_threads ∷ more)) (keyword_then (token.Keyword word.Thread) rest m0 is from)
-    ∙ e (from_threads ∷ more)
+pub ruleset blocks_steps = (no_blocks, shorter_behind)
 
 -- each spawns earlier ones
-both_true : (a b : Bool) → a ≡ true → b ≡ true → (a && b) ≡ true
-both_true true b e f = f
-both_true false b e f = absurd cc
-
-and_of : (a b : Bool) → (a && b) ≡ true → (a ≡ true) × (b ≡ true)
-and_of true b e = (refl, e)
-and_of false b e = absurd cc
-
 fit-append : (w : ℕ → Within) (k : ℕ) (bs : List (Body ℕ)) (b : Body ℕ) → threads_fit w k bs ≡ true
     → block_fits (w (k + length bs)) b ≡ true → threads_fit w k (bs ++ b ∷ []) ≡ true
-fit-append w k [] b h f = both_true _ _ (ap (λ i. block_fits (w i) b) (omega arith) ∙ f) refl
+fit-append w k [] b h f = and_from _ _ (ap (λ i. block_fits (w i) b) (omega arith) ∙ f) refl
 fit-append w k (c ∷ bs) b h f =
-    let p = and_of (block_fits (w k) c) (threads_fit w (k + 1) bs) h in
-    both_true _ _ p.0 (fit-append w (k + 1) bs b p.1 (ap (λ i. block_fits (w i) b) (omega arith) ∙ f))
+    let p = and_parts (block_fits (w k) c) (threads_fit w (k + 1) bs) h in
+    and_from _ _ p.0 (fit-append w (k + 1) bs b p.1 (ap (λ i. block_fits (w i) b) (omega arith) ∙ f))
 
 pub earlier_more : (bs bs' : List (Body ℕ)) (b : Body ℕ) (k : ℕ) → threads_fit earlier_threads 0 bs ≡ true
     → k ≡ length bs → block_fits (earlier_threads k) b ≡ true → bs' ≡ bs ++ b ∷ [] → threads_fit earlier_threads 0 bs'
@@ -252,13 +197,11 @@ earlier_more bs bs' b k h e f push = ap (threads_fit earlier_threads 0) push ∙
     e' : k ≡ 0 + length bs
     e' = omega (arith, e)
 
-pub ruleset threads_steps = (no_blocks, shorter_from)
-
 -- `onpoll` and `onexit`
 
-pub handler_none : (k : Keyword) (y z : Symbol) (s : Scope) (old new : List Token)
+no_handler : (k : Keyword) (y z : Symbol) (s : Scope) (old new : List Token)
     → ((f : Pending) → tell s (y ∷ f) old ≡ tell s (z ∷ f) old) → new ≡ old → ReadsHandler k y z None s s old new
-handler_none k y z s old new passed same = record {
+no_handler k y z s old new passed same = record {
   names = refl;
   starting = refl;
   numbered = tt;
@@ -266,57 +209,37 @@ handler_none k y z s old new passed same = record {
   goes_on = λ f. passed f ∙ ap (tell s (z ∷ f)) (sym same);
 }
 
-pub handler_some : (k : Keyword) (y z : Symbol) (t : Body ℕ) (s s' : Scope) (old m0 new : List Token)
-    → first old ≡ Some (token.Keyword k) → m0 ≡ drop 1 old
-    → Reads s s' (machine.block at_simple) (λ n ms. block_marks at_simple (written n t) ms) m0 new
-    → s'.names ≡ s.names → s'.starting ≡ s.starting → IsNumbered s.names t
-    → ((f : Pending) → tell s (y ∷ f) (token.Keyword k ∷ m0) ≡ tell s (machine.block at_simple ∷ z ∷ f) m0)
-    → ReadsHandler k y z (Some t) s s' old new
-handler_some k y z t s s' old m0 new is from r names starting numbered steps =
-    let split : old ≡ token.Keyword k ∷ m0 = keyword_then (token.Keyword k) old m0 is from in
-    record {
-      names = names;
-      starting = starting;
-      numbered = numbered;
-      spelled = λ n e ms h. split ∙ ap (λ ts. token.Keyword k ∷ ts) (r.spelled n e ms h);
-      goes_on = λ f. ap (tell s (y ∷ f)) split ∙ steps f ∙ r.goes_on (z ∷ f);
-    }
+pub handler_read : {k : Keyword} {y z : Symbol} {t : Body ℕ} {old m0 new : List Token} (a b : ScopeRead)
+    → old ≡ token.Keyword k ∷ m0
+    → Reads (scope_of a) (scope_of b) (machine.block at_simple) (λ n ms. block_marks at_simple (written n t) ms) m0 new
+    → fixed b ≡ fixed a → IsNumbered (scope_of a).names t → ((f : Pending)
+    → tell (scope_of a) (y ∷ f) (token.Keyword k ∷ m0) ≡ tell (scope_of a) (machine.block at_simple ∷ z ∷ f) m0)
+    → ReadsHandler k y z (Some t) (scope_of a) (scope_of b) old new
+handler_read {k = k} {y = y} {z = z} a b split r e numbered steps = record {
+  names = fixed_names b a e;
+  starting = fixed_starting b a e;
+  numbered = numbered;
+  spelled = λ n e ms h. split ∙ ap (λ ts. token.Keyword k ∷ ts) (r.spelled n e ms h);
+  goes_on = λ f. ap (tell (scope_of a) (y ∷ f)) split ∙ steps f ∙ r.goes_on (z ∷ f);
+}
 
 pub no_on_poll_read : (s : Scope) (old new : List Token) → (first old ≡ Some (token.Keyword word.OnPoll) → ⊥)
     → new ≡ old → ReadsHandler word.OnPoll from_on_poll from_on_exit None s s old new
-no_on_poll_read s old new other same = handler_none word.OnPoll from_on_poll from_on_exit s old new
-    (λ f. no_on_poll s f old other) same
+no_on_poll_read s old new other = no_handler _ from_on_poll from_on_exit s old new (λ f. no_on_poll s f old other)
 
 pub no_on_exit_read : (s : Scope) (old new : List Token) → (first old ≡ Some (token.Keyword word.OnExit) → ⊥)
     → new ≡ old → ReadsHandler word.OnExit from_on_exit from_body None s s old new
-no_on_exit_read s old new other same = handler_none word.OnExit from_on_exit from_body s old new
-    (λ f. no_on_exit s f old other) same
-
-pub on_poll_read : (t : Body ℕ) (s s' : Scope) (old m0 new : List Token) → first old ≡ Some (token.Keyword word.OnPoll)
-    → m0 ≡ drop 1 old → Reads s s' (machine.block at_simple) (λ n ms. block_marks at_simple (written n t) ms) m0 new
-    → s'.names ≡ s.names → s'.starting ≡ s.starting → IsNumbered s.names t
-    → ReadsHandler word.OnPoll from_on_poll from_on_exit (Some t) s s' old new
-on_poll_read t s s' old m0 new is from r names starting numbered =
-    handler_some word.OnPoll from_on_poll from_on_exit t s s' old m0 new is from r names starting numbered (λ f. refl)
-
-pub on_exit_read : (t : Body ℕ) (s s' : Scope) (old m0 new : List Token) → first old ≡ Some (token.Keyword word.OnExit)
-    → m0 ≡ drop 1 old → Reads s s' (machine.block at_simple) (λ n ms. block_marks at_simple (written n t) ms) m0 new
-    → s'.names ≡ s.names → s'.starting ≡ s.starting → IsNumbered s.names t
-    → ReadsHandler word.OnExit from_on_exit from_body (Some t) s s' old new
-on_exit_read t s s' old m0 new is from r names starting numbered =
-    handler_some word.OnExit from_on_exit from_body t s s' old m0 new is from r names starting numbered (λ f. refl)
+no_on_exit_read s old new other = no_handler _ from_on_exit from_body s old new (λ f. no_on_exit s f old other)
 
 pub on_poll_fails : (s : Scope) (old m0 : List Token) (v : Verdict) (more : Pending)
-    → first old ≡ Some (token.Keyword word.OnPoll) → m0 ≡ drop 1 old
-    → ((more : Pending) → tell s (machine.block at_simple ∷ more) m0 ≡ v) → tell s (from_on_poll ∷ more) old ≡ v
-on_poll_fails s old m0 v more is from e = ap (tell s (from_on_poll ∷ more))
-    (keyword_then (token.Keyword word.OnPoll) old m0 is from) ∙ e (from_on_exit ∷ more)
+    → old ≡ token.Keyword word.OnPoll ∷ m0 → ((more : Pending) → tell s (machine.block at_simple ∷ more) m0 ≡ v)
+    → tell s (from_on_poll ∷ more) old ≡ v
+on_poll_fails s old m0 v more split e = ap (tell s (from_on_poll ∷ more)) split ∙ e (from_on_exit ∷ more)
 
 pub on_exit_fails : (s : Scope) (old m0 : List Token) (v : Verdict) (more : Pending)
-    → first old ≡ Some (token.Keyword word.OnExit) → m0 ≡ drop 1 old
-    → ((more : Pending) → tell s (machine.block at_simple ∷ more) m0 ≡ v) → tell s (from_on_exit ∷ more) old ≡ v
-on_exit_fails s old m0 v more is from e = ap (tell s (from_on_exit ∷ more))
-    (keyword_then (token.Keyword word.OnExit) old m0 is from) ∙ e (from_body ∷ more)
+    → old ≡ token.Keyword word.OnExit ∷ m0 → ((more : Pending) → tell s (machine.block at_simple ∷ more) m0 ≡ v)
+    → tell s (from_on_exit ∷ more) old ≡ v
+on_exit_fails s old m0 v more split e = ap (tell s (from_on_exit ∷ more)) split ∙ e (from_body ∷ more)
 
 pub ruleset on_poll_steps = (no_on_poll_read, within_limits, on_poll_fails)
 
@@ -326,27 +249,23 @@ pub ruleset on_exit_steps = (no_on_exit_read, within_limits, on_exit_fails)
 
 pub unfit_body : (s : Scope) (more : Pending) (old : List Token) → (first old ≡ Some (token.Keyword word.Body) → ⊥)
     → tell s (from_body ∷ more) old ≡ fault (unfit_at (first old)) (length old)
-unfit_body s more [] h = refl
 unfit_body s more (token.Keyword word.Body ∷ ts) h = absurd (h refl)
-unfit_body s more (t ∷ ts) h = refl
+unfit_body s more ts h = refl
 
-pub body_read : (t : Body ℕ) (s s' : Scope) (old m0 new : List Token) → first old ≡ Some (token.Keyword word.Body)
-    → m0 ≡ drop 1 old → Reads s s' (machine.block at_body) (λ n ms. block_marks at_body (written n t) ms) m0 new
-    → s'.names ≡ s.names → s'.starting ≡ s.starting → IsNumbered s.names t → ReadsBody t s s' old new
-body_read t s s' old m0 new is from r names starting numbered =
-    let split : old ≡ token.Keyword word.Body ∷ m0 = keyword_then (token.Keyword word.Body) old m0 is from in
-    record {
-      names = names;
-      starting = starting;
-      numbered = numbered;
-      spelled = λ n e ms h. split ∙ ap (λ ts. token.Keyword word.Body ∷ ts) (r.spelled n e ms h);
-      goes_on = λ f. ap (tell s (from_body ∷ f)) split ∙ r.goes_on (machine.last_brace ∷ f);
-    }
+pub body_read : {t : Body ℕ} {old m0 new : List Token} (a b : ScopeRead) → old ≡ token.Keyword word.Body ∷ m0
+    → Reads (scope_of a) (scope_of b) (machine.block at_body) (λ n ms. block_marks at_body (written n t) ms) m0 new
+    → fixed b ≡ fixed a → IsNumbered (scope_of a).names t → ReadsBody t (scope_of a) (scope_of b) old new
+body_read a b split r e numbered = record {
+  names = fixed_names b a e;
+  starting = fixed_starting b a e;
+  numbered = numbered;
+  spelled = λ n e ms h. split ∙ ap (λ ts. token.Keyword word.Body ∷ ts) (r.spelled n e ms h);
+  goes_on = λ f. ap (tell (scope_of a) (from_body ∷ f)) split ∙ r.goes_on (machine.last_brace ∷ f);
+}
 
 pub body_fails : (s : Scope) (old m0 : List Token) (v : Verdict) (more : Pending)
-    → first old ≡ Some (token.Keyword word.Body) → m0 ≡ drop 1 old
-    → ((more : Pending) → tell s (machine.block at_body ∷ more) m0 ≡ v) → tell s (from_body ∷ more) old ≡ v
-body_fails s old m0 v more is from e = ap (tell s (from_body ∷ more))
-    (keyword_then (token.Keyword word.Body) old m0 is from) ∙ e (machine.last_brace ∷ more)
+    → old ≡ token.Keyword word.Body ∷ m0 → ((more : Pending) → tell s (machine.block at_body ∷ more) m0 ≡ v)
+    → tell s (from_body ∷ more) old ≡ v
+body_fails s old m0 v more split e = ap (tell s (from_body ∷ more)) split ∙ e (machine.last_brace ∷ more)
 
 pub ruleset body_steps = (unfit_body, within_limits, body_fails)

@@ -1,58 +1,26 @@
 -- Statements with blocks, and a block of which some statements are read.
 use Rattle.std.proofs.Common.{◌≡◌, ℕ, suc, ◌+◌, ◌-◌, ◌<◌, ◌≤◌, List, [], ◌∷◌, ◌++◌, drop, length, map, refl, sym, ap}
-use Rattle.std.proofs.Common.{subst, ◌∙◌, arith, Option, Some, Bool, true, false, ◌&&◌}
+use Rattle.std.proofs.Common.{subst, ◌∙◌, arith, Option, Some, true}
+use Rattle.std.proofs.lemmas.Bool.{and_from, and_parts}
 use Rattle.std.proofs.lemmas.List.{map-append}
 use Rattle.program_tree.specs.Faults.{Scope}
-use Rattle.program_tree.specs.Grammar.{Context, inner, Mark, begins_with, key, sign, opening, tokens, statement_marks}
-use Rattle.program_tree.specs.Grammar.{items_marks, else_marks, block_marks}
+use Rattle.program_tree.specs.Grammar.{Context, inner, Mark, key, sign, opening, tokens, statement_marks, items_marks}
+use Rattle.program_tree.specs.Grammar.{else_marks, block_marks}
 use Rattle.program_tree.specs.InScope.{Names, name_in, number_in}
-use Rattle.program_reader.specs.Machine.{Pending, Verdict, tell, fault, first, expression, block, items, items_else}
+use Rattle.program_reader.specs.Machine.{Pending, tell, fault, first, block, items, items_else}
 use Rattle.program_tree.specs.Scope.{Within, statement_fits, block_fits}
 use Rattle.program_tree.specs.Shapes.{Name}
-use Rattle.program_reader.specs.Steps.{Extends, Covers, Reads, ReadsStatement, ReadsElse, Begins, Numbered, Fits}
-use Rattle.program_tree.specs.Tokens as token
+use Rattle.program_reader.specs.Steps.{Extends, Covers, Reads, ReadsStatement, ReadsElse, Numbered, Fits}
 use Rattle.program_tree.specs.Tokens.{Token}
-use Rattle.program_tree.specs.Tree.{Class, Expression, Statement, branch, while, Body, end, next, Otherwise, otherwise}
-use Rattle.program_tree.specs.Tree.{body_of, listed, statement_of, statement_map, body_map, height, inner_height, size}
-use Rattle.program_tree.specs.Tree.{inner_size}
+use Rattle.program_tree.specs.Tree.{Class, Statement, Body, end, next, otherwise, body_of, listed, statement_of}
+use Rattle.program_tree.specs.Tree.{statement_map, body_map, height, inner_height, size, inner_size}
 use Rattle.program_tree.specs.declared.error.ReadErrorKind.TheVariants.{TooDeep}
-use Rattle.program_tree.specs.declared.keyword.Keyword.TheVariants as word
 use Rattle.program_tree.specs.declared.tree.Stmt.{Stmt}
+use Rattle.program_tree.specs.Tokens as token
+use Rattle.program_tree.specs.declared.keyword.Keyword.TheVariants as word
 use Rattle.program_reader.proofs.ExpressionSteps.{opens_sound, opens_deep}
 use Rattle.program_reader.proofs.NameSteps.{taken, broken, front_of}
-use Rattle.program_reader.proofs.Runs.{Runs}
 use Rattle.program_tree.proofs.TreeLaws.{body_of-listed}
-
--- `if` and `while`
-
-pub branch_reads : (s s1 s3 s4 : Scope) (c : Context) (marks others : Names → List Mark → List Mark)
-    (old m0 m2 new : List Token) → s1.names ≡ s.names → s3.names ≡ s.names → Begins s s1 c word.If old m0
-    → Runs s1 s3 (λ f. expression c ∷ block c ∷ f) marks m0 m2 → ReadsElse s3 s4 c others m2 new →
-    ReadsStatement s s4 c (λ n ms. begins_with c word.If ∷ marks n (others n ms)) old new
-branch_reads s s1 s3 s4 c marks others old m0 m2 new e1 e3 b r o = record {
-  spelled = λ n h ms q.
-      b.spelled ∙ ap (λ ts. token.Keyword word.If ∷ ts)
-      (r.spelled n (subst (λ z. Extends z n) (sym e1) h) (others n ms)
-      (sym (o.spelled n (subst (λ z. Extends z n) (sym e3) h) ms q)));
-  goes_on = λ f. b.goes_on f ∙ r.goes_on (items_else c ∷ f) ∙ o.goes_on f;
-}
-
-pub while_reads : (s s1 s3 : Scope) (c : Context) (marks : Names → List Mark → List Mark) (old m0 new : List Token)
-    → s1.names ≡ s.names → Begins s s1 c word.While old m0 → Runs s1 s3 (λ f. expression c ∷ block c ∷ f) marks m0 new
-    →
-    ReadsStatement s s3 c (λ n ms. begins_with c word.While ∷ marks n ms) old new
-while_reads s s1 s3 c marks old m0 new e1 b r = record {
-  spelled = λ n h ms q. b.spelled ∙ ap (λ ts. token.Keyword word.While ∷ ts)
-      (r.spelled n (subst (λ z. Extends z n) (sym e1) h) ms q);
-  goes_on = λ f. b.goes_on f ∙ r.goes_on (items c ∷ f);
-}
-
-pub branch_again : {e e' : Expression ℕ} {a a' : Body ℕ} {o o' : Otherwise ℕ} → e' ≡ e → a' ≡ a → o' ≡ o
-    → branch e' a' o' ≡ branch e a o
-branch_again p q r = cc (p, q, r)
-
-pub while_again : {e e' : Expression ℕ} {a a' : Body ℕ} → e' ≡ e → a' ≡ a → while e' a' ≡ while e a
-while_again p q = cc (p, q)
 
 -- `else`
 
@@ -72,24 +40,6 @@ else_reads s s' c b old m0 new is from r = record {
   goes_on = λ f. else_start s c f old is ∙ ap (λ ts. tell s (block c ∷ items c ∷ f) ts) (sym from)
       ∙ r.goes_on (items c ∷ f);
 }
-
-abbrev pub IsNoElse : Option Token → Type 0
-IsNoElse (Some (token.Keyword word.Else)) = ⊥
-IsNoElse t = Unit {0}
-
-no_else_at : (s : Scope) (c : Context) (f : Pending) (t : Token) (ts : List Token) → IsNoElse (Some t)
-    → tell s (items_else c ∷ f) (t ∷ ts) ≡ tell s (items c ∷ f) (t ∷ ts)
-no_else_at s c f (token.Keyword word.Else) ts h = absurd h
-no_else_at s c f t ts h = refl
-
-no_else : (s : Scope) (c : Context) (f : Pending) (old : List Token) → IsNoElse (first old)
-    → tell s (items_else c ∷ f) old ≡ tell s (items c ∷ f) old
-no_else s c f [] h = refl
-no_else s c f (t ∷ ts) h = no_else_at s c f t ts h
-
-pub no_else_reads : (s : Scope) (c : Context) (old : List Token) → IsNoElse (first old)
-    → ReadsElse s s c (λ n ms. ms) old old
-no_else_reads s c old h = record { spelled = λ n u ms q. sym q; goes_on = λ f. no_else s c f old h }
 
 -- Blocks.
 
@@ -151,22 +101,12 @@ push_again f g (t ∷ ss) s e h =
     let ih : body_map f (body_map g (body_of (ss ++ (s ∷ [])))) ≡ body_of (ss ++ (s ∷ [])) = push_again f g ss s b h in
     cc (a, ih)
 
-and_left : (a b : Bool) → (a && b) ≡ true → a ≡ true
-and_left true b e = refl
-and_left false b e = absurd cc
-
-and_right : (a b : Bool) → (a && b) ≡ true → b ≡ true
-and_right true b e = e
-and_right false b e = absurd cc
-
-and_so : (a b : Bool) → a ≡ true → b ≡ true → (a && b) ≡ true
-and_so true b e h = h
-and_so false b e h = absurd cc
-
 push_fits : (w : Within) (ss : List (Statement ℕ)) (s : Statement ℕ) → block_fits w (body_of ss) ≡ true
     → statement_fits w s ≡ true → block_fits w (body_of (ss ++ (s ∷ []))) ≡ true
-push_fits w [] s e h = and_so _ _ h refl
-push_fits w (t ∷ ss) s e h = and_so _ _ (and_left _ _ e) (push_fits w ss s (and_right _ _ e) h)
+push_fits w [] s e h = and_from _ _ h refl
+push_fits w (t ∷ ss) s e h =
+    let parts = and_parts (statement_fits w t) (block_fits w (body_of ss)) e in
+    and_from _ _ parts.0 (push_fits w ss s parts.1 h)
 
 height_push : (n : ℕ) (ss : List (Statement ℕ)) (s : Statement ℕ) → height (body_of ss) ≤ n → suc (inner_height s) ≤ n
     → height (body_of (ss ++ (s ∷ []))) ≤ n
@@ -233,12 +173,6 @@ all_read s s' own c ss b old mid new h is from e =
       shallow = h.shallow;
       counts = h.counts;
     })
-
--- a fault in the next statement
-pub front_fails : (s s' : Scope) (own : Option Name) (c : Context) (ss : List (Statement ℕ)) (old mid : List Token)
-    (v : Verdict) → HasFront s s' own c ss old mid → ((more : Pending) → tell s' (items (inner c) ∷ more) mid ≡ v)
-    → (more : Pending) → tell s (block c ∷ more) old ≡ v
-front_fails s s' own c ss old mid v r p more = r.goes_on more ∙ p more
 
 -- the same for a statement as the code has it
 pub one_read : (s s1 s2 : Scope) (c d : Context) (ss ss' : List Stmt) (x : Stmt) (old mid rest : List Token)

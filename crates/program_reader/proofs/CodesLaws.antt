@@ -1,4 +1,7 @@
 -- The codes of a program, one by one, and their timers.
+use Rattle.program_reader.specs.Kept.{HasNoOwnNames}
+use Rattle.program_reader.specs.Steps.{scope_of}
+use Rattle.program_reader.specs.declared.scope.Scope.{Scope as ScopeRead}
 use Rattle.std.proofs.Common.{◌≡◌, ℕ, suc, ◌+◌, ◌<◌, ◌≤◌, List, [], ◌∷◌, ◌++◌, drop, length, map, replicate}
 use Rattle.std.proofs.Common.{slice_index_or, refl, sym, ap, subst, ◌∙◌, arith, append_assoc, true, false}
 use Rattle.std.proofs.lemmas.List.{map-append, length-append, length-map, drop_all}
@@ -16,7 +19,6 @@ use Rattle.program_tree.specs.ShapeOf.{code_shape}
 use Rattle.program_tree.specs.Shapes.{Name, CodeShape}
 use Rattle.program_tree.specs.Tokens.{Token}
 use Rattle.program_tree.specs.declared.process_text.ProcessText.{ProcessText}
-use Rattle.program_tree.specs.declared.timer.Timer.{Timer}
 use Rattle.program_tree.proofs.CountLaws.{length-codes_in}
 
 behind-append : (n : Names) (cs : List CodeShape) (c : CodeShape)
@@ -42,18 +44,6 @@ codes_marks-append (q ∷ ps) p ms = ap (code_marks q) (codes_marks-append ps p 
 behind_shape : (n : Names) (cs : List CodeShape) (code : Code) → code_shape (behind n cs) code ≡ code_shape n code
 behind_shape n [] code = refl
 behind_shape n (c ∷ cs) code = behind_shape (outside (inside n c)) cs code
-
-pub none_read : (s : Scope) (left : List Name) (old : List Token) → left ≡ s.names.processes
-    → HasCodes [] left s s old old
-none_read s left old e = record {
-  shapes = [];
-  named = sym e;
-  numbered = refl;
-  put_back = refl;
-  names = refl;
-  spelled = λ ms q. sym q;
-  goes_on = λ f. ap (λ xs. tell s (codes_form xs f) old) (sym e);
-}
 
 pub one_read : (s m s' : Scope) (x : Name) (xs : List Name) (k : ℕ) (trees : List Code) (code : Code)
     (old mid rest : List Token) → HasCodes trees (x ∷ xs) s m old mid → ReadsCode x k code m s' mid rest
@@ -84,41 +74,20 @@ one_read s m s' x xs k trees code old mid rest h r e =
       goes_on = λ f. h.goes_on f ∙ r.goes_on xs f;
     }
 
-pub codes_fail : (s m : Scope) (x : Name) (xs : List Name) (trees : List Code) (old mid : List Token) (v : Verdict)
-    (more : Pending) → HasCodes trees (x ∷ xs) s m old mid → tell m (codes x xs ∷ more) mid ≡ v
-    → tell s (codes_form s.names.processes more) old ≡ v
-codes_fail s m x xs trees old mid v more h e = h.goes_on more ∙ e
-
 -- The parts that a code leaves unchanged.
 
-pub behind_processes : (n : Names) (cs : List CodeShape) → (behind n cs).processes ≡ n.processes
-behind_processes n [] = refl
-behind_processes n (c ∷ cs) = behind_processes (outside (inside n c)) cs
+pub behind_kept : (n : Names) (cs : List CodeShape) → ((behind n cs).events ≡ n.events)
+    × ((behind n cs).semaphores ≡ n.semaphores) × ((behind n cs).processes ≡ n.processes)
+behind_kept n [] = (refl, refl, refl)
+behind_kept n (c ∷ cs) = behind_kept (outside (inside n c)) cs
 
-pub behind_events : (n : Names) (cs : List CodeShape) → (behind n cs).events ≡ n.events
-behind_events n [] = refl
-behind_events n (c ∷ cs) = behind_events (outside (inside n c)) cs
-
-pub behind_semaphores : (n : Names) (cs : List CodeShape) → (behind n cs).semaphores ≡ n.semaphores
-behind_semaphores n [] = refl
-behind_semaphores n (c ∷ cs) = behind_semaphores (outside (inside n c)) cs
-
-pub behind_variables : (n : Names) (cs : List CodeShape) → n.variables ≡ [] → (behind n cs).variables ≡ []
-behind_variables n [] e = e
-behind_variables n (c ∷ cs) e = behind_variables (outside (inside n c)) cs refl
-
-pub behind_timers : (n : Names) (cs : List CodeShape) → n.timers ≡ [] → (behind n cs).timers ≡ []
-behind_timers n [] e = e
-behind_timers n (c ∷ cs) e = behind_timers (outside (inside n c)) cs refl
-
-pub behind_threads : (n : Names) (cs : List CodeShape) → n.threads ≡ [] → (behind n cs).threads ≡ []
-behind_threads n [] e = e
-behind_threads n (c ∷ cs) e = behind_threads (outside (inside n c)) cs refl
+-- none of the names of a code is in scope after it
+pub behind_none : (n : Names) (cs : List CodeShape) → n.variables ≡ [] → n.timers ≡ [] → n.threads ≡ []
+    → ((behind n cs).variables ≡ []) × ((behind n cs).timers ≡ []) × ((behind n cs).threads ≡ [])
+behind_none n [] e f g = (e, f, g)
+behind_none n (c ∷ cs) e f g = behind_none (outside (inside n c)) cs refl refl refl
 
 -- The loop over the processes, at the one of this number.
-
-both_empty : {A : Type 0} (xs ys : List A) → xs ≡ [] → ys ≡ [] → xs ++ ys ≡ []
-both_empty xs ys e h = ap (λ zs. zs ++ ys) e ∙ h
 
 pub first_empty : {A : Type 0} (xs ys : List A) → xs ++ ys ≡ [] → xs ≡ []
 first_empty [] ys e = refl
@@ -128,14 +97,23 @@ pub second_empty : {A : Type 0} (xs ys : List A) → xs ++ ys ≡ [] → ys ≡ 
 second_empty [] ys e = e
 second_empty (x ∷ xs) ys e = absurd cc
 
-pub still_no_timers : (s m : Scope) (es cs : List Name) (trees : List Code) (left : List Name) (old mid : List Token)
-    → s.names.timers ≡ es ++ cs → es ≡ [] → cs ≡ [] → HasCodes trees left s m old mid → m.names.timers ≡ []
-still_no_timers s m es cs trees left old mid is e h r =
-    ap (λ n. n.timers) r.names ∙ behind_timers s.names (values_of r.shapes) (is ∙ both_empty es cs e h)
+-- a code may begin, since none of the names of those before it is in scope
+pub still_none : (a b : ScopeRead) (trees : List Code) (left : List Name) (old mid : List Token) → HasNoOwnNames a
+    → HasCodes trees left (scope_of a) (scope_of b) old mid → HasNoOwnNames b
+still_none a b trees left old mid h r =
+    let timers : a.etimers ++ a.ctimers ≡ [] = ap (λ zs. zs ++ a.ctimers) h.etimers ∙ h.ctimers in
+    let none = behind_none (scope_of a).names (values_of r.shapes) h.variables timers h.threads in
+    let timerless : b.etimers ++ b.ctimers ≡ [] = ap (λ (n : Names). n.timers) r.names ∙ none.1 in
+    record {
+      variables = ap (λ (n : Names). n.variables) r.names ∙ none.0;
+      etimers = first_empty _ _ timerless;
+      ctimers = second_empty _ _ timerless;
+      threads = ap (λ (n : Names). n.threads) r.names ∙ none.2;
+    }
 
 pub same_processes : (s m : Scope) (trees : List Code) (left : List Name) (old mid : List Token)
     → HasCodes trees left s m old mid → m.names.processes ≡ s.names.processes
-same_processes s m trees left old mid r = ap (λ n. n.processes) r.names ∙ behind_processes s.names (values_of r.shapes)
+same_processes s m trees left old mid r = ap (λ n. n.processes) r.names ∙ (behind_kept s.names (values_of r.shapes)).2
 
 next_left : (ps qs : List Name) (k : ℕ) → qs ≡ ps → k < length qs → drop k ps ≡ slice_index_or qs k [] ∷ drop (k + 1) ps
 next_left ps qs k e h =
@@ -144,24 +122,29 @@ next_left ps qs k e h =
     drop-cons ps k [] low ∙ ap (λ x. x ∷ drop (suc k) ps) (ap (λ zs. slice_index_or zs k []) (sym e))
     ∙ ap (λ i. slice_index_or qs k [] ∷ drop i ps) one
 
+-- the next process is the one whose code is read
+next_code : (s m : Scope) (texts : List ProcessText) (k : ℕ) (old mid : List Token) → k ≡ length texts
+    → HasCodes (map code_of texts) (drop (length texts) s.names.processes) s m old mid → k < length m.names.processes
+    → HasCodes (map code_of texts) (slice_index_or m.names.processes k [] ∷ drop (k + 1) s.names.processes) s m old mid
+next_code s m texts k old mid is h low =
+    let e : drop (length texts) s.names.processes ≡ slice_index_or m.names.processes k [] ∷ drop (k + 1)
+    s.names.processes =
+    ap (λ i. drop i s.names.processes) (sym is) ∙ next_left s.names.processes m.names.processes k
+    (same_processes s m (map code_of texts) (drop (length texts) s.names.processes) old mid h) low in
+    subst (λ z. HasCodes (map code_of texts) z s m old mid) e h
+
 pub loop_goes : (s m s' : Scope) (texts texts' : List ProcessText) (text : ProcessText) (k : ℕ)
     (old mid rest : List Token) → k ≡ length texts → texts' ≡ texts ++ (text ∷ [])
     → HasCodes (map code_of texts) (drop (length texts) s.names.processes) s m old mid → k < length m.names.processes →
     ReadsCode (slice_index_or m.names.processes k []) k (code_of text) m s' mid rest
     → HasCodes (map code_of texts') (drop (length texts') s.names.processes) s s' old rest
 loop_goes s m s' texts texts' text k old mid rest is push h low r =
-    let e : drop (length texts) s.names.processes ≡ slice_index_or m.names.processes k [] ∷ drop (k + 1)
-    s.names.processes =
-    ap (λ i. drop i s.names.processes) (sym is) ∙ next_left s.names.processes m.names.processes k
-    (same_processes s m (map code_of texts) (drop (length texts) s.names.processes) old mid h) low in
-    let n : k + 1 ≡ length texts' = omega (arith, ap length push, length-append texts (text ∷ []), is) in
+    let n : length texts' ≡ k + 1 = omega (arith, ap length push, length-append texts (text ∷ []), is) in
     let t : map code_of texts' ≡ map code_of texts ++ (code_of text ∷ []) =
     ap (map code_of) push ∙ map-append code_of texts (text ∷ []) in
-    subst (λ z. HasCodes z (drop (length texts') s.names.processes) s s' old rest) (sym t)
-    (subst (λ i. HasCodes (map code_of texts ++ (code_of text ∷ [])) (drop i s.names.processes) s s' old rest) n
-    (one_read s m s' (slice_index_or m.names.processes k []) (drop (k + 1) s.names.processes) k (map code_of texts)
-    (code_of text) old mid rest (subst (λ z. HasCodes (map code_of texts) z s m old mid) e h) r
-    (is ∙ sym (length-map texts code_of))))
+    rw (t, n) (one_read s m s' (slice_index_or m.names.processes k []) (drop (k + 1) s.names.processes) k
+    (map code_of texts) (code_of text) old mid rest (next_code s m texts k old mid is h low) r
+    (is ∙ sym (length-map texts code_of)))
 
 pub loop_fails : (s m : Scope) (texts : List ProcessText) (k : ℕ) (old mid : List Token) (v : Verdict)
     → k ≡ length texts → HasCodes (map code_of texts) (drop (length texts) s.names.processes) s m old mid
@@ -169,12 +152,7 @@ pub loop_fails : (s m : Scope) (texts : List ProcessText) (k : ℕ) (old mid : L
     ((xs : List Name) (more : Pending) → tell m (codes (slice_index_or m.names.processes k []) xs ∷ more) mid ≡ v)
     → (more : Pending) → tell s (codes_form s.names.processes more) old ≡ v
 loop_fails s m texts k old mid v is h low r more =
-    let e : drop (length texts) s.names.processes ≡ slice_index_or m.names.processes k [] ∷ drop (k + 1)
-    s.names.processes =
-    ap (λ i. drop i s.names.processes) (sym is) ∙ next_left s.names.processes m.names.processes k
-    (same_processes s m (map code_of texts) (drop (length texts) s.names.processes) old mid h) low in
-    codes_fail s m (slice_index_or m.names.processes k []) (drop (k + 1) s.names.processes) (map code_of texts) old mid
-    v more (subst (λ z. HasCodes (map code_of texts) z s m old mid) e h) (r (drop (k + 1) s.names.processes) more)
+    (next_code s m texts k old mid is h low).goes_on more ∙ r (drop (k + 1) s.names.processes) more
 
 pub loop_ends : (s m : Scope) (trees : List Code) (k : ℕ) (old mid : List Token) → length s.names.processes ≤ k
     → HasCodes trees (drop k s.names.processes) s m old mid → HasCodes trees [] s m old mid
@@ -215,10 +193,3 @@ behind_first_timer k n (c ∷ cs) =
       length-append c.etimers (named_of c.ctimers),
       length-map c.ctimers (λ p. p.0),
     )
-
-pub timers_step : (timers m new : List Timer) (e : ℕ) (a b : Timer) (c : ℕ) (rest all : List Timer)
-    → m ≡ timers ++ replicate e a → new ≡ m ++ replicate c b → timers ++ ((replicate e a ++ replicate c b) ++ rest)
-    ≡ all → new ++ rest ≡ all
-timers_step timers m new e a b c rest all p q h =
-    ap (λ z. z ++ rest) (q ∙ ap (λ z. z ++ replicate c b) p ∙ append_assoc timers (replicate e a) (replicate c b))
-    ∙ append_assoc timers (replicate e a ++ replicate c b) rest ∙ h

@@ -1,16 +1,15 @@
 -- The text between the braces of a code, stage by stage.
-use Rattle.std.proofs.Common.{◌≡◌, ℕ, List, [], ◌∷◌, ◌++◌, map, Option, option_map, refl, ap, sym, subst, ◌∙◌}
-use Rattle.std.proofs.Common.{append_assoc}
-use Rattle.std.proofs.lemmas.List.{append-nil, append_cancel_left}
+use Rattle.std.proofs.Common.{◌≡◌, ℕ, List, [], ◌∷◌, ◌++◌, map, Option, option_map, ap, sym, subst, ◌∙◌, append_assoc}
+use Rattle.std.proofs.lemmas.List.{map-id, append-nil, append_cancel_left}
 use Rattle.program_reader.specs.CodeParts.{written, all_written, IsNumbered, AllNumbered, MaybeNumbered, ReadsBlocks}
 use Rattle.program_reader.specs.CodeParts.{ReadsHandler, ReadsBody, with_own, ReadsContent}
 use Rattle.program_tree.specs.Faults.{Scope}
 use Rattle.program_tree.specs.Grammar.{at_body, key, variable_marks, etimer_marks, ctimer_marks, thread_marks}
-use Rattle.program_tree.specs.Grammar.{handler_marks, block_marks}
+use Rattle.program_tree.specs.Grammar.{handler_marks, block_marks, Mark}
 use Rattle.program_reader.specs.Head.{with_all, itself, ReadsNames, ReadsValues}
 use Rattle.program_tree.specs.InScope.{Names}
-use Rattle.program_reader.specs.Machine.{Pending, Verdict, tell, from_variables, from_etimers, from_ctimers}
-use Rattle.program_reader.specs.Machine.{from_threads, from_on_poll, from_on_exit, from_body}
+use Rattle.program_reader.specs.Machine.{from_variables, from_etimers, from_ctimers, from_threads, from_on_poll}
+use Rattle.program_reader.specs.Machine.{from_on_exit, from_body}
 use Rattle.program_tree.specs.Numbers.{named_of}
 use Rattle.program_tree.specs.Shapes.{Name}
 use Rattle.program_reader.specs.Steps.{Extends}
@@ -39,10 +38,6 @@ all_threads n vs ts hs [] = ap (λ z. with_own n vs ts z) (sym (append-nil hs))
 all_threads n vs ts hs (x ∷ xs) = all_threads n vs ts (hs ++ x ∷ []) xs ∙ ap (λ z. with_own n vs ts z)
     (append_assoc hs (x ∷ []) xs)
 
-map_itself : (xs : List Name) → map itself xs ≡ xs
-map_itself [] = refl
-map_itself (x ∷ xs) = ap (λ z. x ∷ z) (map_itself xs)
-
 -- a code begins with no names of its own
 pub bare : (n : Names) → n.variables ≡ [] → n.timers ≡ [] → n.threads ≡ [] → n ≡ with_own n [] [] []
 bare n e f g = ap (λ z. with_own n z n.timers n.threads) e ∙ ap (λ z. with_own n [] z n.threads) f
@@ -50,43 +45,6 @@ bare n e f g = ap (λ z. with_own n z n.timers n.threads) e ∙ ap (λ z. with_o
 
 maybe_numbered_on : (n m : Names) (b : Option (Body ℕ)) → n ≡ m → MaybeNumbered n b → MaybeNumbered m b
 maybe_numbered_on n m b e h = subst (λ z. MaybeNumbered z b) e h
-
--- the stages that are read so far
-pub record Front (s s' : Scope) (y : Pending) (old rest : List Token) : Type 0 where
-  pub goes : (f : Pending) → tell s (from_variables ∷ f) old ≡ tell s' (y ++ f) rest
-
-pub at_etimers : (values : List ℕ) (s0 s1 : Scope) (t0 t1 : List Token)
-    → ReadsValues a_variable from_variables from_etimers variable_marks values s0 s1 t0 t1
-    → Front s0 s1 (from_etimers ∷ []) t0 t1
-at_etimers values s0 s1 t0 t1 v = record { goes = λ f. v.2.goes_on f }
-
-pub at_ctimers : (s0 s1 s2 : Scope) (t0 t1 t2 : List Token) → Front s0 s1 (from_etimers ∷ []) t0 t1
-    → ReadsNames a_timer from_etimers from_ctimers etimer_marks s1 s2 t1 t2 → Front s0 s2 (from_ctimers ∷ []) t0 t2
-at_ctimers s0 s1 s2 t0 t1 t2 a e = record { goes = λ f. a.goes f ∙ e.1.goes_on f }
-
-pub at_threads : (cs : List (Body ℕ)) (s0 s1 s2 : Scope) (t0 t1 t2 : List Token)
-    → Front s0 s1 (from_ctimers ∷ []) t0 t1 → ReadsBlocks a_timer from_ctimers from_threads ctimer_marks cs s1 s2 t1 t2
-    → Front s0 s2 (from_threads ∷ []) t0 t2
-at_threads cs s0 s1 s2 t0 t1 t2 a e = record { goes = λ f. a.goes f ∙ e.goes_on f }
-
-pub at_on_poll : (cs : List (Body ℕ)) (s0 s1 s2 : Scope) (t0 t1 t2 : List Token)
-    → Front s0 s1 (from_threads ∷ []) t0 t1 → ReadsBlocks a_thread from_threads from_on_poll thread_marks cs s1 s2 t1
-    t2 → Front s0 s2 (from_on_poll ∷ []) t0 t2
-at_on_poll cs s0 s1 s2 t0 t1 t2 a e = record { goes = λ f. a.goes f ∙ e.goes_on f }
-
-pub at_on_exit : (b : Option (Body ℕ)) (s0 s1 s2 : Scope) (t0 t1 t2 : List Token)
-    → Front s0 s1 (from_on_poll ∷ []) t0 t1 → ReadsHandler word.OnPoll from_on_poll from_on_exit b s1 s2 t1 t2
-    → Front s0 s2 (from_on_exit ∷ []) t0 t2
-at_on_exit b s0 s1 s2 t0 t1 t2 a e = record { goes = λ f. a.goes f ∙ e.goes_on f }
-
-pub at_body_stage : (b : Option (Body ℕ)) (s0 s1 s2 : Scope) (t0 t1 t2 : List Token)
-    → Front s0 s1 (from_on_exit ∷ []) t0 t1 → ReadsHandler word.OnExit from_on_exit from_body b s1 s2 t1 t2
-    → Front s0 s2 (from_body ∷ []) t0 t2
-at_body_stage b s0 s1 s2 t0 t1 t2 a e = record { goes = λ f. a.goes f ∙ e.goes_on f }
-
-pub fails_behind : (s0 s1 : Scope) (y : Pending) (t0 t1 : List Token) (v : Verdict) (more : Pending)
-    → Front s0 s1 y t0 t1 → ((f : Pending) → tell s1 (y ++ f) t1 ≡ v) → tell s0 (from_variables ∷ more) t0 ≡ v
-fails_behind s0 s1 y t0 t1 v more a e = a.goes more ∙ e more
 
 -- all of them
 pub content_read : (es cs : List Name) (starts : List ℕ) (callbacks thread_bodies : List (Body ℕ))
@@ -109,7 +67,7 @@ content_read es cs starts callbacks thread_bodies on_poll on_exit body es2 s0 s1
     ∙ all_variables n [] [] [] (named_of v.0) in
     let n2 : s2.names ≡ with_own n (named_of v.0) e.0 [] =
     e.1.added ∙ ap (λ z. with_all z a_timer (map itself e.0)) n1 ∙ all_timers n (named_of v.0) [] [] (map itself e.0)
-    ∙ ap (λ z. with_own n (named_of v.0) z []) (map_itself e.0) in
+    ∙ ap (λ z. with_own n (named_of v.0) z []) (map-id e.0) in
     let n3 : s3.names ≡ with_own n (named_of v.0) (e.0 ++ named_of c.items) [] =
     c.added ∙ ap (λ z. with_all z a_timer (named_of c.items)) n2 ∙ all_timers n (named_of v.0) e.0 []
     (named_of c.items) in
@@ -144,33 +102,17 @@ content_read es cs starts callbacks thread_bodies on_poll on_exit body es2 s0 s1
       body_numbered = subst (λ z. IsNumbered z body) (n6 ∙ sym n7) b.numbered;
       spelled = λ m x ms k.
           let x4 : Extends s4.names m = subst (λ z. Extends z m) n7 x in
+          let m6 : List Mark = key word.Body ∷ block_marks at_body (written m body) ms in
+          let m5 : List Mark = handler_marks word.OnExit (option_map (written m) on_exit) m6 in
+          let m4 : List Mark = handler_marks word.OnPoll (option_map (written m) on_poll) m5 in
+          let m3 : List Mark = thread_marks (all_written m h.items) m4 in
+          let m2 : List Mark = ctimer_marks (all_written m c.items) m3 in
           let k6 = b.spelled m (subst (λ z. Extends z m) (sym n6) x4) ms k in
-          let k5 = q.spelled m (subst (λ z. Extends z m) (sym n5) x4)
-          (key word.Body ∷ block_marks at_body (written m body) ms) (sym k6) in
-          let k4 = p.spelled m x4 (handler_marks word.OnExit (option_map (written m) on_exit)
-          (key word.Body ∷ block_marks at_body (written m body) ms)) (sym k5) in
-          let k3 =
-          h.spelled m x4 (handler_marks word.OnPoll (option_map (written m) on_poll)
-          (handler_marks word.OnExit (option_map (written m) on_exit)
-          (key word.Body ∷ block_marks at_body (written m body) ms))) (sym k4) in
-          let k2 =
-          c.spelled m (extends_on s3.names s4.names m grown x4)
-          (thread_marks (all_written m h.items) (handler_marks word.OnPoll (option_map (written m) on_poll)
-          (handler_marks word.OnExit (option_map (written m) on_exit)
-          (key word.Body ∷ block_marks at_body (written m body) ms)))) (sym k3) in
-          let k1 =
-          e.1.spelled
-          (ctimer_marks (all_written m c.items)
-          (thread_marks (all_written m h.items) (handler_marks word.OnPoll (option_map (written m) on_poll)
-          (handler_marks word.OnExit (option_map (written m) on_exit)
-          (key word.Body ∷ block_marks at_body (written m body) ms)))))
-          (sym k2) in
-          v.2.spelled
-          (etimer_marks e.0 (ctimer_marks (all_written m c.items)
-          (thread_marks (all_written m h.items) (handler_marks word.OnPoll (option_map (written m) on_poll)
-          (handler_marks word.OnExit (option_map (written m) on_exit)
-          (key word.Body ∷ block_marks at_body (written m body) ms))))))
-          (sym k1);
+          let k5 = q.spelled m (subst (λ z. Extends z m) (sym n5) x4) m6 (sym k6) in
+          let k4 = p.spelled m x4 m5 (sym k5) in
+          let k3 = h.spelled m x4 m4 (sym k4) in
+          let k2 = c.spelled m (extends_on s3.names s4.names m grown x4) m3 (sym k3) in
+          v.2.spelled (etimer_marks e.0 m2) (sym (e.1.spelled m2 (sym k2)));
       goes_on = λ f. v.2.goes_on f ∙ e.1.goes_on f ∙ c.goes_on f ∙ h.goes_on f ∙ p.goes_on f ∙ q.goes_on f
           ∙ b.goes_on f;
     }

@@ -37,25 +37,15 @@ IsOther form.any (Some (token.Keyword word.Exited)) = ⊥
 IsOther form.any (Some (token.Keyword word.Timer)) = ⊥
 IsOther o t = Unit {0}
 
-sent_passes_at : (s : Scope) (c : Context) (f : Pending) (t : Token) (ts : List Token) → IsOther form.sent (Some t)
-    → tell s (operand c form.sent ∷ f) (t ∷ ts) ≡ tell s (operand c form.cast ∷ f) (t ∷ ts)
-sent_passes_at s c f (token.Keyword word.Exit) ts h = absurd h
-sent_passes_at s c f t ts h = refl
-
 pub sent_passes : (s : Scope) (c : Context) (f : Pending) (old : List Token) → IsOther form.sent (first old)
     → tell s (operand c form.sent ∷ f) old ≡ tell s (operand c form.cast ∷ f) old
-sent_passes s c f [] h = refl
-sent_passes s c f (t ∷ ts) h = sent_passes_at s c f t ts h
-
-any_passes_at : (s : Scope) (c : Context) (f : Pending) (t : Token) (ts : List Token) → IsOther form.any (Some t)
-    → tell s (operand c form.any ∷ f) (t ∷ ts) ≡ tell s (operand c form.sent ∷ f) (t ∷ ts)
-any_passes_at s c f (token.Keyword word.Init) ts h = absurd h
-any_passes_at s c f (token.Keyword word.Poll) ts h = absurd h
-any_passes_at s c f (token.Keyword word.Exited) ts h = absurd h
-any_passes_at s c f (token.Keyword word.Timer) ts h = absurd h
-any_passes_at s c f t ts h = refl
+sent_passes s c f (token.Keyword word.Exit ∷ ts) h = absurd h
+sent_passes s c f old h = refl
 
 pub any_passes : (s : Scope) (c : Context) (f : Pending) (old : List Token) → IsOther form.any (first old)
     → tell s (operand c form.any ∷ f) old ≡ tell s (operand c form.sent ∷ f) old
-any_passes s c f [] h = refl
-any_passes s c f (t ∷ ts) h = any_passes_at s c f t ts h
+any_passes s c f (token.Keyword word.Init ∷ ts) h = absurd h
+any_passes s c f (token.Keyword word.Poll ∷ ts) h = absurd h
+any_passes s c f (token.Keyword word.Exited ∷ ts) h = absurd h
+any_passes s c f (token.Keyword word.Timer ∷ ts) h = absurd h
+any_passes s c f old h = refl

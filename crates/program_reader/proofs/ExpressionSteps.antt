@@ -1,9 +1,7 @@
 -- The next steps of reading after the first token of an expression.
 use Rattle.std.proofs.Common.{◌≡◌, ℕ, ◌+◌, ◌<◌, ◌≤◌, List, [], ◌∷◌, drop, length, refl, sym, ap, ◌∙◌, arith, Some}
-use Rattle.std.proofs.Common.{None, Bool, true, false, nat_lt}
-use Rattle.std.proofs.lemmas.Bool.{ltb-true, ltb-false}
+use Rattle.std.proofs.Common.{None, true, false, nat_lt}
 use Rattle.program_tree.specs.Faults.{Scope}
-use Rattle.program_tree.specs.Forms as form
 use Rattle.program_tree.specs.Forms.{Operand, word_of, tells_of, alone}
 use Rattle.program_tree.specs.Grammar.{Context, inner, key, sign, valued, opening, operand_mark}
 use Rattle.program_reader.specs.Machine.{Pending, tell, fault, first, first_broken, word_step, expression, operand}
@@ -11,11 +9,13 @@ use Rattle.program_reader.specs.Machine.{operator, open_sign, close}
 use Rattle.program_tree.specs.InScope.{Names}
 use Rattle.program_tree.specs.Shapes.{Name, OperandShape}
 use Rattle.program_reader.specs.Steps.{ReadsSign, Reads}
-use Rattle.program_tree.specs.Tokens as token
 use Rattle.program_tree.specs.Tokens.{Token}
 use Rattle.program_tree.specs.Tree.{a_variable}
 use Rattle.program_tree.specs.declared.error.ReadErrorKind.TheVariants.{NumberTooLarge, TooDeep}
 use Rattle.program_tree.specs.declared.keyword.Keyword.{Keyword}
+use Rattle.std.proofs.lemmas.Bool.Decides.{nat_tests}
+use Rattle.program_tree.specs.Forms as form
+use Rattle.program_tree.specs.Tokens as token
 use Rattle.program_reader.proofs.NameSteps.{taken, broken, front_of}
 
 pub word_start : (s : Scope) (c : Context) (f : Pending) (old : List Token) (k : Keyword) (o : Operand)
@@ -29,43 +29,20 @@ pub alone_start : (s : Scope) (c : Context) (f : Pending) (old : List Token) (k 
 alone_start s c f old k is e = taken s (expression c ∷ f) f old (token.Keyword k) (key k) is
     (ap (λ w. word_step c k w f) e) refl
 
-pub value_sound : (s : Scope) (n : ℕ) → n ≤ 65535 → first_broken s (valued n) ≡ None
-value_sound s n h = go (nat_lt 65535 n) refl
-  where
-    go : (b : Bool) → nat_lt 65535 n ≡ b → first_broken s (valued n) ≡ None
-    go true e = absurd (omega (arith, ltb-true 65535 n e))
-    go false e = rw e refl
-
 pub value_large : (s : Scope) (n : ℕ) → 65535 < n → first_broken s (valued n) ≡ Some NumberTooLarge
-value_large s n h = go (nat_lt 65535 n) refl
-  where
-    go : (b : Bool) → nat_lt 65535 n ≡ b → first_broken s (valued n) ≡ Some NumberTooLarge
-    go true e = rw e refl
-    go false e = absurd (omega (arith, ltb-false 65535 n e))
+value_large s n h = let large : nat_lt 65535 n ≡ true = grind (arith, nat_tests) in rw large refl
 
 pub opens_sound : (s : Scope) (t : Token) (l : ℕ) → l ≤ 32 → first_broken s (opening t l) ≡ None
-opens_sound s t l h = go (nat_lt 32 l) refl
-  where
-    go : (b : Bool) → nat_lt 32 l ≡ b → first_broken s (opening t l) ≡ None
-    go true e = absurd (omega (arith, ltb-true 32 l e))
-    go false e = rw e refl
+opens_sound s t l h = let low : nat_lt 32 l ≡ false = grind (arith, nat_tests) in rw low refl
 
 pub opens_deep : (s : Scope) (t : Token) (l : ℕ) → 32 < l → first_broken s (opening t l) ≡ Some TooDeep
-opens_deep s t l h = go (nat_lt 32 l) refl
-  where
-    go : (b : Bool) → nat_lt 32 l ≡ b → first_broken s (opening t l) ≡ Some TooDeep
-    go true e = rw e refl
-    go false e = absurd (omega (arith, ltb-false 32 l e))
+opens_deep s t l h = let deep : nat_lt 32 l ≡ true = grind (arith, nat_tests) in rw deep refl
 
 pub variable_start : (s : Scope) (c : Context) (f : Pending) (old : List Token) (x : Name)
     → first old ≡ Some (token.Name x) → tell s (expression c ∷ f) old ≡ tell s (operand c (form.name a_variable) ∷ f)
     old
 variable_start s c f [] x e = absurd cc
 variable_start s c f (t ∷ ts) x e = let is : t ≡ token.Name x = cc in rw is refl
-
-pub number_start : (s : Scope) (c : Context) (f : Pending) (old : List Token) (n : ℕ)
-    → first old ≡ Some (token.Number n) → n ≤ 65535 → tell s (expression c ∷ f) old ≡ tell s f (drop 1 old)
-number_start s c f old n is h = taken s (expression c ∷ f) f old (token.Number n) (valued n) is refl (value_sound s n h)
 
 pub number_large : (s : Scope) (c : Context) (f : Pending) (old : List Token) (n : ℕ)
     → first old ≡ Some (token.Number n) → 65535 < n → tell s (expression c ∷ f) old ≡ fault NumberTooLarge (length old)
@@ -77,11 +54,6 @@ pub bang_start : (s : Scope) (c : Context) (f : Pending) (old : List Token) → 
 bang_start s c f old is h = taken s (expression c ∷ f) (expression (inner c) ∷ f) old token.Bang
     (opening token.Bang (c.level + 1)) is refl (opens_sound s token.Bang (c.level + 1) (omega arith))
 
-pub bang_deep : (s : Scope) (c : Context) (f : Pending) (old : List Token) → first old ≡ Some token.Bang → c.level ≡ 32
-    → tell s (expression c ∷ f) old ≡ fault TooDeep (length old)
-bang_deep s c f old is h = broken s (expression c ∷ f) (expression (inner c) ∷ f) old token.Bang
-    (opening token.Bang (c.level + 1)) TooDeep is refl (opens_deep s token.Bang (c.level + 1) (omega arith))
-
 pub open_start : (s : Scope) (c : Context) (f : Pending) (old : List Token) → first old ≡ Some token.Open
     → c.level < 32 →
     tell s (expression c ∷ f) old ≡ tell s (expression (inner c) ∷ operator ∷ expression (inner c) ∷ close ∷ f)
@@ -89,12 +61,6 @@ pub open_start : (s : Scope) (c : Context) (f : Pending) (old : List Token) → 
 open_start s c f old is h =
     taken s (expression c ∷ f) (expression (inner c) ∷ operator ∷ expression (inner c) ∷ close ∷ f) old token.Open
     (opening token.Open (c.level + 1)) is refl (opens_sound s token.Open (c.level + 1) (omega arith))
-
-pub open_deep : (s : Scope) (c : Context) (f : Pending) (old : List Token) → first old ≡ Some token.Open → c.level ≡ 32
-    → tell s (expression c ∷ f) old ≡ fault TooDeep (length old)
-open_deep s c f old is h =
-    broken s (expression c ∷ f) (expression (inner c) ∷ operator ∷ expression (inner c) ∷ close ∷ f) old token.Open
-    (opening token.Open (c.level + 1)) TooDeep is refl (opens_deep s token.Open (c.level + 1) (omega arith))
 
 -- a keyword with its parentheses
 pub told_reads : (s : Scope) (c : Context) (k : Keyword) (o : Operand) (v : Names → OperandShape o)

@@ -33,11 +33,7 @@ front_new n c x d = front_itself (names_of n d)
 
 same_first_timer : (n : Names) (c : Class) (x : Name) → (with_new n c x).first_timer ≡ n.first_timer
 same_first_timer n an_event x = refl
-same_first_timer n a_semaphore x = refl
-same_first_timer n a_process x = refl
-same_first_timer n a_variable x = refl
-same_first_timer n a_timer x = refl
-same_first_timer n a_thread x = refl
+same_first_timer n c x = refl
 
 pub extends_new : (n : Names) (c : Class) (x : Name) → Extends n (with_new n c x)
 extends_new n c x = record { front = front_new n c x; first_timer = same_first_timer n c x }

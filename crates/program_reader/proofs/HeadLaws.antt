@@ -1,7 +1,6 @@
 -- The next steps of reading at a declaration.
 use Rattle.std.proofs.Common.{◌≡◌, ◌<◌, ◌≤◌, nat_lt, arith, ℕ, suc, List, [], ◌∷◌, ◌++◌, length, drop, Bool, true}
-use Rattle.std.proofs.Common.{false, Option, Some, None, is_some, option_map, ◌+◌, refl, ap, sym, ◌∙◌, ◌||◌}
-use Rattle.std.proofs.Common.{append_assoc}
+use Rattle.std.proofs.Common.{false, Option, Some, None, is_some, option_map, ◌+◌, refl, ap, sym, ◌∙◌, append_assoc}
 use Rattle.std.proofs.Common.{Result, Ok, Err, leb, length-append}
 use Rattle.std.proofs.lemmas.Bool.{leb-false}
 use Rattle.std.proofs.lemmas.Bool.Decides.{nat_tests}
@@ -10,19 +9,20 @@ use Rattle.std.specs.Prelude.{OnOk, OnErr}
 use Rattle.program_tree.specs.Faults.{Scope, is_full}
 use Rattle.program_reader.specs.Head.{class_of_kind, with_names, IsNew, IsListed, IsValued}
 use Rattle.program_tree.specs.InScope.{Names, with_new, is_in_scope, is_a}
-use Rattle.program_reader.specs.Machine as machine
-use Rattle.program_reader.specs.Machine.{Pending, tell, fault, fault_or, first, first_broken, new_name}
+use Rattle.program_reader.specs.Machine.{Pending, tell, fault, fault_or, first, new_name}
 use Rattle.program_tree.specs.Names.{place_of}
 use Rattle.program_tree.specs.Shapes.{Name}
 use Rattle.program_reader.specs.Steps.{ReadsSign}
-use Rattle.program_tree.specs.Tokens as token
 use Rattle.program_tree.specs.Tokens.{Token}
-use Rattle.program_tree.specs.Tree.{Class, an_event, a_semaphore, a_process, a_variable, a_timer, a_thread}
+use Rattle.program_tree.specs.Tree.{Class, a_timer}
 use Rattle.program_tree.specs.declared.error.ReadErrorKind.TheVariants.{NameTwice, NumberTooLarge, TooMany}
 use Rattle.program_reader.specs.declared.declarations.Kind.{Kind}
+use Rattle.program_reader.specs.Machine as machine
+use Rattle.program_tree.specs.Tokens as token
 use Rattle.program_reader.specs.declared.declarations.Kind.TheVariants as kind
 use Rattle.program_reader.proofs.NameSteps.{front_of}
 use Rattle.program_reader.proofs.PlaceLaws.{place_left, place_right}
+use Rattle.program_reader.proofs.ScopeLaws.{a_in_scope}
 
 pub is_new : (c : Class) (s s' : Scope) (x : Name) (old new : List Token) → first old ≡ Some (token.Name x)
     → new ≡ drop 1 old → is_in_scope s.names x ≡ false → is_full s.names c ≡ false
@@ -48,29 +48,13 @@ new_many c s x [] more is fresh full = absurd cc
 new_many c s x (token.Name y ∷ ts) more is fresh full = let e : y ≡ x = cc in rw (e, fresh, full) refl
 new_many c s x (t ∷ ts) more is fresh full = absurd cc
 
-or_parts : (a b : Bool) → (a || b) ≡ false → (a ≡ false) × (b ≡ false)
-or_parts true b h = absurd cc
-or_parts false b h = (refl, h)
-
 -- a name that isn't in scope is of no class
 pub of_no_class : (names : Names) (c : Class) (x : Name) → is_in_scope names x ≡ false → is_a names c x ≡ false
-of_no_class names c x h =
-    let p = or_parts _ (is_a names a_thread x) h in
-    let q = or_parts _ (is_a names a_timer x) p.0 in
-    let r = or_parts _ (is_a names a_variable x) q.0 in
-    let s = or_parts _ (is_a names a_process x) r.0 in
-    let t = or_parts (is_a names an_event x) (is_a names a_semaphore x) s.0 in
-    pick c t.0 t.1 s.1 r.1 q.1 p.1
+of_no_class names c x h = go (is_a names c x) refl
   where
-    pick : (c : Class) → is_a names an_event x ≡ false → is_a names a_semaphore x ≡ false
-        → is_a names a_process x ≡ false → is_a names a_variable x ≡ false → is_a names a_timer x ≡ false
-        → is_a names a_thread x ≡ false → is_a names c x ≡ false
-    pick an_event a b c d e f = a
-    pick a_semaphore a b c d e f = b
-    pick a_process a b c d e f = c
-    pick a_variable a b c d e f = d
-    pick a_timer a b c d e f = e
-    pick a_thread a b c d e f = f
+    go : (b : Bool) → is_a names c x ≡ b → is_a names c x ≡ false
+    go true e = absurd (cc (h, a_in_scope names c x e))
+    go false e = e
 
 pub ruleset new_steps = (is_new, new_twice, new_many, of_no_class)
 

@@ -2,8 +2,6 @@
 use Rattle.std.proofs.Common.{◌≡◌, ℕ, List, [], ◌∷◌, ◌++◌, refl, sym, ap, ◌∙◌, Bool, true, false, if◌then◌else◌}
 use Rattle.std.proofs.Common.{Option, Some, None}
 use Rattle.std.specs.Str.{bytes_eq}
-use Rattle.program_tree.specs.EventNames as event
-use Rattle.program_tree.specs.Forms as form
 use Rattle.program_tree.specs.Forms.{Operand, Form, ends, tells, takes, values, Beginning, no_statement, action}
 use Rattle.program_tree.specs.Forms.{branches, loops, goes_on, beginning, Word, no_value, alone, tells_of, word_of}
 use Rattle.program_tree.specs.Grammar.{Context, at_thread, Mark, new, starts, sign, key, named, valued, begins_with}
@@ -12,9 +10,9 @@ use Rattle.program_tree.specs.Grammar.{form_marks, beginning_marks, keyword_mark
 use Rattle.program_tree.specs.Grammar.{else_marks, block_marks, variable_marks, etimer_marks, ctimer_marks}
 use Rattle.program_tree.specs.Grammar.{thread_marks, handler_marks, body_marks, code_marks, codes_marks, event_marks}
 use Rattle.program_tree.specs.Grammar.{semaphore_marks, process_marks, starting_marks, autostart_marks, receiver_marks}
-use Rattle.program_reader.specs.Machine.{Symbol, Pending, Step, unfit, take, step, semicolon, equals, open_sign}
-use Rattle.program_reader.specs.Machine.{close, open_brace, operator, number as number_symbol, operand, expression}
-use Rattle.program_reader.specs.Machine.{into_end, block, items, items_else, new_name, new_thread, codes, this_name}
+use Rattle.program_reader.specs.Machine.{Symbol, Pending, Step, unfit, take, step, semicolon, equals, open_sign, close}
+use Rattle.program_reader.specs.Machine.{open_brace, operator, number as number_symbol, operand, expression, into_end}
+use Rattle.program_reader.specs.Machine.{block, items, items_else, new_name, new_thread, codes, this_name}
 use Rattle.program_reader.specs.Machine.{from_variables, from_etimers, from_ctimers, from_threads, from_on_poll}
 use Rattle.program_reader.specs.Machine.{from_on_exit, from_body, last_brace, from_events, from_semaphores}
 use Rattle.program_reader.specs.Machine.{first_process, from_comma, more_process, from_autostart, from_receiver}
@@ -23,100 +21,65 @@ use Rattle.program_reader.specs.Machine.{operand_step, word_step, begin_step, it
 use Rattle.program_reader.specs.Machine.{on_poll_step, threads_step, ctimers_step, etimers_step, codes_step}
 use Rattle.program_reader.specs.Machine.{receiver_step, process_step, semaphores_step}
 use Rattle.program_tree.specs.Shapes.{Name, Valued, Named, CodeShape, OperandShape, WordShape, FormShape, ActionShape}
-use Rattle.program_tree.specs.Tokens as token
 use Rattle.program_tree.specs.Tokens.{Token}
-use Rattle.program_tree.specs.Tree as tree
-use Rattle.program_tree.specs.Tree.{Class, a_thread, a_process, Expression, number, variable, sender, moment, mote, is}
-use Rattle.program_tree.specs.Tree.{fired, expired, gone, running, count, negation, binary, Action, assign, print}
-use Rattle.program_tree.specs.Tree.{send, wait_until, wait_while, yield, yield_until, spawn, restart, exit, pause}
-use Rattle.program_tree.specs.Tree.{acquire, signal, post, broadcast, synch, poll, start, kill, set, reset}
-use Rattle.program_tree.specs.Tree.{restart_timer, stop, Statement, does, branch, while, Body, end, next, Otherwise}
-use Rattle.program_tree.specs.Tree.{nothing, otherwise}
+use Rattle.program_tree.specs.Tree.{a_thread, a_process, Expression, number, variable, sender, moment, mote, is, fired}
+use Rattle.program_tree.specs.Tree.{expired, gone, running, count, negation, binary, Action, assign, print, send}
+use Rattle.program_tree.specs.Tree.{wait_until, wait_while, yield, yield_until, spawn, restart, exit, pause, acquire}
+use Rattle.program_tree.specs.Tree.{signal, post, broadcast, synch, poll, start, kill, set, reset, restart_timer, stop}
+use Rattle.program_tree.specs.Tree.{does, branch, while, Body, end, next, Otherwise, nothing, otherwise}
 use Rattle.program_tree.specs.declared.keyword.Keyword.{Keyword}
-use Rattle.program_tree.specs.declared.keyword.Keyword.TheVariants as word
 use Rattle.program_tree.specs.declared.tree.Operator.{Operator}
 use Rattle.program_tree.specs.declared.tree.Operator.TheVariants.{Add}
+use Rattle.program_tree.specs.EventNames as event
+use Rattle.program_tree.specs.Forms as form
+use Rattle.program_tree.specs.Tokens as token
+use Rattle.program_tree.specs.Tree as tree
+use Rattle.program_tree.specs.declared.keyword.Keyword.TheVariants as word
 use Rattle.program_tree.proofs.NameLaws.{same_bytes}
 
 -- The tables and the trees.
 
-abbrev pub action_of : (k : Keyword) → ActionShape (beginning k) → Action Name
-action_of word.Print v = print v.0
-action_of word.Send v = send v.0
-action_of word.WaitUntil v = wait_until v.0
-action_of word.WaitWhile v = wait_while v.0
-action_of word.Yield v = yield
-action_of word.YieldUntil v = yield_until v.0
-action_of word.Spawn v = spawn v.0
-action_of word.Restart v = restart
-action_of word.Exit v = exit
-action_of word.Pause v = pause
-action_of word.Acquire v = acquire v.0
-action_of word.Signal v = signal v.0
-action_of word.Post v = post v.0 v.1.0 v.1.1.0 v.1.1.1
-action_of word.Broadcast v = broadcast v.0 v.1.0 v.1.1
-action_of word.Synch v = synch v.0 v.1.0 v.1.1.0
-action_of word.Poll v = poll v.0
-action_of word.Start v = start v.0
-action_of word.Kill v = kill v.0
-action_of word.Set v = set v.0 v.1.0
-action_of word.Reset v = reset v.0
-action_of word.RestartTimer v = restart_timer v.0
-action_of word.Stop v = stop v.0
-action_of k v = absurd v
+-- the action of a keyword and its operands, and its marks
+abbrev pub action_made : (k : Keyword) (v : ActionShape (beginning k))
+    → (a : Action Name) × ((c : Context) (after : List Mark) → action_marks c a after ≡ keyword_marks c k v after)
+action_made word.Print v = (print v.0, λ c after. refl)
+action_made word.Send v = (send v.0, λ c after. refl)
+action_made word.WaitUntil v = (wait_until v.0, λ c after. refl)
+action_made word.WaitWhile v = (wait_while v.0, λ c after. refl)
+action_made word.Yield v = (yield, λ c after. refl)
+action_made word.YieldUntil v = (yield_until v.0, λ c after. refl)
+action_made word.Spawn v = (spawn v.0, λ c after. refl)
+action_made word.Restart v = (restart, λ c after. refl)
+action_made word.Exit v = (exit, λ c after. refl)
+action_made word.Pause v = (pause, λ c after. refl)
+action_made word.Acquire v = (acquire v.0, λ c after. refl)
+action_made word.Signal v = (signal v.0, λ c after. refl)
+action_made word.Post v = (post v.0 v.1.0 v.1.1.0 v.1.1.1, λ c after. refl)
+action_made word.Broadcast v = (broadcast v.0 v.1.0 v.1.1, λ c after. refl)
+action_made word.Synch v = (synch v.0 v.1.0 v.1.1.0, λ c after. refl)
+action_made word.Poll v = (poll v.0, λ c after. refl)
+action_made word.Start v = (start v.0, λ c after. refl)
+action_made word.Kill v = (kill v.0, λ c after. refl)
+action_made word.Set v = (set v.0 v.1.0, λ c after. refl)
+action_made word.Reset v = (reset v.0, λ c after. refl)
+action_made word.RestartTimer v = (restart_timer v.0, λ c after. refl)
+action_made word.Stop v = (stop v.0, λ c after. refl)
+action_made k v = absurd v
 
-abbrev pub action_spelled : (c : Context) (k : Keyword) (v : ActionShape (beginning k)) (after : List Mark)
-    → action_marks c (action_of k v) after ≡ keyword_marks c k v after
-action_spelled c word.Print v after = refl
-action_spelled c word.Send v after = refl
-action_spelled c word.WaitUntil v after = refl
-action_spelled c word.WaitWhile v after = refl
-action_spelled c word.Yield v after = refl
-action_spelled c word.YieldUntil v after = refl
-action_spelled c word.Spawn v after = refl
-action_spelled c word.Restart v after = refl
-action_spelled c word.Exit v after = refl
-action_spelled c word.Pause v after = refl
-action_spelled c word.Acquire v after = refl
-action_spelled c word.Signal v after = refl
-action_spelled c word.Post v after = refl
-action_spelled c word.Broadcast v after = refl
-action_spelled c word.Synch v after = refl
-action_spelled c word.Poll v after = refl
-action_spelled c word.Start v after = refl
-action_spelled c word.Kill v after = refl
-action_spelled c word.Set v after = refl
-action_spelled c word.Reset v after = refl
-action_spelled c word.RestartTimer v after = refl
-action_spelled c word.Stop v after = refl
-action_spelled c k v after = absurd v
-
-abbrev pub value_of : (k : Keyword) → WordShape (word_of k) → Expression Name
-value_of word.Data v = tree.word
-value_of word.From v = sender
-value_of word.Now v = moment
-value_of word.Own v = mote
-value_of word.Is v = is v
-value_of word.Fired v = fired v
-value_of word.Expired v = expired v
-value_of word.Gone v = gone v
-value_of word.Running v = running v
-value_of word.Count v = count v
-value_of k v = absurd v
-
-abbrev pub value_spelled : (c : Context) (k : Keyword) (v : WordShape (word_of k)) (after : List Mark)
-    → expression_marks c (value_of k v) after ≡ value_marks c k v after
-value_spelled c word.Data v after = refl
-value_spelled c word.From v after = refl
-value_spelled c word.Now v after = refl
-value_spelled c word.Own v after = refl
-value_spelled c word.Is v after = refl
-value_spelled c word.Fired v after = refl
-value_spelled c word.Expired v after = refl
-value_spelled c word.Gone v after = refl
-value_spelled c word.Running v after = refl
-value_spelled c word.Count v after = refl
-value_spelled c k v after = absurd v
+-- the same for the value of a keyword
+abbrev pub value_made : (k : Keyword) (v : WordShape (word_of k))
+    → (e : Expression Name) × ((c : Context) (after : List Mark) → expression_marks c e after ≡ value_marks c k v after)
+value_made word.Data v = (tree.word, λ c after. refl)
+value_made word.From v = (sender, λ c after. refl)
+value_made word.Now v = (moment, λ c after. refl)
+value_made word.Own v = (mote, λ c after. refl)
+value_made word.Is v = (is v, λ c after. refl)
+value_made word.Fired v = (fired v, λ c after. refl)
+value_made word.Expired v = (expired v, λ c after. refl)
+value_made word.Gone v = (gone v, λ c after. refl)
+value_made word.Running v = (running v, λ c after. refl)
+value_made word.Count v = (count v, λ c after. refl)
+value_made k v = absurd v
 
 -- The parts that a symbol derives.
 
@@ -372,11 +335,6 @@ abbrev pub codes_split_spelled : (xs : List Name) (f : Pending) (ps : Parts (cod
 codes_split_spelled [] f ps = refl
 codes_split_spelled (x ∷ xs) f ps = refl
 
-codes_join : (xs : List Name) (f : Pending) (cs : CodesOf xs) (ps : Parts f) → (qs : Parts (codes_form xs f))
-    × (spell_all (codes_form xs f) qs ≡ codes_spelled xs cs (spell_all f ps)) × (codes_split xs f qs ≡ (cs, ps))
-codes_join [] f cs ps = (ps, refl, refl)
-codes_join (x ∷ xs) f cs ps = ((cs, ps), refl, refl)
-
 -- the codes of some processes and one more
 abbrev pub all_but_last : (xs : List Name) (x : Name) → CodesOf (xs ++ x ∷ []) → CodesOf xs
 all_but_last [] x cs = tt
@@ -437,19 +395,20 @@ back_operand c form.any f t = passed (operand c form.any) (operand c form.sent) 
     (sent_step f t) (back_sent c f t)
 back_operand c o f t = tt
 
-abbrev pub back_word : (c : Context) (k : Keyword) (w : Word) (f : Pending) (make : WordShape w → Expression Name)
-    → ((v : WordShape w) (after : List Mark) → expression_marks c (make v) after ≡ key k ∷ word_marks c w v after)
+abbrev pub back_word : (c : Context) (k : Keyword) (w : Word) (f : Pending)
+    → ((v : WordShape w) → (e : Expression Name)
+    × ((c : Context) (after : List Mark) → expression_marks c e after ≡ key k ∷ word_marks c w v after))
     → Back (expression c ∷ f) (token.Keyword k) (word_step c k w f)
-back_word c k no_value f make spelled = tt
-back_word c k alone f make spelled = (refl, λ ps. ((make tt, ps), spelled tt (spell_all f ps)))
-back_word c k (tells_of o) f make spelled =
-    (refl, λ ps. ((make ps.1.0, ps.1.1.1), spelled ps.1.0 (spell_all f ps.1.1.1)))
+back_word c k no_value f made = tt
+back_word c k alone f made = (refl, λ ps. (((made tt).0, ps), (made tt).1 c (spell_all f ps)))
+back_word c k (tells_of o) f made =
+    (refl, λ ps. (((made ps.1.0).0, ps.1.1.1), (made ps.1.0).1 c (spell_all f ps.1.1.1)))
 
 abbrev pub back_expression : (c : Context) (f : Pending) (t : Token)
     → Back (expression c ∷ f) t (step (expression c ∷ f) t)
 back_expression c f (token.Number n) = (refl, λ ps. ((number n, ps), refl))
 back_expression c f (token.Name x) = (refl, λ ps. ((variable x, ps), refl))
-back_expression c f (token.Keyword k) = back_word c k (word_of k) f (value_of k) (value_spelled c k)
+back_expression c f (token.Keyword k) = back_word c k (word_of k) f (value_made k)
 back_expression c f token.Bang = (refl, λ ps. ((negation ps.0, ps.1), refl))
 back_expression c f token.Open = (refl, λ ps. ((binary ps.1.0 ps.0 ps.1.1.0, ps.1.1.1.1), refl))
 back_expression c f t = tt
@@ -459,23 +418,23 @@ IsPlain branches = ⊥
 IsPlain loops = ⊥
 IsPlain b = Unit {0}
 
-abbrev pub back_action : (c : Context) (k : Keyword) (b : Beginning) (f : Pending) (make : ActionShape b → Action Name)
-    → ((v : ActionShape b) (after : List Mark) → action_marks c (make v) after ≡ begins_with c k ∷ beginning_marks c b
-    v after) → IsPlain b →
-    Back (items c ∷ f) (token.Keyword k) (begin_step c k b f)
-back_action c k no_statement f make spelled h = tt
-back_action c k (action g) f make spelled h = (
+abbrev pub back_action : (c : Context) (k : Keyword) (b : Beginning) (f : Pending)
+    → ((v : ActionShape b) → (a : Action Name)
+    × ((c : Context) (after : List Mark) → action_marks c a after ≡ begins_with c k ∷ beginning_marks c b v after))
+    → IsPlain b → Back (items c ∷ f) (token.Keyword k) (begin_step c k b f)
+back_action c k no_statement f made h = tt
+back_action c k (action g) f made h = (
   refl,
   λ ps.
       let q = form_split c g (items c ∷ f) ps in (
-        (next (does (make q.0)) q.1.0, q.1.1),
-        spelled q.0 (spell_all (items c ∷ f) q.1)
+        (next (does (made q.0).0) q.1.0, q.1.1),
+        (made q.0).1 c (spell_all (items c ∷ f) q.1)
             ∙ ap (λ ms. begins_with c k ∷ ms) (form_spelled c g (items c ∷ f) ps),
       ),
 )
-back_action c k branches f make spelled h = absurd h
-back_action c k loops f make spelled h = absurd h
-back_action c k goes_on f make spelled h = tt
+back_action c k branches f made h = absurd h
+back_action c k loops f made h = absurd h
+back_action c k goes_on f made h = tt
 
 abbrev pub back_items : (c : Context) (f : Pending) (t : Token) → Back (items c ∷ f) t (items_step c f t)
 back_items c f token.CloseBrace = (refl, λ ps. ((end, ps), refl))
@@ -483,7 +442,7 @@ back_items c f (token.Name x) = (refl, λ ps. ((next (does (assign x ps.1.0)) ps
 back_items c f (token.Keyword word.If) =
     (refl, λ ps. ((next (branch ps.0 ps.1.0 ps.1.1.0.0) ps.1.1.0.1, ps.1.1.1), refl))
 back_items c f (token.Keyword word.While) = (refl, λ ps. ((next (while ps.0 ps.1.0) ps.1.1.0, ps.1.1.1), refl))
-back_items c f (token.Keyword k) = back_action c k (beginning k) f (action_of k) (action_spelled c k) tt
+back_items c f (token.Keyword k) = back_action c k (beginning k) f (action_made k) tt
 back_items c f t = tt
 
 abbrev pub back_items_else : (c : Context) (f : Pending) (t : Token)

@@ -1,9 +1,8 @@
 -- The part of a text that was read, piece by piece.
-use Rattle.std.proofs.Common.{◌≡◌, ◌≢◌, ◌<◌, ◌≤◌, ◌+◌, ◌-◌, ◌||◌, ℕ, List, [], ◌∷◌, ◌++◌, get_or, length, drop, Bool}
-use Rattle.std.proofs.Common.{true, false, cond, Option, Some, None, refl, ap, sym, ◌∙◌, subst, arith, codes, map}
-use Rattle.std.proofs.Common.{add-zero}
+use Rattle.std.proofs.Common.{◌≡◌, ◌≢◌, ◌<◌, ◌≤◌, ◌+◌, ◌-◌, ℕ, List, [], ◌∷◌, ◌++◌, get_or, length, drop, Bool, true}
+use Rattle.std.proofs.Common.{false, cond, Option, Some, None, refl, ap, sym, ◌∙◌, subst, arith, codes, map, add-zero}
 use Rattle.std.specs.Prelude.{count_by, option_map, option_to_list}
-use Rattle.std.proofs.lemmas.Bool.{and_parts}
+use Rattle.std.proofs.lemmas.Bool.{and_parts, or_parts}
 use Rattle.std.proofs.lemmas.Bool.Decides.{nat_tests}
 use Rattle.std.proofs.lemmas.List.{append_assoc, append-nil, map-append, length-drop}
 use Rattle.std.specs.List.{list_all, list_any, cons_option}
@@ -16,10 +15,6 @@ use Rattle.program_tree.specs.Text.{text_of, AllFit, tokens_of, lines_from, IsLe
 use Rattle.program_reader.proofs.PieceLaws.{found_sign}
 
 -- ---- the LFs of a piece
-
-or_parts : (a b : Bool) → (a || b) ≡ false → (a ≡ false) × (b ≡ false)
-or_parts true b h = absurd cc
-or_parts false b h = (refl, h)
 
 count_none : (xs : List ℕ) → list_any is_feed xs ≡ false → count_by is_feed xs ≡ 0
 count_none [] h = refl
@@ -59,9 +54,6 @@ pub record HasRead (text : List ℕ) (tokens : List Token) (lines : List ℕ) (l
   pub goes_on : (more : List Piece) → rest ≡ text_of more → AllFit more
       → (all : List Piece) × (text ≡ text_of all) × AllFit all × (tokens_of all ≡ tokens ++ tokens_of more)
       × (lines_from 1 all ≡ lines ++ lines_from line more)
-
-pub nothing_read : (text : List ℕ) → HasRead text [] [] 1 text
-nothing_read text = record { goes_on = λ more spelled fit. (more, spelled, fit, refl, refl) }
 
 pub all_read : (text : List ℕ) (tokens : List Token) (lines : List ℕ) (line : ℕ) (rest : List ℕ)
     → HasRead text tokens lines line rest → length rest ≡ 0 → IsLexed text tokens (lines ++ line ∷ [])

@@ -1,6 +1,5 @@
 -- The process line, name by name.
-use Rattle.std.proofs.Common.{◌≡◌, suc, List, [], ◌∷◌, ◌++◌, length, drop, Some, refl, ap, sym, ◌∙◌, append_assoc}
-use Rattle.std.proofs.Common.{arith}
+use Rattle.std.proofs.Common.{◌≡◌, suc, List, [], ◌∷◌, ◌++◌, length, Some, refl, ap, sym, ◌∙◌, append_assoc, arith}
 use Rattle.std.proofs.lemmas.List.{append-nil}
 use Rattle.program_tree.specs.Faults.{Scope}
 use Rattle.program_tree.specs.Grammar.{tokens}
@@ -11,12 +10,12 @@ use Rattle.program_reader.specs.Machine.{from_semaphores, first_process, from_co
 use Rattle.program_reader.specs.Machine.{semicolon}
 use Rattle.program_tree.specs.Shapes.{Name}
 use Rattle.program_reader.specs.Steps.{ReadsSign}
-use Rattle.program_tree.specs.Tokens as token
 use Rattle.program_tree.specs.Tokens.{Token}
 use Rattle.program_tree.specs.Tree.{a_process}
 use Rattle.program_tree.specs.declared.error.ReadErrorKind.TheVariants.{NoProcess}
+use Rattle.program_tree.specs.Tokens as token
 use Rattle.program_tree.specs.declared.keyword.Keyword.TheVariants as word
-use Rattle.program_reader.proofs.ListLaws.{keyword_then, with_all-append}
+use Rattle.program_reader.proofs.ListLaws.{with_all-append}
 
 pub no_process : (s : Scope) (more : Pending) (old : List Token) → length old ≡ 0 → tell s (from_semaphores ∷ more) old
     ≡ fault NoProcess (length old)
@@ -33,78 +32,71 @@ unfit_process s more (t ∷ ts) h k l = refl
 
 first_fails : (s : Scope) (f : Pending) (old : List Token) (v : Verdict)
     → ((more : Pending) → tell s (new_name a_process ∷ more) old ≡ v) → tell s (first_process ∷ f) old ≡ v
-first_fails s f [] v h = h []
 first_fails s f (token.Name x ∷ ts) v h = h (from_comma x [] ∷ f)
-first_fails s f (t ∷ ts) v h = h []
+first_fails s f ts v h = h []
 
 more_fails : (s : Scope) (x : Name) (xs : List Name) (f : Pending) (old : List Token) (v : Verdict)
     → ((more : Pending) → tell s (new_name a_process ∷ more) old ≡ v) → tell s (more_process x xs ∷ f) old ≡ v
-more_fails s x xs f [] v h = h []
 more_fails s x xs f (token.Name y ∷ ts) v h = h (from_comma x (xs ++ y ∷ []) ∷ f)
-more_fails s x xs f (t ∷ ts) v h = h []
+more_fails s x xs f ts v h = h []
 
 pub process_fails : (s : Scope) (old m0 : List Token) (v : Verdict) (more : Pending)
-    → first old ≡ Some (token.Keyword word.Process) → m0 ≡ drop 1 old
+    → old ≡ token.Keyword word.Process ∷ m0
     → ((more : Pending) → tell s (new_name a_process ∷ more) m0 ≡ v)
     → tell s (from_semaphores ∷ more) old ≡ v
-process_fails s old m0 v more is from h = ap (tell s (from_semaphores ∷ more))
-    (keyword_then (token.Keyword word.Process) old m0 is from) ∙ first_fails s more m0 v h
+process_fails s old m0 v more split h = ap (tell s (from_semaphores ∷ more))
+    split ∙ first_fails s more m0 v h
 
 -- the first name
-pub has_first : (s m : Scope) (x : Name) (old m0 rest : List Token) → first old ≡ Some (token.Keyword word.Process)
-    → m0 ≡ drop 1 old → IsNew a_process s m x m0 rest → HasProcesses s m old rest
-has_first s m x old m0 rest is from r =
-    let split : old ≡ token.Keyword word.Process ∷ m0 = keyword_then (token.Keyword word.Process) old m0 is from in
-    record {
-      first = x;
-      others = [];
-      added = r.added;
-      spelled = λ more ms e. split ∙ ap (λ ts. token.Keyword word.Process ∷ ts)
-          (r.spelled ∙ ap (λ ts. token.Name x ∷ ts) (sym e));
-      goes_on = λ f.
-          ap (tell s (from_semaphores ∷ f)) split ∙ ap (tell s (first_process ∷ f)) r.spelled
-          ∙ ap (λ o. fault_or o (suc (length rest)) (tell (with_names s (with_new s.names a_process x))
-          (from_comma x [] ∷ f) rest)) r.sound ∙ ap (λ z. tell z (from_comma x [] ∷ f) rest) (sym r.added);
-    }
+pub has_first : (s m : Scope) (x : Name) (old m0 rest : List Token) → old ≡ token.Keyword word.Process ∷ m0 → IsNew
+    a_process s m x m0 rest → HasProcesses s m old rest
+has_first s m x old m0 rest split r = record {
+  first = x;
+  others = [];
+  added = r.added;
+  spelled = λ more ms e. split ∙ ap (λ ts. token.Keyword word.Process ∷ ts)
+      (r.spelled ∙ ap (λ ts. token.Name x ∷ ts) (sym e));
+  goes_on = λ f.
+      ap (tell s (from_semaphores ∷ f)) split ∙ ap (tell s (first_process ∷ f)) r.spelled
+      ∙ ap (λ o. fault_or o (suc (length rest)) (tell (with_names s (with_new s.names a_process x))
+      (from_comma x [] ∷ f) rest)) r.sound ∙ ap (λ z. tell z (from_comma x [] ∷ f) rest) (sym r.added);
+}
 
 -- a further one
 pub has_more : (s m s' : Scope) (x : Name) (old rest m0 new : List Token) → HasProcesses s m old rest
-    → first rest ≡ Some token.Comma → m0 ≡ drop 1 rest → IsNew a_process m s' x m0 new → HasProcesses s s' old new
-has_more s m s' x old rest m0 new h is from r =
-    let split : rest ≡ token.Comma ∷ m0 = keyword_then token.Comma rest m0 is from in
-    record {
-      first = h.first;
-      others = h.others ++ x ∷ [];
-      added =
-          r.added ∙ ap (λ z. with_names z (with_new z.names a_process x)) h.added
-          ∙ ap (with_names s) (sym (with_all-append s.names a_process (h.first ∷ h.others) x));
-      spelled = λ more ms e.
-          h.spelled (x ∷ more) ms (sym (split ∙ ap (λ ts. token.Comma ∷ ts)
-          (r.spelled ∙ ap (λ ts. token.Name x ∷ ts) (sym e))))
-          ∙ ap (λ z. token.Keyword word.Process ∷ token.Name h.first ∷ tokens (line_marks z ms))
-          (sym (append_assoc h.others (x ∷ []) more));
-      goes_on = λ f.
-          h.goes_on f ∙ ap (tell m (from_comma h.first h.others ∷ f)) split
-          ∙ ap (tell m (more_process h.first h.others ∷ f)) r.spelled
-          ∙ ap (λ o. fault_or o (suc (length new)) (tell (with_names m (with_new m.names a_process x))
-          (from_comma h.first (h.others ++ x ∷ []) ∷ f) new)) r.sound
-          ∙ ap (λ z. tell z (from_comma h.first (h.others ++ x ∷ []) ∷ f) new) (sym r.added);
-    }
+    → rest ≡ token.Comma ∷ m0 → IsNew a_process m s' x m0 new → HasProcesses s s' old new
+has_more s m s' x old rest m0 new h split r = record {
+  first = h.first;
+  others = h.others ++ x ∷ [];
+  added =
+      r.added ∙ ap (λ z. with_names z (with_new z.names a_process x)) h.added
+      ∙ ap (with_names s) (sym (with_all-append s.names a_process (h.first ∷ h.others) x));
+  spelled = λ more ms e.
+      h.spelled (x ∷ more) ms (sym (split ∙ ap (λ ts. token.Comma ∷ ts)
+      (r.spelled ∙ ap (λ ts. token.Name x ∷ ts) (sym e))))
+      ∙ ap (λ z. token.Keyword word.Process ∷ token.Name h.first ∷ tokens (line_marks z ms))
+      (sym (append_assoc h.others (x ∷ []) more));
+  goes_on = λ f.
+      h.goes_on f ∙ ap (tell m (from_comma h.first h.others ∷ f)) split
+      ∙ ap (tell m (more_process h.first h.others ∷ f)) r.spelled
+      ∙ ap (λ o. fault_or o (suc (length new)) (tell (with_names m (with_new m.names a_process x))
+      (from_comma h.first (h.others ++ x ∷ []) ∷ f) new)) r.sound
+      ∙ ap (λ z. tell z (from_comma h.first (h.others ++ x ∷ []) ∷ f) new) (sym r.added);
+}
 
 pub more_process_fails : (s m : Scope) (old rest m0 : List Token) (v : Verdict) (more : Pending)
-    → HasProcesses s m old rest → first rest ≡ Some token.Comma → m0 ≡ drop 1 rest
+    → HasProcesses s m old rest → rest ≡ token.Comma ∷ m0
     → ((more : Pending) → tell m (new_name a_process ∷ more) m0 ≡ v)
     → tell s (from_semaphores ∷ more) old ≡ v
-more_process_fails s m old rest m0 v more h is from e =
-    h.goes_on more ∙ ap (tell m (from_comma h.first h.others ∷ more)) (keyword_then token.Comma rest m0 is from)
+more_process_fails s m old rest m0 v more h split e =
+    h.goes_on more ∙ ap (tell m (from_comma h.first h.others ∷ more)) split
     ∙ more_fails m h.first h.others more m0 v e
 
 -- its end
 no_comma : (s : Scope) (x : Name) (xs : List Name) (f : Pending) (ts : List Token) → (first ts ≡ Some token.Comma → ⊥)
     → tell s (from_comma x xs ∷ f) ts ≡ tell s (semicolon ∷ from_autostart x xs ∷ f) ts
-no_comma s x xs f [] h = refl
 no_comma s x xs f (token.Comma ∷ ts) h = absurd (h refl)
-no_comma s x xs f (t ∷ ts) h = refl
+no_comma s x xs f ts h = refl
 
 pub has_all : (s m : Scope) (old rest r new : List Token) → HasProcesses s m old rest
     → (first rest ≡ Some token.Comma → ⊥) → r ≡ rest → ReadsSign semicolon token.Semicolon r new

@@ -1,29 +1,31 @@
 -- Lists of declarations, one by one.
-use Rattle.std.proofs.Common.{◌≡◌, ◌<◌, ◌≤◌, ℕ, List, [], ◌∷◌, ◌++◌, length, drop, map, Some, refl, ap, sym, subst}
-use Rattle.std.proofs.Common.{◌∙◌, append_assoc, arith}
+use Rattle.std.proofs.Common.{◌≡◌, ◌<◌, ◌≤◌, ℕ, List, [], ◌∷◌, ◌++◌, length, map, refl, ap, sym, ◌∙◌, append_assoc}
+use Rattle.std.proofs.Common.{arith, Err, Result}
 use Rattle.std.proofs.lemmas.List.{map-append, append-nil}
+use Rattle.std.proofs.lemmas.Result.{err_from_is_err_and}
 use Rattle.program_tree.specs.Faults.{Scope}
-use Rattle.program_tree.specs.Grammar.{Mark, tokens, event_marks, semaphore_marks, variable_marks, etimer_marks}
-use Rattle.program_reader.specs.Head.{with_all, HasDeclared, Declares, itself, HasNames, ReadsNames, HasValues}
-use Rattle.program_reader.specs.Head.{ReadsValues, IsListed, IsValued}
+use Rattle.program_tree.specs.Grammar.{Mark, tokens}
+use Rattle.program_reader.specs.Head.{with_all, HasDeclared, Declares, itself, HasNames, HasValues, IsListed, IsValued}
+use Rattle.program_reader.specs.Head.{with_names}
 use Rattle.program_tree.specs.InScope.{Names, with_new}
-use Rattle.program_reader.specs.Machine as machine
-use Rattle.program_reader.specs.Machine.{Symbol, Pending, Verdict, tell, first, new_name, from_events}
-use Rattle.program_reader.specs.Machine.{from_semaphores, from_variables, from_etimers, from_ctimers}
-use Rattle.program_tree.specs.Shapes.{Name}
-use Rattle.program_tree.specs.Tokens as token
+use Rattle.program_reader.specs.Machine.{Symbol, Pending, Verdict, tell, new_name}
+use Rattle.program_tree.specs.Shapes.{Name, Valued}
 use Rattle.program_tree.specs.Tokens.{Token}
-use Rattle.program_tree.specs.Tree.{Class, an_event, a_semaphore, a_variable, a_timer}
-use Rattle.program_tree.specs.declared.keyword.Keyword.TheVariants as word
-use Rattle.program_reader.proofs.NameSteps.{front_of}
-use Rattle.program_reader.proofs.Stages.{no_events, no_variables, no_etimers}
+use Rattle.program_tree.specs.Tree.{Class}
+use Rattle.program_reader.specs.declared.fault.Fault.{Fault}
+use Rattle.std.specs.Prelude.{IsErrAnd}
+use Rattle.program_tree.specs.declared.keyword.Keyword.{Keyword}
+use Rattle.program_reader.specs.declared.fault.Refusal.{Refusal}
+use Rattle.program_reader.specs.Machine as machine
+use Rattle.program_tree.specs.Tokens as token
+use Rattle.program_reader.specs.declared.fault.Refusal.TheVariants as refusal
 
 pub with_all-append : (names : Names) (c : Class) (xs : List Name) (x : Name) → with_all names c (xs ++ x ∷ [])
     ≡ with_new (with_all names c xs) c x
 with_all-append names c [] x = refl
 with_all-append names c (y ∷ ys) x = with_all-append (with_new names c y) c ys x
 
-pub none_declared : {A : Type 0} (c : Class) (name_of : A → Name) (y : Symbol) (marks : List A → List Mark → List Mark)
+none_declared : {A : Type 0} (c : Class) (name_of : A → Name) (y : Symbol) (marks : List A → List Mark → List Mark)
     (s : Scope) (old : List Token) → HasDeclared c name_of y marks [] s s old old
 none_declared c name_of y marks s old = record {
   added = refl;
@@ -32,201 +34,90 @@ none_declared c name_of y marks s old = record {
   goes_on = λ f. refl;
 }
 
-pub one_declared : {A : Type 0} (c : Class) (name_of : A → Name) (y : Symbol) (marks : List A → List Mark → List Mark)
-    (items : List A) (x : A) (s m s' : Scope) (old rest new : List Token)
-    → HasDeclared c name_of y marks items s m old rest → s'.names ≡ with_new m.names c (name_of x)
-    → s'.starting ≡ m.starting
+pub no_names_yet : (c : Class) (y : Symbol) (marks : List Name → List Mark → List Mark) (s : Scope) (old : List Token)
+    → HasNames c y marks s s old old
+no_names_yet c y marks s old = ([], none_declared c itself y marks s old)
+
+pub no_values_yet : (c : Class) (y : Symbol) (marks : List Valued → List Mark → List Mark) (s : Scope)
+    (old : List Token) → HasValues c y marks [] s s old old
+no_values_yet c y marks s old = ([], refl, none_declared c (λ v. v.0) y marks s old)
+
+one_declared : {A : Type 0} {c : Class} {name_of : A → Name} {y : Symbol} {marks : List A → List Mark → List Mark}
+    {items : List A} {s m s' : Scope} {old rest new : List Token} (x : A)
+    → HasDeclared c name_of y marks items s m old rest → s' ≡ with_names m (with_new m.names c (name_of x))
     → ((more : List A) (ms : List Mark) → tokens (marks more ms) ≡ new → rest ≡ tokens (marks (x ∷ more) ms))
     → ((f : Pending) → tell m (y ∷ f) rest ≡ tell s' (y ∷ f) new)
     → HasDeclared c name_of y marks (items ++ x ∷ []) s s' old new
-one_declared c name_of y marks items x s m s' old rest new h added starting spelled goes = record {
+one_declared {c = c} {name_of = name_of} {marks = marks} {items = items} {s = s} x h added spelled goes = record {
   added =
-      added ∙ ap (λ z. with_new z c (name_of x)) h.added
+      ap (λ z. z.names) added ∙ ap (λ z. with_new z c (name_of x)) h.added
       ∙ sym (with_all-append s.names c (map name_of items) (name_of x))
       ∙ ap (with_all s.names c) (sym (map-append name_of items (x ∷ [])));
-  starting = starting ∙ h.starting;
+  starting = ap (λ z. z.starting) added ∙ h.starting;
   spelled = λ more ms e. h.spelled (x ∷ more) ms (sym (spelled more ms e)) ∙ ap (λ z. tokens (marks z ms))
       (sym (append_assoc items (x ∷ []) more));
   goes_on = λ f. h.goes_on f ∙ goes f;
 }
 
-pub all_declared : {A : Type 0} (c : Class) (name_of : A → Name) (y z : Symbol) (marks : List A → List Mark
-    → List Mark) (items : List A) (s s' : Scope) (old rest : List Token)
-    → HasDeclared c name_of y marks items s s' old rest → ((ms : List Mark) → marks [] ms ≡ ms)
-    → ((f : Pending) → tell s' (y ∷ f) rest ≡ tell s' (z ∷ f) rest)
-    → Declares c name_of y z marks items s s' old rest
-all_declared c name_of y z marks items s s' old rest h none passed = record {
+-- a further declaration: the tokens of its marks, and the step at its keyword
+
+pub names_more : {c : Class} {y : Symbol} {k : Keyword} {marks : List Name → List Mark → List Mark} {s m s' : Scope}
+    {old rest m0 new : List Token} → HasNames c y marks s m old rest → rest ≡ token.Keyword k ∷ m0
+    → IsListed c m s' m0 new
+    → ((x : Name) (more : List Name) (ms : List Mark) → tokens (marks (x ∷ more) ms)
+    ≡ token.Keyword k ∷ token.Name x ∷ token.Semicolon ∷ tokens (marks more ms))
+    → ((f : Pending) → tell m (y ∷ f) (token.Keyword k ∷ m0) ≡ tell m (new_name c ∷ machine.semicolon ∷ y ∷ f) m0)
+    → HasNames c y marks s s' old new
+names_more {y = y} {k = k} {m = m} h split p spells steps = (
+  h.0 ++ p.name ∷ [],
+  one_declared p.name h.1 p.added (λ more ms e. split ∙ ap (λ ts. token.Keyword k ∷ ts)
+      (p.spelled ∙ ap (λ ts. token.Name p.name ∷ token.Semicolon ∷ ts) (sym e)) ∙ sym (spells p.name more ms))
+      (λ f. ap (tell m (y ∷ f)) split ∙ steps f ∙ p.goes_on (y ∷ f)),
+)
+
+pub values_more : {c : Class} {y : Symbol} {k : Keyword} {marks : List Valued → List Mark → List Mark}
+    {values values' : List ℕ} {s m s' : Scope} {old rest m0 new : List Token}
+    → HasValues c y marks values s m old rest → rest ≡ token.Keyword k ∷ m0 → IsValued c m s' values values' m0 new
+    → ((v : Valued) (more : List Valued) (ms : List Mark) → tokens (marks (v ∷ more) ms) ≡ token.Keyword k
+    ∷ token.Name v.0 ∷ token.Equals ∷ token.Number v.1 ∷ token.Semicolon ∷ tokens (marks more ms))
+    → ((f : Pending) → tell m (y ∷ f) (token.Keyword k ∷ m0)
+    ≡ tell m (new_name c ∷ machine.equals ∷ machine.number ∷ machine.semicolon ∷ y ∷ f) m0)
+    → HasValues c y marks values' s s' old new
+values_more {y = y} {k = k} {m = m} h split p spells steps = (
+  h.0 ++ (p.name, p.value) ∷ [],
+  p.pushed ∙ ap (λ z. z ++ p.value ∷ []) h.1 ∙ sym (map-append (λ v. v.1) h.0 ((p.name, p.value) ∷ [])),
+  one_declared (p.name, p.value) h.2 p.added (λ more ms e. split ∙ ap (λ ts. token.Keyword k ∷ ts)
+      (p.spelled ∙ ap (λ ts. token.Name p.name ∷ token.Equals ∷ token.Number p.value ∷ token.Semicolon ∷ ts) (sym e))
+      ∙ sym (spells (p.name, p.value) more ms))
+      (λ f. ap (tell m (y ∷ f)) split ∙ steps f ∙ p.goes_on (y ∷ f)),
+)
+
+-- the last of them is read
+pub all_declared : {A : Type 0} {c : Class} {name_of : A → Name} {y z : Symbol} {marks : List A → List Mark → List Mark}
+    {items : List A} {s s' : Scope} {old rest new : List Token} → HasDeclared c name_of y marks items s s' old rest
+    → ((ms : List Mark) → marks [] ms ≡ ms) → ((f : Pending) → tell s' (y ∷ f) rest ≡ tell s' (z ∷ f) rest)
+    → new ≡ rest → Declares c name_of y z marks items s s' old new
+all_declared {z = z} {marks = marks} {items = items} {s' = s'} h none passed same = record {
   added = h.added;
   starting = h.starting;
-  spelled = λ ms e. h.spelled [] ms (ap tokens (none ms) ∙ e) ∙ ap (λ v. tokens (marks v ms)) (append-nil items);
-  goes_on = λ f. h.goes_on f ∙ passed f;
+  spelled = λ ms e. h.spelled [] ms (ap tokens (none ms) ∙ e ∙ same) ∙ ap (λ v. tokens (marks v ms)) (append-nil items);
+  goes_on = λ f. h.goes_on f ∙ passed f ∙ ap (tell s' (z ∷ f)) (sym same);
 }
 
-pub shorter_from : (t : Token) (old m0 new : List Token) → first old ≡ Some t → m0 ≡ drop 1 old
-    → length new ≤ length m0 → length new < length old
-shorter_from t [] m0 new is from h = absurd cc
-shorter_from t (x ∷ ts) m0 new is from h = let e : length m0 ≡ length ts = ap length from in omega arith
+-- a fault in a further one
+pub declared_fails : {A : Type 0} {c : Class} {name_of : A → Name} {y : Symbol} {marks : List A → List Mark → List Mark}
+    {items : List A} {s m : Scope} {old rest m0 : List Token} {k : Keyword} {v : Verdict} (more : Pending)
+    → HasDeclared c name_of y marks items s m old rest → rest ≡ token.Keyword k ∷ m0
+    → tell m (y ∷ more) (token.Keyword k ∷ m0) ≡ v → tell s (y ∷ more) old ≡ v
+declared_fails {y = y} {m = m} more h split e = h.goes_on more ∙ ap (tell m (y ∷ more)) split ∙ e
 
--- a token and those after it
-pub keyword_then : (t : Token) (rest m0 : List Token) → first rest ≡ Some t → m0 ≡ drop 1 rest → rest ≡ t ∷ m0
-keyword_then t rest m0 is from = front_of rest t is ∙ ap (λ ts. t ∷ ts) (sym from)
+pub shorter_behind : (t : Token) (old m0 new : List Token) → old ≡ t ∷ m0 → length new ≤ length m0
+    → length new < length old
+shorter_behind t old m0 new split h = omega (arith, ap length split)
 
-pub no_events_yet : (s : Scope) (old : List Token) → HasNames an_event from_events event_marks s s old old
-no_events_yet s old = ([], none_declared an_event itself from_events event_marks s old)
+pub ruleset list_steps = (no_names_yet, no_values_yet, shorter_behind)
 
-pub events_more : (s m s' : Scope) (old rest m0 new : List Token)
-    → HasNames an_event from_events event_marks s m old rest → first rest ≡ Some (token.Keyword word.Event)
-    → m0 ≡ drop 1 rest → IsListed an_event m s' m0 new
-    → HasNames an_event from_events event_marks s s' old new
-events_more s m s' old rest m0 new h is from p =
-    let split : rest ≡ token.Keyword word.Event ∷ m0 = keyword_then (token.Keyword word.Event) rest m0 is from in (
-      h.0 ++ p.name ∷ [],
-      one_declared an_event itself from_events event_marks h.0 p.name s m s' old rest new h.1
-          (ap (λ z. z.names) p.added) (ap (λ z. z.starting) p.added)
-          (λ more ms e. split ∙ ap (λ ts. token.Keyword word.Event ∷ ts)
-          (p.spelled ∙ ap (λ ts. token.Name p.name ∷ token.Semicolon ∷ ts) (sym e)))
-          (λ f. ap (tell m (from_events ∷ f)) split ∙ p.goes_on (from_events ∷ f)),
-    )
-
-pub all_events : (s s' : Scope) (old rest new : List Token) → HasNames an_event from_events event_marks s s' old rest
-    → (first rest ≡ Some (token.Keyword word.Event) → ⊥) → new ≡ rest
-    → ReadsNames an_event from_events from_semaphores event_marks s s' old new
-all_events s s' old rest new h other same =
-    subst (λ ts. ReadsNames an_event from_events from_semaphores event_marks s s' old ts) (sym same) (
-      h.0,
-      all_declared an_event itself from_events from_semaphores event_marks h.0 s s' old rest h.1 (λ ms. refl)
-          (λ f. no_events s' f rest other),
-    )
-
-pub events_fail : (s m : Scope) (old rest m0 : List Token) (v : Verdict) (more : Pending)
-    → HasNames an_event from_events event_marks s m old rest → first rest ≡ Some (token.Keyword word.Event)
-    → m0 ≡ drop 1 rest
-    → tell m (new_name an_event ∷ machine.semicolon ∷ from_events ∷ more) m0 ≡ v → tell s (from_events ∷ more) old ≡ v
-events_fail s m old rest m0 v more h is from e =
-    h.1.goes_on more ∙ ap (tell m (from_events ∷ more)) (keyword_then (token.Keyword word.Event) rest m0 is from) ∙ e
-
-pub no_semaphores_yet : (s : Scope) (old : List Token) → HasValues a_semaphore from_semaphores semaphore_marks [] s s
-    old old
-no_semaphores_yet s old = ([], refl, none_declared a_semaphore (λ v. v.0) from_semaphores semaphore_marks s old)
-
-pub semaphores_more : (values values' : List ℕ) (s m s' : Scope) (old rest m0 new : List Token)
-    → HasValues a_semaphore from_semaphores semaphore_marks values s m old rest
-    → first rest ≡ Some (token.Keyword word.Semaphore) → m0 ≡ drop 1 rest
-    → IsValued a_semaphore m s' values values' m0 new
-    → HasValues a_semaphore from_semaphores semaphore_marks values' s s' old new
-semaphores_more values values' s m s' old rest m0 new h is from p =
-    let split : rest ≡ token.Keyword word.Semaphore ∷ m0 =
-    keyword_then (token.Keyword word.Semaphore) rest m0 is from in (
-      h.0 ++ (p.name, p.value) ∷ [],
-      p.pushed ∙ ap (λ z. z ++ p.value ∷ []) h.1 ∙ sym (map-append (λ v. v.1) h.0 ((p.name, p.value) ∷ [])),
-      one_declared a_semaphore (λ v. v.0) from_semaphores semaphore_marks h.0 (p.name, p.value) s m s' old rest new h.2
-          (ap (λ z. z.names) p.added) (ap (λ z. z.starting) p.added)
-          (λ more ms e. split ∙ ap (λ ts. token.Keyword word.Semaphore ∷ ts)
-          (p.spelled ∙ ap (λ ts. token.Name p.name ∷ token.Equals ∷ token.Number p.value ∷ token.Semicolon ∷ ts)
-          (sym e)))
-          (λ f. ap (tell m (from_semaphores ∷ f)) split ∙ p.goes_on (from_semaphores ∷ f)),
-    )
-
-pub all_semaphores : (values : List ℕ) (s s' : Scope) (old rest new : List Token)
-    → HasValues a_semaphore from_semaphores semaphore_marks values s s' old rest
-    → (first rest ≡ Some (token.Keyword word.Semaphore) → ⊥) → new ≡ rest
-    → ReadsValues a_semaphore from_semaphores from_semaphores semaphore_marks values s s' old new
-all_semaphores values s s' old rest new h other same =
-    subst (λ ts. ReadsValues a_semaphore from_semaphores from_semaphores semaphore_marks values s s' old ts)
-    (sym same) (
-      h.0,
-      h.1,
-      all_declared a_semaphore (λ v. v.0) from_semaphores from_semaphores semaphore_marks h.0 s s' old
-          rest h.2 (λ ms. refl) (λ f. refl),
-    )
-
-pub semaphores_fail : (values : List ℕ) (s m : Scope) (old rest m0 : List Token) (v : Verdict) (more : Pending)
-    → HasValues a_semaphore from_semaphores semaphore_marks values s m old rest
-    → first rest ≡ Some (token.Keyword word.Semaphore) → m0 ≡ drop 1 rest
-    → tell m (new_name a_semaphore ∷ machine.equals ∷ machine.number ∷ machine.semicolon ∷ from_semaphores ∷ more) m0
-    ≡ v → tell s (from_semaphores ∷ more) old ≡ v
-semaphores_fail values s m old rest m0 v more h is from e =
-    h.2.goes_on more ∙ ap (tell m (from_semaphores ∷ more))
-    (keyword_then (token.Keyword word.Semaphore) rest m0 is from) ∙ e
-
-pub no_variables_yet : (s : Scope) (old : List Token) → HasValues a_variable from_variables variable_marks [] s s old
-    old
-no_variables_yet s old = ([], refl, none_declared a_variable (λ v. v.0) from_variables variable_marks s old)
-
-pub variables_more : (values values' : List ℕ) (s m s' : Scope) (old rest m0 new : List Token)
-    → HasValues a_variable from_variables variable_marks values s m old rest
-    → first rest ≡ Some (token.Keyword word.Var) → m0 ≡ drop 1 rest → IsValued a_variable m s' values values' m0 new
-    → HasValues a_variable from_variables variable_marks values' s s' old new
-variables_more values values' s m s' old rest m0 new h is from p =
-    let split : rest ≡ token.Keyword word.Var ∷ m0 = keyword_then (token.Keyword word.Var) rest m0 is from in (
-      h.0 ++ (p.name, p.value) ∷ [],
-      p.pushed ∙ ap (λ z. z ++ p.value ∷ []) h.1 ∙ sym (map-append (λ v. v.1) h.0 ((p.name, p.value) ∷ [])),
-      one_declared a_variable (λ v. v.0) from_variables variable_marks h.0 (p.name, p.value) s m s' old rest new h.2
-          (ap (λ z. z.names) p.added) (ap (λ z. z.starting) p.added)
-          (λ more ms e. split ∙ ap (λ ts. token.Keyword word.Var ∷ ts)
-          (p.spelled ∙ ap (λ ts. token.Name p.name ∷ token.Equals ∷ token.Number p.value ∷ token.Semicolon ∷ ts)
-          (sym e)))
-          (λ f. ap (tell m (from_variables ∷ f)) split ∙ p.goes_on (from_variables ∷ f)),
-    )
-
-pub all_variables : (values : List ℕ) (s s' : Scope) (old rest new : List Token)
-    → HasValues a_variable from_variables variable_marks values s s' old rest
-    → (first rest ≡ Some (token.Keyword word.Var) → ⊥) → new ≡ rest
-    → ReadsValues a_variable from_variables from_etimers variable_marks values s s' old new
-all_variables values s s' old rest new h other same =
-    subst (λ ts. ReadsValues a_variable from_variables from_etimers variable_marks values s s' old ts) (sym same) (
-      h.0,
-      h.1,
-      all_declared a_variable (λ v. v.0) from_variables from_etimers variable_marks h.0 s s' old rest h.2
-          (λ ms. refl) (λ f. no_variables s' f rest other),
-    )
-
-pub variables_fail : (values : List ℕ) (s m : Scope) (old rest m0 : List Token) (v : Verdict) (more : Pending)
-    → HasValues a_variable from_variables variable_marks values s m old rest
-    → first rest ≡ Some (token.Keyword word.Var) → m0 ≡ drop 1 rest
-    → tell m (new_name a_variable ∷ machine.equals ∷ machine.number ∷ machine.semicolon ∷ from_variables ∷ more) m0 ≡ v
-    → tell s (from_variables ∷ more) old ≡ v
-variables_fail values s m old rest m0 v more h is from e =
-    h.2.goes_on more ∙ ap (tell m (from_variables ∷ more)) (keyword_then (token.Keyword word.Var) rest m0 is from) ∙ e
-
-pub no_etimers_yet : (s : Scope) (old : List Token) → HasNames a_timer from_etimers etimer_marks s s old old
-no_etimers_yet s old = ([], none_declared a_timer itself from_etimers etimer_marks s old)
-
-pub etimers_more : (s m s' : Scope) (old rest m0 new : List Token)
-    → HasNames a_timer from_etimers etimer_marks s m old rest → first rest ≡ Some (token.Keyword word.Etimer)
-    → m0 ≡ drop 1 rest → IsListed a_timer m s' m0 new
-    → HasNames a_timer from_etimers etimer_marks s s' old new
-etimers_more s m s' old rest m0 new h is from p =
-    let split : rest ≡ token.Keyword word.Etimer ∷ m0 = keyword_then (token.Keyword word.Etimer) rest m0 is from in (
-      h.0 ++ p.name ∷ [],
-      one_declared a_timer itself from_etimers etimer_marks h.0 p.name s m s' old rest new h.1
-          (ap (λ z. z.names) p.added) (ap (λ z. z.starting) p.added)
-          (λ more ms e. split ∙ ap (λ ts. token.Keyword word.Etimer ∷ ts)
-          (p.spelled ∙ ap (λ ts. token.Name p.name ∷ token.Semicolon ∷ ts) (sym e)))
-          (λ f. ap (tell m (from_etimers ∷ f)) split ∙ p.goes_on (from_etimers ∷ f)),
-    )
-
-pub all_etimers : (s s' : Scope) (old rest new : List Token) → HasNames a_timer from_etimers etimer_marks s s' old rest
-    → (first rest ≡ Some (token.Keyword word.Etimer) → ⊥) → new ≡ rest
-    → ReadsNames a_timer from_etimers from_ctimers etimer_marks s s' old new
-all_etimers s s' old rest new h other same =
-    subst (λ ts. ReadsNames a_timer from_etimers from_ctimers etimer_marks s s' old ts) (sym same) (
-      h.0,
-      all_declared a_timer itself from_etimers from_ctimers etimer_marks h.0 s s' old rest h.1 (λ ms. refl)
-          (λ f. no_etimers s' f rest other),
-    )
-
-pub etimers_fail : (s m : Scope) (old rest m0 : List Token) (v : Verdict) (more : Pending)
-    → HasNames a_timer from_etimers etimer_marks s m old rest → first rest ≡ Some (token.Keyword word.Etimer)
-    → m0 ≡ drop 1 rest
-    → tell m (new_name a_timer ∷ machine.semicolon ∷ from_etimers ∷ more) m0 ≡ v → tell s (from_etimers ∷ more) old ≡ v
-etimers_fail s m old rest m0 v more h is from e =
-    h.1.goes_on more ∙ ap (tell m (from_etimers ∷ more)) (keyword_then (token.Keyword word.Etimer) rest m0 is from) ∙ e
-
-pub ruleset events_steps = (no_events_yet, shorter_from)
-
-pub ruleset semaphores_steps = (no_semaphores_yet, shorter_from)
-
-pub ruleset variables_steps = (no_variables_yet, shorter_from)
-
-pub ruleset etimers_steps = (no_etimers_yet, shorter_from)
+-- a fault that `?` hands on
+pub handed_on : {T U : Type 0} {r : Result U Refusal} {a : Refusal} {f : Fault} → IsErrAnd r (λ e. e ≡ a)
+    → r ≡ Err (refusal.Fault f) → ◌≡◌ {A = Result T Refusal} (Err a) (Err (refusal.Fault f))
+handed_on {r = r} h e = let p = err_from_is_err_and r h in cc (p.1, p.2, e)

@@ -13,10 +13,10 @@ use Rattle.program_tree.specs.InScope.{Names, outside}
 use Rattle.program_reader.specs.Machine.{Pending, tell, codes_form, last_brace}
 use Rattle.program_tree.specs.Numbers.{named_of, values_of, block_in, inside, code_in}
 use Rattle.program_tree.specs.ShapeOf.{code_shape}
-use Rattle.program_tree.specs.Shapes.{Name, Valued, Named, CodeShape}
-use Rattle.program_tree.specs.Tokens as token
+use Rattle.program_tree.specs.Shapes.{Name, Valued, CodeShape}
 use Rattle.program_tree.specs.Tokens.{Token}
 use Rattle.program_tree.specs.Tree.{Body}
+use Rattle.program_tree.specs.Tokens as token
 use Rattle.program_tree.specs.declared.keyword.Keyword.TheVariants as word
 use Rattle.program_reader.proofs.ExtendLaws.{extends_itself}
 
@@ -40,17 +40,16 @@ maybe_again n None h = refl
 maybe_again n (Some b) h = ap Some (h n (extends_itself n))
 
 -- the shape of a code
-abbrev pub shape_in : (es cs : List Name) (starts : List ℕ) (callbacks thread_bodies : List (Body ℕ))
-    (on_poll on_exit : Option (Body ℕ)) (body : Body ℕ) (s s' : Scope) (old new : List Token)
-    → ReadsContent es cs starts callbacks thread_bodies on_poll on_exit body s s' old new → CodeShape
-shape_in es cs starts callbacks thread_bodies on_poll on_exit body s s' old new r = record {
-  variables = r.variables;
-  etimers = r.etimers;
-  ctimers = all_written s'.names r.ctimers;
-  threads = all_written s'.names r.threads;
-  on_poll = option_map (written s'.names) on_poll;
-  on_exit = option_map (written s'.names) on_exit;
-  body = written s'.names body;
+abbrev shape_from : Names → List Valued → List Name → List (Name × (Body ℕ)) → List (Name × (Body ℕ))
+    → (on_poll on_exit : Option (Body ℕ)) → Body ℕ → CodeShape
+shape_from n vs es cs ts on_poll on_exit body = record {
+  variables = vs;
+  etimers = es;
+  ctimers = all_written n cs;
+  threads = all_written n ts;
+  on_poll = option_map (written n) on_poll;
+  on_exit = option_map (written n) on_exit;
+  body = written n body;
 }
 
 abbrev pub made : (process first_timer : ℕ) (variables : List Name) (starts : List ℕ) (es cs : List Name)
@@ -71,17 +70,12 @@ made process first_timer variables starts es cs callbacks threads thread_bodies 
   body = body;
 }
 
-pub same_made : (k f f' : ℕ) (v v' : List Name) (starts : List ℕ) (e e' c c' : List Name) (callbacks : List (Body ℕ))
-    (t t' : List Name) (thread_bodies : List (Body ℕ)) (on_poll on_exit : Option (Body ℕ)) (body : Body ℕ) → v ≡ v'
+pub same_made : {k f f' : ℕ} {v v' : List Name} {starts : List ℕ} {e e' c c' : List Name} {callbacks : List (Body ℕ)}
+    {t t' : List Name} {thread_bodies : List (Body ℕ)} {on_poll on_exit : Option (Body ℕ)} {body : Body ℕ} → v ≡ v'
     → f ≡ f' → e ≡ e' → c ≡ c' → t ≡ t'
     → made k f v starts e c callbacks t thread_bodies on_poll on_exit body ≡ made k f' v' starts e' c' callbacks t'
     thread_bodies on_poll on_exit body
-same_made k f f' v v' starts e e' c c' callbacks t t' thread_bodies on_poll on_exit body hv hf he hc ht =
-    ap (λ z. made k f z starts e c callbacks t thread_bodies on_poll on_exit body) hv
-    ∙ ap (λ z. made k z v' starts e c callbacks t thread_bodies on_poll on_exit body) hf
-    ∙ ap (λ z. made k f' v' starts z c callbacks t thread_bodies on_poll on_exit body) he
-    ∙ ap (λ z. made k f' v' starts e' z callbacks t thread_bodies on_poll on_exit body) hc
-    ∙ ap (λ z. made k f' v' starts e' c' callbacks z thread_bodies on_poll on_exit body) ht
+same_made hv hf he hc ht = cc
 
 -- a list of pairs, split into names and values, and zipped again
 pub zipped : {T : Type 0} (ps : List (Name × T)) → zip (named_of ps) (values_of ps) ≡ ps
@@ -93,30 +87,6 @@ zipped_written : (n : Names) (ps : List (Name × (Body ℕ))) → zip (named_of 
 zipped_written n [] = refl
 zipped_written n (p ∷ ps) = ap (λ z. (p.0, written n p.1) ∷ z) (zipped_written n ps)
 
-abbrev shape_from : Names → List Valued → List Name → List (Name × (Body ℕ)) → List (Name × (Body ℕ))
-    → (on_poll on_exit : Option (Body ℕ)) → Body ℕ → CodeShape
-shape_from n vs es cs ts on_poll on_exit body = record {
-  variables = vs;
-  etimers = es;
-  ctimers = all_written n cs;
-  threads = all_written n ts;
-  on_poll = option_map (written n) on_poll;
-  on_exit = option_map (written n) on_exit;
-  body = written n body;
-}
-
-abbrev shape_parts : Names → List Valued → List Name → (ctimers threads : List Named)
-    → (on_poll on_exit : Option (Body ℕ)) → Body ℕ → CodeShape
-shape_parts n vs es cs ts on_poll on_exit body = record {
-  variables = vs;
-  etimers = es;
-  ctimers = cs;
-  threads = ts;
-  on_poll = option_map (written n) on_poll;
-  on_exit = option_map (written n) on_exit;
-  body = written n body;
-}
-
 -- a shape is that of its code, with the names put back
 names_put_back : (n m : Names) (k : ℕ) (vs : List Valued) (es : List Name) (cs ts : List (Name × (Body ℕ)))
     (on_poll on_exit : Option (Body ℕ)) (body : Body ℕ)
@@ -126,14 +96,7 @@ names_put_back : (n m : Names) (k : ℕ) (vs : List Valued) (es : List Name) (cs
     (values_of ts) on_poll on_exit body)
 names_put_back n m k vs es cs ts on_poll on_exit body e =
     let w : Names = with_own n (named_of vs) (es ++ named_of cs) (named_of ts) in
-    ap (λ z. shape_from z vs es cs ts on_poll on_exit body) e
-    ∙ ap (λ z. shape_parts w z es (all_written w cs) (all_written w ts) on_poll on_exit body) (sym (zipped vs))
-    ∙ ap (λ z. shape_parts w (zip (named_of vs) (values_of vs)) es z (all_written w ts) on_poll on_exit body)
-    (sym (zipped_written w cs))
-    ∙ ap (λ z. shape_parts w (zip (named_of vs) (values_of vs)) es (zip (named_of cs) (map (written w) (values_of cs)))
-    z on_poll on_exit body) (sym (zipped_written w ts))
-    ∙ ap (λ f. code_shape n (made k f (named_of vs) (values_of vs) es (named_of cs) (values_of cs) (named_of ts)
-    (values_of ts) on_poll on_exit body)) (sym (ap (λ (z : Names). z.first_timer) e))
+    rw e (cc (zipped vs, zipped_written w cs, zipped_written w ts))
 
 pub code_read : (x : Name) (k : ℕ) (code : Code) (es cs : List Name) (starts : List ℕ)
     (callbacks thread_bodies : List (Body ℕ)) (on_poll on_exit : Option (Body ℕ)) (body : Body ℕ) (s s' s'' : Scope)
@@ -146,7 +109,7 @@ pub code_read : (x : Name) (k : ℕ) (code : Code) (es cs : List Name) (starts :
     → ReadsCode x k code s s'' t0 new
 code_read x k code es cs starts callbacks thread_bodies on_poll on_exit body s s' s'' t0 t1 t2 new o r split last left
     is =
-    let shape = shape_in es cs starts callbacks thread_bodies on_poll on_exit body s s' t1 t2 r in
+    let shape = shape_from s'.names r.variables r.etimers r.ctimers r.threads on_poll on_exit body in
     let full : s'.names ≡ inside s.names shape =
     r.names ∙ ap (λ z. with_own s.names (named_of r.variables) (r.etimers ++ z) (named_of r.threads))
     (sym (named_again s'.names r.ctimers))
@@ -154,51 +117,37 @@ code_read x k code es cs starts callbacks thread_bodies on_poll on_exit body s s
     (sym (named_again s'.names r.threads)) in
     let same : made k s'.names.first_timer s'.names.variables starts es cs callbacks s'.names.threads thread_bodies
     on_poll on_exit body ≡ code_in k s'.names shape =
-    ap (λ z. made k s'.names.first_timer z.variables starts es cs callbacks z.threads thread_bodies on_poll on_exit
-    body) full
-    ∙ ap (λ z. made k s'.names.first_timer (named_of r.variables) z es cs callbacks (named_of shape.threads)
-    thread_bodies on_poll on_exit body) r.started
-    ∙ ap (λ z. made k s'.names.first_timer (named_of r.variables) (values_of r.variables) z cs callbacks
-    (named_of shape.threads) thread_bodies on_poll on_exit body) r.first_timers
-    ∙ ap (λ z. made k s'.names.first_timer (named_of r.variables) (values_of r.variables) r.etimers z callbacks
-    (named_of shape.threads) thread_bodies on_poll on_exit body)
-    (r.last_timers ∙ sym (named_again s'.names r.ctimers))
-    ∙ ap (λ z. made k s'.names.first_timer (named_of r.variables) (values_of r.variables) r.etimers
-    (named_of shape.ctimers) z (named_of shape.threads) thread_bodies on_poll on_exit body)
-    (sym (all_again s'.names r.ctimers callbacks r.called r.callbacks_numbered))
-    ∙ ap (λ z. made k s'.names.first_timer (named_of r.variables) (values_of r.variables) r.etimers
-    (named_of shape.ctimers) (map (block_in s'.names) (values_of shape.ctimers)) (named_of shape.threads) z on_poll
-    on_exit body) (sym (all_again s'.names r.threads thread_bodies r.threaded r.threads_numbered))
-    ∙ ap (λ z. made k s'.names.first_timer (named_of r.variables) (values_of r.variables) r.etimers
-    (named_of shape.ctimers) (map (block_in s'.names) (values_of shape.ctimers)) (named_of shape.threads)
-    (map (block_in s'.names) (values_of shape.threads)) z on_exit body)
-    (sym (maybe_again s'.names on_poll r.on_poll_numbered))
-    ∙ ap (λ z. made k s'.names.first_timer (named_of r.variables) (values_of r.variables) r.etimers
-    (named_of shape.ctimers) (map (block_in s'.names) (values_of shape.ctimers)) (named_of shape.threads)
-    (map (block_in s'.names) (values_of shape.threads)) (option_map (block_in s'.names) shape.on_poll) z body)
-    (sym (maybe_again s'.names on_exit r.on_exit_numbered))
-    ∙ ap (λ z. made k s'.names.first_timer (named_of r.variables) (values_of r.variables) r.etimers
-    (named_of shape.ctimers) (map (block_in s'.names) (values_of shape.ctimers)) (named_of shape.threads)
-    (map (block_in s'.names) (values_of shape.threads)) (option_map (block_in s'.names) shape.on_poll)
-    (option_map (block_in s'.names) shape.on_exit) z) (sym (r.body_numbered s'.names (extends_itself s'.names))) in
+    cc (
+      ap (λ (n : Names). n.variables) full,
+      ap (λ (n : Names). n.threads) full,
+      r.started,
+      r.first_timers,
+      r.last_timers,
+      named_again s'.names r.ctimers,
+      all_again s'.names r.ctimers callbacks r.called r.callbacks_numbered,
+      all_again s'.names r.threads thread_bodies r.threaded r.threads_numbered,
+      maybe_again s'.names on_poll r.on_poll_numbered,
+      maybe_again s'.names on_exit r.on_exit_numbered,
+      r.body_numbered s'.names (extends_itself s'.names),
+    ) in
+    let bare : code ≡ made k s'.names.first_timer (named_of r.variables) (values_of r.variables) r.etimers
+    (named_of r.ctimers) (values_of r.ctimers) (named_of r.threads) (values_of r.threads) on_poll on_exit body =
+    cc (
+      is,
+      ap (λ (n : Names). n.variables) r.names,
+      ap (λ (n : Names). n.threads) r.names,
+      r.started,
+      r.first_timers,
+      r.last_timers,
+      r.called,
+      r.threaded,
+    ) in
     record {
       shape = shape;
       tree = is ∙ same ∙ ap (λ z. code_in k z shape) full;
       put_back =
           names_put_back s.names s'.names k r.variables r.etimers r.ctimers r.threads on_poll on_exit body r.names
-          ∙ ap (code_shape s.names) (sym (is
-          ∙ ap (λ z. made k s'.names.first_timer z.variables starts es cs callbacks z.threads thread_bodies on_poll
-          on_exit body) r.names
-          ∙ ap (λ z. made k s'.names.first_timer (named_of r.variables) z es cs callbacks (named_of r.threads)
-          thread_bodies on_poll on_exit body) r.started
-          ∙ ap (λ z. made k s'.names.first_timer (named_of r.variables) (values_of r.variables) z cs callbacks
-          (named_of r.threads) thread_bodies on_poll on_exit body) r.first_timers
-          ∙ ap (λ z. made k s'.names.first_timer (named_of r.variables) (values_of r.variables) r.etimers z callbacks
-          (named_of r.threads) thread_bodies on_poll on_exit body) r.last_timers
-          ∙ ap (λ z. made k s'.names.first_timer (named_of r.variables) (values_of r.variables) r.etimers
-          (named_of r.ctimers) z (named_of r.threads) thread_bodies on_poll on_exit body) r.called
-          ∙ ap (λ z. made k s'.names.first_timer (named_of r.variables) (values_of r.variables) r.etimers
-          (named_of r.ctimers) (values_of r.ctimers) (named_of r.threads) z on_poll on_exit body) r.threaded));
+          ∙ ap (code_shape s.names) (sym bare);
       left = ap (λ z. z.names) left ∙ ap outside full;
       starting = ap (λ z. z.starting) left ∙ r.starting;
       spelled = λ ms e. o.spelled ∙ ap (λ ts. token.Keyword word.Code ∷ token.Name x ∷ token.OpenBrace ∷ ts)

@@ -2,18 +2,17 @@
 use Rattle.std.proofs.Common.{◌≡◌, ℕ, List, [], ◌∷◌, drop, length, refl, sym, ap, ◌∙◌, Option, Some, None, Bool, true}
 use Rattle.std.proofs.Common.{false, not, ◌&&◌, ◌||◌}
 use Rattle.program_tree.specs.Faults.{Scope, scope_after, is_other, is_own}
-use Rattle.program_tree.specs.Forms as form
 use Rattle.program_tree.specs.Grammar.{Context, Mark, named, uses, spawns, used, operand_mark}
 use Rattle.program_tree.specs.InScope.{Names, is_a, is_in_scope, number_in, name_in}
-use Rattle.program_reader.specs.Machine.{Symbol, Pending, step, take, unfit, tell, fault, end_kind, first}
-use Rattle.program_reader.specs.Machine.{first_broken, unfit_at, operand}
+use Rattle.program_reader.specs.Machine.{Pending, step, take, tell, fault, first, first_broken, operand}
 use Rattle.program_tree.specs.Shapes.{Name}
 use Rattle.program_reader.specs.Steps.{look, Finds, IsNamed, IsFound, Numbered, Fits, Reads}
-use Rattle.program_tree.specs.Tokens as token
 use Rattle.program_tree.specs.Tokens.{Token}
-use Rattle.program_tree.specs.Tree.{Class, an_event, a_semaphore, a_process, a_variable, a_timer, a_thread}
+use Rattle.program_tree.specs.Tree.{Class, a_thread}
 use Rattle.program_tree.specs.declared.error.ReadErrorKind.{ReadErrorKind}
-use Rattle.program_tree.specs.declared.error.ReadErrorKind.TheVariants.{Unexpected, UnknownName, BadTarget}
+use Rattle.program_tree.specs.declared.error.ReadErrorKind.TheVariants.{UnknownName, BadTarget}
+use Rattle.program_tree.specs.Forms as form
+use Rattle.program_tree.specs.Tokens as token
 use Rattle.program_reader.specs.declared.scope.Found.TheVariants as found
 use Rattle.program_reader.proofs.ScopeLaws.{found_is_a, a_in_scope, name_again, number_again}
 
@@ -31,20 +30,13 @@ pub broken : (s : Scope) (f f' : Pending) (old : List Token) (t : Token) (m : Ma
 broken s f f' [] t m k is fits h = absurd cc
 broken s f f' (x ∷ xs) t m k is fits h = let e : x ≡ t = cc in rw (e, fits, h) refl
 
--- the symbol doesn't fit this token, or the end is unexpected there
-abbrev pub UnfitAt : Symbol → Pending → Option Token → Type 0
-UnfitAt y f None = end_kind y ≡ Unexpected
-UnfitAt y f (Some t) = step (y ∷ f) t ≡ unfit
-
--- a token that doesn't fit, or the end
-pub unfitting : (s : Scope) (y : Symbol) (f : Pending) (old : List Token) → UnfitAt y f (first old)
-    → tell s (y ∷ f) old ≡ fault (unfit_at (first old)) (length old)
-unfitting s y f [] h = ap (λ k. fault k 0) h
-unfitting s y f (x ∷ xs) h = rw h refl
-
 pub front_of : (old : List Token) (t : Token) → first old ≡ Some t → old ≡ t ∷ drop 1 old
 front_of [] t e = absurd cc
 front_of (x ∷ xs) t e = let is : x ≡ t = cc in ap (λ y. y ∷ xs) is
+
+-- a token and those after it
+pub token_then : (t : Token) (old new : List Token) → first old ≡ Some t → new ≡ drop 1 old → old ≡ t ∷ new
+token_then t old new is from = front_of old t is ∙ ap (λ ts. t ∷ ts) (sym from)
 
 -- the marks of names
 
@@ -83,18 +75,9 @@ spawns_other s own x e f = let g : (not (is_a s.names a_thread x) || is_own own 
 
 used_none : (s : Scope) (c : Context) (k : Class) (x : Name) (i : ℕ) → Finds s.names c.thread k x i
     → first_broken s (named x (used c k x)) ≡ None
-used_none s c an_event x i f = uses_none s an_event x (found_scope s.names an_event x i f.found)
-    (found_is_a s.names an_event x i f.found)
-used_none s c a_semaphore x i f = uses_none s a_semaphore x (found_scope s.names a_semaphore x i f.found)
-    (found_is_a s.names a_semaphore x i f.found)
-used_none s c a_process x i f = uses_none s a_process x (found_scope s.names a_process x i f.found)
-    (found_is_a s.names a_process x i f.found)
-used_none s c a_variable x i f = uses_none s a_variable x (found_scope s.names a_variable x i f.found)
-    (found_is_a s.names a_variable x i f.found)
-used_none s c a_timer x i f = uses_none s a_timer x (found_scope s.names a_timer x i f.found)
-    (found_is_a s.names a_timer x i f.found)
 used_none s c a_thread x i f = spawns_none s c.thread x (found_scope s.names a_thread x i f.found)
     (found_is_a s.names a_thread x i f.found) f.other
+used_none s c k x i f = uses_none s k x (found_scope s.names k x i f.found) (found_is_a s.names k x i f.found)
 
 used_unknown : (s : Scope) (c : Context) (k : Class) (x : Name) → is_in_scope s.names x ≡ false
     → first_broken s (named x (used c k x)) ≡ Some UnknownName

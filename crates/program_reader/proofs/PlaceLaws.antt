@@ -1,9 +1,7 @@
 -- Places of names in lists that are extended.
-use Rattle.std.proofs.Common.{◌≡◌, ℕ, suc, ◌+◌, ◌<◌, List, [], ◌∷◌, ◌++◌, length, cond, not, nat_lt, refl, sym, ap}
-use Rattle.std.proofs.Common.{◌∙◌, arith, Bool, true, false, Option, Some, None, option_map, slice_index_or, ◌⊎◌, inl}
-use Rattle.std.proofs.Common.{inr}
+use Rattle.std.proofs.Common.{◌≡◌, ℕ, suc, ◌+◌, List, [], ◌∷◌, ◌++◌, length, cond, not, nat_lt, refl, sym, ap, ◌∙◌}
+use Rattle.std.proofs.Common.{arith, Bool, true, false, Option, Some, None, option_map, ◌⊎◌, inl, inr}
 use Rattle.std.proofs.lemmas.Bool.{ltb-true, ltb-false}
-use Rattle.std.proofs.lemmas.List.{get_or_append_left}
 use Rattle.std.specs.List.{position, position_or_len}
 use Rattle.std.specs.Str.{bytes_eq}
 use Rattle.program_tree.specs.Names.{place_of}
@@ -77,9 +75,3 @@ place_in_second xs ys x i n e f h = place_right xs ys x e ∙ ap (option_map (λ
 pub place_in_neither : (xs ys : List (List ℕ)) (x : List ℕ) → place_of xs x ≡ None → place_of ys x ≡ None
     → place_of (xs ++ ys) x ≡ None
 place_in_neither xs ys x e f = place_right xs ys x e ∙ ap (option_map (λ i. length xs + i)) f
-
-pub name_left : (xs ys : List (List ℕ)) (i : ℕ) → i < length xs → slice_index_or (xs ++ ys) i []
-    ≡ slice_index_or xs i []
-name_left xs ys i h = get_or_append_left xs ys [] i h
-
-pub ruleset place_steps = (place_left, place_in_second, place_in_neither)

@@ -1,16 +1,14 @@
 -- A whole program.
 use Rattle.std.proofs.Common.{◌≡◌, ℕ, ◌+◌, ◌<◌, ◌≤◌, List, [], ◌∷◌, ◌++◌, length, map, refl, sym, ap, subst, ◌∙◌}
 use Rattle.std.proofs.Common.{arith, append_assoc, true, false, Option, option_map, IfSome}
-use Rattle.std.proofs.lemmas.List.{length-map, append-nil}
+use Rattle.std.proofs.lemmas.List.{map-id, length-map, append-nil}
 use Rattle.std.proofs.lemmas.List.Elements.{All-nil, All-cons, All-append}
-use Rattle.std.specs.List.{All, zip}
-use Rattle.std.specs.Prelude.{drop, slice_index_or}
+use Rattle.std.specs.List.{All}
 use Rattle.program_tree.specs.Code.{Code, Tree}
 use Rattle.program_reader.specs.Codes.{HasCodes, ReadsHead, all_timers}
 use Rattle.program_tree.specs.Faults.{Scope, nothing_yet, IsProgram}
-use Rattle.program_tree.specs.Grammar as role
 use Rattle.program_tree.specs.Grammar.{Mark, tokens, key, named, event_marks, semaphore_marks, process_marks}
-use Rattle.program_tree.specs.Grammar.{autostart_marks, receiver_marks, codes_marks, program_marks}
+use Rattle.program_tree.specs.Grammar.{autostart_marks, receiver_marks, codes_marks}
 use Rattle.program_reader.specs.Head.{with_all, line_marks, itself}
 use Rattle.program_tree.specs.InScope.{Names, no_names, with_new, number_in, name_in}
 use Rattle.program_reader.specs.Machine.{whole, tell, from_events, codes_form}
@@ -18,15 +16,15 @@ use Rattle.program_tree.specs.Numbers.{named_of, values_of, codes_in, timers_fro
 use Rattle.program_tree.specs.Numbers.{tree_of_shape}
 use Rattle.program_tree.specs.Made.{AreLexed, WasRead, IsMade}
 use Rattle.program_tree.specs.Reading.{IsTreeOfTokens}
-use Rattle.program_tree.specs.ShapeOf.{code_shape, no_code, shape_of}
+use Rattle.program_tree.specs.ShapeOf.{code_shape, shape_of}
 use Rattle.program_tree.specs.Shapes.{Name, CodeShape, ProgramShape}
-use Rattle.program_tree.specs.Tokens as token
 use Rattle.program_tree.specs.Tokens.{Token}
 use Rattle.program_tree.specs.Tree.{an_event, a_semaphore, a_process}
-use Rattle.program_tree.specs.declared.keyword.Keyword.TheVariants as word
 use Rattle.program_tree.specs.declared.timer.Timer.{Timer}
-use Rattle.program_reader.proofs.CodesLaws.{behind_processes, behind_events, behind_semaphores, behind_first_timer}
-use Rattle.program_reader.proofs.CodesLaws.{timers_of_all}
+use Rattle.program_tree.specs.Grammar as role
+use Rattle.program_tree.specs.Tokens as token
+use Rattle.program_tree.specs.declared.keyword.Keyword.TheVariants as word
+use Rattle.program_reader.proofs.CodesLaws.{behind_first_timer, timers_of_all, behind_kept}
 use Rattle.program_tree.proofs.CountLaws.{length-codes_in}
 use Rattle.program_reader.proofs.MadeLaws.{zipped}
 use Rattle.program_reader.proofs.Told.{Judged, judged}
@@ -47,10 +45,6 @@ all_processes : (n : Names) (xs : List Name) → with_all n a_process xs ≡ rec
 all_processes n [] = ap (λ z. record n { processes = z }) (sym (append-nil n.processes))
 all_processes n (x ∷ xs) = all_processes (with_new n a_process x) xs ∙ ap (λ z. record n { processes = z })
     (append_assoc n.processes (x ∷ []) xs)
-
-map_itself : (xs : List Name) → map itself xs ≡ xs
-map_itself [] = refl
-map_itself (x ∷ xs) = ap (λ zs. x ∷ zs) (map_itself xs)
 
 -- the names after the head
 abbrev pub head_names : (events semaphores processes : List Name) → Names
@@ -85,7 +79,7 @@ module _ (text m5 : List Token) (s4 : Scope) (counts autostart : List ℕ) (rece
       (h.read.events.1.added ∙ all_events h.s0.names (map itself h.read.events.0)
       ∙ ap (λ (n : Names). record n { events = n.events ++ map itself h.read.events.0 })
       (ap (λ (s : Scope). s.names) h.begins)
-      ∙ ap (λ (xs : List Name). record no_names { events = xs }) (map_itself h.read.events.0)))
+      ∙ ap (λ (xs : List Name). record no_names { events = xs }) (map-id h.read.events.0)))
 
   pub head_goes : tell nothing_yet (from_events ∷ []) text ≡ tell s4 (codes_form s4.names.processes []) m5
   head_goes =
@@ -124,14 +118,10 @@ tree_with e s c ps a r k t = record {
   timers = t;
 }
 
-tree_same : (e e' s s' ps ps' : List Name) (c c' a a' : List ℕ) (r r' : Option ℕ) (k k' : List Code)
-    (t t' : List Timer) → e' ≡ e → s' ≡ s → c' ≡ c → ps' ≡ ps → a' ≡ a → r' ≡ r → k' ≡ k → t' ≡ t →
+tree_same : {e e' s s' ps ps' : List Name} {c c' a a' : List ℕ} {r r' : Option ℕ} {k k' : List Code}
+    {t t' : List Timer} → e' ≡ e → s' ≡ s → c' ≡ c → ps' ≡ ps → a' ≡ a → r' ≡ r → k' ≡ k → t' ≡ t →
     tree_with e' s' c' ps' a' r' k' t' ≡ tree_with e s c ps a r k t
-tree_same e e' s s' ps ps' c c' a a' r r' k k' t t' h1 h2 h3 h4 h5 h6 h7 h8 =
-    ap (λ z. tree_with z s' c' ps' a' r' k' t') h1 ∙ ap (λ z. tree_with e z c' ps' a' r' k' t') h2
-    ∙ ap (λ z. tree_with e s z ps' a' r' k' t') h3 ∙ ap (λ z. tree_with e s c z a' r' k' t') h4
-    ∙ ap (λ z. tree_with e s c ps z r' k' t') h5 ∙ ap (λ z. tree_with e s c ps a z k' t') h6
-    ∙ ap (λ z. tree_with e s c ps a r z t') h7 ∙ ap (λ z. tree_with e s c ps a r k z) h8
+tree_same h1 h2 h3 h4 h5 h6 h7 h8 = cc
 
 -- the shape of a tree whose names are those of this shape
 shape_put_back : (es : List Name) (ss : List (Name × ℕ)) (p : Name × CodeShape) (ps : List (Name × CodeShape))
@@ -142,24 +132,7 @@ shape_put_back : (es : List Name) (ss : List (Name × ℕ)) (p : Name × CodeSha
     → p.1 ∷ values_of ps ≡ map (code_shape (head_names es (named_of ss) (p.0 ∷ named_of ps))) k
     → shape_with es ss p ps st r ≡ shape_of (tree_with e s c qs a rc k t)
 shape_put_back es ss p ps st r e s qs c a rc k t h1 h2 h3 h4 h5 h6 h7 =
-    let g : List CodeShape → ProgramShape = λ zs. record {
-      events = es;
-      semaphores = zip (named_of ss) (values_of ss);
-      first = slice_index_or (zip (p.0 ∷ named_of ps) zs) 0 no_code;
-      others = drop 1 (zip (p.0 ∷ named_of ps) zs);
-      autostart = map (name_in (head_names es (named_of ss) (p.0 ∷ named_of ps)) a_process) a;
-      receiver = option_map (name_in (head_names es (named_of ss) (p.0 ∷ named_of ps)) a_process) rc;
-    } in
-    let front : shape_with es ss p ps st r ≡ g (p.1 ∷ values_of ps) =
-    ap (λ z. shape_with es z p ps st r) (sym (zipped ss))
-    ∙ ap (λ z. shape_with es (zip (named_of ss) (values_of ss)) p z st r) (sym (zipped ps))
-    ∙ ap (λ z. shape_with es (zip (named_of ss) (values_of ss)) p (zip (named_of ps) (values_of ps)) z r) h5
-    ∙ ap (λ z. shape_with es (zip (named_of ss) (values_of ss)) p (zip (named_of ps) (values_of ps))
-    (map (name_in (head_names es (named_of ss) (p.0 ∷ named_of ps)) a_process) a) z) h6 in
-    front ∙ ap g h7
-    ∙ sym (ap (λ z. shape_of (tree_with z s c qs a rc k t)) h1 ∙ ap (λ z. shape_of (tree_with es z c qs a rc k t)) h2
-    ∙ ap (λ z. shape_of (tree_with es (named_of ss) z qs a rc k t)) h3
-    ∙ ap (λ z. shape_of (tree_with es (named_of ss) (values_of ss) z a rc k t)) h4)
+    rw (h1, h2, h3, h4, h5, h6, ← h7, zipped ss, zipped ps) refl
 
 -- a tree that was read from the tokens of a text
 was_read : (tokens : List Token) (tree : Tree) → AreLexed tokens → (q : IsTreeOfTokens tokens tree)
@@ -180,8 +153,27 @@ same_others x y xs ys e = cc e
 not_empty : {A : Type 0} (x : A) (xs : List A) → x ∷ xs ≡ [] → ⊥
 not_empty x xs e = absurd (cc e)
 
+all_same : {A : Type 0} (P : Timer → Type 0) (t : Timer) → P t → (xs : List A) → All P (map (λ x. t) xs)
+all_same P t h [] = All-nil P
+all_same P t h (x ∷ xs) = All-cons P t (map (λ y. t) xs) h (all_same P t h xs)
+
+all_owned : (k n : ℕ) (cs : List CodeShape) → k + length cs ≤ n → All (λ t. t.process < n) (timers_from k cs)
+all_owned k n [] h = All-nil (λ t. t.process < n)
+all_owned k n (c ∷ cs) h =
+    let P : Timer → Type 0 = λ t. t.process < n in
+    let low : k < n = omega arith in
+    All-append P (map (λ x. timer_of k false) c.etimers) (map (λ t. timer_of k true) c.ctimers
+    ++ timers_from (k + 1) cs) (all_same P (timer_of k false) low c.etimers)
+    (All-append P (map (λ t. timer_of k true) c.ctimers) (timers_from (k + 1) cs)
+    (all_same P (timer_of k true) low c.ctimers) (all_owned (k + 1) n cs (omega arith)))
+
+-- head and codes are read, and the text ends after them
 module _ (text m5 : List Token) (s4 s5 : Scope) (counts autostart : List ℕ) (receiver : Option ℕ) (trees : List Code)
-    (h : HeadIsRead text m5 s4 counts autostart receiver) (r : HasCodes trees [] s4 s5 m5 []) where
+    (h : HeadIsRead text m5 s4 counts autostart receiver) (r : HasCodes trees [] s4 s5 m5 [])
+    (timers : List Timer) (timed : timers ≡ all_timers trees) where
+  abbrev tree : Tree
+  tree = tree_with s5.names.events s5.names.semaphores counts s5.names.processes autostart receiver trees timers
+
   passes : tell nothing_yet (from_events ∷ []) text ≡ whole
   passes = head_goes text m5 s4 counts autostart receiver h ∙ r.goes_on []
 
@@ -212,12 +204,9 @@ module _ (text m5 : List Token) (s4 s5 : Scope) (counts autostart : List ℕ) (r
       h.read.events.1.spelled (semaphore_marks h.read.semaphores.0 marks)
       (sym (h.read.semaphores.2.spelled marks (sym spelled_line)))
 
-  tree_read : (p : Name × CodeShape) (ps : List (Name × CodeShape)) → r.shapes ≡ p ∷ ps → (timers : List Timer)
-      → timers ≡ all_timers trees →
-      let tree = tree_with s5.names.events s5.names.semaphores counts s5.names.processes autostart receiver trees
-      timers in
-      (q : IsTreeOfTokens text tree) × (q.shape ≡ shape_of tree)
-  tree_read p ps is timers e =
+  tree_read : (p : Name × CodeShape) (ps : List (Name × CodeShape)) → r.shapes ≡ p ∷ ps
+      → (q : IsTreeOfTokens text tree) × (q.shape ≡ shape_of tree)
+  tree_read p ps is =
       let shape = shape_with h.read.events.0 h.read.semaphores.0 p ps h.read.starting.names h.read.receiving.name in
       let line : h.read.processes.first ∷ h.read.processes.others ≡ p.0 ∷ named_of ps = line_is ∙ ap named_of is in
       let first = same_first h.read.processes.first p.0 h.read.processes.others (named_of ps) line in
@@ -228,12 +217,12 @@ module _ (text m5 : List Token) (s4 s5 : Scope) (counts autostart : List ℕ) (r
       ∙ names in
       let after = r.names in
       let events : s5.names.events ≡ h.read.events.0 =
-      ap (λ n. n.events) after ∙ behind_events s4.names (values_of r.shapes) ∙ ap (λ n. n.events) names in
+      ap (λ n. n.events) after ∙ (behind_kept s4.names (values_of r.shapes)).0 ∙ ap (λ n. n.events) names in
       let semaphores : s5.names.semaphores ≡ named_of h.read.semaphores.0 =
-      ap (λ n. n.semaphores) after ∙ behind_semaphores s4.names (values_of r.shapes)
+      ap (λ n. n.semaphores) after ∙ (behind_kept s4.names (values_of r.shapes)).1
       ∙ ap (λ n. n.semaphores) names in
       let processes : s5.names.processes ≡ p.0 ∷ named_of ps =
-      ap (λ n. n.processes) after ∙ behind_processes s4.names (values_of r.shapes) ∙ ap (λ n. n.processes) names in (
+      ap (λ n. n.processes) after ∙ (behind_kept s4.names (values_of r.shapes)).2 ∙ ap (λ n. n.processes) names in (
         record {
           shape = shape;
           program = record {
@@ -254,7 +243,7 @@ module _ (text m5 : List Token) (s4 s5 : Scope) (counts autostart : List ℕ) (r
                 (receiver_marks h.read.receiving.name (codes_marks zs []))))))) is);
             sound = sound.1.sound;
           };
-          numbered = tree_same _ _ _ _ _ _ _ _ _ _ _ _ _ _ _ _
+          numbered = tree_same
               events
               semaphores
               h.read.semaphores.1
@@ -263,7 +252,7 @@ module _ (text m5 : List Token) (s4 s5 : Scope) (counts autostart : List ℕ) (r
               (h.read.receiving.numbered ∙ ap (λ n. option_map (number_in n a_process) h.read.receiving.name) names)
               (r.numbered ∙ ap (λ n. codes_in 0 n (values_of r.shapes)) names
               ∙ ap (λ zs. codes_in 0 (program_names shape) (values_of zs)) is)
-              (e ∙ ap all_timers r.numbered ∙ timers_of_all 0 s4.names (values_of r.shapes)
+              (timed ∙ ap all_timers r.numbered ∙ timers_of_all 0 s4.names (values_of r.shapes)
               ∙ ap (λ zs. timers_from 0 (values_of zs)) is);
         },
         shape_put_back h.read.events.0 h.read.semaphores.0 p ps h.read.starting.names h.read.receiving.name
@@ -274,39 +263,26 @@ module _ (text m5 : List Token) (s4 s5 : Scope) (counts autostart : List ℕ) (r
             (ap values_of (sym is) ∙ r.put_back ∙ ap (λ n. map (code_shape n) trees) names),
       )
 
-  some_process : (p : Name × CodeShape) × (ps : List (Name × CodeShape)) × (r.shapes ≡ p ∷ ps)
-  some_process = go r.shapes refl
+  tree_and_shape : (q : IsTreeOfTokens text tree) × (q.shape ≡ shape_of tree)
+  tree_and_shape = go r.shapes refl
     where
-      go : (shapes : List (Name × CodeShape)) → r.shapes ≡ shapes → (p : Name × CodeShape)
-          × (ps : List (Name × CodeShape)) × (r.shapes ≡ p ∷ ps)
+      go : (shapes : List (Name × CodeShape)) → r.shapes ≡ shapes
+          → (q : IsTreeOfTokens text tree) × (q.shape ≡ shape_of tree)
       go [] e = absurd (not_empty h.read.processes.first h.read.processes.others (line_is ∙ ap named_of e))
-      go (p ∷ ps) e = (p, ps, e)
+      go (p ∷ ps) e = tree_read p ps e
 
-all_same : {A : Type 0} (P : Timer → Type 0) (t : Timer) → P t → (xs : List A) → All P (map (λ x. t) xs)
-all_same P t h [] = All-nil P
-all_same P t h (x ∷ xs) = All-cons P t (map (λ y. t) xs) h (all_same P t h xs)
+  pub is_tree : IsTreeOfTokens text tree
+  is_tree = tree_and_shape.0
 
-all_owned : (k n : ℕ) (cs : List CodeShape) → k + length cs ≤ n → All (λ t. t.process < n) (timers_from k cs)
-all_owned k n [] h = All-nil (λ t. t.process < n)
-all_owned k n (c ∷ cs) h =
-    let P : Timer → Type 0 = λ t. t.process < n in
-    let low : k < n = omega arith in
-    All-append P (map (λ x. timer_of k false) c.etimers) (map (λ t. timer_of k true) c.ctimers
-    ++ timers_from (k + 1) cs) (all_same P (timer_of k false) low c.etimers)
-    (All-append P (map (λ t. timer_of k true) c.ctimers) (timers_from (k + 1) cs)
-    (all_same P (timer_of k true) low c.ctimers) (all_owned (k + 1) n cs (omega arith)))
-
-module _ (text m5 : List Token) (s4 s5 : Scope) (counts autostart : List ℕ) (receiver : Option ℕ) (trees : List Code)
-    (h : HeadIsRead text m5 s4 counts autostart receiver) (r : HasCodes trees [] s4 s5 m5 []) where
   processes_kept : s5.names.processes ≡ s4.names.processes
-  processes_kept = ap (λ (n : Names). n.processes) r.names ∙ behind_processes s4.names (values_of r.shapes)
+  processes_kept = ap (λ (n : Names). n.processes) r.names ∙ (behind_kept s4.names (values_of r.shapes)).2
 
   each_count : length counts ≡ length s5.names.semaphores
   each_count =
       ap length h.read.semaphores.1 ∙ length-map h.read.semaphores.0 (λ p. p.1)
       ∙ sym (length-map h.read.semaphores.0 (λ p. p.0))
       ∙ ap (λ (n : Names). length n.semaphores) (sym (names_read text m5 s4 counts autostart receiver h))
-      ∙ ap length (sym (behind_semaphores s4.names (values_of r.shapes))) ∙ ap (λ (n : Names). length n.semaphores)
+      ∙ ap length (sym (behind_kept s4.names (values_of r.shapes)).1) ∙ ap (λ (n : Names). length n.semaphores)
       (sym r.names)
 
   started : All (λ i. i < length s5.names.processes) autostart
@@ -325,66 +301,38 @@ module _ (text m5 : List Token) (s4 s5 : Scope) (counts autostart : List ℕ) (r
   each_code : length trees ≡ length s5.names.processes
   each_code = each_tree ∙ sym each_process
 
-  timers_are : (timers : List Timer) → timers ≡ all_timers trees → timers ≡ timers_from 0 (values_of r.shapes)
-  timers_are timers e = e ∙ ap all_timers r.numbered ∙ timers_of_all 0 s4.names (values_of r.shapes)
+  timers_are : timers ≡ timers_from 0 (values_of r.shapes)
+  timers_are = timed ∙ ap all_timers r.numbered ∙ timers_of_all 0 s4.names (values_of r.shapes)
 
-  few_timers : (timers : List Timer) → timers ≡ all_timers trees → s5.names.first_timer ≤ 64 → length timers ≤ 64
-  few_timers timers e low =
+  few_timers : s5.names.first_timer ≤ 64 → length timers ≤ 64
+  few_timers low =
       omega (
         arith,
-        ap length (timers_are timers e),
+        ap length timers_are,
         behind_first_timer 0 s4.names (values_of r.shapes),
         ap (λ (n : Names). n.first_timer) r.names,
-        ap (λ (n : Names). n.first_timer)
-            (names_read text m5 s4 counts autostart receiver h),
+        ap (λ (n : Names). n.first_timer) (names_read text m5 s4 counts autostart receiver h),
         low,
       )
 
-  owned : (timers : List Timer) → timers ≡ all_timers trees → All (λ t. t.process < length s5.names.processes) timers
-  owned timers e =
-      subst (λ ts. All (λ t. t.process < length s5.names.processes) ts) (sym (timers_are timers e))
+  owned : All (λ t. t.process < length s5.names.processes) timers
+  owned =
+      subst (λ ts. All (λ t. t.process < length s5.names.processes) ts) (sym timers_are)
       (all_owned 0 (length s5.names.processes) (values_of r.shapes)
       (omega (arith, each_process, length-map r.shapes (λ p. p.1))))
-
--- head and codes are read, and the text ends after them
-pub record AllRead (text : List Token) (s5 : Scope) (counts autostart : List ℕ) (receiver : Option ℕ)
-    (trees : List Code) : Type 0 where
-  pub m5 : List Token
-  pub s4 : Scope
-  pub head : HeadIsRead text m5 s4 counts autostart receiver
-  pub codes : HasCodes trees [] s4 s5 m5 []
-
-pub all_read : (text m5 : List Token) (s4 s5 : Scope) (counts autostart : List ℕ) (receiver : Option ℕ)
-    (trees : List Code) → HeadIsRead text m5 s4 counts autostart receiver → HasCodes trees [] s4 s5 m5 []
-    → AllRead text s5 counts autostart receiver trees
-all_read text m5 s4 s5 counts autostart receiver trees h r = record { m5 = m5; s4 = s4; head = h; codes = r }
-
-module _ (text : List Token) (s5 : Scope) (counts autostart : List ℕ) (receiver : Option ℕ) (trees : List Code)
-    (a : AllRead text s5 counts autostart receiver trees) (timers : List Timer) (e : timers ≡ all_timers trees) where
-  abbrev tree : Tree
-  tree = tree_with s5.names.events s5.names.semaphores counts s5.names.processes autostart receiver trees timers
-
-  tree_and_shape : (q : IsTreeOfTokens text tree) × (q.shape ≡ shape_of tree)
-  tree_and_shape =
-      let some = some_process text a.m5 a.s4 s5 counts autostart receiver trees a.head a.codes in
-      tree_read text a.m5 a.s4 s5 counts autostart receiver trees a.head a.codes some.0 some.1 some.2 timers e
-
-  pub is_tree : IsTreeOfTokens text tree
-  is_tree = tree_and_shape.0
 
   pub is_made : AreLexed text → length s5.names.events ≤ 117 → length s5.names.semaphores ≤ 64
       → length s5.names.processes ≤ 64 → s5.names.first_timer ≤ 64 → IsMade tree
   is_made lexed few_events few_semaphores few_processes low = record {
     few_events = few_events;
     few_semaphores = few_semaphores;
-    each_count = each_count text a.m5 a.s4 s5 counts autostart receiver trees a.head a.codes;
+    each_count = each_count;
     few_processes = few_processes;
-    started = started text a.m5 a.s4 s5 counts autostart receiver trees a.head a.codes;
-    received = λ x is. subst (λ o. IfSome o (λ i. i < length s5.names.processes)) is
-        (received text a.m5 a.s4 s5 counts autostart receiver trees a.head a.codes);
-    each_code = each_code text a.m5 a.s4 s5 counts autostart receiver trees a.head a.codes;
-    few_timers = few_timers text a.m5 a.s4 s5 counts autostart receiver trees a.head a.codes timers e low;
-    owned = owned text a.m5 a.s4 s5 counts autostart receiver trees a.head a.codes timers e;
+    started = started;
+    received = λ x is. subst (λ o. IfSome o (λ i. i < length s5.names.processes)) is received;
+    each_code = each_code;
+    few_timers = few_timers low;
+    owned = owned;
     was_read = was_read text tree lexed tree_and_shape.0 tree_and_shape.1;
   }
 

@@ -1,85 +1,21 @@
 -- How the parts of a statement follow one another.
-use Rattle.std.proofs.Common.{◌≡◌, ℕ, List, ◌∷◌, ◌++◌, sym, ap, subst, ◌∙◌, Bool, true, false, ◌&&◌, Option}
-use Rattle.program_tree.specs.EventNames.{CastEvent, SentEvent}
+use Rattle.std.proofs.Common.{◌≡◌, ℕ, List, ◌∷◌, refl, sym, ap, subst, ◌∙◌, Bool, true, ◌&&◌, Option}
+use Rattle.std.proofs.lemmas.Bool.{and_from}
 use Rattle.program_tree.specs.Faults.{Scope}
-use Rattle.program_tree.specs.Forms.{Form, action, beginning}
-use Rattle.program_tree.specs.Grammar.{Context, Mark, begins_with, target, tokens, sign}
-use Rattle.program_tree.specs.InScope.{Names, name_in}
-use Rattle.program_reader.specs.Machine.{Symbol, Pending, tell, items, symbols_of, equals, expression, semicolon}
-use Rattle.program_reader.specs.Steps.{Extends, Reads, ReadsSign, ReadsStatement, Begins, IsTarget, pending_of, Fixed}
-use Rattle.program_reader.specs.Steps.{fixed, scope_of, Numbered, Fits, Covers}
-use Rattle.program_tree.specs.Scope.{Within}
+use Rattle.program_tree.specs.Forms.{Beginning, beginning}
+use Rattle.program_tree.specs.Grammar.{Context, Mark, begins_with, target, tokens, sign, action_marks, statement_marks}
+use Rattle.program_tree.specs.InScope.{Names, name_in, number_in}
+use Rattle.program_reader.specs.Machine.{Symbol, Pending, tell, items, items_else, equals, expression, semicolon}
+use Rattle.program_reader.specs.Steps.{Extends, Reads, ReadsSign, ReadsStatement, ReadsElse, Begins, IsTarget}
+use Rattle.program_reader.specs.Steps.{pending_of, fixed, scope_of, Numbered, Fits, Covers}
+use Rattle.program_tree.specs.Scope.{Within, action_fits, statement_fits}
 use Rattle.program_tree.specs.Shapes.{Name}
 use Rattle.program_tree.specs.Tokens as token
 use Rattle.program_tree.specs.Tokens.{Token}
 use Rattle.program_tree.specs.declared.keyword.Keyword.{Keyword}
 use Rattle.program_reader.specs.declared.scope.Scope.{Scope as ScopeRead}
-use Rattle.program_tree.specs.Tree.{a_variable, Expression, post, broadcast, synch, set, assign}
-
--- some symbols are read
-pub record Runs (s s' : Scope) (front : Pending → Pending) (marks : Names → List Mark → List Mark)
-    (old new : List Token) : Type 0 where
-  pub spelled : (n : Names) → Extends s.names n → (ms : List Mark) → tokens ms ≡ new → old ≡ tokens (marks n ms)
-  pub goes_on : (f : Pending) → tell s (front f) old ≡ tell s' f new
-
-pub part : (s s' s'' : Scope) (y : Symbol) (marks : Names → List Mark → List Mark) (old new : List Token) → s'' ≡ s'
-    → Reads s s' y marks old new → Runs s s'' (λ f. y ∷ f) marks old new
-part s s' s'' y marks old new e r = subst (λ z. Runs s z (λ f. y ∷ f) marks old new) (sym e)
-    (record { spelled = r.spelled; goes_on = r.goes_on })
-
-pub sign_part : (s : Scope) (y : Symbol) (t : Token) (old new : List Token) → ReadsSign y t old new
-    → Runs s s (λ f. y ∷ f) (λ n ms. sign t ∷ ms) old new
-sign_part s y t old new r = record {
-  spelled = λ n h ms q. r.spelled ∙ ap (λ ts. t ∷ ts) (sym q);
-  goes_on = r.goes_on s;
-}
-
--- one after the other, if the first leaves the names unchanged
-pub then : (s s1 s' : Scope) (a b : Pending → Pending) (p q : Names → List Mark → List Mark) (old mid new : List Token)
-    → s1.names ≡ s.names → Runs s s1 a p old mid → Runs s1 s' b q mid new
-    → Runs s s' (λ f. a (b f)) (λ n ms. p n (q n ms)) old new
-then s s1 s' a b p q old mid new e r t = record {
-  spelled = λ n h ms u. r.spelled n h (q n ms) (sym (t.spelled n (subst (λ z. Extends z n) (sym e) h) ms u));
-  goes_on = λ f. r.goes_on (b f) ∙ t.goes_on f;
-}
-
--- an action: its keyword, and the operands that the table requires after it
-pub action_reads : (s s1 s' : Scope) (c : Context) (k : Keyword) (g : Form) (marks : Names → List Mark → List Mark)
-    (old m0 new : List Token) → beginning k ≡ action g → s1.names ≡ s.names → Begins s s1 c k old m0
-    → Runs s1 s' (symbols_of c g) marks m0 new →
-    ReadsStatement s s' c (λ n ms. begins_with c k ∷ marks n ms) old new
-action_reads s s1 s' c k g marks old m0 new is e b r = record {
-  spelled = λ n u ms q. b.spelled ∙ ap (λ ts. token.Keyword k ∷ ts)
-      (r.spelled n (subst (λ z. Extends z n) (sym e) u) ms q);
-  goes_on = λ f. b.goes_on f ∙ ap (λ z. tell s1 (pending_of c z f) m0) is ∙ r.goes_on (items c ∷ f);
-}
-
--- an assignment
-pub assign_reads : (s s1 s' : Scope) (c : Context) (i : ℕ) (marks : Names → List Mark → List Mark)
-    (old m0 new : List Token) → s1.names ≡ s.names → IsTarget s s1 c i old m0
-    → Runs s1 s' (λ f. equals ∷ expression c ∷ semicolon ∷ f) marks m0 new →
-    ReadsStatement s s' c (λ n ms. target (name_in n a_variable i) ∷ marks n ms) old new
-assign_reads s s1 s' c i marks old m0 new e t r = record {
-  spelled = λ n u ms q. t.spelled n u ∙ ap (λ ts. token.Name (name_in n a_variable i) ∷ ts)
-      (r.spelled n (subst (λ z. Extends z n) (sym e) u) ms q);
-  goes_on = λ f. t.goes_on f ∙ r.goes_on (items c ∷ f);
-}
-
--- the parts that statements don't change
-
-abbrev names_from : Fixed → Names
-names_from x = record {
-  events = x.events;
-  semaphores = x.semaphores;
-  processes = x.processes;
-  variables = x.variables;
-  first_timer = x.first_timer;
-  timers = x.etimers ++ x.ctimers;
-  threads = x.threads;
-}
-
-pub kept : (a b : ScopeRead) → fixed a ≡ fixed b → (scope_of a).names ≡ (scope_of b).names
-kept a b e = ap names_from e
+use Rattle.program_tree.specs.Tree.{a_variable, Action, action_map, Statement, statement_map}
+use Rattle.program_reader.proofs.ExtendLaws.{fixed_names}
 
 pub same_names : (a b : ScopeRead) → a ≡ b → (scope_of a).names ≡ (scope_of b).names
 same_names a b e = ap (λ z. (scope_of z).names) e
@@ -91,24 +27,152 @@ renumbered n n1 again t e h = λ n' u. h n' (subst (λ z. Extends z n') (sym e) 
 pub refitted : (n n1 : Names) (own : Option Name) (fits : Within → Bool) → n1 ≡ n → Fits n1 own fits → Fits n own fits
 refitted n n1 own fits e h = λ w u. h w (subst (λ z. Covers z own w) (sym e) u)
 
-pub both : (a b : Bool) → a ≡ true → b ≡ true → (a && b) ≡ true
-both true b e f = f
-both false b e f = absurd cc
+-- The beginning of a statement is read, with the pending symbols before and behind it: the marks of its parts, the
+-- numbers of their names, and whether these names are in scope.
+pub record Begun (s s' : Scope) (own : Option Name) (front back : Pending → Pending)
+    (marks : Names → List Mark → List Mark) (again : Names → Type 0) (fits : Within → Bool)
+    (old new : List Token) : Type 0 where
+  pub names : s'.names ≡ s.names
+  pub spelled : (n : Names) → Extends s.names n → (ms : List Mark) → tokens ms ≡ new → old ≡ tokens (marks n ms)
+  pub goes_on : (f : Pending) → tell s (front f) old ≡ tell s' (back f) new
+  pub numbered : (n : Names) → Extends s.names n → again n
+  pub fit : Fits s.names own fits
 
-pub post_again : {p p' : ℕ} {e e' : SentEvent ℕ} {w w' : Expression ℕ} {i i' : Option ℕ} → p' ≡ p → e' ≡ e → w' ≡ w
-    → i' ≡ i → post p' e' w' i' ≡ post p e w i
-post_again a b c d = cc (a, b, c, d)
+-- a keyword
+pub begun : {own : Option Name} {c : Context} {k : Keyword} {g : Beginning} {old new : List Token} (a b : ScopeRead)
+    → fixed b ≡ fixed a → Begins (scope_of a) (scope_of b) c k old new → beginning k ≡ g
+    → Begun (scope_of a) (scope_of b) own (λ f. items c ∷ f) (pending_of c g) (λ n ms. begins_with c k ∷ ms)
+    (λ n. Unit {0}) (λ w. true) old new
+begun {c = c} {k = k} {new = new} a b e h is = record {
+  names = fixed_names b a e;
+  spelled = λ n u ms q. h.spelled ∙ ap (λ ts. token.Keyword k ∷ ts) (sym q);
+  goes_on = λ f. h.goes_on f ∙ ap (λ z. tell (scope_of b) (pending_of c z f) new) is;
+  numbered = λ n u. tt;
+  fit = λ w u. refl;
+}
 
-pub broadcast_again : {e e' : CastEvent ℕ} {w w' : Expression ℕ} {i i' : Option ℕ} → e' ≡ e → w' ≡ w → i' ≡ i
-    → broadcast e' w' i' ≡ broadcast e w i
-broadcast_again b c d = cc (b, c, d)
+-- the variable of an assignment
+pub targeted : {own : Option Name} {c : Context} {i : ℕ} {old new : List Token} (a b : ScopeRead) → fixed b ≡ fixed a
+    → IsTarget (scope_of a) (scope_of b) c i old new
+    → Numbered (scope_of a).names (λ n. number_in n a_variable (name_in n a_variable i)) i
+    → Fits (scope_of a).names own (λ w. w a_variable i)
+    → Begun (scope_of a) (scope_of b) own (λ f. items c ∷ f) (λ f. equals ∷ expression c ∷ semicolon ∷ items c ∷ f)
+    (λ n ms. target (name_in n a_variable i) ∷ ms) (λ n. number_in n a_variable (name_in n a_variable i) ≡ i)
+    (λ w. w a_variable i) old new
+targeted {i = i} a b e h numbered fits = record {
+  names = fixed_names b a e;
+  spelled = λ n u ms q. h.spelled n u ∙ ap (λ ts. token.Name (name_in n a_variable i) ∷ ts) (sym q);
+  goes_on = h.goes_on;
+  numbered = numbered;
+  fit = fits;
+}
 
-pub synch_again : {p p' : ℕ} {e e' : SentEvent ℕ} {w w' : Expression ℕ} → p' ≡ p → e' ≡ e → w' ≡ w
-    → synch p' e' w' ≡ synch p e w
-synch_again a b c = cc (a, b, c)
+-- a sign
+pub with_sign : {s s' : Scope} {own : Option Name} {y : Symbol} {t : Token} {front back : Pending → Pending}
+    {marks : Names → List Mark → List Mark} {again : Names → Type 0} {fits : Within → Bool}
+    {old mid new : List Token} → Begun s s' own front (λ f. y ∷ back f) marks again fits old mid
+    → ReadsSign y t mid new → Begun s s' own front back (λ n ms. marks n (sign t ∷ ms)) again fits old new
+with_sign {s' = s'} {t = t} {back = back} r k = record {
+  names = r.names;
+  spelled = λ n u ms q. r.spelled n u (sign t ∷ ms) (sym (k.spelled ∙ ap (λ ts. t ∷ ts) (sym q)));
+  goes_on = λ f. r.goes_on f ∙ k.goes_on s' (back f);
+  numbered = r.numbered;
+  fit = r.fit;
+}
 
-pub set_again : {t t' : ℕ} {e e' : Expression ℕ} → t' ≡ t → e' ≡ e → set t' e' ≡ set t e
-set_again a b = cc (a, b)
+-- a part with names
+pub followed : {T : Type 0} {s s1 s' : Scope} {own : Option Name} {front mid_front back : Pending → Pending}
+    {marks marks' : Names → List Mark → List Mark} {again : Names → Type 0} {again' : Names → T} {t : T}
+    {fits fits' : Within → Bool} {old mid new : List Token}
+    → Begun s s1 own front mid_front marks again fits old mid → s'.names ≡ s1.names
+    → ((n : Names) → Extends s1.names n → (ms : List Mark) → tokens ms ≡ new → mid ≡ tokens (marks' n ms))
+    → ((f : Pending) → tell s1 (mid_front f) mid ≡ tell s' (back f) new)
+    → Numbered s1.names again' t → Fits s1.names own fits'
+    → Begun s s' own front back (λ n ms. marks n (marks' n ms)) (λ n. again n × (again' n ≡ t))
+    (λ w. fits w && fits' w) old new
+followed {s = s} {s1 = s1} {own = own} {marks' = marks'} r e spelled goes numbered fits = record {
+  names = e ∙ r.names;
+  spelled = λ n u ms q. r.spelled n u (marks' n ms) (sym (spelled n (subst (λ z. Extends z n) (sym r.names) u) ms q));
+  goes_on = λ f. r.goes_on f ∙ goes f;
+  numbered = λ n u. (r.numbered n u, numbered n (subst (λ z. Extends z n) (sym r.names) u));
+  fit = λ w u. and_from _ _ (r.fit w u) (fits w (subst (λ z. Covers z own w) (sym r.names) u));
+}
 
-pub assign_again : {x x' : ℕ} {e e' : Expression ℕ} → x' ≡ x → e' ≡ e → assign x' e' ≡ assign x e
-assign_again a b = cc (a, b)
+-- that changes nothing in scope
+pub with_part : {T : Type 0} {s : Scope} {own : Option Name} {y : Symbol} {front back : Pending → Pending}
+    {marks marks' : Names → List Mark → List Mark} {again : Names → Type 0} {again' : Names → T} {t : T}
+    {fits fits' : Within → Bool} {old mid new : List Token} {a b : ScopeRead} → b ≡ a
+    → Begun s (scope_of a) own front (λ f. y ∷ back f) marks again fits old mid
+    → Reads (scope_of a) (scope_of a) y marks' mid new → Numbered (scope_of a).names again' t
+    → Fits (scope_of a).names own fits'
+    → Begun s (scope_of b) own front back (λ n ms. marks n (marks' n ms)) (λ n. again n × (again' n ≡ t))
+    (λ w. fits w && fits' w) old new
+with_part {back = back} {new = new} {a = a} {b = b} e r k = followed r (same_names b a e) k.spelled
+    (λ f. k.goes_on (back f) ∙ ap (λ z. tell (scope_of z) (back f) new) (sym e))
+
+-- a block
+pub with_block : {T : Type 0} {s : Scope} {own : Option Name} {y : Symbol} {front back : Pending → Pending}
+    {marks marks' : Names → List Mark → List Mark} {again : Names → Type 0} {again' : Names → T} {t : T}
+    {fits fits' : Within → Bool} {old mid new : List Token} (a b : ScopeRead) → fixed b ≡ fixed a
+    → Begun s (scope_of a) own front (λ f. y ∷ back f) marks again fits old mid
+    → Reads (scope_of a) (scope_of b) y marks' mid new → Numbered (scope_of a).names again' t
+    → Fits (scope_of a).names own fits'
+    → Begun s (scope_of b) own front back (λ n ms. marks n (marks' n ms)) (λ n. again n × (again' n ≡ t))
+    (λ w. fits w && fits' w) old new
+with_block {back = back} a b e r k = followed r (fixed_names b a e) k.spelled (λ f. k.goes_on (back f))
+
+-- the other branch of an `if`
+pub with_else : {T : Type 0} {s : Scope} {own : Option Name} {c : Context} {front : Pending → Pending}
+    {marks marks' : Names → List Mark → List Mark} {again : Names → Type 0} {again' : Names → T} {t : T}
+    {fits fits' : Within → Bool} {old mid new : List Token} (a b : ScopeRead) → fixed b ≡ fixed a
+    → Begun s (scope_of a) own front (λ f. items_else c ∷ f) marks again fits old mid
+    → ReadsElse (scope_of a) (scope_of b) c marks' mid new → Numbered (scope_of a).names again' t
+    → Fits (scope_of a).names own fits'
+    → Begun s (scope_of b) own front (λ f. items c ∷ f) (λ n ms. marks n (marks' n ms)) (λ n. again n × (again' n ≡ t))
+    (λ w. fits w && fits' w) old new
+with_else a b e r k = followed r (fixed_names b a e) k.spelled k.goes_on
+
+-- The statement of all its parts.
+
+pub record IsRead {T : Type 0} (s s' : Scope) (own : Option Name) (c : Context) (t : T)
+    (marks : Names → List Mark → List Mark) (again : Names → T) (fit : Within → Bool)
+    (old new : List Token) : Type 0 where
+  pub ok : ReadsStatement s s' c marks old new
+  pub numbered : Numbered s.names again t
+  pub fits : Fits s.names own fit
+
+is_read : {T : Type 0} {s s' : Scope} {own : Option Name} {c : Context} {t : T}
+    {marks marks' : Names → List Mark → List Mark} {again : Names → Type 0} {again' : Names → T}
+    {fits fits' : Within → Bool} {old new : List Token}
+    → Begun s s' own (λ f. items c ∷ f) (λ f. items c ∷ f) marks again fits old new
+    → ((n : Names) (ms : List Mark) → marks n ms ≡ marks' n ms) → ((n : Names) → again n → again' n ≡ t)
+    → ((w : Within) → fits w ≡ fits' w) → IsRead s s' own c t marks' again' fits' old new
+is_read r same numbered fits = record {
+  ok = record { spelled = λ n u ms q. r.spelled n u ms q ∙ ap tokens (same n ms); goes_on = r.goes_on };
+  numbered = λ n u. numbered n (r.numbered n u);
+  fits = λ w u. sym (fits w) ∙ r.fit w u;
+}
+
+-- the marks of an action, its numbers and whether it fits are those of its parts
+pub record IsMadeOf (c : Context) (a : Action ℕ) (marks : Names → List Mark → List Mark) (again : Names → Type 0)
+    (fits : Within → Bool) : Type 0 where
+  pub spelled : (n : Names) (ms : List Mark) → marks n ms ≡ action_marks c (action_map (name_in n) a) ms
+  pub numbered : (n : Names) → again n → action_map (number_in n) (action_map (name_in n) a) ≡ a
+  pub fit : (w : Within) → fits w ≡ action_fits w a
+
+pub action_read : {s s' : Scope} {own : Option Name} {c : Context} {a : Action ℕ}
+    {marks : Names → List Mark → List Mark} {again : Names → Type 0} {fits : Within → Bool} {old new : List Token}
+    → Begun s s' own (λ f. items c ∷ f) (λ f. items c ∷ f) marks again fits old new → IsMadeOf c a marks again fits
+    → IsRead s s' own c a (λ n ms. action_marks c (action_map (name_in n) a) ms)
+    (λ n. action_map (number_in n) (action_map (name_in n) a)) (λ w. action_fits w a) old new
+action_read r m = is_read r m.spelled m.numbered m.fit
+
+pub statement_read : {s s' : Scope} {own : Option Name} {c : Context} {t t' : Statement ℕ}
+    {marks : Names → List Mark → List Mark} {again : Names → Type 0} {fits : Within → Bool} {old new : List Token}
+    → t' ≡ t → Begun s s' own (λ f. items c ∷ f) (λ f. items c ∷ f) marks again fits old new
+    → ((n : Names) (ms : List Mark) → marks n ms ≡ statement_marks c (statement_map (name_in n) t) ms)
+    → ((n : Names) → again n → statement_map (number_in n) (statement_map (name_in n) t) ≡ t)
+    → ((w : Within) → fits w ≡ statement_fits w t)
+    → IsRead s s' own c t' (λ n ms. statement_marks c (statement_map (name_in n) t') ms)
+    (λ n. statement_map (number_in n) (statement_map (name_in n) t')) (λ w. statement_fits w t') old new
+statement_read e r spelled numbered fits = rw e (is_read r spelled numbered fits)

@@ -21,23 +21,15 @@ not_mapped (Some j) n e = absurd cc
 -- the place among the names of its class
 pub placed : (n : Names) (c : Class) (x : Name) (i : ℕ) → look n c x ≡ Some i → (j : ℕ)
     × (place_of (names_of n c) x ≡ Some j)
-placed n an_event x i e = (i, e)
-placed n a_semaphore x i e = (i, e)
-placed n a_process x i e = (i, e)
-placed n a_variable x i e = (i, e)
 placed n a_timer x i e = let q = mapped (place_of n.timers x) n.first_timer i e in (q.0, q.1)
-placed n a_thread x i e = (i, e)
+placed n c x i e = (i, e)
 
 pub found_is_a : (n : Names) (c : Class) (x : Name) (i : ℕ) → look n c x ≡ Some i → is_a n c x ≡ true
 found_is_a n c x i e = ap is_some (placed n c x i e).1
 
 pub none_is_a : (n : Names) (c : Class) (x : Name) → look n c x ≡ None → is_a n c x ≡ false
-none_is_a n an_event x e = ap is_some e
-none_is_a n a_semaphore x e = ap is_some e
-none_is_a n a_process x e = ap is_some e
-none_is_a n a_variable x e = ap is_some e
 none_is_a n a_timer x e = ap is_some (not_mapped (place_of n.timers x) n.first_timer e)
-none_is_a n a_thread x e = ap is_some e
+none_is_a n c x e = ap is_some e
 
 or_first : (a b : Bool) → a ≡ true → (a || b) ≡ true
 or_first true b e = refl
@@ -72,31 +64,18 @@ found_other n own c x e h = (h, or_first _ _ (and_both _ _ h (none_is_a n c x e)
 
 -- The number of the name that is found, and the name with that number, in any names that extend these.
 
-number_timer : (n : Names) (x : Name) (i : ℕ) → look n a_timer x ≡ Some i → number_in n a_timer x ≡ i
-number_timer n x i e = let q = mapped (place_of n.timers x) n.first_timer i e in
+pub number_found : (n : Names) (c : Class) (x : Name) (i : ℕ) → look n c x ≡ Some i → number_in n c x ≡ i
+number_found n a_timer x i e =
+    let q = mapped (place_of n.timers x) n.first_timer i e in
     ap (λ o. n.first_timer + or_zero o) q.1 ∙ sym q.2
+number_found n c x i e = ap or_zero e
 
-name_timer : (n : Names) (x : Name) (i : ℕ) → look n a_timer x ≡ Some i → name_in n a_timer i ≡ x
-name_timer n x i e =
+pub name_found : (n : Names) (c : Class) (x : Name) (i : ℕ) → look n c x ≡ Some i → name_in n c i ≡ x
+name_found n a_timer x i e =
     let q = mapped (place_of n.timers x) n.first_timer i e in
     let d : i - n.first_timer ≡ q.0 = omega (arith, q.2) in
     ap (λ k. slice_index_or n.timers k []) d ∙ laws.name_at n.timers x q.0 q.1
-
-pub number_found : (n : Names) (c : Class) (x : Name) (i : ℕ) → look n c x ≡ Some i → number_in n c x ≡ i
-number_found n an_event x i e = ap or_zero e
-number_found n a_semaphore x i e = ap or_zero e
-number_found n a_process x i e = ap or_zero e
-number_found n a_variable x i e = ap or_zero e
-number_found n a_timer x i e = number_timer n x i e
-number_found n a_thread x i e = ap or_zero e
-
-pub name_found : (n : Names) (c : Class) (x : Name) (i : ℕ) → look n c x ≡ Some i → name_in n c i ≡ x
-name_found n an_event x i e = laws.name_at n.events x i e
-name_found n a_semaphore x i e = laws.name_at n.semaphores x i e
-name_found n a_process x i e = laws.name_at n.processes x i e
-name_found n a_variable x i e = laws.name_at n.variables x i e
-name_found n a_timer x i e = name_timer n x i e
-name_found n a_thread x i e = laws.name_at n.threads x i e
+name_found n c x i e = laws.name_at (names_of n c) x i e
 
 grown : (xs ys : List Name) (x : Name) (i : ℕ) → (more : List Name) × (ys ≡ xs ++ more) → place_of xs x ≡ Some i
     → place_of ys x ≡ Some i
@@ -104,15 +83,11 @@ grown xs ys x i m e = ap (λ zs. place_of zs x) m.1 ∙ place_left xs m.0 x i e
 
 pub still_found : (n n' : Names) (c : Class) (x : Name) (i : ℕ) → Extends n n' → look n c x ≡ Some i
     → look n' c x ≡ Some i
-still_found n n' an_event x i h e = grown _ _ x i (h.front an_event) e
-still_found n n' a_semaphore x i h e = grown _ _ x i (h.front a_semaphore) e
-still_found n n' a_process x i h e = grown _ _ x i (h.front a_process) e
-still_found n n' a_variable x i h e = grown _ _ x i (h.front a_variable) e
 still_found n n' a_timer x i h e =
     let q = mapped (place_of n.timers x) n.first_timer i e in
     ap (option_map (λ k. n'.first_timer + k)) (grown n.timers n'.timers x q.0 (h.front a_timer) q.1)
     ∙ ap (λ k. Some (k + q.0)) h.first_timer ∙ ap Some (sym q.2)
-still_found n n' a_thread x i h e = grown _ _ x i (h.front a_thread) e
+still_found n n' c x i h e = grown _ _ x i (h.front c) e
 
 pub name_again : (n n' : Names) (own : Option Name) (c : Class) (x : Name) (i : ℕ) → Finds n own c x i → Extends n n'
     → name_in n' c i ≡ x

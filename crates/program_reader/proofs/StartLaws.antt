@@ -6,23 +6,23 @@ use Rattle.std.proofs.lemmas.Bool.{ltb-true, lt-ltb}
 use Rattle.std.proofs.lemmas.List.{append-nil, map-append}
 use Rattle.std.proofs.lemmas.List.Elements.{All-nil, All-cons, All-append}
 use Rattle.program_tree.specs.Faults.{Scope}
-use Rattle.program_tree.specs.Forms as form
 use Rattle.program_tree.specs.Grammar.{tokens, sign, named, starts, at_body, operand_mark, starting_marks}
 use Rattle.program_reader.specs.Head.{with_starting, CanStart, IsStarting, HasStarting, ReadsAutostart, ReadsReceiver}
-use Rattle.program_tree.specs.InScope.{Names, names_of, is_in_scope, or_zero, number_in, name_in}
-use Rattle.program_reader.specs.Machine.{Pending, Verdict, tell, fault, first, first_broken, starting}
-use Rattle.program_reader.specs.Machine.{more_starting, from_autostart, from_receiver, codes, semicolon, operand}
+use Rattle.program_tree.specs.InScope.{Names, is_in_scope, or_zero, number_in, name_in}
+use Rattle.program_reader.specs.Machine.{Pending, Verdict, tell, fault, first, first_broken, starting, more_starting}
+use Rattle.program_reader.specs.Machine.{from_autostart, from_receiver, codes, semicolon, operand}
 use Rattle.program_tree.specs.Names.{place_of}
 use Rattle.program_tree.specs.Scope.{Within}
 use Rattle.program_tree.specs.Shapes.{Name}
-use Rattle.program_reader.specs.Steps.{ReadsSign, Reads, Numbered, Fits, Finds, Extends}
-use Rattle.program_tree.specs.Tokens as token
+use Rattle.program_reader.specs.Steps.{ReadsSign, Reads, Numbered, Fits, Finds}
 use Rattle.program_tree.specs.Tokens.{Token}
 use Rattle.program_tree.specs.Tree.{Class, a_process}
 use Rattle.program_tree.specs.declared.error.ReadErrorKind.{ReadErrorKind}
 use Rattle.program_tree.specs.declared.error.ReadErrorKind.TheVariants.{UnknownName, NameTwice, BadTarget}
+use Rattle.program_tree.specs.Forms as form
+use Rattle.program_tree.specs.Tokens as token
 use Rattle.program_tree.specs.declared.keyword.Keyword.TheVariants as word
-use Rattle.program_reader.proofs.ListLaws.{keyword_then}
+use Rattle.program_reader.proofs.ExtendLaws.{extends_itself}
 use Rattle.program_tree.proofs.NameLaws.{name_at, place_below}
 use Rattle.program_reader.proofs.NameSteps.{front_of, taken, broken}
 use Rattle.program_reader.proofs.Stages.{no_autostart, no_receiver}
@@ -80,10 +80,9 @@ number_is : (n : Names) (x : Name) (i : ℕ) → place_of n.processes x ≡ Some
 number_is n x i e = ap or_zero e
 
 pub has_first : (s s' : Scope) (n0 n1 : List ℕ) (old m0 rest : List Token) → n0 ≡ []
-    → first old ≡ Some (token.Keyword word.Autostart) → m0 ≡ drop 1 old → IsStarting s s' n0 n1 m0 rest
+    → old ≡ token.Keyword word.Autostart ∷ m0 → IsStarting s s' n0 n1 m0 rest
     → HasStarting s s' n1 old rest
-has_first s s' n0 n1 old m0 rest none is from r =
-    let split : old ≡ token.Keyword word.Autostart ∷ m0 = keyword_then (token.Keyword word.Autostart) old m0 is from in
+has_first s s' n0 n1 old m0 rest none split r =
     let pushed : n1 ≡ r.number ∷ [] = r.pushed ∙ ap (λ z. z ++ r.number ∷ []) none in
     record {
       first = r.name;
@@ -101,9 +100,8 @@ has_first s s' n0 n1 old m0 rest none is from r =
     }
 
 pub has_more : (s m s' : Scope) (n1 n2 : List ℕ) (old rest m0 new : List Token) → HasStarting s m n1 old rest
-    → first rest ≡ Some token.Comma → m0 ≡ drop 1 rest → IsStarting m s' n1 n2 m0 new → HasStarting s s' n2 old new
-has_more s m s' n1 n2 old rest m0 new h is from r =
-    let split : rest ≡ token.Comma ∷ m0 = keyword_then token.Comma rest m0 is from in
+    → rest ≡ token.Comma ∷ m0 → IsStarting m s' n1 n2 m0 new → HasStarting s s' n2 old new
+has_more s m s' n1 n2 old rest m0 new h split r =
     let known : place_of s.names.processes r.name ≡ Some r.number =
     ap (λ z. place_of z.names.processes r.name) (sym h.added) ∙ r.known in
     record {
@@ -135,9 +133,8 @@ has_more s m s' n1 n2 old rest m0 new h is from r =
 
 no_comma : (s : Scope) (f : Pending) (ts : List Token) → (first ts ≡ Some token.Comma → ⊥)
     → tell s (more_starting ∷ f) ts ≡ tell s (semicolon ∷ f) ts
-no_comma s f [] h = refl
 no_comma s f (token.Comma ∷ ts) h = absurd (h refl)
-no_comma s f (t ∷ ts) h = refl
+no_comma s f ts h = refl
 
 pub has_all : (s m : Scope) (n : List ℕ) (old rest r new : List Token) → HasStarting s m n old rest
     → (first rest ≡ Some token.Comma → ⊥) → r ≡ rest → ReadsSign semicolon token.Semicolon r new
@@ -173,18 +170,18 @@ none_starts s s' n old new scope none other same = record {
 }
 
 pub first_fails : (s : Scope) (old m0 : List Token) (v : Verdict) (x : Name) (xs : List Name) (more : Pending)
-    → first old ≡ Some (token.Keyword word.Autostart) → m0 ≡ drop 1 old
+    → old ≡ token.Keyword word.Autostart ∷ m0
     → ((more : Pending) → tell s (starting ∷ more) m0 ≡ v) → tell s (from_autostart x xs ∷ more) old ≡ v
-first_fails s old m0 v x xs more is from e = ap (tell s (from_autostart x xs ∷ more))
-    (keyword_then (token.Keyword word.Autostart) old m0 is from) ∙ e (more_starting ∷ from_receiver x xs ∷ more)
+first_fails s old m0 v x xs more split e = ap (tell s (from_autostart x xs ∷ more))
+    split ∙ e (more_starting ∷ from_receiver x xs ∷ more)
 
 pub more_fails : (s m : Scope) (n : List ℕ) (old rest m0 : List Token) (v : Verdict) (x : Name) (xs : List Name)
-    (more : Pending) → HasStarting s m n old rest → first rest ≡ Some token.Comma → m0 ≡ drop 1 rest
+    (more : Pending) → HasStarting s m n old rest → rest ≡ token.Comma ∷ m0
     → ((more : Pending) → tell m (starting ∷ more) m0 ≡ v)
     → tell s (from_autostart x xs ∷ more) old ≡ v
-more_fails s m n old rest m0 v x xs more h is from e =
+more_fails s m n old rest m0 v x xs more h split e =
     h.goes_on x xs more ∙ ap (tell m (more_starting ∷ from_receiver x xs ∷ more))
-    (keyword_then token.Comma rest m0 is from) ∙ e (more_starting ∷ from_receiver x xs ∷ more)
+    split ∙ e (more_starting ∷ from_receiver x xs ∷ more)
 
 pub end_fails : (s m : Scope) (n : List ℕ) (old rest r : List Token) (v : Verdict) (x : Name) (xs : List Name)
     (more : Pending) → HasStarting s m n old rest → (first rest ≡ Some token.Comma → ⊥) → r ≡ rest
@@ -208,9 +205,6 @@ no_receiver_read s old new other same = record {
       ∙ ap (tell s (codes x xs ∷ f)) (sym same);
 }
 
-extends_itself : (n : Names) → Extends n n
-extends_itself n = record { front = λ c. ([], sym (append-nil (names_of n c))); first_timer = refl }
-
 -- the numbers of processes have a meaning; of other classes, any number does
 within_processes : Names → Within
 within_processes n a_process i = nat_lt i (length n.processes)
@@ -226,41 +220,30 @@ pub process_within : (n : Names) (own : Option Name) (i : ℕ) → Fits n own (�
 unfolding within_processes
 process_within n own i h = ltb-true i (length n.processes) (h (within_processes n) (covers_processes n own))
 
-pub receiver_read : (s : Scope) (i : ℕ) (old m0 m1 new : List Token) → first old ≡ Some (token.Keyword word.Receiver)
-    → m0 ≡ drop 1 old → Reads s s (operand at_body (form.name a_process))
+pub receiver_read : (s : Scope) (i : ℕ) (old m0 m1 new : List Token) → old ≡ token.Keyword word.Receiver ∷ m0 → Reads s
+    s (operand at_body (form.name a_process))
     (λ n ms. operand_mark at_body (form.name a_process) (name_in n a_process i) ∷ ms) m0 m1
     → Numbered s.names (λ n. number_in n a_process (name_in n a_process i)) i → i < length s.names.processes
     → ReadsSign semicolon token.Semicolon m1 new → ReadsReceiver s (Some i) old new
-receiver_read s i old m0 m1 new is from r numbered within k =
-    let split : old ≡ token.Keyword word.Receiver ∷ m0 = keyword_then (token.Keyword word.Receiver) old m0 is from in
-    record {
-      name = Some (name_in s.names a_process i);
-      numbered = ap Some (sym (numbered s.names (extends_itself s.names)));
-      named = refl;
-      within = within;
-      spelled = λ ms e. split ∙ ap (λ ts. token.Keyword word.Receiver ∷ ts)
-          (r.spelled s.names (extends_itself s.names) (sign token.Semicolon ∷ ms)
-          (sym (k.spelled ∙ ap (λ ts. token.Semicolon ∷ ts) (sym e))));
-      goes_on = λ x xs f. ap (tell s (from_receiver x xs ∷ f)) split ∙ r.goes_on (semicolon ∷ codes x xs ∷ f)
-          ∙ k.goes_on s (codes x xs ∷ f);
-    }
+receiver_read s i old m0 m1 new split r numbered within k = record {
+  name = Some (name_in s.names a_process i);
+  numbered = ap Some (sym (numbered s.names (extends_itself s.names)));
+  named = refl;
+  within = within;
+  spelled = λ ms e. split ∙ ap (λ ts. token.Keyword word.Receiver ∷ ts)
+      (r.spelled s.names (extends_itself s.names) (sign token.Semicolon ∷ ms)
+      (sym (k.spelled ∙ ap (λ ts. token.Semicolon ∷ ts) (sym e))));
+  goes_on = λ x xs f. ap (tell s (from_receiver x xs ∷ f)) split ∙ r.goes_on (semicolon ∷ codes x xs ∷ f)
+      ∙ k.goes_on s (codes x xs ∷ f);
+}
 
 pub receiver_fails : (s : Scope) (old m0 : List Token) (v : Verdict) (x : Name) (xs : List Name) (more : Pending)
-    → first old ≡ Some (token.Keyword word.Receiver) → m0 ≡ drop 1 old
+    → old ≡ token.Keyword word.Receiver ∷ m0
     → ((more : Pending) → tell s (operand at_body (form.name a_process) ∷ more) m0 ≡ v)
     → tell s (from_receiver x xs ∷ more) old ≡ v
-receiver_fails s old m0 v x xs more is from e =
-    ap (tell s (from_receiver x xs ∷ more)) (keyword_then (token.Keyword word.Receiver) old m0 is from)
+receiver_fails s old m0 v x xs more split e =
+    ap (tell s (from_receiver x xs ∷ more)) split
     ∙ e (semicolon ∷ codes x xs ∷ more)
-
-pub receiver_end_fails : (s : Scope) (i : ℕ) (old m0 m1 : List Token) (v : Verdict) (x : Name) (xs : List Name)
-    (more : Pending) → first old ≡ Some (token.Keyword word.Receiver) → m0 ≡ drop 1 old
-    → Reads s s (operand at_body (form.name a_process))
-    (λ n ms. operand_mark at_body (form.name a_process) (name_in n a_process i) ∷ ms) m0 m1
-    → ((t : Scope) (f : Pending) → tell t (semicolon ∷ f) m1 ≡ v) → tell s (from_receiver x xs ∷ more) old ≡ v
-receiver_end_fails s i old m0 m1 v x xs more is from r e =
-    ap (tell s (from_receiver x xs ∷ more)) (keyword_then (token.Keyword word.Receiver) old m0 is from)
-    ∙ r.goes_on (semicolon ∷ codes x xs ∷ more) ∙ e s (codes x xs ∷ more)
 
 pub ruleset autostart_steps = (none_starts, has_first, has_all, first_fails)
 

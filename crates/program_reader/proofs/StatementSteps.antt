@@ -1,9 +1,7 @@
 -- The next steps of reading after the first token of a statement.
 use Rattle.std.proofs.Common.{◌≡◌, ℕ, ◌+◌, ◌<◌, ◌≤◌, List, ◌∷◌, drop, length, refl, sym, ap, ◌∙◌, arith, Option, Some}
 use Rattle.std.proofs.Common.{None, Bool, true, false, not, ◌&&◌, ◌||◌, nat_le}
-use Rattle.std.proofs.lemmas.Bool.{leb-true, leb-false}
 use Rattle.program_tree.specs.Faults.{Scope, scope_after, is_other}
-use Rattle.program_tree.specs.Forms as form
 use Rattle.program_tree.specs.Forms.{Beginning, no_statement, action, branches, loops, goes_on, beginning, waits}
 use Rattle.program_tree.specs.Grammar.{Context, target, begins_with, into_marks, key, sign, operand_mark}
 use Rattle.program_tree.specs.InScope.{Names, is_a, is_in_scope, name_in, number_in}
@@ -12,12 +10,14 @@ use Rattle.program_reader.specs.Machine.{expression, equals, semicolon, into_end
 use Rattle.program_tree.specs.Shapes.{Name}
 use Rattle.program_reader.specs.Steps.{Finds, IsFound, Numbered, Fits, pending_of, IsStatement, Begins, IsTarget}
 use Rattle.program_reader.specs.Steps.{Reads, ReadsSign}
-use Rattle.program_tree.specs.Tokens as token
 use Rattle.program_tree.specs.Tokens.{Token}
 use Rattle.program_tree.specs.Tree.{a_variable}
 use Rattle.program_tree.specs.declared.error.ReadErrorKind.TheVariants.{UnknownName, WaitInSimpleBlock, TooMany}
 use Rattle.program_tree.specs.declared.error.ReadErrorKind.TheVariants.{BadTarget}
 use Rattle.program_tree.specs.declared.keyword.Keyword.{Keyword}
+use Rattle.std.proofs.lemmas.Bool.Decides.{nat_tests}
+use Rattle.program_tree.specs.Forms as form
+use Rattle.program_tree.specs.Tokens as token
 use Rattle.program_tree.specs.declared.keyword.Keyword.TheVariants as word
 use Rattle.program_reader.specs.declared.scope.Found.TheVariants as found
 use Rattle.program_reader.proofs.NameSteps.{taken, broken, front_of}
@@ -37,11 +37,7 @@ step_of c k goes_on f h = absurd h
 
 begins_none : (s : Scope) (c : Context) (k : Keyword) → (c.simple && waits k) ≡ false → s.statements < 4096
     → first_broken s (begins_with c k) ≡ None
-begins_none s c k e h = go (nat_le 4096 s.statements) refl
-  where
-    go : (b : Bool) → nat_le 4096 s.statements ≡ b → first_broken s (begins_with c k) ≡ None
-    go true q = absurd (omega (arith, leb-true 4096 s.statements q))
-    go false q = rw (e, q) refl
+begins_none s c k e h = let low : nat_le 4096 s.statements ≡ false = grind (arith, nat_tests) in rw (e, low) refl
 
 begins_wait : (s : Scope) (c : Context) (k : Keyword) → (c.simple && waits k) ≡ true → first_broken s (begins_with c k)
     ≡ Some WaitInSimpleBlock
@@ -49,11 +45,7 @@ begins_wait s c k e = rw e refl
 
 begins_many : (s : Scope) (c : Context) (k : Keyword) → (c.simple && waits k) ≡ false → 4096 ≤ s.statements
     → first_broken s (begins_with c k) ≡ Some TooMany
-begins_many s c k e h = go (nat_le 4096 s.statements) refl
-  where
-    go : (b : Bool) → nat_le 4096 s.statements ≡ b → first_broken s (begins_with c k) ≡ Some TooMany
-    go true q = rw (e, q) refl
-    go false q = absurd (omega (arith, leb-false 4096 s.statements q))
+begins_many s c k e h = let full : nat_le 4096 s.statements ≡ true = grind (arith, nat_tests) in rw (e, full) refl
 
 begins_after : (s : Scope) (c : Context) (k : Keyword) → (c.simple && waits k) ≡ false
     → scope_after s (begins_with c k) ≡ counted s
@@ -93,19 +85,11 @@ pub ruleset may_begin_steps = (begin_wait, begin_many)
 
 target_none : (s : Scope) (x : Name) → is_in_scope s.names x ≡ true → is_a s.names a_variable x ≡ true
     → s.statements < 4096 → first_broken s (target x) ≡ None
-target_none s x e f h = go (nat_le 4096 s.statements) refl
-  where
-    go : (b : Bool) → nat_le 4096 s.statements ≡ b → first_broken s (target x) ≡ None
-    go true q = absurd (omega (arith, leb-true 4096 s.statements q))
-    go false q = rw (e, f, q) refl
+target_none s x e f h = let low : nat_le 4096 s.statements ≡ false = grind (arith, nat_tests) in rw (e, f, low) refl
 
 target_many : (s : Scope) (x : Name) → is_in_scope s.names x ≡ true → 4096 ≤ s.statements
     → first_broken s (target x) ≡ Some TooMany
-target_many s x e h = go (nat_le 4096 s.statements) refl
-  where
-    go : (b : Bool) → nat_le 4096 s.statements ≡ b → first_broken s (target x) ≡ Some TooMany
-    go true q = rw (e, q) refl
-    go false q = absurd (omega (arith, leb-false 4096 s.statements q))
+target_many s x e h = let full : nat_le 4096 s.statements ≡ true = grind (arith, nat_tests) in rw (e, full) refl
 
 or_false : (b : Bool) → (b || false) ≡ true → b ≡ true
 or_false true e = refl
@@ -113,12 +97,11 @@ or_false false e = absurd cc
 
 target_bad : (s : Scope) (x : Name) → is_in_scope s.names x ≡ true → (is_other s.names a_variable x || false) ≡ true
     → s.statements < 4096 → first_broken s (target x) ≡ Some BadTarget
-target_bad s x e f h = go (nat_le 4096 s.statements) refl
-  where
-    go : (b : Bool) → nat_le 4096 s.statements ≡ b → first_broken s (target x) ≡ Some BadTarget
-    go true q = absurd (omega (arith, leb-true 4096 s.statements q))
-    go false q = let g : not (is_a s.names a_variable x) ≡ true =
-        ap (λ b. b && not (is_a s.names a_variable x)) (sym e) ∙ or_false _ f in rw (e, q, g) refl
+target_bad s x e f h =
+    let low : nat_le 4096 s.statements ≡ false = grind (arith, nat_tests) in
+    let g : not (is_a s.names a_variable x) ≡ true = ap (λ b. b && not (is_a s.names a_variable x)) (sym e)
+    ∙ or_false _ f in
+    rw (e, low, g) refl
 
 pub target_ok : (s s' : Scope) (c : Context) (x : Name) (i : ℕ) (old new : List Token)
     → first old ≡ Some (token.Name x) → Finds s.names c.thread a_variable x i → s.statements < 4096 → s' ≡ counted s

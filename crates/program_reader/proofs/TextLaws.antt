@@ -1,8 +1,8 @@
 -- Every text is lexed, and in one way.
-use Rattle.std.proofs.Common.{◌≡◌, ◌<◌, ◌≤◌, ◌+◌, ◌||◌, not, ℕ, zero, suc, List, [], ◌∷◌, ◌++◌, get_or, length, drop}
-use Rattle.std.proofs.Common.{Bool, true, false, Option, Some, None, refl, ap, sym, ◌∙◌, subst, arith, codes}
+use Rattle.std.proofs.Common.{◌≡◌, ◌<◌, ◌≤◌, ◌+◌, not, ℕ, zero, suc, List, [], ◌∷◌, ◌++◌, get_or, length, drop, Bool}
+use Rattle.std.proofs.Common.{true, false, Option, Some, None, refl, ap, sym, ◌∙◌, subst, arith, codes}
 use Rattle.std.specs.Prelude.{option_map, count_by}
-use Rattle.std.proofs.lemmas.Bool.{and_parts}
+use Rattle.std.proofs.lemmas.Bool.{and_parts, or_parts}
 use Rattle.std.proofs.lemmas.Bool.Decides.{nat_tests}
 use Rattle.std.proofs.lemmas.List.{append_cancel_left, length-append, length-drop}
 use Rattle.std.proofs.lemmas.List.Sums.{take_while-cons}
@@ -115,10 +115,6 @@ front_run p [] (r ∷ rest) all stops = rw (take_while-cons p r rest, stops) ref
 front_run p (x ∷ xs) rest all stops =
     let parts = and_parts (p x) (list_all p xs) all in
     rw (take_while-cons p x (xs ++ rest), parts.0) (ap (λ ys. x ∷ ys) (front_run p xs rest parts.1 stops))
-
-or_parts : (a b : Bool) → (a || b) ≡ false → (a ≡ false) × (b ≡ false)
-or_parts true b h = absurd cc
-or_parts false b h = (refl, h)
 
 no_feeds : (xs : List ℕ) → list_any is_feed xs ≡ false → list_all (λ b. not (is_feed b)) xs ≡ true
 no_feeds [] h = refl

@@ -8,20 +8,20 @@ use Rattle.program_tree.specs.Grammar.{Mark, tokens, program_marks}
 use Rattle.program_reader.specs.Machine.{Symbol, Pending, Step, unfit, take, step, tell, after, end_kind, Verdict}
 use Rattle.program_reader.specs.Machine.{whole, fault, from_events, from_semaphores, first_process, first_broken_of}
 use Rattle.program_reader.specs.Machine.{rules_on_marks, first_broken, fault_or, unfit_kind, operand}
-use Rattle.program_tree.specs.Forms as form
 use Rattle.program_tree.specs.Shapes.{ProgramShape}
 use Rattle.program_tree.specs.Kinds.{kind_number}
 use Rattle.program_tree.specs.Faults.{Scope, nothing_yet, scope_after, scope_from, scope_of, breaks, CanFollow}
 use Rattle.program_tree.specs.Faults.{LacksProcess, Breach, IsFault, IsToldAt, IsProgram}
-use Rattle.program_reader.proofs.Language.{Parts, spell_all, some_parts, some_program, Back, back, FromEvents}
-use Rattle.program_reader.proofs.Turns.{On, Forth, forth}
-use Rattle.program_tree.specs.Tokens as token
 use Rattle.program_tree.specs.Tokens.{Token}
-use Rattle.program_tree.specs.declared.keyword.Keyword.TheVariants as word
 use Rattle.program_tree.specs.declared.error.ReadErrorKind.{ReadErrorKind}
 use Rattle.program_tree.specs.declared.error.ReadErrorKind.TheVariants.{BadToken, Unexpected, UnknownName, NameTwice}
 use Rattle.program_tree.specs.declared.error.ReadErrorKind.TheVariants.{NumberTooLarge, WaitInSimpleBlock, TooDeep}
-use Rattle.program_tree.specs.declared.error.ReadErrorKind.TheVariants.{TooMany, NoProcess, BadTarget, Memory}
+use Rattle.program_tree.specs.declared.error.ReadErrorKind.TheVariants.{TooMany, NoProcess, BadTarget}
+use Rattle.program_tree.specs.Forms as form
+use Rattle.program_tree.specs.Tokens as token
+use Rattle.program_tree.specs.declared.keyword.Keyword.TheVariants as word
+use Rattle.program_reader.proofs.Language.{Parts, spell_all, some_parts, some_program, Back, back, FromEvents}
+use Rattle.program_reader.proofs.Turns.{On, Forth, forth}
 
 -- The first broken rule is the least.
 
@@ -308,14 +308,7 @@ module _ (before ts : List Token) (ms : List Mark) (f : Pending) (s : Scope) (t 
   no_fault sound BadToken h = not_bad h.0 h.1
   no_fault sound Unexpected h = h (inl can)
   no_fault sound NoProcess h = h
-  no_fault sound UnknownName h = sound UnknownName (breach_is UnknownName h)
-  no_fault sound NameTwice h = sound NameTwice (breach_is NameTwice h)
-  no_fault sound NumberTooLarge h = sound NumberTooLarge (breach_is NumberTooLarge h)
-  no_fault sound WaitInSimpleBlock h = sound WaitInSimpleBlock (breach_is WaitInSimpleBlock h)
-  no_fault sound TooDeep h = sound TooDeep (breach_is TooDeep h)
-  no_fault sound TooMany h = sound TooMany (breach_is TooMany h)
-  no_fault sound BadTarget h = sound BadTarget (breach_is BadTarget h)
-  no_fault sound Memory h = sound Memory (breach_is Memory h)
+  no_fault sound j h = sound j (breach_is j h)
 
   clean_more : ((j : ReadErrorKind) → IsFault j before (t ∷ ts) → ⊥) → Clean (before ++ (t ∷ [])) ts
   clean_more none b r j e h i = go (nat_lt (length b) (length before)) refl
@@ -353,14 +346,7 @@ module _ (before ts : List Token) (ms : List Mark) (f : Pending) (s : Scope) (t 
   lesser k e BadToken l h = not_bad h.0 h.1
   lesser k e Unexpected l h = h (inl can)
   lesser k e NoProcess l h = h
-  lesser k e UnknownName l h = no_lesser s m k e UnknownName l (breach_is UnknownName h)
-  lesser k e NameTwice l h = no_lesser s m k e NameTwice l (breach_is NameTwice h)
-  lesser k e NumberTooLarge l h = no_lesser s m k e NumberTooLarge l (breach_is NumberTooLarge h)
-  lesser k e WaitInSimpleBlock l h = no_lesser s m k e WaitInSimpleBlock l (breach_is WaitInSimpleBlock h)
-  lesser k e TooDeep l h = no_lesser s m k e TooDeep l (breach_is TooDeep h)
-  lesser k e TooMany l h = no_lesser s m k e TooMany l (breach_is TooMany h)
-  lesser k e BadTarget l h = no_lesser s m k e BadTarget l (breach_is BadTarget h)
-  lesser k e Memory l h = no_lesser s m k e Memory l (breach_is Memory h)
+  lesser k e j l h = no_lesser s m k e j l (breach_is j h)
 
   on_mark : (o : Option ReadErrorKind) → first_broken s m ≡ o
       → Judged (fault_or o (suc (length ts)) (tell (scope_after s m) f' ts)) (before ++ (t ∷ ts))
@@ -381,16 +367,7 @@ module _ (before ts : List Token) (ms : List Mark) (f : Pending) (s : Scope) (t 
 -- no fault has a number below 1
 none_below_one : (j : ReadErrorKind) → kind_number j < 1 → ⊥
 none_below_one BadToken h = omega arith
-none_below_one Unexpected h = omega arith
-none_below_one UnknownName h = omega arith
-none_below_one NameTwice h = omega arith
-none_below_one NumberTooLarge h = omega arith
-none_below_one WaitInSimpleBlock h = omega arith
-none_below_one TooDeep h = omega arith
-none_below_one TooMany h = omega arith
-none_below_one NoProcess h = omega arith
-none_below_one BadTarget h = omega arith
-none_below_one Memory h = omega arith
+none_below_one j h = omega arith
 
 -- if this can't follow, no mark here can break a rule
 no_breach : (k : ReadErrorKind) (before rest : List Token) → (CanFollow before rest → ⊥) → Breach k before rest → ⊥
@@ -406,16 +383,7 @@ no_breach k before (t ∷ ts) bad b = bad (
 below_two : (before rest : List Token) → ((after : List Token) → rest ≡ token.Bad ∷ after → ⊥) → (j : ReadErrorKind)
     → kind_number j < 2 → IsFault j before rest → ⊥
 below_two before rest fine BadToken h i = fine i.0 i.1
-below_two before rest fine Unexpected h i = omega arith
-below_two before rest fine UnknownName h i = omega arith
-below_two before rest fine NameTwice h i = omega arith
-below_two before rest fine NumberTooLarge h i = omega arith
-below_two before rest fine WaitInSimpleBlock h i = omega arith
-below_two before rest fine TooDeep h i = omega arith
-below_two before rest fine TooMany h i = omega arith
-below_two before rest fine NoProcess h i = omega arith
-below_two before rest fine BadTarget h i = omega arith
-below_two before rest fine Memory h i = omega arith
+below_two before rest fine j h i = omega arith
 
 told_unexpected : (before ts : List Token) → (CanFollow before ts ⊎ LacksProcess before ts → ⊥)
     → ((after : List Token) → ts ≡ token.Bad ∷ after → ⊥) → Clean before ts
@@ -465,14 +433,7 @@ told_no_process before bad lacks clean = (
     least BadToken h i = absurd (cc (i.1))
     least Unexpected h i = i (inr lacks)
     least NoProcess h i = omega arith
-    least UnknownName h i = no_breach UnknownName before [] bad i
-    least NameTwice h i = no_breach NameTwice before [] bad i
-    least NumberTooLarge h i = no_breach NumberTooLarge before [] bad i
-    least WaitInSimpleBlock h i = no_breach WaitInSimpleBlock before [] bad i
-    least TooDeep h i = no_breach TooDeep before [] bad i
-    least TooMany h i = no_breach TooMany before [] bad i
-    least BadTarget h i = no_breach BadTarget before [] bad i
-    least Memory h i = no_breach Memory before [] bad i
+    least j h i = no_breach j before [] bad i
 
 -- the marks of some tokens and more
 split_at : (before : List Token) (t : Token) (more : List Token) (xs : List Mark) → tokens xs ≡ before ++ (t ∷ more) →
@@ -522,14 +483,7 @@ none_at_end : (before : List Token) (p : ProgramShape) → tokens (program_marks
 none_at_end before p text lacks BadToken i = absurd (cc (i.1))
 none_at_end before p text lacks Unexpected i = i (inl (p, text))
 none_at_end before p text lacks NoProcess i = lacks i
-none_at_end before p text lacks UnknownName i = absurd (cc (i.at))
-none_at_end before p text lacks NameTwice i = absurd (cc (i.at))
-none_at_end before p text lacks NumberTooLarge i = absurd (cc (i.at))
-none_at_end before p text lacks WaitInSimpleBlock i = absurd (cc (i.at))
-none_at_end before p text lacks TooDeep i = absurd (cc (i.at))
-none_at_end before p text lacks TooMany i = absurd (cc (i.at))
-none_at_end before p text lacks BadTarget i = absurd (cc (i.at))
-none_at_end before p text lacks Memory i = absurd (cc (i.at))
+none_at_end before p text lacks j i = absurd (cc (i.at))
 
 at_end_unexpected : (before : List Token) (ms : List Mark) (y : Symbol) (f : Pending) (s : Scope)
     → Reached before ms (y ∷ f) s → Clean before [] → end_kind y ≡ Unexpected

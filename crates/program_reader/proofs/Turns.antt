@@ -3,30 +3,30 @@
 use Rattle.std.proofs.Common.{◌≡◌, List, [], ◌∷◌, ◌++◌, refl, sym, ap, subst, ◌∙◌, Bool, true, false, if◌then◌else◌}
 use Rattle.std.proofs.Common.{Some, None}
 use Rattle.std.specs.Str.{bytes_eq}
-use Rattle.program_tree.specs.EventNames as event
-use Rattle.program_tree.specs.Forms as form
 use Rattle.program_tree.specs.Forms.{Operand}
 use Rattle.program_tree.specs.Grammar.{Context, Mark, sign, operand_mark, expression_marks, items_marks, code_marks}
 use Rattle.program_tree.specs.Grammar.{codes_marks, process_marks, autostart_marks, receiver_marks, tokens}
 use Rattle.program_reader.specs.Machine.{Pending, Step, unfit, take, step, semicolon, equals, open_sign, close}
-use Rattle.program_reader.specs.Machine.{open_brace, operator, number as number_symbol, operand, expression}
-use Rattle.program_reader.specs.Machine.{into_end, block, items, items_else, new_name, new_thread, codes, this_name}
+use Rattle.program_reader.specs.Machine.{open_brace, operator, number as number_symbol, operand, expression, into_end}
+use Rattle.program_reader.specs.Machine.{block, items, items_else, new_name, new_thread, codes, this_name}
 use Rattle.program_reader.specs.Machine.{from_variables, from_etimers, from_ctimers, from_threads, from_on_poll}
 use Rattle.program_reader.specs.Machine.{from_on_exit, from_body, last_brace, from_events, from_semaphores}
 use Rattle.program_reader.specs.Machine.{first_process, from_comma, more_process, from_autostart, from_receiver}
 use Rattle.program_reader.specs.Machine.{starting, more_starting}
 use Rattle.program_tree.specs.Shapes.{Name, OperandShape}
-use Rattle.program_tree.specs.Tokens as token
 use Rattle.program_tree.specs.Tokens.{Token}
+use Rattle.program_tree.specs.Tree.{Expression, number, variable, sender, moment, mote, is, fired, expired, gone}
+use Rattle.program_tree.specs.Tree.{running, count, negation, binary, assign, print, send, wait_until, wait_while}
+use Rattle.program_tree.specs.Tree.{yield, yield_until, spawn, restart, exit, pause, acquire, signal, post, broadcast}
+use Rattle.program_tree.specs.Tree.{synch, poll, start, kill, set, reset, restart_timer, stop, does, branch, while}
+use Rattle.program_tree.specs.Tree.{Body, end, next, nothing, otherwise}
+use Rattle.program_tree.specs.EventNames as event
+use Rattle.program_tree.specs.Forms as form
+use Rattle.program_tree.specs.Tokens as token
 use Rattle.program_tree.specs.Tree as tree
-use Rattle.program_tree.specs.Tree.{a_process, Expression, number, variable, sender, moment, mote, is, fired, expired}
-use Rattle.program_tree.specs.Tree.{gone, running, count, negation, binary, assign, print, send, wait_until}
-use Rattle.program_tree.specs.Tree.{wait_while, yield, yield_until, spawn, restart, exit, pause, acquire, signal, post}
-use Rattle.program_tree.specs.Tree.{broadcast, synch, poll, start, kill, set, reset, restart_timer, stop, does, branch}
-use Rattle.program_tree.specs.Tree.{while, Body, end, next, nothing, otherwise}
 use Rattle.program_reader.proofs.Language.{Parts, spell_all, Back, back, back_this, CodesOf, Process, FromComma}
-use Rattle.program_reader.proofs.Language.{codes_spelled, all_but_last, last, last_spelled, with_last}
-use Rattle.program_reader.proofs.Language.{parts_of_code, more_spelled}
+use Rattle.program_reader.proofs.Language.{codes_spelled, all_but_last, last, last_spelled, with_last, parts_of_code}
+use Rattle.program_reader.proofs.Language.{more_spelled}
 use Rattle.program_tree.proofs.NameLaws.{bytes_same}
 
 -- a step forward: the marks begin with the mark that the step gives, and continue with those of parts for its symbols
@@ -55,26 +55,13 @@ turns_operand : (c : Context) (o : Operand) (f : Pending) (v : OperandShape o) (
     → Turns (operand c o ∷ f) (v, ps) (operand_mark c o v ∷ spell_all f ps)
 turns_operand c (form.name k) f v ps = (refl, ps, refl, refl)
 turns_operand c form.cast f event.continue ps = (refl, ps, refl, refl)
-turns_operand c form.cast f event.msg ps = (refl, ps, refl, refl)
-turns_operand c form.cast f event.«com» ps = (refl, ps, refl, refl)
-turns_operand c form.cast f event.packet ps = (refl, ps, refl, refl)
-turns_operand c form.cast f (event.declared x) ps = (refl, ps, refl, refl)
+turns_operand c form.cast f e ps = (refl, ps, refl, refl)
 turns_operand c form.sent f (event.cast event.continue) ps = (refl, ps, refl, refl)
-turns_operand c form.sent f (event.cast event.msg) ps = (refl, ps, refl, refl)
-turns_operand c form.sent f (event.cast event.«com») ps = (refl, ps, refl, refl)
-turns_operand c form.sent f (event.cast event.packet) ps = (refl, ps, refl, refl)
-turns_operand c form.sent f (event.cast (event.declared x)) ps = (refl, ps, refl, refl)
+turns_operand c form.sent f (event.cast e) ps = (refl, ps, refl, refl)
 turns_operand c form.sent f event.exit ps = (refl, ps, refl, refl)
 turns_operand c form.any f (event.sent (event.cast event.continue)) ps = (refl, ps, refl, refl)
-turns_operand c form.any f (event.sent (event.cast event.msg)) ps = (refl, ps, refl, refl)
-turns_operand c form.any f (event.sent (event.cast event.«com»)) ps = (refl, ps, refl, refl)
-turns_operand c form.any f (event.sent (event.cast event.packet)) ps = (refl, ps, refl, refl)
-turns_operand c form.any f (event.sent (event.cast (event.declared x))) ps = (refl, ps, refl, refl)
-turns_operand c form.any f (event.sent event.exit) ps = (refl, ps, refl, refl)
-turns_operand c form.any f event.init ps = (refl, ps, refl, refl)
-turns_operand c form.any f event.poll ps = (refl, ps, refl, refl)
-turns_operand c form.any f event.exited ps = (refl, ps, refl, refl)
-turns_operand c form.any f event.timer ps = (refl, ps, refl, refl)
+turns_operand c form.any f (event.sent (event.cast e)) ps = (refl, ps, refl, refl)
+turns_operand c form.any f e ps = (refl, ps, refl, refl)
 
 turns_expression : (c : Context) (f : Pending) (e : Expression Name) (ps : Parts f)
     → Turns (expression c ∷ f) (e, ps) (expression_marks c e (spell_all f ps))

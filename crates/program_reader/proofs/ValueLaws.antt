@@ -1,17 +1,15 @@
 -- Expressions made of the parts that were read: keywords with their operands, and the two sides of an operator.
-use Rattle.std.proofs.Common.{◌≡◌, ℕ, ◌<◌, List, [], ◌∷◌, drop, length, Option, Some, refl, sym, ap, subst, ◌∙◌}
+use Rattle.std.proofs.Common.{◌≡◌, ℕ, ◌<◌, List, [], ◌∷◌, drop, length, Option, Some, refl, sym, ap, subst, ◌∙◌, Bool}
+use Rattle.std.proofs.Common.{true}
 use Rattle.program_tree.specs.Faults.{Scope}
-use Rattle.program_tree.specs.Forms as form
 use Rattle.program_tree.specs.Forms.{alone, no_value, word_of}
-use Rattle.program_tree.specs.Grammar.{Context, inner, key, sign, operand_mark, expression_marks}
+use Rattle.program_tree.specs.Grammar.{Context, inner, key, sign, operand_mark, expression_marks, Mark, tokens}
 use Rattle.program_tree.specs.InScope.{Names, name_in, number_in}
 use Rattle.program_reader.specs.Machine.{Pending, word_step, unfit, tell, fault, first, expression, operator, close}
-use Rattle.program_tree.specs.Scope.{expression_fits}
+use Rattle.program_tree.specs.Scope.{expression_fits, Within}
 use Rattle.program_tree.specs.Shapes.{Name}
-use Rattle.program_reader.specs.Steps.{ReadsSign, Reads, Numbered, Fits}
-use Rattle.program_tree.specs.Tokens as token
+use Rattle.program_reader.specs.Steps.{ReadsSign, Reads, Numbered, Fits, Extends}
 use Rattle.program_tree.specs.Tokens.{Token}
-use Rattle.program_tree.specs.Tree as tree
 use Rattle.program_tree.specs.Tree.{Class, Expression, expression_map, binary, negation}
 use Rattle.program_reader.specs.Values.{alone_keyword, alone_value, telling_keyword, telling_class, telling_value}
 use Rattle.program_reader.specs.Values.{ReadsSides}
@@ -19,11 +17,13 @@ use Rattle.program_tree.specs.declared.error.ReadErrorKind.TheVariants.{Unexpect
 use Rattle.program_tree.specs.declared.keyword.Keyword.{Keyword}
 use Rattle.program_tree.specs.declared.tree.Operator.{Operator}
 use Rattle.program_reader.specs.declared.value_word.Alone.{Alone}
-use Rattle.program_reader.specs.declared.value_word.Alone.TheVariants as alone_word
 use Rattle.program_reader.specs.declared.value_word.Telling.{Telling}
+use Rattle.program_tree.specs.Forms as form
+use Rattle.program_tree.specs.Tokens as token
+use Rattle.program_reader.specs.declared.value_word.Alone.TheVariants as alone_word
 use Rattle.program_reader.specs.declared.value_word.Telling.TheVariants as telling
 use Rattle.program_reader.proofs.ExpressionSteps.{alone_start, bang_start, open_start}
-use Rattle.program_reader.proofs.NameSteps.{front_of}
+use Rattle.program_reader.proofs.NameSteps.{front_of, token_then}
 
 -- this expression is read, by its marks
 abbrev ReadsValue : Scope → Context → Expression ℕ → List Token → List Token → Type 0
@@ -36,98 +36,72 @@ NumbersValue n e = Numbered n (λ n'. expression_map (number_in n') (expression_
 abbrev FitsValue : Names → Option Name → Expression ℕ → Type 0
 FitsValue n own e = Fits n own (λ w. expression_fits w e)
 
+-- the marks of a value, its numbers and whether it fits are those of its operand
+record IsMadeOf (c : Context) (e : Expression ℕ) (marks : Names → List Mark → List Mark) (again : Names → Type 0)
+    (fits : Within → Bool) : Type 0 where
+  spelled : (n : Names) (ms : List Mark) → marks n ms ≡ expression_marks c (expression_map (name_in n) e) ms
+  numbered : (n : Names) → again n → expression_map (number_in n) (expression_map (name_in n) e) ≡ e
+  fit : (w : Within) → fits w ≡ expression_fits w e
+
+pub record IsValue (s : Scope) (own : Option Name) (c : Context) (e : Expression ℕ) (old new : List Token) : Type 0
+  where
+    pub ok : ReadsValue s c e old new
+    pub numbered : NumbersValue s.names e
+    pub fits : FitsValue s.names own e
+
+is_value : {s : Scope} {own : Option Name} {c : Context} {e : Expression ℕ} {marks : Names → List Mark → List Mark}
+    {again : Names → Type 0} {fits : Within → Bool} {old new : List Token}
+    → IsMadeOf c e marks again fits → Reads s s (expression c) marks old new
+    → ((n : Names) → Extends s.names n → again n) → Fits s.names own fits → IsValue s own c e old new
+is_value m r numbered fits = record {
+  ok = record { spelled = λ n u ms q. r.spelled n u ms q ∙ ap tokens (m.spelled n ms); goes_on = r.goes_on };
+  numbered = λ n u. m.numbered n (numbered n u);
+  fits = λ w u. sym (m.fit w) ∙ fits w u;
+}
+
 -- a keyword that is a value by itself
 
 alone_form : (a : Alone) → word_of (alone_keyword a) ≡ alone
 alone_form alone_word.Word = refl
-alone_form alone_word.Sender = refl
-alone_form alone_word.Moment = refl
-alone_form alone_word.Mote = refl
+alone_form a = refl
 
-alone_at : (s : Scope) (c : Context) (a : Alone) (old new : List Token)
-    → Reads s s (expression c) (λ n ms. key (alone_keyword a) ∷ ms) old new → ReadsValue s c (alone_value a) old new
-alone_at s c alone_word.Word old new r = r
-alone_at s c alone_word.Sender old new r = r
-alone_at s c alone_word.Moment old new r = r
-alone_at s c alone_word.Mote old new r = r
+alone_at : (c : Context) (a : Alone) → IsMadeOf c (alone_value a) (λ n ms. key (alone_keyword a) ∷ ms)
+    (λ n. Unit {0}) (λ w. true)
+alone_at c alone_word.Word = record { spelled = λ n ms. refl; numbered = λ n p. refl; fit = λ w. refl }
+alone_at c a = record { spelled = λ n ms. refl; numbered = λ n p. refl; fit = λ w. refl }
 
-pub alone_reads : (s : Scope) (c : Context) (a : Alone) (k : Keyword) (e : Expression ℕ) (old new : List Token)
-    → k ≡ alone_keyword a → e ≡ alone_value a → first old ≡ Some (token.Keyword k) → new ≡ drop 1 old
-    → ReadsValue s c e old new
-alone_reads s c a k e old new same is here from =
+pub alone_read : {own : Option Name} (s : Scope) (c : Context) (a : Alone) (k : Keyword) (e : Expression ℕ)
+    (old new : List Token) → k ≡ alone_keyword a → e ≡ alone_value a → first old ≡ Some (token.Keyword k)
+    → new ≡ drop 1 old → IsValue s own c e old new
+alone_read s c a k e old new same is here from =
     let at : first old ≡ Some (token.Keyword (alone_keyword a)) = here ∙ ap (λ z. Some (token.Keyword z)) same in
-    subst (λ z. ReadsValue s c z old new) (sym is) (alone_at s c a old new (record {
-      spelled = λ n h ms q. front_of old (token.Keyword (alone_keyword a))
-          at ∙ ap (λ ts. token.Keyword (alone_keyword a) ∷ ts) (sym from ∙ sym q);
+    let r : Reads s s (expression c) (λ n ms. key (alone_keyword a) ∷ ms) old new = record {
+      spelled = λ n h ms q. token_then (token.Keyword (alone_keyword a)) old new at from
+          ∙ ap (λ ts. token.Keyword (alone_keyword a) ∷ ts) (sym q);
       goes_on = λ f. alone_start s c f old (alone_keyword a) at (alone_form a) ∙ ap (λ ts. tell s f ts) (sym from);
-    }))
-
-alone_numbered_at : (n : Names) (a : Alone) → NumbersValue n (alone_value a)
-alone_numbered_at n alone_word.Word = λ n' h. refl
-alone_numbered_at n alone_word.Sender = λ n' h. refl
-alone_numbered_at n alone_word.Moment = λ n' h. refl
-alone_numbered_at n alone_word.Mote = λ n' h. refl
-
-pub alone_numbered : (n : Names) (a : Alone) (e : Expression ℕ) → e ≡ alone_value a → NumbersValue n e
-alone_numbered n a e is = subst (λ z. NumbersValue n z) (sym is) (alone_numbered_at n a)
-
-alone_fits_at : (n : Names) (own : Option Name) (a : Alone) → FitsValue n own (alone_value a)
-alone_fits_at n own alone_word.Word = λ w h. refl
-alone_fits_at n own alone_word.Sender = λ w h. refl
-alone_fits_at n own alone_word.Moment = λ w h. refl
-alone_fits_at n own alone_word.Mote = λ w h. refl
-
-pub alone_fits : (n : Names) (own : Option Name) (a : Alone) (e : Expression ℕ) → e ≡ alone_value a → FitsValue n own e
-alone_fits n own a e is = subst (λ z. FitsValue n own z) (sym is) (alone_fits_at n own a)
+    } in
+    rw is (is_value (alone_at c a) r (λ n u. tt) (λ w u. refl))
 
 -- a keyword that asks about a name
 
-telling_at : (s : Scope) (c : Context) (t : Telling) (i : ℕ) (old new : List Token) →
-    Reads s s (expression c) (λ n ms. key (telling_keyword t) ∷ sign token.Open ∷ operand_mark c
-    (form.name (telling_class t)) (name_in n (telling_class t) i) ∷ sign token.Close ∷ ms) old new
-    → ReadsValue s c (telling_value t i) old new
-telling_at s c telling.Fired i old new r = r
-telling_at s c telling.Expired i old new r = r
-telling_at s c telling.Gone i old new r = r
-telling_at s c telling.Running i old new r = r
-telling_at s c telling.Count i old new r = r
+telling_at : (c : Context) (t : Telling) (i : ℕ) → IsMadeOf c (telling_value t i) (λ n ms. key (telling_keyword t)
+    ∷ sign token.Open ∷ operand_mark c (form.name (telling_class t)) (name_in n (telling_class t) i)
+    ∷ sign token.Close ∷ ms)
+    (λ n. number_in n (telling_class t) (name_in n (telling_class t) i) ≡ i) (λ w. w (telling_class t) i)
+telling_at c telling.Fired i = record { spelled = λ n ms. refl; numbered = λ n p. cc; fit = λ w. refl }
+telling_at c t i = record { spelled = λ n ms. refl; numbered = λ n p. cc; fit = λ w. refl }
 
-pub telling_made : (s : Scope) (c : Context) (t : Telling) (d : Class) (i : ℕ) (e : Expression ℕ)
-    (old new : List Token) → d ≡ telling_class t → e ≡ telling_value t i →
+pub telling_read : {s : Scope} {own : Option Name} {c : Context} {d : Class} {i : ℕ} {e : Expression ℕ}
+    {old new : List Token} (t : Telling) → d ≡ telling_class t → e ≡ telling_value t i →
     Reads s s (expression c) (λ n ms. key (telling_keyword t) ∷ sign token.Open ∷ operand_mark c (form.name d)
-    (name_in n d i) ∷ sign token.Close ∷ ms) old new → ReadsValue s c e old new
-telling_made s c t d i e old new class is r =
-    subst (λ z. ReadsValue s c z old new) (sym is)
-    (telling_at s c t i old new (subst (λ z. Reads s s (expression c)
-    (λ n ms. key (telling_keyword t) ∷ sign token.Open ∷ operand_mark c (form.name z) (name_in n z i)
-    ∷ sign token.Close ∷ ms) old new) class r))
-
-telling_numbered_at : (n : Names) (t : Telling) (i : ℕ)
-    → Numbered n (λ n'. number_in n' (telling_class t) (name_in n' (telling_class t) i)) i
-    → NumbersValue n (telling_value t i)
-telling_numbered_at n telling.Fired i r = λ n' h. ap tree.fired (r n' h)
-telling_numbered_at n telling.Expired i r = λ n' h. ap tree.expired (r n' h)
-telling_numbered_at n telling.Gone i r = λ n' h. ap tree.gone (r n' h)
-telling_numbered_at n telling.Running i r = λ n' h. ap tree.running (r n' h)
-telling_numbered_at n telling.Count i r = λ n' h. ap tree.count (r n' h)
-
-pub telling_numbered : (n : Names) (t : Telling) (d : Class) (i : ℕ) (e : Expression ℕ) → d ≡ telling_class t
-    → e ≡ telling_value t i → Numbered n (λ n'. number_in n' d (name_in n' d i)) i → NumbersValue n e
-telling_numbered n t d i e class is r = subst (λ z. NumbersValue n z) (sym is)
-    (telling_numbered_at n t i (subst (λ z. Numbered n (λ n'. number_in n' z (name_in n' z i)) i) class r))
-
-telling_fits_at : (n : Names) (own : Option Name) (t : Telling) (i : ℕ) → Fits n own (λ w. w (telling_class t) i)
-    → FitsValue n own (telling_value t i)
-telling_fits_at n own telling.Fired i r = r
-telling_fits_at n own telling.Expired i r = r
-telling_fits_at n own telling.Gone i r = r
-telling_fits_at n own telling.Running i r = r
-telling_fits_at n own telling.Count i r = r
-
-pub telling_fits : (n : Names) (own : Option Name) (t : Telling) (d : Class) (i : ℕ) (e : Expression ℕ)
-    → d ≡ telling_class t → e ≡ telling_value t i → Fits n own (λ w. w d i) → FitsValue n own e
-telling_fits n own t d i e class is r = subst (λ z. FitsValue n own z) (sym is)
-    (telling_fits_at n own t i (subst (λ z. Fits n own (λ w. w z i)) class r))
+    (name_in n d i) ∷ sign token.Close ∷ ms) old new
+    → Numbered s.names (λ n'. number_in n' d (name_in n' d i)) i → Fits s.names own (λ w. w d i)
+    → IsValue s own c e old new
+telling_read {c = c} {d = d} {i = i} {e = e} t class is r numbered fits =
+    let made : IsMadeOf c e (λ n ms. key (telling_keyword t) ∷ sign token.Open ∷ operand_mark c (form.name d)
+    (name_in n d i) ∷ sign token.Close ∷ ms) (λ n. number_in n d (name_in n d i) ≡ i) (λ w. w d i) =
+    rw (class, is) (telling_at c t i) in
+    is_value made r numbered fits
 
 -- a keyword that is no value
 

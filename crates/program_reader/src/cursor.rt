@@ -1,5 +1,5 @@
 //! The tokens that are still to be read.
-ghost use Rattle.std.specs.Prelude.{◌≡◌, ◌≤◌, false, Some, drop, length, map, option_map, OnOk};
+ghost use Rattle.std.specs.Prelude.{◌≡◌, ◌∷◌, ◌≤◌, false, Some, drop, length, map, option_map, OnOk};
 ghost use Rattle.std.specs.Bool.{OnTrue};
 ghost use Rattle.program_tree.specs.Tokens as token;
 ghost use Rattle.program_tree.specs.Tokens.{token_of};
@@ -109,8 +109,7 @@ impl<'a> Cursor<'a> {
     /// Reads the next token if it is this keyword, and returns `true` then.
     pub(crate) fn accept(&mut self, keyword: Keyword) -> bool
         ensures no_longer { length self.new ≤ length self.old }
-        ensures there { OnTrue result (first self.old ≡ Some (token.Keyword keyword)) }
-        ensures read { OnTrue result (self.new ≡ drop 1 self.old) }
+        ensures read { OnTrue result (self.old ≡ token.Keyword keyword ∷ self.new) }
         ensures other { result ≡ false → first self.old ≡ Some (token.Keyword keyword) → ⊥ }
         ensures same { result ≡ false → self.new ≡ self.old }
     {
@@ -124,10 +123,10 @@ impl<'a> Cursor<'a> {
     }
 
     /// Reads the next token if it is a comma, and returns `true` then.
+    #[tactic(auto, using(crate::proofs::NameSteps::token_then))]
     pub(crate) fn comma(&mut self) -> bool
         ensures no_longer { length self.new ≤ length self.old }
-        ensures there { OnTrue result (first self.old ≡ Some token.Comma) }
-        ensures read { OnTrue result (self.new ≡ drop 1 self.old) }
+        ensures read { OnTrue result (self.old ≡ token.Comma ∷ self.new) }
         ensures other { result ≡ false → first self.old ≡ Some token.Comma → ⊥ }
         ensures same { result ≡ false → self.new ≡ self.old }
     {

@@ -17,7 +17,7 @@ use program_tree::keyword::Keyword;
 
 impl Reader<'_> {
     /// The events that a program declares.
-    #[tactic(auto, using(crate::proofs::ListLaws::events_steps))]
+    #[tactic(auto, using(crate::proofs::ListLaws::list_steps))]
     pub(crate) fn events(&mut self) -> Result<(), Refusal>
         ensures no_longer { OnOk result (length self.new.cursor ≤ length self.old.cursor) }
         ensures ok { OnOk result (ReadsNames an_event from_events from_semaphores event_marks (scope_of self.old.scope)
@@ -31,7 +31,7 @@ impl Reader<'_> {
     }
 
     /// The semaphores, with their first counts.
-    #[tactic(auto, using(crate::proofs::ListLaws::semaphores_steps))]
+    #[tactic(auto, using(crate::proofs::ListLaws::list_steps))]
     pub(crate) fn semaphores(&mut self) -> Result<Vec<u16>, Refusal>
         ensures no_longer { OnOk result (length self.new.cursor ≤ length self.old.cursor) }
         ensures behind { OnOk result (first self.new.cursor ≡ Some (token.Keyword word.Semaphore) → ⊥) }
@@ -47,7 +47,7 @@ impl Reader<'_> {
     }
 
     /// The variables of a process, with their first values.
-    #[tactic(auto, using(crate::proofs::ListLaws::variables_steps))]
+    #[tactic(auto, using(crate::proofs::ListLaws::list_steps))]
     pub(crate) fn variables(&mut self) -> Result<Vec<u16>, Refusal>
         ensures no_longer { OnOk result (length self.new.cursor ≤ length self.old.cursor) }
         ensures timers { OnOk result (KeepsTimers self.old.scope self.new.scope) }
@@ -63,7 +63,7 @@ impl Reader<'_> {
     }
 
     /// The event timers of a process, which come before its callback timers.
-    #[tactic(auto, using(crate::proofs::ListLaws::etimers_steps))]
+    #[tactic(auto, using(crate::proofs::ListLaws::list_steps))]
     pub(crate) fn etimers(&mut self) -> Result<(), Refusal>
         requires { self.old.scope.ctimers ≡ [] }
         ensures no_longer { OnOk result (length self.new.cursor ≤ length self.old.cursor) }

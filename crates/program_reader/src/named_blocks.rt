@@ -70,7 +70,7 @@ impl Reader<'_> {
     }
 
     /// The callback timers of a process, with their blocks.
-    #[tactic(auto, using(crate::proofs::BlockLaws::ctimers_steps))]
+    #[tactic(auto, using(crate::proofs::BlockLaws::blocks_steps))]
     pub(crate) fn ctimers(&mut self) -> Result<Vec<FlatBlock>, Refusal>
         ensures no_longer { OnOk result (length self.new.cursor ≤ length self.old.cursor) }
         ensures etimers { OnOk result (self.new.scope.etimers ≡ self.old.scope.etimers) }
@@ -113,7 +113,7 @@ impl Reader<'_> {
     }
 
     /// The threads of a process, with their blocks.
-    #[tactic(auto, using(crate::proofs::BlockLaws::threads_steps))]
+    #[tactic(auto, using(crate::proofs::BlockLaws::blocks_steps))]
     pub(crate) fn threads(&mut self) -> Result<Vec<FlatBlock>, Refusal>
         requires { self.old.scope.threads ≡ [] }
         ensures no_longer { OnOk result (length self.new.cursor ≤ length self.old.cursor) }

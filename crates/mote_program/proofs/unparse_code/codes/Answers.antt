@@ -1,9 +1,10 @@
+use Rattle.std.proofs.lemmas.Slice.Zip.{length-zip}
 use Rattle.std.proofs.Common.{◌≡◌, ◌<◌, ◌∙◌, length, map, sym, arith}
 use Rattle.std.proofs.lemmas.List.{length-map}
 use Rattle.program_tree.specs.Program.{code_of, tree_of}
 use Rattle.program_tree.specs.ShapeOf.{names_of_tree, code_shape, codes_of_tree}
 use Rattle.mote_program.specs.Spelled.{code_tokens}
-use Rattle.mote_program.proofs.Adding.{one_item, mapped_at, no_more, zip_length}
+use Rattle.mote_program.proofs.Adding.{one_item, mapped_at, no_more}
 use Rattle.mote_program.proofs.unparse_code.codes.Goals as goal
 
 pub loop-place-preserved : goal.loop-place-preserved
@@ -28,5 +29,5 @@ returns c =
     length-map (map code_of program.codes.items) (code_shape (names_of_tree (tree_of program)))
     ∙ length-map program.codes.items code_of ∙ each in
     no_more code_tokens (codes_of_tree (tree_of program)) c.loop-place.place _ _
-    (omega (arith, zip_length program.processes codes len, each, c.len-place-end.ensures, c.loop-place-test.false))
+    (omega (arith, length-zip program.processes codes, len, each, c.len-place-end.ensures, c.loop-place-test.false))
     c.loop-place.invariant

@@ -1,8 +1,9 @@
+use Rattle.std.proofs.lemmas.Slice.Zip.{length-zip}
 use Rattle.std.proofs.Common.{◌≡◌, ◌<◌, ◌++◌, [], length, map, get_or, arith}
 use Rattle.std.specs.List.{zip}
 use Rattle.mote_program.specs.Spelled.{valued_tokens}
 use Rattle.program_tree.specs.Tokens.{token_of}
-use Rattle.mote_program.proofs.Adding.{one_pair, no_more, zip_length}
+use Rattle.mote_program.proofs.Adding.{one_pair, no_more}
 use Rattle.mote_program.proofs.unparse_code.valued.Goals as goal
 
 pub loop-place-preserved : goal.loop-place-preserved
@@ -21,4 +22,4 @@ loop-place-preserved c =
 
 pub returns : goal.returns
 returns c = no_more (valued_tokens c.args.keyword) (zip c.args.names.now c.args.values.now) c.loop-place.place _ _
-    (omega (arith, zip_length c.args.names.now c.args.values.now c.requires)) c.loop-place.invariant
+    (omega (arith, length-zip c.args.names.now c.args.values.now, c.requires)) c.loop-place.invariant

@@ -1,13 +1,14 @@
 use Rattle.std.proofs.Common.{ap, length, arith}
 use Rattle.program_tree.specs.InScope.{name_in}
+use Rattle.std.proofs.lemmas.Result.{on_ok_weaker}
 use Rattle.mote_program.specs.Spelled.{names_in}
-use Rattle.mote_program.proofs.Adding.{on_ok, block_begun, block_more, block_added, action_added}
+use Rattle.mote_program.proofs.Adding.{block_begun, block_more, block_added, action_added}
 use Rattle.mote_program.proofs.Adding.{if_added, else_added, while_added}
 use Rattle.mote_program.proofs.unparse.Scoped.+unparse.Goals as goal
 
 pub block-returns : goal.block-returns
 block-returns t c =
-    on_ok c.add-2.result
+    on_ok_weaker c.add-2.result
     (λ m. block_added (name_in (names_in c.args.self.now)) c.args.block.now.statements.items
     c.statements.statement-index _ _ _ (omega (
       arith,
@@ -24,7 +25,7 @@ statement-returns-in-None t c =
 
 pub statement-returns-in_ok-add-in-Some : goal.statement-returns-in_ok-add-in-Some
 statement-returns-in_ok-add-in-Some t c =
-    on_ok c.block-in-Some.result
+    on_ok_weaker c.block-in-Some.result
     (λ m. else_added (name_in (names_in c.args.self.now)) c.in-If.test c.in-If.then _ _ _ _ c.in-If.otherwise
     c.in-Some.block _ _ c.in-If.is c.in-Some.is c.in_ok-with_value-in-If.ensures c.in_ok-block-in-If.ensures
     c.in_ok-add-in-Some.ensures m)
@@ -32,7 +33,7 @@ statement-returns-in_ok-add-in-Some t c =
 
 pub statement-returns-in_ok-with_value-in-While : goal.statement-returns-in_ok-with_value-in-While
 statement-returns-in_ok-with_value-in-While t c =
-    on_ok c.block-in-While.result (λ m. while_added (name_in (names_in c.args.self.now)) c.in-While.test
+    on_ok_weaker c.block-in-While.result (λ m. while_added (name_in (names_in c.args.self.now)) c.in-While.test
     c.in-While.block _ _ _ _ c.in-While.is c.in_ok-with_value-in-While.ensures m) c.block-in-While.ensures
 
 pub block-statements-init : goal.block-statements-init
@@ -48,6 +49,6 @@ block-statements-preserved t c =
 
 pub statement-returns-in-Do : goal.statement-returns-in-Do
 statement-returns-in-Do t c =
-    on_ok c.action.result
+    on_ok_weaker c.action.result
     (λ m. action_added (name_in (names_in c.args.self.now)) c.in-Do.action c.args.statement.now _ _ c.in-Do.is m)
     c.action.ensures

@@ -1,10 +1,11 @@
+use Rattle.std.proofs.lemmas.Slice.Zip.{length-zip}
 use Rattle.std.proofs.Common.{◌≡◌, ◌<◌, ◌∙◌, length, map, sym, arith}
 use Rattle.std.proofs.lemmas.List.{length-map}
 use Rattle.std.specs.List.{zip}
 use Rattle.program_tree.specs.ShapeOf.{block_with}
 use Rattle.mote_program.specs.Spelled.{names_in, named_tokens}
 use Rattle.program_tree.specs.FlatBlock.{tree_in}
-use Rattle.mote_program.proofs.Adding.{one_item, mapped_at, no_more, two_added, zip_length}
+use Rattle.mote_program.proofs.Adding.{one_item, mapped_at, no_more, two_added}
 use Rattle.mote_program.proofs.unparse.Scoped.blocks.Goals as goal
 
 pub loop-place-preserved : goal.loop-place-preserved
@@ -26,5 +27,5 @@ returns c =
     length-map (map tree_in c.args.blocks.now) (block_with (names_in c.args.self.now))
     ∙ length-map c.args.blocks.now tree_in ∙ c.requires in
     no_more (named_tokens c.args.keyword) (zip c.args.names.now bodies) c.loop-place.place _ _
-    (omega (arith, zip_length c.args.names.now bodies len, c.len-place-end.ensures, c.loop-place-test.false))
+    (omega (arith, length-zip c.args.names.now bodies, len, c.len-place-end.ensures, c.loop-place-test.false))
     c.loop-place.invariant

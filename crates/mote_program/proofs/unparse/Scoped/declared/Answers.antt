@@ -1,18 +1,19 @@
 use Rattle.std.proofs.Common.{◌++◌, ◌∙◌, map, ap}
 use Rattle.std.specs.List.{flat_map, zip}
 use Rattle.program_tree.specs.ShapeOf.{block_with}
+use Rattle.std.proofs.lemmas.Result.{on_ok_weaker}
 use Rattle.mote_program.specs.Spelled.{names_in, valued_tokens, named_tokens}
 use Rattle.program_tree.specs.Tokens.{token_of}
 use Rattle.program_tree.specs.FlatBlock.{tree_in}
 use Rattle.program_tree.specs.declared.keyword.Keyword.TheVariants as word
-use Rattle.mote_program.proofs.Adding.{on_ok, four_added}
+use Rattle.mote_program.proofs.Adding.{four_added}
 use Rattle.mote_program.proofs.unparse.Scoped.declared.Goals as goal
 
 pub returns : goal.returns
 returns c =
     let code = c.args.self.now.code.now in
     let names = names_in c.args.self.now in
-    on_ok c.blocks-3.result
+    on_ok_weaker c.blocks-3.result
     (λ m. four_added _ _ _ _ _ _ _ _ _
     (c.in_ok-valued.ensures ∙ ap (λ vs. map token_of c.args.out.now.items ++ flat_map (valued_tokens word.Var)
     (zip code.variables vs)) c.deref.ensures.value)

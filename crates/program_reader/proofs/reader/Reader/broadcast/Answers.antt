@@ -1,40 +1,27 @@
-use Rattle.std.proofs.Common.{◌∙◌, ap, refl, rules}
-use Rattle.program_reader.specs.Steps.{scope_of}
-use Rattle.program_reader.proofs.Runs.{part, then, action_reads, kept, same_names, renumbered, refitted, both}
-use Rattle.program_reader.proofs.Runs.{broadcast_again}
+use Rattle.std.proofs.Common.{refl, rules}
+use Rattle.program_tree.specs.EventNames.{cast_of}
+use Rattle.program_tree.specs.Tree.{broadcast, expression_of}
+use Rattle.program_reader.proofs.Runs.{begun, with_part, action_read}
 use Rattle.program_reader.proofs.reader.Reader.broadcast.Goals as goal
 
 pub returns : goal.returns
-returns c = record {
-  names = search rules;
-  shorter = search rules;
-  counts = search rules;
-  ok =
-      action_reads _ _ _ _ _ _ _ _ _ _ refl (kept c.begin.new.self.scope c.args.self.now.scope
-      c.in_ok-begin.ensures.names) c.in_ok-begin.ensures.ok
-      (then _ _ _ _ _ _ _ _ _ _ (same_names _ _ c.in_ok-event.ensures.same)
-      (part _ _ _ _ _ _ _ (ap scope_of c.in_ok-event.ensures.same) c.in_ok-event.ensures.ok)
-      (then _ _ _ _ _ _ _ _ _ _ (same_names _ _ c.in_ok-word.ensures.same)
-      (part _ _ _ _ _ _ _ (ap scope_of c.in_ok-word.ensures.same) c.in_ok-word.ensures.ok)
-      (part _ _ _ _ _ _ _ (ap scope_of c.in_ok-told.ensures.same) c.in_ok-told.ensures.ok)));
-  numbered = λ n h.
-      broadcast_again (renumbered _ _ _ _ (kept c.begin.new.self.scope c.args.self.now.scope
-      c.in_ok-begin.ensures.names) c.in_ok-event.ensures.numbered n h)
-      (renumbered _ _ _ _ ((same_names _ _ c.in_ok-event.ensures.same)
-      ∙ (kept c.begin.new.self.scope c.args.self.now.scope c.in_ok-begin.ensures.names))
-      c.in_ok-word.ensures.numbered n h) (renumbered _ _ _ _ ((same_names _ _ c.in_ok-word.ensures.same)
-      ∙ ((same_names _ _ c.in_ok-event.ensures.same)
-      ∙ (kept c.begin.new.self.scope c.args.self.now.scope c.in_ok-begin.ensures.names)))
-      c.in_ok-told.ensures.numbered n h);
-  fits = λ w h.
-      (both _ _ (both _ _ (refitted _ _ _ _ (kept c.begin.new.self.scope c.args.self.now.scope
-      c.in_ok-begin.ensures.names) c.in_ok-event.ensures.fits w h)
-      (refitted _ _ _ _ ((same_names _ _ c.in_ok-event.ensures.same)
-      ∙ (kept c.begin.new.self.scope c.args.self.now.scope c.in_ok-begin.ensures.names)) c.in_ok-word.ensures.fits
-      w h))
-      (refitted _ _ _ _ ((same_names _ _ c.in_ok-word.ensures.same)
-      ∙ ((same_names _ _ c.in_ok-event.ensures.same)
-      ∙ (kept c.begin.new.self.scope c.args.self.now.scope c.in_ok-begin.ensures.names))) c.in_ok-told.ensures.fits
-      w h));
-  err = search rules;
-}
+returns c =
+    let r = action_read {a = broadcast (cast_of c.in_ok-event.event) (expression_of c.in_ok-word.word)
+    c.in_ok-told.told}
+    (with_part c.in_ok-told.ensures.same (with_part c.in_ok-word.ensures.same
+    (with_part c.in_ok-event.ensures.same (begun c.args.self.now.scope c.begin.new.self.scope
+    c.in_ok-begin.ensures.names c.in_ok-begin.ensures.ok
+    refl)
+    c.in_ok-event.ensures.ok c.in_ok-event.ensures.numbered c.in_ok-event.ensures.fits)
+    c.in_ok-word.ensures.ok c.in_ok-word.ensures.numbered c.in_ok-word.ensures.fits)
+    c.in_ok-told.ensures.ok c.in_ok-told.ensures.numbered c.in_ok-told.ensures.fits)
+    (record { spelled = λ n ms. refl; numbered = λ n p. cc; fit = λ w. refl }) in
+    record {
+      names = search rules;
+      shorter = search rules;
+      counts = search rules;
+      ok = r.ok;
+      numbered = r.numbered;
+      fits = r.fits;
+      err = search rules;
+    }

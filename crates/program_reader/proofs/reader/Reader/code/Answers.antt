@@ -1,33 +1,24 @@
-use Rattle.std.proofs.Common.{◌≡◌, ◌∙◌, Result, Err, sym, ap, map}
+use Rattle.std.proofs.Common.{◌∙◌, sym, ap, map}
 use Rattle.std.proofs.lemmas.List.{length-map}
-use Rattle.std.proofs.lemmas.Result.{err_from_is_err_and}
 use Rattle.program_reader.specs.Machine.{codes_form}
 use Rattle.program_reader.specs.Steps.{scope_of}
 use Rattle.program_tree.specs.FlatBlock.{tree_in}
-use Rattle.program_reader.specs.declared.code.Content.{Content}
-use Rattle.program_reader.specs.declared.fault.Refusal.{Refusal}
-use Rattle.program_reader.specs.declared.fault.Refusal.TheVariants as refusal
 use Rattle.program_reader.proofs.MadeLaws.{same_made, code_read, paired, blocks_paired}
+use Rattle.program_reader.proofs.ListLaws.{handed_on}
 use Rattle.program_reader.proofs.reader.Reader.code.Goals as goal
 
 pub returns-in_err-content-clause-err : goal.returns-in_err-content-clause-err
 returns-in_err-content-clause-err c = λ f e xs more.
-    let p = err_from_is_err_and c.from_residual-in_err-content.result c.from_residual-in_err-content.ensures.1 in
-    let r : p.0 ≡ refusal.Fault f = cc (p.1, e) in
-    let q : ◌≡◌ {A = Result Content Refusal} (Err c.in_err-content.field-0.0) (Err (refusal.Fault f)) =
-    ap Err (sym p.2 ∙ r) in
-    (c.in_ok-opening_of.ensures.ok (scope_of c.args.self.now.scope)).goes_on xs more ∙ c.in_err-content.ensures.err f q
+    (c.in_ok-opening_of.ensures.ok (scope_of c.args.self.now.scope)).goes_on xs more ∙ c.in_err-content.ensures.err f
+    (handed_on c.from_residual-in_err-content.ensures.1 e)
     (codes_form xs more)
 
 pub returns-in_err-last_brace-clause-err : goal.returns-in_err-last_brace-clause-err
 returns-in_err-last_brace-clause-err c = λ f e xs more.
-    let p = err_from_is_err_and c.from_residual-in_err-last_brace.result c.from_residual-in_err-last_brace.ensures.1 in
-    let r : p.0 ≡ refusal.Fault f = cc (p.1, e) in
-    let q : ◌≡◌ {A = Result (Unit {0}) Refusal} (Err c.in_err-last_brace.field-0.0) (Err (refusal.Fault f)) =
-    ap Err (sym p.2 ∙ r) in
     (c.in_ok-opening_of.ensures.ok (scope_of c.args.self.now.scope)).goes_on xs more
     ∙ c.in_ok-content.ensures.ok.goes_on (codes_form xs more)
-    ∙ c.in_err-last_brace.ensures.err f q (scope_of c.content.new.self.scope) (codes_form xs more)
+    ∙ c.in_err-last_brace.ensures.err f (handed_on c.from_residual-in_err-last_brace.ensures.1 e)
+    (scope_of c.content.new.self.scope) (codes_form xs more)
 
 pub invariant_of-result : goal.invariant_of-result
 invariant_of-result c =
@@ -63,4 +54,4 @@ returns-clause-ok c =
     (c.in_ok-opening_of.ensures.ok (scope_of c.args.self.now.scope)) c.in_ok-content.ensures.ok
     c.in_ok-last_brace.ensures.spelled (λ f. c.in_ok-last_brace.ensures.ok (scope_of c.content.new.self.scope) f)
     own.left
-    (same_made _ _ _ _ _ _ _ _ _ _ _ _ _ _ _ _ _ own.variables own.first_timer own.etimers own.ctimers own.threads)
+    (same_made own.variables own.first_timer own.etimers own.ctimers own.threads)

@@ -1,39 +1,22 @@
-use Rattle.std.proofs.Common.{◌≡◌, ◌∙◌, ◌<◌, ◌≤◌, Err, Result, ap, sym, refl, length, arith, ◌+◌, [], ◌∷◌}
+use Rattle.std.proofs.Common.{◌≡◌, ◌<◌, ◌≤◌, ap, length, arith, ◌+◌, [], ◌∷◌}
 use Rattle.std.proofs.lemmas.List.{length-append}
-use Rattle.std.proofs.lemmas.Result.{err_from_is_err_and}
-use Rattle.program_tree.specs.Numbers.{values_of}
 use Rattle.program_reader.specs.Steps.{scope_of}
-use Rattle.program_reader.specs.declared.fault.Refusal.{Refusal}
-use Rattle.program_reader.specs.declared.fault.Refusal.TheVariants as refusal
-use Rattle.program_tree.specs.declared.process_text.ProcessText.{ProcessText}
-use Rattle.program_reader.proofs.CodesLaws.{behind_variables, behind_threads, still_no_timers, first_empty}
-use Rattle.program_reader.proofs.CodesLaws.{second_empty, same_processes, loop_goes, loop_fails, loop_ends}
+use Rattle.program_reader.proofs.CodesLaws.{same_processes, loop_goes, loop_fails, loop_ends, still_none}
+use Rattle.program_reader.proofs.ListLaws.{handed_on}
 use Rattle.program_reader.proofs.reader.Reader.codes.Goals as goal
 
 pub code-requires-clause-own : goal.code-requires-clause-own
-code-requires-clause-own c = record {
-  variables = ap (λ n. n.variables) c.codes.invariant.read.names
-      ∙ behind_variables (scope_of c.args.self.now.scope).names (values_of c.codes.invariant.read.shapes)
-      c.requires.variables;
-  etimers = first_empty _ _ (still_no_timers (scope_of c.args.self.now.scope) (scope_of c.codes.self.scope) _ _ _ _ _ _
-      refl c.requires.etimers c.requires.ctimers c.codes.invariant.read);
-  ctimers = second_empty _ _ (still_no_timers (scope_of c.args.self.now.scope) (scope_of c.codes.self.scope) _ _ _ _ _
-      _ refl c.requires.etimers c.requires.ctimers c.codes.invariant.read);
-  threads = ap (λ n. n.threads) c.codes.invariant.read.names ∙ behind_threads (scope_of c.args.self.now.scope).names
-      (values_of c.codes.invariant.read.shapes) c.requires.threads;
-}
+code-requires-clause-own c =
+    still_none c.args.self.now.scope c.codes.self.scope _ _ _ _ c.requires c.codes.invariant.read
 
 pub returns-in_err-code-clause-err : goal.returns-in_err-code-clause-err
 returns-in_err-code-clause-err c = λ f e.
-    let p = err_from_is_err_and c.from_residual.result c.from_residual.ensures.1 in
-    let r : p.0 ≡ refusal.Fault f = cc (p.1, e) in
-    let q : ◌≡◌ {A = Result ProcessText Refusal} (Err c.in_err-code.field-0.0) (Err (refusal.Fault f)) =
-    ap Err (sym p.2 ∙ r) in
     let low : c.len-in-codes-2.result < length c.codes.self.scope.processes = omega arith in
     let is : c.len-in-codes-2.result ≡ length c.codes.codes.items =
     omega (arith, c.len-in-codes-2.ensures, c.codes.codes.ok) in
     loop_fails (scope_of c.args.self.now.scope) (scope_of c.codes.self.scope) c.codes.codes.items
-    c.len-in-codes-2.result _ _ _ is c.codes.invariant.read low (c.in_err-code.ensures.err f q)
+    c.len-in-codes-2.result _ _ _ is c.codes.invariant.read low
+    (c.in_err-code.ensures.err f (handed_on c.from_residual.ensures.1 e))
 
 pub codes-smaller : goal.codes-smaller
 codes-smaller c =

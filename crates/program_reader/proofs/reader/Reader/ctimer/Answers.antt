@@ -1,10 +1,13 @@
-use Rattle.program_reader.proofs.BlockLaws.{ctimer_read}
-use Rattle.program_reader.proofs.ExtendLaws.{fixed_names, fixed_starting}
+use Rattle.std.proofs.Common.{◌∷◌}
+use Rattle.program_tree.specs.Grammar.{at_simple}
+use Rattle.program_reader.specs.Machine as machine
+use Rattle.program_reader.specs.Steps.{scope_of}
+use Rattle.program_reader.proofs.BlockLaws.{block_read}
+use Rattle.program_reader.proofs.HeadLaws.{new_goes}
 use Rattle.program_reader.proofs.reader.Reader.ctimer.Goals as goal
 
 pub returns-clause-ok : goal.returns-clause-ok
 returns-clause-ok c =
-    ctimer_read _ _ _ _ _ _ _ _ c.in_ok-new_name.ensures.ok c.in_ok-block.ensures.ok
-    (fixed_names c.flat_block.new.self.scope c.new_name.new.scope c.in_ok-block.ensures.names)
-    (fixed_starting c.flat_block.new.self.scope c.new_name.new.scope c.in_ok-block.ensures.names)
-    c.in_ok-block.ensures.numbered
+    block_read (scope_of c.args.self.now.scope) c.new_name.new.scope c.flat_block.new.self.scope
+    c.in_ok-new_name.ensures.ok c.in_ok-block.ensures.ok c.in_ok-block.ensures.names c.in_ok-block.ensures.numbered
+    (λ f. new_goes _ _ _ _ _ _ (machine.block at_simple ∷ f) c.in_ok-new_name.ensures.ok)

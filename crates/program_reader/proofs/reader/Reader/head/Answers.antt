@@ -1,55 +1,36 @@
-use Rattle.std.proofs.Common.{◌≡◌, ◌∙◌, ℕ, Vec, Global, Option, Err, Result, ap, sym, subst}
-use Rattle.std.proofs.lemmas.Result.{err_from_is_err_and}
+use Rattle.std.proofs.Common.{◌∙◌, ap, sym, subst}
 use Rattle.program_reader.specs.Head.{ReadsAutostart, ReadsReceiver}
 use Rattle.program_reader.specs.Steps.{scope_of}
-use Rattle.program_reader.specs.declared.fault.Refusal.{Refusal}
-use Rattle.program_reader.specs.declared.fault.Refusal.TheVariants as refusal
+use Rattle.program_reader.proofs.ListLaws.{handed_on}
 use Rattle.program_reader.proofs.reader.Reader.head.Goals as goal
 
 pub returns-in_err-events-clause-err : goal.returns-in_err-events-clause-err
-returns-in_err-events-clause-err c = λ f e.
-    let p = err_from_is_err_and c.from_residual.result c.from_residual.ensures.1 in
-    let r : p.0 ≡ refusal.Fault f = cc (p.1, e) in
-    let q : ◌≡◌ {A = Result (Unit {0}) Refusal} (Err c.in_err-events.field-0.0) (Err (refusal.Fault f)) =
-    ap Err (sym p.2 ∙ r) in
-    λ more. c.in_err-events.ensures.err f q more
+returns-in_err-events-clause-err c = λ f e more.
+    c.in_err-events.ensures.err f (handed_on c.from_residual.ensures.1 e) more
 
 pub returns-in_err-counts-clause-err : goal.returns-in_err-counts-clause-err
-returns-in_err-counts-clause-err c = λ f e.
-    let p = err_from_is_err_and c.from_residual-in_err-counts.result c.from_residual-in_err-counts.ensures.1 in
-    let r : p.0 ≡ refusal.Fault f = cc (p.1, e) in
-    let q : ◌≡◌ {A = Result (Vec ℕ Global) Refusal} (Err c.in_err-counts.field-0.0) (Err (refusal.Fault f)) =
-    ap Err (sym p.2 ∙ r) in
-    λ more. c.in_ok-events.ensures.ok.1.goes_on more ∙ c.in_err-counts.ensures.err f q more
+returns-in_err-counts-clause-err c = λ f e more.
+    c.in_ok-events.ensures.ok.1.goes_on more ∙ c.in_err-counts.ensures.err f
+    (handed_on c.from_residual-in_err-counts.ensures.1 e) more
 
 pub returns-in_err-processes-clause-err : goal.returns-in_err-processes-clause-err
-returns-in_err-processes-clause-err c = λ f e.
-    let p = err_from_is_err_and c.from_residual-in_err-processes.result c.from_residual-in_err-processes.ensures.1 in
-    let r : p.0 ≡ refusal.Fault f = cc (p.1, e) in
-    let q : ◌≡◌ {A = Result (Unit {0}) Refusal} (Err c.in_err-processes.field-0.0) (Err (refusal.Fault f)) =
-    ap Err (sym p.2 ∙ r) in
-    λ more. c.in_ok-events.ensures.ok.1.goes_on more ∙ c.in_ok-counts.ensures.ok.2.goes_on more
-    ∙ c.in_err-processes.ensures.err f q more
+returns-in_err-processes-clause-err c = λ f e more.
+    c.in_ok-events.ensures.ok.1.goes_on more ∙ c.in_ok-counts.ensures.ok.2.goes_on more
+    ∙ c.in_err-processes.ensures.err f (handed_on c.from_residual-in_err-processes.ensures.1 e) more
 
 pub returns-in_err-autostart-clause-err : goal.returns-in_err-autostart-clause-err
-returns-in_err-autostart-clause-err c = λ f e.
-    let p = err_from_is_err_and c.from_residual-in_err-autostart.result c.from_residual-in_err-autostart.ensures.1 in
-    let r : p.0 ≡ refusal.Fault f = cc (p.1, e) in
-    let q : ◌≡◌ {A = Result (Vec ℕ Global) Refusal} (Err c.in_err-autostart.field-0.0) (Err (refusal.Fault f)) =
-    ap Err (sym p.2 ∙ r) in
-    λ more. c.in_ok-events.ensures.ok.1.goes_on more ∙ c.in_ok-counts.ensures.ok.2.goes_on more
-    ∙ c.in_ok-processes.ensures.ok.goes_on more ∙ c.in_err-autostart.ensures.err f q
+returns-in_err-autostart-clause-err c = λ f e more.
+    c.in_ok-events.ensures.ok.1.goes_on more ∙ c.in_ok-counts.ensures.ok.2.goes_on more
+    ∙ c.in_ok-processes.ensures.ok.goes_on more ∙ c.in_err-autostart.ensures.err f
+    (handed_on c.from_residual-in_err-autostart.ensures.1 e)
     c.in_ok-processes.ensures.ok.first c.in_ok-processes.ensures.ok.others more
 
 pub returns-in_err-receiver-clause-err : goal.returns-in_err-receiver-clause-err
-returns-in_err-receiver-clause-err c = λ f e.
-    let p = err_from_is_err_and c.from_residual-in_err-receiver.result c.from_residual-in_err-receiver.ensures.1 in
-    let r : p.0 ≡ refusal.Fault f = cc (p.1, e) in
-    let q : ◌≡◌ {A = Result (Option ℕ) Refusal} (Err c.in_err-receiver.field-0.0) (Err (refusal.Fault f)) =
-    ap Err (sym p.2 ∙ r) in
-    λ more. c.in_ok-events.ensures.ok.1.goes_on more ∙ c.in_ok-counts.ensures.ok.2.goes_on more
+returns-in_err-receiver-clause-err c = λ f e more.
+    c.in_ok-events.ensures.ok.1.goes_on more ∙ c.in_ok-counts.ensures.ok.2.goes_on more
     ∙ c.in_ok-processes.ensures.ok.goes_on more ∙ c.in_ok-autostart.ensures.ok.goes_on
-    c.in_ok-processes.ensures.ok.first c.in_ok-processes.ensures.ok.others more ∙ c.in_err-receiver.ensures.err f q
+    c.in_ok-processes.ensures.ok.first c.in_ok-processes.ensures.ok.others more ∙ c.in_err-receiver.ensures.err f
+    (handed_on c.from_residual-in_err-receiver.ensures.1 e)
     c.in_ok-processes.ensures.ok.first c.in_ok-processes.ensures.ok.others more
 
 pub returns-clause-ok : goal.returns-clause-ok

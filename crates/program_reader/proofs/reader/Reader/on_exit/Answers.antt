@@ -1,10 +1,7 @@
-use Rattle.program_reader.proofs.BlockLaws.{on_exit_read}
-use Rattle.program_reader.proofs.ExtendLaws.{fixed_names, fixed_starting}
+use Rattle.std.proofs.Common.{refl}
+use Rattle.program_reader.proofs.BlockLaws.{handler_read}
 use Rattle.program_reader.proofs.reader.Reader.on_exit.Goals as goal
 
 pub returns-clause-ok : goal.returns-clause-ok
-returns-clause-ok c =
-    on_exit_read _ _ _ _ _ _ c.if-not-accept.ensures.there c.if-not-accept.ensures.read c.in_ok-block.ensures.ok
-    (fixed_names c.flat_block.new.self.scope c.args.self.now.scope c.in_ok-block.ensures.names)
-    (fixed_starting c.flat_block.new.self.scope c.args.self.now.scope c.in_ok-block.ensures.names)
-    c.in_ok-block.ensures.numbered
+returns-clause-ok c = handler_read c.args.self.now.scope c.flat_block.new.self.scope c.if-not-accept.ensures.read
+    c.in_ok-block.ensures.ok c.in_ok-block.ensures.names c.in_ok-block.ensures.numbered (λ f. refl)

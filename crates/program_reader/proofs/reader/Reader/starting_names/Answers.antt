@@ -4,7 +4,7 @@ use Rattle.program_reader.proofs.StartLaws.{has_more, has_all, end_fails}
 use Rattle.program_reader.proofs.reader.Reader.starting_names.Goals as goal
 
 pub names-preserved : goal.names-preserved
-names-preserved c = has_more _ _ _ _ _ _ _ _ _ c.names.invariant c.names-test.ensures.there c.names-test.ensures.read
+names-preserved c = has_more _ _ _ _ _ _ _ _ _ c.names.invariant c.names-test.ensures.read
     c.in_ok-starting-2.ensures.ok
 
 pub returns-clause-ok : goal.returns-clause-ok

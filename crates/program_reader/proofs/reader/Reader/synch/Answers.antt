@@ -1,41 +1,27 @@
-use Rattle.std.proofs.Common.{◌∙◌, ap, refl, rules}
-use Rattle.program_reader.specs.Steps.{scope_of}
-use Rattle.program_reader.proofs.Runs.{part, sign_part, then, action_reads, kept, same_names, renumbered, refitted}
-use Rattle.program_reader.proofs.Runs.{both, synch_again}
+use Rattle.std.proofs.Common.{refl, rules}
+use Rattle.program_tree.specs.EventNames.{sent_of}
+use Rattle.program_tree.specs.Tree.{synch, expression_of}
+use Rattle.program_reader.proofs.Runs.{begun, with_part, with_sign, action_read}
 use Rattle.program_reader.proofs.reader.Reader.synch.Goals as goal
 
 pub returns : goal.returns
-returns c = record {
-  names = search rules;
-  shorter = search rules;
-  counts = search rules;
-  ok =
-      action_reads _ _ _ _ _ _ _ _ _ _ refl (kept c.begin.new.self.scope c.args.self.now.scope
-      c.in_ok-begin.ensures.names) c.in_ok-begin.ensures.ok
-      (then _ _ _ _ _ _ _ _ _ _ (same_names _ _ c.in_ok-process.ensures.same)
-      (part _ _ _ _ _ _ _ (ap scope_of c.in_ok-process.ensures.same) c.in_ok-process.ensures.ok)
-      (then _ _ _ _ _ _ _ _ _ _ (same_names _ _ c.in_ok-event.ensures.same)
-      (part _ _ _ _ _ _ _ (ap scope_of c.in_ok-event.ensures.same) c.in_ok-event.ensures.ok)
-      (then _ _ _ _ _ _ _ _ _ _ (same_names _ _ c.in_ok-word.ensures.same)
-      (part _ _ _ _ _ _ _ (ap scope_of c.in_ok-word.ensures.same) c.in_ok-word.ensures.ok)
-      (sign_part _ _ _ _ _ c.in_ok-sign.ensures.ok))));
-  numbered = λ n h.
-      synch_again (renumbered _ _ _ _ (kept c.begin.new.self.scope c.args.self.now.scope c.in_ok-begin.ensures.names)
-      c.in_ok-process.ensures.numbered n h) (renumbered _ _ _ _ ((same_names _ _ c.in_ok-process.ensures.same)
-      ∙ (kept c.begin.new.self.scope c.args.self.now.scope c.in_ok-begin.ensures.names))
-      c.in_ok-event.ensures.numbered n h) (renumbered _ _ _ _ ((same_names _ _ c.in_ok-event.ensures.same)
-      ∙ ((same_names _ _ c.in_ok-process.ensures.same)
-      ∙ (kept c.begin.new.self.scope c.args.self.now.scope c.in_ok-begin.ensures.names)))
-      c.in_ok-word.ensures.numbered n h);
-  fits = λ w h.
-      (both _ _ (both _ _ (refitted _ _ _ _ (kept c.begin.new.self.scope c.args.self.now.scope
-      c.in_ok-begin.ensures.names) c.in_ok-process.ensures.fits w h)
-      (refitted _ _ _ _ ((same_names _ _ c.in_ok-process.ensures.same)
-      ∙ (kept c.begin.new.self.scope c.args.self.now.scope c.in_ok-begin.ensures.names)) c.in_ok-event.ensures.fits
-      w h))
-      (refitted _ _ _ _ ((same_names _ _ c.in_ok-event.ensures.same)
-      ∙ ((same_names _ _ c.in_ok-process.ensures.same)
-      ∙ (kept c.begin.new.self.scope c.args.self.now.scope c.in_ok-begin.ensures.names))) c.in_ok-word.ensures.fits
-      w h));
-  err = search rules;
-}
+returns c =
+    let r = action_read {a = synch c.in_ok-process.process (sent_of c.in_ok-event.event)
+    (expression_of c.in_ok-word.word)}
+    (with_sign (with_part c.in_ok-word.ensures.same (with_part c.in_ok-event.ensures.same
+    (with_part c.in_ok-process.ensures.same (begun c.args.self.now.scope c.begin.new.self.scope
+    c.in_ok-begin.ensures.names c.in_ok-begin.ensures.ok
+    refl)
+    c.in_ok-process.ensures.ok c.in_ok-process.ensures.numbered c.in_ok-process.ensures.fits)
+    c.in_ok-event.ensures.ok c.in_ok-event.ensures.numbered c.in_ok-event.ensures.fits)
+    c.in_ok-word.ensures.ok c.in_ok-word.ensures.numbered c.in_ok-word.ensures.fits) c.in_ok-sign.ensures.ok)
+    (record { spelled = λ n ms. refl; numbered = λ n p. cc; fit = λ w. refl }) in
+    record {
+      names = search rules;
+      shorter = search rules;
+      counts = search rules;
+      ok = r.ok;
+      numbered = r.numbered;
+      fits = r.fits;
+      err = search rules;
+    }

@@ -1,22 +1,18 @@
-use Rattle.std.proofs.Common.{◌≡◌, ◌+◌, ◌∙◌, ◌∷◌, ◌++◌, [], map, length, refl, Result, Err, sym, ap, subst, arith}
-use Rattle.std.proofs.lemmas.List.{map-append, length-append, length-map}
-use Rattle.std.proofs.lemmas.List.Elements.{All-nil, All-cons, All-append}
-use Rattle.std.proofs.lemmas.Result.{err_from_is_err_and}
+use Rattle.std.proofs.Common.{◌+◌, ◌∙◌, ◌∷◌, [], map, length, refl, sym, ap, subst, arith}
+use Rattle.std.proofs.lemmas.List.{length-append, length-map}
+use Rattle.std.proofs.lemmas.List.Elements.{All-push}
 use Rattle.std.specs.List.{All}
 use Rattle.program_tree.specs.FlatBlock.{tree_in}
 use Rattle.program_tree.specs.Tree.{IsWithinLimits}
-use Rattle.program_reader.specs.declared.fault.Refusal.{Refusal}
-use Rattle.program_reader.specs.declared.fault.Refusal.TheVariants as refusal
-use Rattle.program_tree.specs.declared.flat_block.FlatBlock.{FlatBlock}
-use Rattle.program_reader.proofs.BlockLaws.{thread_more, thread_all, threads_fail, earlier_more}
+use Rattle.program_reader.specs.Machine.{from_threads}
+use Rattle.program_reader.proofs.BlockLaws.{one_block, all_blocks, blocks_fail, pushed, earlier_more}
+use Rattle.program_reader.proofs.ListLaws.{handed_on}
+use Rattle.program_reader.proofs.Stages.{no_threads}
 use Rattle.program_reader.proofs.reader.Reader.threads.Goals as goal
 
 pub threads-preserved : goal.threads-preserved
 threads-preserved c =
-    let pushed : map tree_in c.push.new.self.items ≡ map tree_in c.threads.blocks.items ++ tree_in c.in_ok-block.block
-    ∷ [] =
-    ap (map tree_in) c.in_ok-push.ensures.items ∙ map-append tree_in c.threads.blocks.items
-    (c.in_ok-block.block ∷ []) in
+    let push = pushed c.threads.blocks.items c.push.new.self.items c.in_ok-block.block c.in_ok-push.ensures.items in
     record {
       no_longer = omega (arith, c.in_ok-block.ensures.no_longer);
       etimers = c.in_ok-block.ensures.timers.etimers ∙ c.threads.invariant.etimers;
@@ -31,26 +27,21 @@ threads-preserved c =
           earlier_more (map tree_in c.threads.blocks.items) _ (tree_in c.in_ok-block.block)
           (length c.threads.self.scope.threads) c.threads.invariant.earlier
           (c.threads.invariant.counted ∙ sym (length-map c.threads.blocks.items tree_in)) c.in_ok-block.ensures.earlier
-          pushed;
+          push;
       within =
           subst (λ z. All (λ b. IsWithinLimits (tree_in b)) z) (sym c.in_ok-push.ensures.items)
-          (All-append (λ b. IsWithinLimits (tree_in b)) c.threads.blocks.items (c.in_ok-block.block ∷ [])
+          (All-push (λ b. IsWithinLimits (tree_in b)) c.threads.blocks.items c.in_ok-block.block
           c.threads.invariant.within
-          (All-cons (λ b. IsWithinLimits (tree_in b)) c.in_ok-block.block [] c.in_ok-block.ensures.within
-          (All-nil (λ b. IsWithinLimits (tree_in b)))));
-      reads = thread_more _ _ _ _ _ _ _ _ _ _ c.threads.invariant.reads c.threads-test.ensures.there
-          c.threads-test.ensures.read c.in_ok-block.ensures.ok pushed;
+          c.in_ok-block.ensures.within);
+      reads = one_block c.threads.invariant.reads c.threads-test.ensures.read c.in_ok-block.ensures.ok push
+          (λ x b more ms. refl) (λ f. refl);
     }
 
 pub returns-in_err-block-clause-err : goal.returns-in_err-block-clause-err
 returns-in_err-block-clause-err c = λ f e more.
-    let p = err_from_is_err_and c.from_residual.result c.from_residual.ensures.1 in
-    let r : p.0 ≡ refusal.Fault f = cc (p.1, e) in
-    let q : ◌≡◌ {A = Result FlatBlock Refusal} (Err c.in_err-block.field-0.0) (Err (refusal.Fault f)) =
-    ap Err (sym p.2 ∙ r) in
-    threads_fail _ _ _ _ _ _ _ more c.threads.invariant.reads c.threads-test.ensures.there c.threads-test.ensures.read
-    (c.in_err-block.ensures.err f q)
+    blocks_fail more c.threads.invariant.reads c.threads-test.ensures.read
+    (c.in_err-block.ensures.err f (handed_on c.from_residual.ensures.1 e) (from_threads ∷ more))
 
 pub returns-clause-ok : goal.returns-clause-ok
-returns-clause-ok c = thread_all _ _ _ _ _ _ c.threads.invariant.reads (c.threads-test.ensures.other refl)
-    (c.threads-test.ensures.same refl)
+returns-clause-ok c = all_blocks c.threads.invariant.reads (λ ms. refl)
+    (λ f. no_threads _ f _ (c.threads-test.ensures.other refl)) (c.threads-test.ensures.same refl)

@@ -1,9 +1,7 @@
-use Rattle.std.proofs.Common.{◌≡◌, ◌∙◌, ◌∷◌, refl, Result, Err, sym, ap, arith}
-use Rattle.std.proofs.lemmas.Result.{err_from_is_err_and}
+use Rattle.std.proofs.Common.{◌∙◌, ◌∷◌, refl, arith}
 use Rattle.program_reader.specs.Machine.{from_variables}
-use Rattle.program_reader.specs.declared.fault.Refusal.{Refusal}
-use Rattle.program_reader.specs.declared.fault.Refusal.TheVariants as refusal
-use Rattle.program_reader.proofs.ListLaws.{variables_more, all_variables, variables_fail}
+use Rattle.program_reader.proofs.ListLaws.{values_more, all_declared, declared_fails, handed_on}
+use Rattle.program_reader.proofs.Stages.{no_variables}
 use Rattle.program_reader.proofs.reader.Reader.variables.Goals as goal
 
 pub variables-preserved : goal.variables-preserved
@@ -11,19 +9,20 @@ variables-preserved c = record {
   no_longer = omega (arith, c.in_ok-with_value.ensures.no_longer);
   etimers = c.in_ok-with_value.ensures.etimers ∙ c.variables.invariant.etimers;
   ctimers = c.in_ok-with_value.ensures.ctimers (λ e. absurd cc) ∙ c.variables.invariant.ctimers;
-  reads = variables_more _ _ _ _ _ _ _ _ _ c.variables.invariant.reads c.variables-test.ensures.there
-      c.variables-test.ensures.read c.in_ok-with_value.ensures.ok;
+  reads = values_more c.variables.invariant.reads c.variables-test.ensures.read c.in_ok-with_value.ensures.ok
+      (λ v more ms. refl) (λ f. refl);
 }
 
 pub returns-in_err-with_value-clause-err : goal.returns-in_err-with_value-clause-err
 returns-in_err-with_value-clause-err c = λ f e more.
-    let p = err_from_is_err_and c.from_residual.result c.from_residual.ensures.1 in
-    let r : p.0 ≡ refusal.Fault f = cc (p.1, e) in
-    let q : ◌≡◌ {A = Result (Unit {0}) Refusal} (Err c.in_err-with_value.field-0.0) (Err (refusal.Fault f)) =
-    ap Err (sym p.2 ∙ r) in
-    variables_fail _ _ _ _ _ _ _ more c.variables.invariant.reads c.variables-test.ensures.there
-    c.variables-test.ensures.read (c.in_err-with_value.ensures.err f q (from_variables ∷ more))
+    declared_fails more c.variables.invariant.reads.2 c.variables-test.ensures.read
+    (c.in_err-with_value.ensures.err f (handed_on c.from_residual.ensures.1 e) (from_variables ∷ more))
 
 pub returns-clause-ok : goal.returns-clause-ok
-returns-clause-ok c = all_variables _ _ _ _ _ _ c.variables.invariant.reads (c.variables-test.ensures.other refl)
-    (c.variables-test.ensures.same refl)
+returns-clause-ok c =
+    let h = c.variables.invariant.reads in (
+      h.0,
+      h.1,
+      all_declared h.2 (λ ms. refl) (λ f. no_variables _ f _ (c.variables-test.ensures.other refl))
+          (c.variables-test.ensures.same refl),
+    )
