@@ -34,4 +34,4 @@ def check_answer(about: str, expected: Answer, found: Answer) -> None:
     """Fails with the lines that differ, unless two results are the same."""
     if found != expected:
         check_lines(about, lines_of(expected), lines_of(found))
-        pytest.fail('%s differs in bytes that are no text' % about, pytrace=False)
+        pytest.fail('%s differs in bytes that are not text' % about, pytrace=False)

@@ -20,7 +20,7 @@ from motesim.runner.programs import is_compiled
 CASES = Path(__file__).parent / 'cases'
 INPUTS, EXPECTED = ('.toml', '.make', '.args', '.runs'), ('.expected', '.stderr', '.status')
 KINDS = (*INPUTS, *EXPECTED, '.stack')
-NO_SCENARIO = b'this is no scenario\n'
+NO_SCENARIO = b'this is not a scenario\n'
 
 
 def as_bytes(text: str | bytes) -> bytes:

@@ -2,9 +2,9 @@
 
 The program simulates a scenario, and is refused its first request, in the next run its second, and so on until a run
 needs no more of them. The start of a thread is a request too, for its stack. Each run has to end with the whole
-report and status 0, or with `motesim: out of memory`, status 1 and a beginning of the report, or, by workers, with
+report and status 0, or with `motesim: out of memory`, status 1 and a beginning of the report, or, with workers, with
 `motesim: run fault 5`, status 1 and no report; and each has to end. The words after FILE are the program's, as
-`-- --workers 2 --sync marks`. Without FILE small scenarios are tried, on one thread and by two and three workers of
+`-- --workers 2 --sync marks`. Without FILE small scenarios are tried, on one thread and with two and three workers of
 both kinds: packets that meet and are heard, a full ring, a full queue, a refused timer, and a scenario with a fault.
 So is a test of crates/part_tests, as `rt ci` builds it, which calls kernels and motes once they are out of memory: it
 has to pass, or to end with an error of its own if it has no kernel or mote to call.

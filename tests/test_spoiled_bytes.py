@@ -3,7 +3,7 @@
 The scenario is tests/cases/motes/print_then_yield.toml. Each of its bytes is replaced by each of the bytes in
 SPOILED: such a text is answered a report and status 0, or nothing, status 1 and a fault's line. How many texts are
 answered which, and how long their reports are together, was counted by another simulator of the same rules. A front
-of the scenario is no TOML (fault 1) or lacks a key (fault 2); the one that lacks only the last line feed is whole.
+of the scenario is not TOML (fault 1) or lacks a key (fault 2); the one that lacks only the last line feed is whole.
 """
 from __future__ import annotations
 

@@ -1,6 +1,6 @@
-"""Compares runs by workers with the run on one thread: tools/dev/compare_workers [FILE or FOLDER ..]
+"""Compares runs with workers to the run on one thread: tools/dev/compare_workers [FILE or FOLDER ..]
 
-Each scenario is run on one thread, and then by 1, 2, 3, 7 and 16 workers with both cuts, joined after each window and
+Each scenario is run on one thread, and then with 1, 2, 3, 7 and 16 workers with both cuts, joined after each window and
 with marks; status, report and fault line have to be the same. A folder means all its files NAME.toml, also in its
 folders, except the files NAME.expect.toml of tools/expect; without a name, the examples are run, and a net of beacons
 with so many lines that workers write them in several rounds. If there is a file NAME.expected next to NAME.toml, the
@@ -20,7 +20,7 @@ from motesim.runner.programs import TOP
 
 WAYS = [['--workers', workers, '--cut', cut, '--sync', sync] for sync, workers, cut in itertools.product(
     ('joins', 'marks'), ('1', '2', '3', '7', '16'), ('block', 'stripe'))]
-# The script that makes a net of beacons, and its arguments for a report of some 150,000 lines.
+# The script that makes a net of beacons, and its arguments for a report of about 150,000 lines.
 BEACONS, SIZES = TOP / 'bench/beacons', ('10', '1000', '10')
 SECONDS = 300
 

@@ -25,7 +25,7 @@ uint16_t motesim_self(void);
  */
 void motesim_radio_open(struct process *receiver);
 
-/* The mote that sent the packet; 0 if the event is no packet from the radio. */
+/* The mote that sent the packet; 0 if the event is not a packet from the radio. */
 uint16_t motesim_from(process_event_t ev, process_data_t data);
 
 /*

@@ -48,7 +48,7 @@ def check_streams() -> None:
     if sys.stdout is None:
         raise Fault('standard output is closed')
     if isinstance(sys.stdout, io.TextIOWrapper):
-        # (the name of a file may be no UTF-8, and the terminal may have no sign for a letter)
+        # (the name of a file may not be UTF-8, and the terminal may have no sign for a letter)
         sys.stdout.reconfigure(errors='backslashreplace')
     sys.stdout, sys.stderr = plain_stream(sys.stdout), plain_stream(sys.stderr)
 

@@ -1,5 +1,5 @@
 """The version of motesim and its tools, and the kit with which it was proved."""
 VERSION = '1.2'
 KIT = 'rattle-kit-13f logic dac8208d650f15bf'
-# What proofs rest on of a kit. Kits of other names may have the same.
+# The part of a kit that proofs rest on. Kits with other names may have the same logic.
 LOGIC = KIT.partition(' ')[2]

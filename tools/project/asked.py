@@ -35,7 +35,7 @@ class Reader(argparse.ArgumentParser):
 
 
 def asked_by(words: Sequence[str]) -> Asked:
-    """Returns the request of ./run's arguments. Those after `--` are no options."""
+    """Returns the request of ./run's arguments. Those after `--` are not options."""
     end = words.index('--') if '--' in words else len(words)
     options = set(words[:end])
     kept = [*(it for it in words[:end] if it != '--unproved'), *words[end:]]

@@ -7,7 +7,7 @@ import sys
 from collections.abc import Sequence
 from pathlib import Path
 
-# What Python ignores, and no program that is run should.
+# Signals that Python ignores. The programs that it runs should not ignore them.
 OF_PYTHON = signal.SIGPIPE, signal.SIGXFSZ
 ENDING = signal.SIGTERM, signal.SIGHUP, signal.SIGINT
 

@@ -1,12 +1,12 @@
 """Measures the program: tools/dev/bench [NAME ..] [--against PROGRAM] [--host] [--rounds N]
 
-Runs the program on the scenarios of bench/, on one thread and by workers of both kinds, each in turn with an earlier
-program if --against names one, and prints for each way to run: the seconds of the processor (user time, the best
-round), the seconds of the clock, and the most memory; and the instructions on one thread, if valgrind is installed. A
-ratio is the middle one of the rounds' own ratios of this program to the earlier one, with the least and the greatest.
-Each report is compared with the first one of its scenario. --small runs scenarios of a tenth of the length. With
---host, one thread is also compared with the C programs that tools/export makes from the scenario and the simulator in
-C that runs them (tools/contiki_host), compiled with -O2.
+Runs the program on the scenarios of bench/, on one thread and with workers of both kinds, each alternating with an
+earlier program if --against names one, and prints for each way to run: the seconds of the processor (user time, the
+best round), the seconds of the clock, and the most memory; and the instructions on one thread, if valgrind is
+installed. A ratio is the middle one of the rounds' own ratios of this program to the earlier one, with the least and
+the greatest. Each report is compared with the first one of its scenario. --small runs scenarios of a tenth of the
+length. With --host, one thread is also compared with the C programs that tools/export makes from the scenario and the
+simulator in C that runs them (tools/contiki_host), compiled with -O2.
 
 Ends with status 0, or with 1 if a report differs.
 """
@@ -80,7 +80,7 @@ def instructions(program: str, scenario: Path) -> float:
 
 def cell(name: str, ours: Sequence[float], others: Sequence[float]) -> str:
     """A measure of this program; with that of the earlier one, and the middle, the least and the greatest of the
-    ratios of runs that were made in turn."""
+    ratios of runs that alternated."""
     form, unit = SHOWN[name]
     best = ', '.join(form % (min(it) / unit) for it in (ours, others) if it)
     ratios = [one / other for one, other in zip(ours, others) if other]
@@ -98,7 +98,7 @@ def built_host(scenario: Path, folder: Path) -> str:
 
 
 def measure(title: str, programs: Sequence[str], words: Sequence[str | Path], rounds: int) -> set[str]:
-    """Runs programs in turn, prints the costs in a line, and returns the digests of the reports."""
+    """Runs programs alternately, prints the costs in a line, and returns the digests of the reports."""
     turns = [[cost_of([program, *words]) for program in programs] for _ in range(rounds)]
     cells = [cell(name, *([getattr(turn[at], name) for turn in turns if at < len(turn)] for at in (0, 1)))
              for name in ('user', 'clock', 'memory')]
@@ -134,7 +134,7 @@ def main() -> int:
     words.add_argument('names', nargs='*', metavar='NAME',
                        help='scenarios: %s; without one, all' % ', '.join(SCENARIOS))
     take_program(words)
-    words.add_argument('--against', metavar='PROGRAM', help='an earlier motesim, which is run in turn with this one')
+    words.add_argument('--against', metavar='PROGRAM', help='an earlier motesim, which runs alternately with this one')
     words.add_argument('--rounds', type=int, default=5, metavar='N', help='N runs of each (5)')
     words.add_argument('--small', action='store_true', help='a tenth of the length')
     words.add_argument('--host', action='store_true', help='compare one thread with the host in C')

@@ -31,7 +31,7 @@ from motesim.words import words_of
 from project import compile as compiling
 from project import kit
 
-# What goes into the archive besides the program: files, and folders with all that git knows in them.
+# The contents of the archive besides the program: files, and folders with all files in them that git knows.
 PARTS = ('CHANGES.md', 'CITATION.cff', 'LICENSE', 'docs/use', 'examples', 'tools/contiki_host', 'tools/motesim')
 NAMED = 'The maker of the archive chose the program by its path: no proof of it is known.'
 
@@ -101,7 +101,7 @@ def is_for_students(file: Path) -> bool:
 
 
 def files(program: Path) -> dict[str, tuple[bytes, int]]:
-    """The contents of the archive: of each name its bytes and its mode."""
+    """The contents of the archive: for each name, its bytes and its mode."""
     tools, built = user_commands(), program.read_bytes()
     about = {'version': VERSION, 'commit': commit(), 'kit': kit_at_hand(), 'compiled': COMPILED,
              'digest': hashlib.sha256(built).hexdigest(),

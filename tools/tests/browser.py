@@ -33,7 +33,7 @@ class BrowserFault(Exception):
     """The browser doesn't start, doesn't answer, or the page has a fault."""
 
 
-# What ends a talk with the browser.
+# The errors that end a session with the browser.
 FAULTS: tuple[type[Exception], ...] = (OSError, BrowserFault, ValueError,
                                        *([websocket.WebSocketException] if websocket else []))
 

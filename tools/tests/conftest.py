@@ -11,7 +11,7 @@ from typing import Any
 
 import pytest
 
-# What tests need: the reason of one that is skipped for want of it begins with its name.
+# Programs that some tests need: if one is missing, the reason for skipping the test begins with its name.
 NEEDED = ('browser',)
 # Signals that a shell has its background jobs ignore. Some tests test what they do.
 HEEDED = (signal.SIGHUP, signal.SIGINT, signal.SIGQUIT)

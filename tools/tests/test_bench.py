@@ -1,4 +1,4 @@
-"""The scenarios of bench/, and what tools/dev/bench says of runs. The program is a stand-in."""
+"""The scenarios of bench/, and the output of tools/dev/bench about runs. The program is a stand-in."""
 from __future__ import annotations
 
 import contextlib

@@ -15,7 +15,7 @@ from motesim.search import one_program
 from motesim.studio import runs
 
 COMMANDS = sorted(path.stem for path in (TOOLS / 'motesim/commands').glob('[a-z]*.py'))
-# What only the work needs: reports, the judge, processes, numbers.
+# The modules that only the work of a command needs: reports, the judge, processes, numbers.
 HEAVY = ('motesim.report', 'motesim.judge', 'motesim.runner', 'motesim.scenario',
          'subprocess', 'multiprocessing', 'tomllib')
 

@@ -17,7 +17,7 @@ from motesim.report import Report, ReportFault
 from motesim.runner.run import Run
 from motesim.scenario import Scenario
 
-# Motes 0 and 2 send to mote 1 in turn. The event of the second timer of mote 2 is posted at 6.
+# Motes 0 and 2 send to mote 1 alternately. The event of the second timer of mote 2 is posted at 6.
 A = '''mote 0 talker
 0 start etimer
 0 send 0 1

@@ -74,7 +74,7 @@ class Generator(unittest.TestCase):
         self.assertNotEqual(random_scenario('abc-1'), random_scenario('abc-2'))
 
     def test_the_limits_are_met(self) -> None:
-        """Of each limit there is a program with exactly as many as there may be."""
+        """For each limit there is a program that has exactly as many of the thing as it may."""
         found: dict[str, int] = {}
         for seed in itertools.count():
             reached: Counter[str] = Counter()

@@ -338,7 +338,7 @@ class Files(unittest.TestCase):
             ('expect = ["mote 9 halts"]', 'sentence 1 is not known'),
             ('expect = ["mote 0 prnts x 1"]', 'Did you mean: prints\n'),
             ('expect = ["evry mote halts"]', 'Did you mean: every\n'),
-            ('expect = ["mote 0 sends twise"]', 'Did you mean: twice\n'), ('expect = [', 'is no TOML'),
+            ('expect = ["mote 0 sends twise"]', 'Did you mean: twice\n'), ('expect = [', 'is not TOML'),
             ('', 'expects nothing'), ('expect = "x"', 'is not an array'), ('wanted = []', 'has a key wanted'),
             ('expct = []', 'did you mean expect?'),
             ('version = 1', 'has a key version, as a scenario has;'),

@@ -72,7 +72,7 @@ PROGRAMS = [
     ('process a;\ncode a { body { if is(timer) { } else { } post a msg 1 into', 2, 2, 59, '', 'a variable'),
 ]
 
-# What the scenario lacks at its top, with how it begins where that is shown, and more that is said of it.
+# Parts that the top of the scenario lacks, with the beginning of the hint, the line to add, and the rest of the hint.
 LACKS = [
     ({'version = 1\n': ''}, '.. has no key `version`. Add above the first table (line 2):', 'version = 1',
      'Allowed here: the key `version`: a whole number, 1 to 2'),
@@ -194,7 +194,7 @@ class Scenarios(unittest.TestCase):
 
     def test_a_report_is_named(self) -> None:
         lines = explain.explanation('r', b'mote 0 p\nmedium\nleft 0\n', 'motesim: scenario fault 1')
-        self.assertIn('Hint: This is a report, and no scenario', lines[-2])
+        self.assertIn('Hint: This is a report, not a scenario', lines[-2])
 
     def test_a_text_in_another_encoding_is_named(self) -> None:
         for codec, name, taken, why in [

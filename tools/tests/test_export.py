@@ -66,7 +66,7 @@ medium
 19 2 2 40 1@21
 left 1
 '''
-# What tshark shows of it: time, interface, kind, sender, receiver, number, value, moment of sending and of arrival.
+# The columns of tshark: time, interface, kind, sender, receiver, number, value, moments of sending and of arrival.
 PACKETS = '''0.000004000,mote 0,0,0,,0,10,0,
 0.000004000,mote 2,0,2,,0,12,0,
 0.002000000,mote 1,4,0,1,0,10,0,2
@@ -82,7 +82,7 @@ PACKETS = '''0.000004000,mote 0,0,0,,0,10,0,
 '''
 FIELDS = ['frame.time_epoch', 'frame.interface_name', 'motesim.kind', 'motesim.sender', 'motesim.receiver',
           'motesim.number', 'motesim.value', 'motesim.sent', 'motesim.arrival']
-# What a waveform of it shows: the values of signals, each from a time in nanoseconds on.
+# The waveform of the report: the values of signals, each from a time in nanoseconds on.
 WAVES = {
     ('mote_1', 'queue'): [(0, 0), (10_001_000, 1), (10_002_000, 0), (10_003_000, 1), (10_006_000, 0)],
     ('mote_1', 'halted'): [(0, 0), (11_000_000, 1)],

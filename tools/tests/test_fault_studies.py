@@ -61,7 +61,7 @@ class Studies(unittest.TestCase):
         self.assertIn('broken, though not expected, by: mote 0 is silent\n', said)
 
     def test_what_cannot_be_read(self) -> None:
-        for text, wanted in (('a = [', 'is no TOML'), ('scenario = "x"', r'no tables \[\[study\]\]'),
+        for text, wanted in (('a = [', 'is not TOML'), ('scenario = "x"', r'no tables \[\[study\]\]'),
                              (STUDY.replace('faults = "links"', 'faults = 5', 1),
                               'study 1 of .* `faults` is not allowed there'),
                              (STUDY.replace('breaks = []', '', 1), 'study 1 of .* lacks')):

@@ -1,4 +1,4 @@
-"""The figures that gate_times notes of processes and of a run."""
+"""The figures that gate_times records of processes and of a run."""
 from __future__ import annotations
 
 import json

@@ -169,7 +169,7 @@ class Entries(Folder):
         self.hand_in('cem.toml', '// Task 1.\n' + PROGRAM % 3)
         rows = self.rows('--net', 'task.toml', '--hidden', str(self.top / 'task.toml'))
         self.assertTrue(rows['GOOD.TOML'].endswith(': write the ending in small letters'))
-        self.assertTrue(rows['cem.toml'].endswith('it is the text of a program, and no scenario: a file of such a text '
+        self.assertTrue(rows['cem.toml'].endswith('it is the text of a program, not a scenario: a file of such a text '
                                                   'is NAME.mote'))
         self.assertEqual(self.seen.splitlines(), [
             'grade: %s is named by --net too, so a page of marks shows it' % (self.top / 'task.toml'),
@@ -496,7 +496,7 @@ class Forms(Folder):
         picture = (self.top / link[1]).read_text()
         self.assertIn('&lt;script&gt;.toml', picture)
         note = json.loads(re.findall('id="data" type="application/json">(.*)</script>', picture)[0])['note']
-        # (the stub is no kernel, so nothing more is known of what came near)
+        # (the stub is not a kernel, so nothing more is known of what came near)
         self.assertEqual((note['title'], note['why'], note['mote'], note['at']), (
             'every mote prints a 3', 'mote 0 has 0 such lines; wanted: at least 1', 0, 60))
         self.assertNotIn('<script>', page)
@@ -505,9 +505,10 @@ class Forms(Folder):
         (self.folder / 'bom.toml').write_bytes(b'\xef\xbb\xbf' + (PROGRAM % 3).encode())
         self.hand_in('ben.mote', '# mine\n' + net(PROGRAM % 3))
         rows = self.rows('--net', 'task.toml')
-        self.assertIn('it is the text of a program, and no scenario: a file of such a text is NAME.mote',
+        self.assertIn('it is the text of a program, not a scenario: a file of such a text is NAME.mote',
                       rows['bom.toml'])
-        self.assertIn('it is a scenario, and no text of a program: a file of a scenario is NAME.toml', rows['ben.mote'])
+        self.assertIn('it is a scenario, not the text of a program: a file of a scenario is NAME.toml',
+                      rows['ben.mote'])
 
     def test_a_run_that_is_too_long_for_a_page_says_so_in_its_row(self) -> None:
         self.hand_in('anna.toml', net(PROGRAM % 4))

@@ -292,7 +292,7 @@ class Warnings(unittest.TestCase):
             'mote 0 sends, and nobody hears it: no mote is within `range`; the same goes for 1 more mote: 1'])
 
     def explained(self, name: str, text: str) -> str:
-        """The output of tools/explain for a file that is no scenario."""
+        """The output of tools/explain for a file that is not a scenario."""
         with tempfile.TemporaryDirectory() as folder, contextlib.redirect_stdout(io.StringIO()) as said, \
                 mock.patch.object(explain, 'answer', lambda data: Answer(1, b'', b'motesim: scenario fault 2\n')):
             path = Path(folder) / name
@@ -303,15 +303,15 @@ class Warnings(unittest.TestCase):
     def test_a_program_or_a_plan_in_place_of_a_scenario_is_called_so(self) -> None:
         for mark in '', '\ufeff':
             found = self.explained('a.toml', mark + '// mine\nprocess a;\ncode a { body { prnt 1; } }\n')
-            self.assertRegex(found, r'a\.toml is the text of a program, and no scenario\. Hint: .*`\[programs\]`.*'
+            self.assertRegex(found, r'a\.toml is the text of a program, not a scenario\. Hint: .*`\[programs\]`.*'
                                     r'The program has an error, too: .*line 3: .*Did you mean `print`\?')
         data = b'process a;\ncode a { body { } }\n'
         self.assertEqual(explain.explanation('the text', data, 'motesim: scenario fault 1')[0],
-                         'the text is the text of a program, and no scenario.')
+                         'the text is the text of a program, not a scenario.')
         self.assertNotIn('an error', self.explained('a.mote', 'process a;\ncode a { body { print 1; } }\n'))
         plan = 'end = 9\nmedium = { range = 9, base = 2, per = 9 }\n[places]\nrule = "line"\ncount = 2\nstep = 5\n'
         found = self.explained('a.plan.toml', plan)
-        self.assertRegex(found, r'a\.plan\.toml is a plan, and no scenario: tools/scenario \S+ -o NAME\.toml makes')
+        self.assertRegex(found, r'a\.plan\.toml is a plan, not a scenario: tools/scenario \S+ -o NAME\.toml makes')
         self.assertNotIn('version', found)
 
     def test_explain_shows_them(self) -> None:

@@ -190,7 +190,7 @@ class Cycle:
         return self.places[dice]
 
     def lost(self, limit: int) -> list[bool]:
-        """Of each place, two rounds long, whether the packet there is lost."""
+        """Returns whether the packet at each place is lost, for two rounds."""
         return [state < limit for state in self.states] * 2
 
 

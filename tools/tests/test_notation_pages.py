@@ -25,7 +25,7 @@ code p {
 code q { body { } }
 """
 PAGES = ('NOTATION.md', 'QUICK.md')
-# What the letters of a table mean in a program: an expression, and names.
+# The meanings of a table's letters in a program: an expression, and names.
 LETTERS = {'e': '(x + 1)', 'E': 'e', 'P': 'q', 'T': 't', 'S': 's', 'THREAD': 'f', 'a': 'x', 'b': 'y'}
 
 

@@ -31,7 +31,7 @@ class Output(unittest.TestCase):
         with contextlib.chdir(TOP):
             self.assertEqual(beside('examples/flooding.toml', 'flooding.html'), Path('out/flooding.html'))
             self.assertEqual(beside('-', 'run.html'), Path('out/run.html'))
-            # (a file of the user's own is no example, wherever it is)
+            # (a file of the user's own is not an example, wherever it is)
             self.assertEqual(beside('net.plan.toml', 'net.csv'), Path('net.csv'))
             self.assertEqual(beside('class/net.toml', 'net.html'), Path('class/net.html'))
         with contextlib.chdir(TOP / 'examples'):

@@ -147,7 +147,7 @@ class PlotTest(unittest.TestCase):
         self.assertIn('sent against period: other less net, run by run', (self.folder / 'c.svg').read_text())
         for words, seen in (('pair = "a=1,2"\ncompare = "b.csv"\n', 'A plot has one comparison.'),
                             ('pair = "a=1,2"\nshow = "mean"\n', 'a plot without `show`'),
-                            ('where = { seed = 1.5 }\n', 'These are no values.'),
+                            ('where = { seed = 1.5 }\n', 'These are not values.'),
                             ('show = "cdf"\nlog_y = true\n', 'no measure upwards')):
             (self.folder / 'a.plan.toml').write_text('end = 9\n' + plot % 'a.svg' + words)
             done = self.plot('--plan', 'a.plan.toml')

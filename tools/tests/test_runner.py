@@ -66,7 +66,7 @@ class Runs(Room):
     def test_a_long_scenario_and_a_long_report_pass(self) -> None:
         data = b'x' * 5_000_000
         self.assertEqual(Runner(self.program('cat')).report(data), data)
-        # (one that is not read is no fault)
+        # (one that is not read is not a fault)
         self.assertEqual(Runner(self.program('echo done')).report(data), b'done\n')
 
     def test_a_refused_scenario_has_no_report(self) -> None:

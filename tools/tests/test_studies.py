@@ -1,4 +1,4 @@
-"""The worked studies in a small form: what examples/studies/README.md says of them shows there too."""
+"""The worked studies in a small form, which still show what examples/studies/README.md says."""
 import csv
 import os
 import subprocess

@@ -21,8 +21,8 @@ from motesim.report import Report
 from motesim.runner.run import Run
 from motesim.scenario import Scenario
 
-# What becomes of the six packets of mote 0 at mote 1: received, lost by the medium, collided with one of mote 2, found
-# the ring full, came when the mote had halted, and comes after the end.
+# The outcomes of the six packets of mote 0 at mote 1: received, lost by the medium, collided with one of mote 2, found
+# the ring full, arrived when the mote had halted, and would arrive after the end.
 REPORT = '''mote 0 talker
 0 start etimer
 0 post 0 all msg 3

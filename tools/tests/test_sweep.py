@@ -81,7 +81,7 @@ medium
 3 1 0 7 0@6 2@6
 left 1
 '''
-# Measures, each with its name and what it gives of the report above.
+# Measures, each with its name and its value for the report above.
 MEASURES: list[tuple[str, str, Cell]] = [
     ('sent', 'sent', 2),
     ('sent of mote 1', 'sent of mote 1', 1),
@@ -492,7 +492,7 @@ class SweepTest(Bed):
         began = time.process_time()
         for number in range(20_000):
             file.add({'a': number})
-        # (row by row it takes some ten times as long, and most of that is the disk)
+        # (row by row it takes about ten times as long, and most of that is the disk)
         self.assertLess(time.process_time() - began, 10)
         file.close()
         self.assertEqual(len(read_results(path)[1]), 20_000)

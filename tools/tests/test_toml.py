@@ -135,7 +135,7 @@ class Tools(unittest.TestCase):
         done = subprocess.run([sys.executable, '-B', str(TOOLS / 'expect'), 'net.toml', 'deep.toml'], cwd=self.folder,
                               env={**os.environ, 'MOTESIM': str(self.stub)}, capture_output=True, text=True)
         self.assertEqual((done.returncode, done.stdout), (2, ''))
-        self.assertIn('deep.toml is no TOML: Arrays or tables are nested too deeply', done.stderr)
+        self.assertIn('deep.toml is not TOML: Arrays or tables are nested too deeply', done.stderr)
         self.assertEqual(done.stderr.count('\n'), 1)
 
 

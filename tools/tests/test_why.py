@@ -1,4 +1,4 @@
-"""Causes: what tools/why says of lines. The chains are worked out by hand from the scenarios."""
+"""The causes of lines that tools/why reports. The chains are worked out by hand from the scenarios."""
 import json
 import os
 import subprocess
@@ -135,7 +135,7 @@ medium
 left 0
 '''
 HEAD = -1
-# Of each line of mote 0 the place of its cause in the trace, from 0. The five processes start at boot. The timer's
+# For each line of mote 0, the place of its cause in the trace, from 0. The five processes start at boot. The timer's
 # event comes from `start a` (4), at which a set it; a takes it (6), and all that a does follows from that: the post,
 # the start of c, and the calls of c and b, which have no lines. b takes the event (13) that a posted (7). c set its
 # timer when it started (8), so that is the cause of the timer's event (15).

@@ -169,7 +169,7 @@ class Pages(unittest.TestCase):
 
 class Runs(unittest.TestCase):
     def test_a_page_of_many_lines_opens(self) -> None:
-        """Of more lines than a page has causes of, it says where they are."""
+        """If a page doesn't have the causes of all lines, it says where they are."""
         skips.need_program(self)
         data = (TOP / 'examples/trickle.toml').read_bytes()
         run = Run('trickle', Report.parse(answer(data).report), Scenario.parse(data))

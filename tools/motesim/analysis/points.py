@@ -67,9 +67,9 @@ class Point(NamedTuple):
     values: tuple[float, ...]
     estimate: Estimate
     across: Estimate | None = None
-    # Of each run, in the order of the values, the parameters in which the runs of a point differ.
+    # For each run, in the order of the values, the parameters in which the runs of a point differ.
     keys: tuple[tuple[Cell, ...], ...] = ()
-    # Of each run the measure from left to right, if that is one.
+    # For each run, the value on the axis from left to right, if that shows a measure.
     others: tuple[float, ...] = ()
 
     @property

@@ -26,7 +26,7 @@ import argparse
 from motesim.faults import command
 from motesim.words import words_of
 
-# What can be shown of the runs, and how intervals are found, as motesim.analysis names them.
+# The statistics of runs, and the ways to find an interval, by their names in motesim.analysis.
 SHOWS, MEANS = ('median', 'mean', 'points', 'cdf', 'heat'), ('auto', 't', 'bootstrap', 'bootstrap-t')
 
 

@@ -15,13 +15,13 @@ def main() -> int:
     words.add_argument('question', metavar='QUESTION', nargs='?', help='a sentence, or a line of the report')
     words.add_argument('--scenario', metavar='FILE', help="the report's scenario")
     words.add_argument('--other', metavar='FILE',
-                       help='a second run: shows at which line it leaves the chain of the first')
+                       help='a second run: show the line at which it leaves the chain of the first')
     words.add_argument('--other-scenario', metavar='FILE', help='the scenario of a second report')
     words.add_argument('--watch', metavar='WORD', nargs='+',
-                       help='shows the values of variables over time: --watch mote 3 newest, distance')
-    words.add_argument('--replay', action='store_true', help='shows the values of the replay, without added prints')
+                       help='show the values of variables over time: --watch mote 3 newest, distance')
+    words.add_argument('--replay', action='store_true', help='show the values of the replay, without added prints')
     words.add_argument('--state', metavar='WORD', nargs='+',
-                       help='shows the state of a mote: --state mote 3 at 46, or after a line: --state 3:114')
+                       help='show the state of a mote: --state mote 3 at 46, or after a line: --state 3:114')
     words.add_argument('--json', action='store_true', help='for programs')
     words.add_argument('--short', action='store_true', help='only the hops with a delay')
     asked = words.parse_args()

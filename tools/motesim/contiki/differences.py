@@ -5,7 +5,7 @@ from motesim.contiki.layout import comment_lines
 from motesim.contiki.tree import Program
 from motesim.contiki.use import Use
 
-# What differs, and for which words of the notation.
+# The differences, each with the words of the notation that it concerns.
 DIFFERENCES: tuple[tuple[frozenset[str], str], ...] = (
     (frozenset({'kill', 'start', 'exit'}),
      'motesim lets a process that is in the midst of a call be neither started nor killed (`busy`); Contiki does it.'),

@@ -1,8 +1,8 @@
 """Compares motesim with the host on random scenarios: tools/differential [--seed S] [--count N]
 
-Each scenario is run by motesim on one thread and by workers of both kinds, and by the host, a second simulator in C
-(docs/use/CONTIKI.md). All of them have to write the same bytes. If they don't, the scenario is made as small as it
-gets, and written to a file.
+Each scenario is run by motesim, on one thread and with workers of both kinds, and by the host, a second simulator in C
+(docs/use/CONTIKI.md). All of them have to write the same bytes. If they don't, the tool reduces the scenario to the
+smallest that still differs, and writes it to a file.
 
   tools/differential --count 1000              the scenarios of seeds from 0
   tools/differential --seed 7000 --count 50000 the scenarios of seeds from 7000
@@ -35,7 +35,7 @@ from motesim.scenario import Scenario, ScenarioFault
 from motesim.words import words_of
 
 GATE_COUNT = 300
-# (of how many scenarios that differ a file is written)
+# (how many of the scenarios that differ are written to files)
 MOST_SHOWN = 3
 TOP = HERE.parent.parent.parent
 WORKERS: tuple[tuple[str, ...], ...] = (('--workers', '2', '--cut', 'block', '--sync', 'joins'),
@@ -188,7 +188,7 @@ def main() -> int:
                        help='the first seed: a number, or a word, to which -0, -1, .. are added')
     words.add_argument('--count', type=int, default=100, metavar='N', help='how many random scenarios (100)')
     words.add_argument('--jobs', type=int, metavar='N', help='how many processes (as many as there are processors)')
-    words.add_argument('--one-thread', action='store_true', help='leave out the runs by workers')
+    words.add_argument('--one-thread', action='store_true', help='leave out the runs with workers')
     words.add_argument('--strict', action='store_true', help='have gcc or clang look for warnings in the programs too')
     words.add_argument('--gate', action='store_true', help='compare all examples and cases, and %d random scenarios '
                        'whose seed is the commit' % GATE_COUNT)

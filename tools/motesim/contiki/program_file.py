@@ -13,7 +13,7 @@ from motesim.contiki.tree import (
 from motesim.contiki.use import use_of
 
 WAITS = frozenset({'wait_until', 'wait_while', 'yield', 'yield_until', 'spawn', 'restart', 'acquire', 'pause', 'exit'})
-# What a body and a thread write for a statement that waits.
+# The C code of a statement that waits: in a body, and in a thread.
 WAITING = {'yield': ('PROCESS_YIELD()', 'PT_YIELD(pt)'),
            'yield_until': ('PROCESS_YIELD_UNTIL(%s)', 'PT_YIELD_UNTIL(pt, %s)'),
            'wait_until': ('PROCESS_WAIT_UNTIL(%s)', 'PT_WAIT_UNTIL(pt, %s)'),
@@ -31,9 +31,9 @@ class Image:
     """The parts of the file that the host needs: everything that changes, and the tables of the notation's names."""
     memory: list[str] = field(default_factory=list)
     processes: list[str] = field(default_factory=list)
-    # (of each declared event its name and the C name, or '')
+    # (for each declared event, its name and the C name, or '')
     events: list[tuple[str, str]] = field(default_factory=list)
-    # (of each timer its prefix and the C name, or '')
+    # (for each timer, its prefix and the C name, or '')
     timers: list[tuple[str, str]] = field(default_factory=list)
     receiver: str = ''
 
@@ -65,7 +65,7 @@ class ProgramFile:
         self.init = self.names.helper('init_program')
         self.init_done = self.names.helper('init_done')
         self.word = self.names.helper('word_of')
-        # (of each thread what it needs beyond its pt)
+        # (for each thread, what it needs in addition to its pt)
         self.needs: dict[tuple[str, str], list[str]] = {}
         self.image = Image()
         self._find_image()

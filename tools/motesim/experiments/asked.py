@@ -40,7 +40,7 @@ def values_of(words: str) -> list[Value]:
             continue
         begin, end, step = int(numbers[1]), int(numbers[2]), int(numbers[3] or 1)
         if begin > end or step < 1 or (end - begin) // step >= MOST_RUNS:
-            raise Fault('%s are no values: a range goes upwards, and has at most 1,000,000 values' % part)
+            raise Fault('%s are not values: a range goes upwards, and has at most 1,000,000 values' % part)
         found += range(begin, end + 1, step)
     counts = Counter(map(text_of_value, found))
     if '' in counts:
@@ -111,7 +111,7 @@ def _values_in_plan(plan: Plan, name: str, values: object) -> list[Value]:
     if type(values) is str:
         return values_of(values)
     if type(values) is not list or not values or not all(type(it) in (int, str, bool) for it in values):
-        raise plan.tables.fault(path, 'These are no values.', '`"10,20,40"`, `"1..30"` or an array')
+        raise plan.tables.fault(path, 'These are not values.', '`"10,20,40"`, `"1..30"` or an array')
     return list(values)
 
 

@@ -18,7 +18,7 @@ from motesim.faults import Fault
 # The interpreter that Debian's packages are for.
 SYSTEM = '/usr/bin/python3'
 HANDED_ON = 'MOTESIM_TOOLS_HANDED_ON'
-# Of each module the package of Debian that has it.
+# For each module, the package of Debian that has it.
 DEBIAN = {'matplotlib': 'python3-matplotlib', 'distributed': 'python3-distributed', 'pandas': 'python3-pandas'}
 
 

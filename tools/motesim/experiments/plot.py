@@ -36,7 +36,7 @@ PLOT = {'file': needed(str), 'measure': needed(str), 'against': optional(str, ''
         WHERE: optional(dict, {})}
 # The views without a measure upwards.
 NOT_UPWARDS = ('cdf', 'heat')
-# What has no effect in a comparison run by run, and is refused.
+# Options that have no effect in a comparison run by run, and are refused.
 NOT_IN_PAIRS = ('show', 'threshold', 'by', 'log_y')
 
 
@@ -103,7 +103,7 @@ def _text_of_where(tables: Tables, path: tuple[str | int, ...], value: object) -
     """The selected values of a parameter in a plot, as on the command line."""
     found = value if type(value) is list else [value]
     if not found or not all(type(it) in (int, str, bool) for it in found):
-        raise tables.fault(path, 'These are no values.', '`20`, `"10,20"`, `"1..30"` or an array')
+        raise tables.fault(path, 'These are not values.', '`20`, `"10,20"`, `"1..30"` or an array')
     return ','.join(text_of_value(it) for it in found)
 
 

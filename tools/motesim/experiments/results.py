@@ -248,7 +248,7 @@ def _records(path: Path) -> Generator[tuple[int, int, list[str]], None, None]:
                 yield begin, at, values
                 begin = at
     except (csv.Error, UnicodeDecodeError) as fault:
-        raise Fault('%s is no CSV: %s' % (path, fault)) from None
+        raise Fault('%s is not CSV: %s' % (path, fault)) from None
 
 
 def columns_of_csv(path: Path) -> list[str]:

@@ -45,7 +45,7 @@ class Sweeper:
             'measures_sha256': hashlib.sha256(repr((sweep.measures, sorted(self.sources.items()))).encode()
                                               ).hexdigest()[:DIGITS]}
         self.path = path
-        # (of each parameter that varies the place of each value)
+        # (for each parameter that varies, the place of each value)
         self.places = {name: {text_of_value(value): place for place, value in enumerate(values)}
                        for name, values in sweep.vary.items()}
         # The spot of each run's row in the file, or 0 for a missing one, and those of rows with other values.

@@ -23,7 +23,7 @@ from motesim.toml import MARK, NoToml, read_toml
 WIDTH = 112
 # (characters that a terminal would mistake for a command)
 CONTROL = re.compile(r'[\x00-\x08\x0b-\x1f\x7f-\x9f]')
-OF_REPORT = 'This is a report, and no scenario: tools/summary, tools/compare and tools/timeline read it.'
+OF_REPORT = 'This is a report, not a scenario: tools/summary, tools/compare and tools/timeline read it.'
 PROGRAM = re.compile(r'program (\S+) fault (\d+) line (\d+)')
 
 
@@ -155,7 +155,7 @@ def tables_of(text: str) -> dict[str, Any]:
 
 
 def tables_or_none(text: str) -> dict[str, Any] | None:
-    """The tables of a text that may be no TOML."""
+    """The tables of a text that may not be TOML."""
     try:
         return tables_of(text)
     except NoToml:
@@ -241,12 +241,12 @@ def program_instead(name: str, data: bytes) -> list[str]:
     """The lines on a file with the text of a program instead of a scenario: how a scenario has it, and its error."""
     source = data.decode('utf-8', 'replace').removeprefix(MARK)
     its = program_faults.find_fault(source)
-    lines = ['%s is the text of a program, and no scenario.' % one_line(name), *hinted(hints.OF_PROGRAM)]
+    lines = ['%s is the text of a program, not a scenario.' % one_line(name), *hinted(hints.OF_PROGRAM)]
     return lines + ([*wrapped('The program has an error, too:'), *of_program_file(name, source, its)] if its else [])
 
 
 def explain(name: str) -> int:
-    """Prints what tools/explain says of a file; returns the status."""
+    """Prints the explanation of a file, as tools/explain does; returns the status."""
     data = read_file(name)
     if begins_as_program(data):
         print('\n'.join(program_instead(name, data)))

@@ -75,7 +75,7 @@ OF_PARAMETERS = ('A thread has no parameters, `thread t { .. }`: it uses the var
 OF_ARGUMENTS = 'A `spawn` passes nothing, `spawn t;`: set a variable of the process before it, which the thread reads.'
 OF_PROGRAM = ('A scenario has it under `[programs]`, between three quotes: `p = """ .. """`. Or a plan names its file, '
               'and tools/scenario makes a scenario of the plan.')
-OF_PLAN = '%s is a plan, and no scenario: tools/scenario %s -o NAME.toml makes a scenario of it.'
+OF_PLAN = '%s is a plan, not a scenario: tools/scenario %s -o NAME.toml makes a scenario of it.'
 QUOTES = '\u2018\u2019\u201a\u201b\u201c\u201d\u201e\u201f\u00ab\u00bb\u00b4`'
 OF_QUOTES = 'These are quotes of another kind, as word processors make them: write plain ones, `"` or `\'`.'
 # Letters that look like digits.
@@ -229,7 +229,7 @@ def _of_unknown(before: list[Token], here: Token, may: list[str]) -> str | None:
 
 
 def _of_no_toml(text: str, fault: ScenarioError, place: tuple[int, int]) -> str | None:
-    """A hint on a text that is no TOML, with the place up to which it is."""
+    """A hint on a text that is not TOML, with the place up to which it is."""
     row = text.split('\n')[place[0] - 1]
     if row[place[1]:place[1] + 1] in QUOTES and place[1] < len(row):
         return OF_QUOTES
@@ -242,7 +242,7 @@ def _of_no_toml(text: str, fault: ScenarioError, place: tuple[int, int]) -> str 
 
 
 def of_scenario(tables: dict[str, object] | None, fault: ScenarioError, text: str) -> str | None:
-    """A hint on a fault of a scenario. Its tables are None if the text is no TOML."""
+    """A hint on a fault of a scenario. Its tables are None if the text is not TOML."""
     line, name = fault.message, str(fault.path[-1]) if fault.path else ''
     if line == 'scenario fault 1' and '64 bits' in fault.may:
         return 'No number of a scenario is above 1,000,000: docs/use/SCENARIO.md has the limit of each key.'

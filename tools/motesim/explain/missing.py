@@ -5,7 +5,7 @@ from typing import Any
 
 from motesim.scenario.faults import MEDIUM, MOTE, TOP, Rule, may_of
 
-# Of each key and table of the top its lines.
+# For each key and table at the top, its lines.
 WRITTEN = {
     'version': ['version = 1'],
     'end': ['end = 100'],

@@ -6,7 +6,7 @@ import re
 from motesim.scenario.faults import LONG_QUOTES, last_outside
 from motesim.toml import pieces
 
-# What Python says of a text of several lines that has no end, and of one in single quotes whose line ends.
+# Python's messages about a text of several lines that has no end, and about one in single quotes whose line ends.
 NO_END = re.compile('Expected "\'\'\'"|Unterminated string')
 LINE_ENDS = "Illegal character '\\n'"
 OF_COMMENT = 'The three quotes in this comment end the text of the program: leave them out.'
@@ -15,7 +15,7 @@ OPENED = re.compile(r'''^(\s*[\w"'-]+\s*=\s*)(["'])(?!\2)(.*)$''')
 
 
 def unclosed(text: str, said: str) -> int | None:
-    """The line on which a text begins that has no end, by what Python says of it."""
+    """The line on which a text without an end begins, as Python's message says."""
     opened = last_outside(text)
     row = text.split('\n')[opened - 1]
     return opened if NO_END.search(said) and any(it in row for it in LONG_QUOTES) else None

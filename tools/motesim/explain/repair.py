@@ -42,7 +42,7 @@ class Repair(NamedTuple):
 
 
 class Form(NamedTuple):
-    """A form of a line that is no TOML, its replacement, and the reason."""
+    """A form of a line that is not TOML, its replacement, and the reason."""
     form: re.Pattern[str]
     instead: str | Callable[[re.Match[str]], str]
     hint: str
@@ -102,7 +102,7 @@ def _attempts_at_quotes(rows: list[str], fault: ScenarioError) -> Iterator[Repai
 
 
 def _attempts_at_toml(rows: list[str], fault: ScenarioError) -> Iterator[Repair]:
-    """Changes of a text that is no TOML."""
+    """Changes of a text that is not TOML."""
     assert fault.line
     here = fault.line[0]
     for number in (here, here - 1):

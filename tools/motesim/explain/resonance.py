@@ -88,13 +88,13 @@ Division = list[tuple[str, int, int]]
 
 
 def by_value(values: Sequence[int], least: float) -> Division:
-    """Of each packet its kind: its value if that is sent so often, or else its upper byte."""
+    """The kind of each packet: its value, if that is sent so often, and otherwise its upper byte."""
     counts = Counter(values)
     return [('packets', 1, value) if counts[value] >= least else ('packets', 0, value >> 8) for value in values]
 
 
 def by_repetition(values: Sequence[int]) -> Division:
-    """Of each packet its flow, and whether it is the first with its value or repeats one."""
+    """The flow of each packet, and whether the packet is the first with its value or repeats one."""
     found: Division = []
     sent: set[int] = set()
     for value, (what, is_frequent, flow) in zip(values, by_value(values, FREQUENT * len(values))):

@@ -6,7 +6,7 @@ from collections.abc import Iterable
 
 from motesim.scenario.faults import LOSS, MEDIUM, MOTE, TOP, ScenarioError
 
-# Of each key the names that mean it in other tools.
+# For each key, its names in other tools.
 SYNONYMS = {
     'end': ('duration', 'time', 'until', 'length', 'stop', 'runtime', 'simtime', 'sim_time', 'simulation_time',
             'seconds', 'horizon'),

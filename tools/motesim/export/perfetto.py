@@ -71,7 +71,7 @@ class MoteEvents:
                        'tid': thread, 'ts': microseconds(time), 'args': {'moment': line.at}}
 
     def ends(self, turn: Turn) -> list[int]:
-        """Of each line of a turn when what it begins ends: at the next `start` or `take`, or with the turn."""
+        """The end of what each line of a turn begins: the next `start` or `take`, or the end of the turn."""
         ends, next_end = [], turn.time(len(turn.lines))
         for place in reversed(range(len(turn.lines))):
             ends.append(next_end)

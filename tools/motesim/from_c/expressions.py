@@ -298,15 +298,15 @@ class Writer:
         if word in READ_ONLY or kind == 'variable':
             return word
         if kind == 'timer':
-            self.why('A timer is no value: `fired(%s)` is true in the call with its event, and `expired(%s)` from '
+            self.why('A timer is not a value: `fired(%s)` is true in the call with its event, and `expired(%s)` from '
                      'then '
                      'on.' % (word, word))
             return '%s(%s)' % (self.of_timer, word)
         if kind == 'semaphore':
-            self.why('A semaphore is no value: `count(%s)` is its count.' % word)
+            self.why('A semaphore is not a value: `count(%s)` is its count.' % word)
             return 'count(%s)' % word
         if kind == 'event' or word in OWN_EVENTS:
-            self.why('An event is no value: `is(%s)` is true in a call with it.' % word)
+            self.why('An event is not a value: `is(%s)` is true in a call with it.' % word)
             return 'is(%s)' % word
         found = self.scope.meant(word, 'variable')
         if found != word:

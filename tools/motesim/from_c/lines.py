@@ -53,7 +53,7 @@ class Lines(Expressions):
                                 'declared '
                                 'by `var x = 0;` at the head of the `code`.' % (name, name))
         if self.scope.kinds.get(name) == 'semaphore':
-            raise NoCounterpart('A semaphore is no variable: `signal %s;` adds one to its count, and `acquire %s;` '
+            raise NoCounterpart('A semaphore is not a variable: `signal %s;` adds one to its count, and `acquire %s;` '
                                 'waits '
                                 'until it is above 0 and takes one.' % (name, name))
         return self.writer.text(Node('name', name))

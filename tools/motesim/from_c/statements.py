@@ -204,9 +204,8 @@ class Statements(Declarations, Calls, Control):
         sign = SUMS.get(plain[1], '') if len(plain) < 4 else plain[3] if plain[:3] == [name, '=', name] else ''
         if sign not in ('+', '-') or plain[-1] not in ('1', *SUMS):
             self.variable(name)
-        self.why('A semaphore is no variable: `signal` adds one to its count, and `acquire` waits until it is above 0 '
-                 'and '
-                 'takes one.')
+        self.why('A semaphore is not a variable: `signal` adds one to its count, and `acquire` waits until it is above '
+                 '0 and takes one.')
         return self.end('%s %s' % ('signal' if sign == '+' else 'acquire', name))
 
     def assignment(self) -> str:

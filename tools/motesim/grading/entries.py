@@ -99,7 +99,7 @@ def anonymous(entries: Sequence[Entry], chance: random.Random | None = None) -> 
 
 
 def skipped_of(folder: Path) -> list[str]:
-    """The names of the files of a folder that are no entries."""
+    """The names of the files of a folder that are not entries."""
     names = sorted(it.name for it in os.scandir(folder))
     own = own_of(folder)
     return [one_line(it) for it in names if it.startswith('.') or it.endswith(OF_TEACHER) or it in own]

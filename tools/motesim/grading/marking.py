@@ -41,7 +41,7 @@ UNSAFE = re.compile(r'[^A-Za-z0-9.-]|^\.')
 LONGEST_NAME = 80
 OF_HIDDEN = 'in a hidden net'
 REQUIRED = ' (required)'
-# Of an error so many lines are shown.
+# How many lines of an error are shown.
 MOST_LINES = 40
 
 
@@ -148,10 +148,10 @@ class Task:
         try:
             data = data_of(entry)
             if entry.path.suffix == '.toml' and begins_as_program(data):
-                return Marks(entry.name, why='it is the text of a program, and no scenario: a file of such a text is '
+                return Marks(entry.name, why='it is the text of a program, not a scenario: a file of such a text is '
                                              'NAME.mote')
             if entry.path.suffix == '.mote' and begins_as_scenario(data):
-                return Marks(entry.name, why='it is a scenario, and no text of a program: a file of a scenario is '
+                return Marks(entry.name, why='it is a scenario, not the text of a program: a file of a scenario is '
                                              'NAME.toml')
             if not self.nets:
                 found = [self.in_net(data.decode('utf-8'))]

@@ -1,4 +1,4 @@
-"""The files that a marking wrote: if they are in a folder of solutions, they are no solutions."""
+"""The files that a marking wrote: if they are in a folder of solutions, they are not solutions."""
 from __future__ import annotations
 
 import os

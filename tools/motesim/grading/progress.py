@@ -6,7 +6,7 @@ import time
 
 from motesim.terminal import write_over
 
-# (seconds until the first line, and between two lines if standard error is no terminal)
+# (seconds until the first line, and between two lines if standard error is not a terminal)
 FIRST, SHOWN_EVERY = 1.0, 5.0
 
 

@@ -93,7 +93,7 @@ def quoted(text: str) -> str:
 
 
 def holds(marks: Marks, number: int) -> bool:
-    """True if a sentence holds of a solution. Of one that has no run, none does."""
+    """True if a sentence holds of a solution. If the solution has no run, no sentence holds."""
     return len(marks.marks) >= number and marks.marks[number - 1].holds
 
 

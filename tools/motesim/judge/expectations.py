@@ -25,7 +25,7 @@ LONGEST_SHOWN = 150
 REFUSED = 'the scenario is refused'
 WHOLE = 'the report is the expected one'
 KEYS = {'expect': list, 'required': list, 'report': str, 'change': list, 'about': str, 'replace': dict}
-# What each key contains, and how it is written.
+# The contents of each key, with their form.
 WRITTEN = {
     'expect': 'an array of sentences, as `expect = ["mote 0 sends twice"]`', 'report': 'a text',
     'required': 'an array of sentences, as `required = ["every mote prints"]`',
@@ -91,7 +91,7 @@ def parts_of(text: str, name: str) -> list[Part]:
     try:
         tables = read_toml(text)
     except NoToml as fault:
-        raise Fault('%s is no TOML: %s' % (name, fault)) from None
+        raise Fault('%s is not TOML: %s' % (name, fault)) from None
     parts = [part_of(tables, name, {'expect', 'required', 'report', 'change'})]
     for number, table in enumerate(tables.get('change', []), 1):
         if type(table) is not dict or not table.get('replace'):

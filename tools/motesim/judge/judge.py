@@ -206,7 +206,7 @@ class Judge:
                 why = '%s %s instead of %d' % (verb(self.name(motes), 'print'), event.line.value, wanted)
                 return Broken(why, event.row)
         if len(events) > len(deed.values):
-            return Broken('%s one value more' % verb(self.name(motes), 'print'), events[len(deed.values)].row)
+            return Broken('%s one more value' % verb(self.name(motes), 'print'), events[len(deed.values)].row)
         if len(events) < len(deed.values):
             return Broken('%s %d of these %d values' % (verb(self.name(motes), 'print'), len(events),
                                                         len(deed.values)))

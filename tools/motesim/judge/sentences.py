@@ -169,7 +169,7 @@ Pattern = tuple[str | Value | None, ...]
 
 @dataclass(frozen=True)
 class Motes:
-    """Of which motes a sentence speaks.
+    """The motes that a sentence is about.
 
     kind     each (of them), together, no, some, count (so many of them, `count`)
     numbers  None for all motes

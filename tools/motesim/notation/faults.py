@@ -14,7 +14,7 @@ from motesim.notation.grammar import RESERVED as KEYWORDS
 from motesim.notation.grammar import STATEMENTS as FORMS
 from motesim.notation.grammar import TESTS as TESTS
 
-# (of two signs that are possible, the longer one is read)
+# (if two signs are possible, the longer one is read)
 _SIGN = '|'.join(map(re.escape, sorted(SIGNS, key=len, reverse=True)))
 TOKEN = re.compile('[a-z0-9_]+|%s|.' % _SIGN, re.S)
 BLANK = re.compile(r'(?:[ \t\r\n]|//[^\n]*)*')
@@ -31,7 +31,7 @@ COUNTED = {
     'variable': 'variables of a process',
 }
 
-# Of each kind its name in docs/use/NOTATION.md and its rule.
+# For each kind, its name in docs/use/NOTATION.md and its rule.
 RULES: dict[int, tuple[str, str]] = {
     1: ('BadToken',
         'A program consists of names, numbers, keywords and signs. A name begins with a letter, and has at most '
@@ -118,7 +118,7 @@ class _Reader:
         return self.tokens[self.at]
 
     def fault(self, kind: int, may: list[str]) -> ProgramError:
-        """The fault of the next token, of this kind unless it is no token at all."""
+        """The fault of the next token, of this kind unless it is not a token at all."""
         if self.token.kind == 'bad':
             return ProgramError(1, self.token, list(dict.fromkeys(self.wanted + may)))
         return ProgramError(kind, self.token, may)

@@ -43,7 +43,7 @@ STATEMENTS = {
     'restart_timer': Statement('restart_timer TIMER;'),
     'stop': Statement('stop TIMER;'),
 }
-# What an expression asks of a name, with the kind of that name.
+# The tests that an expression applies to a name, with the kind of that name.
 TESTS = {'fired': 'timer', 'expired': 'timer', 'gone': 'process', 'running': 'process', 'count': 'semaphore'}
 OPERATORS = ('+', '-', '*', '/', '%', '==', '!=', '<', '<=', '>', '>=', '&&', '||')
 # Other values, and the events that may be broadcast, that may be posted, and that may be asked for.

@@ -48,7 +48,7 @@ def _spelled(tokens: Sequence[Token]) -> str:
 
 
 def _parts(tokens: Sequence[Token]) -> list[str]:
-    """The values and operators of an expression, in turn."""
+    """The values and operators of an expression, alternately."""
     parts: list[str] = []
     value: list[Token] = []
     depth = 0

@@ -90,4 +90,4 @@ class CsvTable:
                     raise self.fault(reader.line_num, 'This line has another number of values.', known)
                 yield Row(self, reader.line_num, {name: value.strip() for name, value in row.items()})
         except csv.Error as fault:
-            raise self.fault(reader.line_num, 'This is no CSV: %s.' % fault, known) from None
+            raise self.fault(reader.line_num, 'This is not CSV: %s.' % fault, known) from None

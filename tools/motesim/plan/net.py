@@ -236,7 +236,7 @@ class Builder:
             words = re.fullmatch(r'\s*([0-9]{1,4})(?:\s+to\s+([0-9]{1,4}))?\s*', str(part))
             begin, end = (int(words[1]), int(words[2] or words[1])) if words else (1, 0)
             if not begin <= end < count:
-                raise self.tables.fault(path, 'These are no motes of the plan.',
+                raise self.tables.fault(path, 'These are not motes of the plan.',
                                         'numbers of motes, 0 to %d, as in `"0, 3 to 5"`' % (count - 1))
             found += range(begin, end + 1)
         return found
@@ -252,7 +252,7 @@ class Builder:
         return {name: self.tables.checked(value, ('queue', name), name, key) for name, value in table.items()}
 
     def losses(self, motes: list[Mote]) -> dict[tuple[int, int], int]:
-        """Of each link with a loss which of its packets are lost. Of several rules the last counts."""
+        """The packets that are lost, for each link with a loss. If several rules are about a link, the last counts."""
         found: dict[tuple[int, int], int] = {}
         rules = self.tables.array('loss')
         links = sorted(self.links(motes)) if rules else []
@@ -307,6 +307,6 @@ class Builder:
         for row in self.csv_table(file, path, ('from', 'to', 'every')).rows():
             sender, to, every = (row.number(name, key) for name, key in LOSSES['link'].items())
             if sender == to or max(sender, to) >= count:
-                raise row.fault('This is no link between two motes.', 'numbers of two motes, 0 to %d' % (count - 1))
+                raise row.fault('This is not a link between two motes.', 'numbers of two motes, 0 to %d' % (count - 1))
             found[sender, to] = every
         return found

@@ -1,7 +1,7 @@
 """Reads reports in large pieces, of a long report several at once.
 
-`read(data)` returns None if it can't read a text in this way: one that is no report. `motesim.report.strict` reads it
-line by line, and finds its first error.
+`read(data)` returns None if it can't read a text in this way, because it is not a report. `motesim.report.strict` then
+reads the text line by line, and finds its first error.
 """
 from __future__ import annotations
 
@@ -65,7 +65,7 @@ def _log_pieces(data: bytes, begin: int, end: int) -> Iterator[tuple[int, int]]:
 
 
 def _heads(data: bytes, end: int) -> tuple[list[str], list[Span]]:
-    """The programs of the motes, and the spans of their lines. Raises Bad if a head is no head."""
+    """The programs of the motes, and the spans of their lines. Raises Bad if a head is not a head."""
     programs: list[str] = []
     spans: list[Span] = []
     at = 0

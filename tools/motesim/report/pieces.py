@@ -70,7 +70,7 @@ class _Numbers(dict[str, int]):
 
 
 class _Shapes(dict[bytes, int]):
-    """The shapes that were met, by numbers: of each the code of its kind, and its process and event in `names`."""
+    """The shapes that occurred, numbered: for each, the code of its kind, and its process and event in `names`."""
 
     def __init__(self, names: list[str], real: dict[bytes, str]):
         super().__init__()

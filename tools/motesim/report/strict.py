@@ -16,7 +16,7 @@ from motesim.report.lines import FIELDS, FORMS, MOST_MOMENT, MOST_NUMBER, MOST_W
 
 
 class ReportFault(Fault):
-    """A text that is no report: its first line with an error, and what was expected there."""
+    """A text that is not a report: its first line with an error, and what was expected there."""
 
     def __init__(self, row: int, expected: str, found: str | None, is_cut: bool = False):
         self.row, self.expected, self.found = row, expected, found
@@ -29,7 +29,7 @@ class ReportFault(Fault):
 
 
 class Read(NamedTuple):
-    """A report as it was read: of each mote its program, its row and its lines; then the log."""
+    """A report as it was read: for each mote its program, its row and its lines; then the log."""
     motes: list[tuple[str, int, list[Line]]]
     medium: list[Packet]
     left: int
@@ -126,7 +126,7 @@ class _Reader:
     def fault(self, expected: str, row: int | None = None) -> NoReturn:
         row = self.at if row is None else row
         is_end = row >= len(self.rows) or (row == len(self.rows) - 1 and not self.rows[row])
-        # (a text that is cut off in a line has no line end, and one that has nothing at all is no report)
+        # (a text that is cut off in a line has no line end, and one that has nothing at all is not a report)
         is_cut = row > 0 and row >= len(self.rows) - 1
         raise ReportFault(row + 1, expected, None if is_end else self.rows[row], is_cut)
 

@@ -33,7 +33,7 @@ MOST_AHEAD = 32
 # Seconds between two looks at the clock while workers work.
 TICK = 0.2
 SECONDS_TO_END = 2.0
-# Of prctl(2): which signal a process gets when its parent ends.
+# The option of prctl(2) for the signal that a process gets when its parent ends.
 PR_SET_PDEATHSIG = 1
 # How many processes share one piece of work.
 MOST_SHARING = 4

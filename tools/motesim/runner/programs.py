@@ -27,7 +27,7 @@ from pathlib import Path
 from motesim.faults import Fault
 
 TOP = Path(__file__).resolve().parents[3]
-# What a proof builds, until the next one.
+# The program that a proof builds, until the next one.
 PROVED = TOP / 'crates/motesim/out/motesim'
 DAY = 86_400
 PROGRAMS = TOP / 'out/programs'

@@ -12,8 +12,8 @@
 
 Errors are `motesim.faults.Fault`, whose text can be shown to users:
 
-    ReportFault    a text is no report; its line is in it
-    ScenarioFault  a text is no scenario, or not that of the report
+    ReportFault    a text is not a report; its line is in it
+    ScenarioFault  a text is not a scenario, or not that of the report
     ProgramFault   the program is not built, or refuses a scenario (then it is a NoReport)
     Fault          a file can't be read
 """
@@ -75,14 +75,14 @@ def is_report(data: bytes) -> bool:
 
 
 def is_scenario(path: str | Path, data: bytes) -> bool:
-    """True if a file contains a scenario, and no report: by its first line, or else by its name."""
+    """True if a file contains a scenario, not a report: by its first line, or else by its name."""
     return not is_report(data) and (str(path).endswith('.toml') or OF_SCENARIO.match(data) is not None)
 
 
 def refuse_program(path: str | Path, data: bytes) -> None:
     """Raises a fault if a file has the text of a program instead of a scenario."""
     if begins_as_program(data):
-        raise Fault('%s is the text of a program, and no scenario: tools/explain %s says how a scenario has it' % (
+        raise Fault('%s is the text of a program, not a scenario: tools/explain %s says how a scenario has it' % (
             path, path))
 
 

@@ -18,7 +18,7 @@ LONGEST_TEXT = 1_048_576
 # A table or a key: the names and the numbers that lead to it.
 Path = tuple[str | int, ...]
 
-# Of each line that tells a fault, without `motesim: `, its rule. Of a program's fault, program_faults has the rules.
+# For each line that reports a fault, without `motesim: `, its rule. program_faults has the rules of programs' faults.
 RULES: dict[str, str] = {
     'read fault': 'The scenario could not be read: the file is not there, is a folder, or reading it failed.',
     'scenario too long': 'A scenario has at most 1,048,576 bytes.',
@@ -46,7 +46,7 @@ class ScenarioError(Exception):
     """The first fault of a scenario: its message as motesim prints it, its place, and what is allowed there.
 
     path  the table or the key; of a missing key its table
-    line  instead of the path, the line and the column, if the text is no TOML or no text
+    line  instead of the path, the line and the column, if the text is not TOML, or not text
     missing  the key that the table lacks, or nothing
     """
     message: str

@@ -14,5 +14,5 @@ def begins_as_program(data: bytes) -> bool:
 
 
 def begins_as_scenario(data: bytes) -> bool:
-    """Returns whether a text begins as a TOML document does, and no program."""
+    """Returns whether a text begins as a TOML document does, and not as a program."""
     return SCENARIO.match(data) is not None

@@ -9,7 +9,7 @@ from motesim.toml import NoToml, read_toml
 
 
 class ScenarioFault(Fault):
-    """A text that is no scenario."""
+    """A text that is not a scenario."""
 
 
 class MotePlace(NamedTuple):
@@ -38,7 +38,7 @@ class Scenario:
     programs  the texts of the programs, by name
     queue     the lengths of event queues that differ from 32, by program
     places    a `MotePlace` for each mote, by its number
-    losses    of each pair (sender, receiver) with a loss, its `every`
+    losses    for each pair (sender, receiver) with a loss, its `every`
 
     It is read for the tools' needs: what motesim refuses has no sense here, and isn't all looked for.
     """
@@ -75,7 +75,7 @@ class Scenario:
         except UnicodeDecodeError:
             raise ScenarioFault('the scenario is not UTF-8') from None
         except NoToml as fault:
-            raise ScenarioFault('the scenario is no TOML: %s' % fault) from None
+            raise ScenarioFault('the scenario is not TOML: %s' % fault) from None
 
     @property
     def motes(self) -> int:

@@ -1,6 +1,6 @@
 """The process that makes a mote fail at a moment, or start late.
 
-A program gets one process more, which waits for the moment. Of a mote that fails it then kills the others; of one
+A program gets one more process, which waits for the moment. In a mote that fails it then kills the others; in one
 that starts late it is the only one that starts at boot, and starts the others then. A program whose processes could
 continue after a kill, by callback timers, by a block `onexit`, or by starting one another, is stopped by work
 without end instead of kills: the mote then halts.
@@ -21,7 +21,7 @@ GOES_ON = frozenset(('ctimer', 'onexit', 'start', 'gone', 'exited', 'exit'))
 
 
 class NoRoom(Fault):
-    """A program that can't have one process more."""
+    """A program that can't have one more process."""
 
 
 def halts(program: str) -> bool:
@@ -106,10 +106,10 @@ def changed_program(program: str, kind: str, moment: int) -> str:
         program = program[:begin] + text + program[behind:]
     program += ('' if program.endswith('\n') else '\n') + code
     if "'''" in program:
-        raise NoRoom("it has ''' in a comment, so that it can't be copied into a literal string")
+        raise NoRoom("it has ''' in a comment, so it can't be copied into a literal string")
     fault = find_fault(program)
     if fault:
-        raise NoRoom('it leaves no room for one process more: %s' % '; '.join(fault.may[:1] or [str(fault.kind)]))
+        raise NoRoom('it leaves no room for one more process: %s' % '; '.join(fault.may[:1] or [str(fault.kind)]))
     return program
 
 

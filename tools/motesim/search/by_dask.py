@@ -19,7 +19,7 @@ from motesim.search.work import Bench, Outcome, Task, Work
 
 # A batch goes over the net, so it is larger than one here; so many for each worker are on their way at a time.
 BATCH, AHEAD = 64, 3
-# Of each thread of a worker its bench, and the search that it is for.
+# For each thread of a worker, its bench, and the search that the bench is for.
 _here = threading.local()
 
 

@@ -14,7 +14,7 @@ from motesim.plan.tables import Value, text_of_value
 from motesim.search.added import DIES, LATE
 from motesim.search.change import Base, CannotChange, Change
 
-# Of each kind what it is, for the help and the line on what was covered: one of them, and many.
+# For each kind, its names in the help and in the line about what was covered: in the singular, and in the plural.
 KINDS: dict[str, tuple[str, str]] = {
     'links': ('link that loses everything, in one direction', 'links that lose everything, in one direction'),
     'both-ways': ('link that loses everything, in both directions', 'links that lose everything, in both directions'),
@@ -101,7 +101,7 @@ EFFECTS: dict[str, Callable[..., None]] = {
 }
 
 
-# Of each effect what follows its first word.
+# For each effect, the words that follow its first one.
 PARTS_OF = {'lose': 'SENDER RECEIVER EVERY', 'apart': 'MOTE MOTE', 'silent': 'MOTE', 'fails': 'MOTE MOMENT',
             'late': 'MOTE MOMENT', 'collide': '', 'queue': 'PROGRAM LENGTH', 'number': 'NAME NUMBER',
             'move': 'MOTE X Y'}
@@ -119,7 +119,8 @@ def effect_of(words: str, motes: int) -> tuple[str | int, ...]:
         is_number = word.lstrip('-').isdecimal()
         if is_number == (part in ('PROGRAM', 'NAME')) or (
                 part in ('MOTE', 'SENDER', 'RECEIVER') and not 0 <= int(word) < motes):
-            raise Fault('the fault `%s` must have the form %s %s, and %s is no %s' % (words, name, wanted, word, part))
+            raise Fault('the fault `%s` must have the form %s %s, but %s is not a %s' % (
+                words, name, wanted, word, part))
         found.append(int(word) if is_number else word)
     if len(rest) != len(wanted.split()):
         raise Fault('the fault `%s` must have the form %s %s' % (words, name, wanted))
@@ -278,7 +279,7 @@ def faults_of(base: Base, asked: Asked) -> list[FaultyPart]:
     return [fault for fault in found if by_effect[fault.effect] is fault]
 
 
-# Of each effect, which of its parts are numbers of motes.
+# For each effect, the parts of it that are numbers of motes.
 MOTES_OF = {'lose': (1, 2), 'apart': (1, 2), 'silent': (1,), 'fails': (1,), 'late': (1,), 'move': (1,)}
 
 

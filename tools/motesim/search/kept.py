@@ -37,14 +37,14 @@ class Kept:
         if rows[0] != 'search ' + digest:
             raise Fault('%s belongs to another search, with another scenario, expectations, faults or program. '
                         'Search without --resume, or name another folder by -o' % path)
-        # (of a line that was cut off there is no end)
+        # (a line that was cut off has no end)
         for row in rows[1:-1]:
             words = row.split(' ', 3)
             try:
                 found = tuple(int(word) for word in words[0].split(','))
                 self.known[found] = Outcome(found, NAMES[words[1]], int(words[2]), words[3])
             except (ValueError, KeyError, IndexError):
-                raise Fault('%s: %r is no line of a search' % (path, row[:80])) from None
+                raise Fault('%s: %r is not a line of a search' % (path, row[:80])) from None
 
     def outcome(self, found: Set) -> Outcome | None:
         return self.known.get(found)

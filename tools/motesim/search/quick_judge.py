@@ -164,7 +164,7 @@ class _Unknown(Exception):
     """A form of sentence that is left to `motesim.judge`."""
 
 
-# Of each class of a sentence the parts that the checks here look at. If another part has a value, the sentence is
+# For each class of sentences, the parts that the checks here look at. If another part has a value, the sentence is
 # left to `motesim.judge`.
 LOOKED_AT: dict[type, frozenset[str]] = {kind: frozenset(names.split()) for kind, names in {
     Does: 'motes deed count window is_counted', Motes: 'kind numbers but count', Deed: 'patterns way value values',

@@ -15,7 +15,7 @@ from motesim.search.runner import Runner
 from motesim.search.sets import Known, Set, Tally, count_of, draws
 from motesim.search.work import RUN, SAME, STOPPED, UNMADE, Outcome, Task
 
-# Of a random set, how much larger than the exhaustive bound it may be.
+# How much larger than the exhaustive bound a random set may be.
 LARGER = 3
 
 

@@ -1,4 +1,4 @@
-"""Makes a scenario that fails an expectation as small as it gets, by delta debugging.
+"""Makes a scenario that fails an expectation as small as possible, by delta debugging.
 
 One step after another is tried, and each is checked by a run: the expectation still has to be broken, in the same way,
 by a report that is no longer than the first one. It ends when no step is left, so the result is one-minimal.

@@ -1,4 +1,4 @@
-"""Makes a failing scenario as small as it gets, and writes it. tools/shrink is the command."""
+"""Makes a failing scenario as small as possible, and writes it. tools/shrink is the command."""
 from __future__ import annotations
 
 import argparse

@@ -39,7 +39,7 @@ def studies_of(path: Path) -> tuple[Path, list[dict[str, Any]]]:
     try:
         tables = read_toml(text_of(path))
     except NoToml as fault:
-        raise Fault('%s is no TOML: %s' % (path, fault)) from None
+        raise Fault('%s is not TOML: %s' % (path, fault)) from None
     scenario, studies = tables.get('scenario'), tables.get('study')
     if type(scenario) is not str or type(studies) is not list or not studies:
         raise Fault('%s has no `scenario = "FILE"`, or no tables [[study]]' % path)

@@ -18,7 +18,7 @@ def head_of(text: str) -> list[str]:
 
 
 def comment(text: str) -> list[dict[str, Any]]:
-    """The guide of a scenario that is no example: the comment at its head, unchanged."""
+    """The guide of a scenario that is not an example: the comment at its head, unchanged."""
     rows = [row.removeprefix(' ').rstrip() for row in head_of(text)]
     return [{'kind': 'comment', 'text': '\n'.join(rows)}] if rows else []
 

@@ -120,7 +120,7 @@ class Handler(BaseHTTPRequestHandler):
             if type(asked) is not dict:
                 raise ValueError
         except (ValueError, RecursionError):
-            return self.refuse(400, 'The question is no JSON.')
+            return self.refuse(400, 'The question is not JSON.')
         self.reply_to(self.path.split('/', 2)[-1], asked)
 
     def reply_to(self, what: str, asked: dict[str, Any]) -> None:

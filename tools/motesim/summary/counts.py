@@ -24,7 +24,7 @@ from motesim.why.source import read_traces, traces_of
 # A row of a table by its columns: numbers, names, or None if there is no value.
 Row = dict[str, Any]
 
-# What became of copies, as the reader and as the tables call it.
+# The outcomes of copies, by the reader's names, with those of the tables.
 BECAME = {'received': 'received', 'lost': 'lost', 'full': 'ring', 'collided': 'collided', 'halted': 'halted',
           'left': 'late'}
 LINK_NAMES = ['from', 'to', 'copies', *BECAME.values(), 'ratio', 'delay']

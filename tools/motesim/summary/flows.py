@@ -146,7 +146,7 @@ def flow_rows(report: Report, scenario: Scenario | None, words: str) -> list[Row
     reached     to how many motes a message came, on average
     copies      deliveries in all; `duplicates` are those of a message to a mote that had it already
     hops        least hops to the motes that were reached, on average, if the scenario is known
-    least..     of each message and mote the moments from its beginning to its first delivery: least, middle, most
+    least..     for each message and mote, the moments from its beginning to its first delivery: least, middle, most
     """
     begin, end = read_flow(words)
     if scenario:

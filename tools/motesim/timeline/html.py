@@ -74,6 +74,6 @@ def write_page(path: str | Path, title: str, runs: Sequence[Run], start: int | N
     With `start` the page opens around that moment, which is marked, and with `mote` that mote's lane is in view. With
     `note` it shows a sentence that doesn't hold, and opens at the line that the note is about.
     """
-    # (of a name that isn't UTF-8, other bytes are escaped)
+    # (if a name isn't UTF-8, its other bytes are escaped)
     write(path, (part.encode('utf-8', 'backslashreplace')
                  for part in page_of(title, runs, start, mote, note)))

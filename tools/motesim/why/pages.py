@@ -1,4 +1,4 @@
-"""The causes of a run for the pages of timeline and studio: of each line its cause, and why."""
+"""The causes of a run, for the pages of timeline and studio: for each line, its cause and the reason."""
 from __future__ import annotations
 
 import base64
@@ -38,7 +38,7 @@ class Causes:
         self.source, self.begins = source, [0]
         for mote in range(source.traces.motes):
             self.begins.append(self.begins[-1] + len(source.traces.lines(mote)))
-        # (of each line how far back its cause is, so that it is small; 0 for the head of the trace)
+        # (for each line, how many lines back its cause is, since that is a small number; 0 for the head of the trace)
         self.causes, self.reasons = array('I'), array('H')
         self.texts: dict[tuple[str, str], int] = {('', ''): 0}
         for mote in range(source.traces.motes):

@@ -287,7 +287,7 @@ class Asker:
         return [line for line in self.lines(it, (mote,)) if any(within([line], span) for span in spans)]
 
     def of_kept(self, it: Does, inside: dict[int, list[Found]]) -> Answer:
-        """The line by which a sentence on two events holds: of each mote the one with which it is fulfilled."""
+        """The line by which a sentence on two events holds: for each mote, the line that fulfils it."""
         wanted = 1 if it.than else max(it.count.least, 1)
         shown = sorted(its[min(wanted, len(its)) - 1] for its in inside.values() if its)
         if not shown:

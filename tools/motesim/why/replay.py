@@ -130,7 +130,7 @@ class Event(NamedTuple):
     line: int
 
 
-# What the text of a line has behind its kind, as far as the replay reads it.
+# The kinds of lines with more text after the kind that the replay reads.
 ARRIVALS = {'recv', 'lost', 'collide'}
 Body = Generator[None, tuple[str, int, int], tuple[str, int, int]]
 
@@ -155,7 +155,7 @@ class Replay:
         own = len(program.processes)
         self.state = {number: 0 for number in range(-3, own)}
         self.is_busy = dict.fromkeys(self.state, False)
-        # (of each process that is to be polled, which call asked first, in which line of the program)
+        # (for each process that is to be polled, the call that asked first, and the line of the program)
         self.needs_poll: dict[int, tuple[Frame | None, int]] = {}
         self.is_poll_requested = False
         self.born = dict.fromkeys(self.state, 0)

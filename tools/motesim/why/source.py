@@ -48,7 +48,7 @@ class Traces:
         self.came: dict[int, dict[tuple[int, int], int]] = {}
 
     def read_heads(self) -> None:
-        """The bounds of each trace. A text that is no report raises the strict reader's error."""
+        """The bounds of each trace. A text that is not a report raises the strict reader's error."""
         data, at, row = self.data, 0, 1
         while True:
             end = data.find(b'\n', at)

@@ -44,7 +44,7 @@ def read_state(source: Source, question: str) -> tuple[Replay, int, str]:
         return after_moment(source, mote, at), at, 'mote %d at the end of moment %d' % (mote, at)
     where = line_asked(source.traces, question) if LINE.fullmatch(question) else None
     if where is None or where.place < 0:
-        raise Fault("'%s' is no state; write it as: mote 3 at 46, or as a line of a trace: 3:114" % question)
+        raise Fault("'%s' is not a state; write it as: mote 3 at 46, or as a line of a trace: 3:114" % question)
     return after_line(source, where), source.traces.moment(where), 'mote %d after line %d: %s' % (
         where.mote, source.traces.row(where), source.traces.text(where))
 

@@ -120,7 +120,7 @@ class _Translator:
         self.process = Process('', -1)
         self.timers: dict[str, int] = {}
         self.numbers: dict[str, int] = {}
-        # (of each function: what keeps it, and under which name)
+        # (for each function: what keeps it, and under which name)
         self.functions: list[tuple[str, object, str]] = []
 
     # Tokens

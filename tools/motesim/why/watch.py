@@ -186,7 +186,7 @@ class _Stripped:
             at, place = at + 1, place + 1
         if place < len(wanted):
             self.differ(mote, 'nothing', wanted[place])
-        # (of a large run not all lines are kept)
+        # (not all lines of a large run are kept)
         self.source.traces.kept.pop(mote, None)
         self.changed.kept.pop(mote, None)
         return found

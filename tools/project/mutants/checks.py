@@ -22,7 +22,7 @@ from project.mutants.edits import Edit, together
 KINDS = CONTRACT, INVARIANT, ANSWER, LIMIT, NOT_REFUSED, UNKNOWN = (
     'contract', 'invariant', 'answer', 'limit', 'not refused', 'unknown')
 REFUSED, OPEN = (CONTRACT, INVARIANT), (ANSWER, LIMIT)
-# What a check notes of a goal that `search` did not prove, and how the log says it.
+# The notes of a check about a goal that `search` did not prove, with the words for them in the log.
 NOTES = {'allow values at which this goal is false': 'false', 'gave up at one of its limits': 'search gave up'}
 # The prover's words for a limit of its own, which it meets wherever it checks the same.
 LIMITS = re.compile(r'ran out of (stack|the (steps|memory))|outgrew the memory limit|stopped at the step limit')
@@ -89,7 +89,7 @@ def noted(goal: str, notes: Sequence[str]) -> str:
 
 
 def verdict_of(name: str, said: Said) -> Verdict:
-    """The verdict on a mutant, by what a check says of the function that it changes."""
+    """The verdict on a mutant, from a check's output about the function that it changes."""
     goals = re.findall(r'`([^`]+)`', said.line.partition('`search` did not prove ')[2].partition(';')[0])
     if goals:
         kind = INVARIANT if all('loop-' in it for it in goals) else CONTRACT

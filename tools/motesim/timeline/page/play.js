@@ -62,7 +62,7 @@ function playOn(now) {
   if (play.now >= time.end) stopPlaying(); else requestAnimationFrame(playOn);
 }
 
-/** Offers speeds. The first choice plays the whole run in some 25 seconds. */
+/** Offers speeds. The first choice plays the whole run in about 25 seconds. */
 export function fillSpeeds() {
   const box = byId('speed'), wish = (time.end + 1) / 25;
   let best = SPEEDS[0];
