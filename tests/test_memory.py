@@ -9,7 +9,8 @@ both kinds: packets that meet and are heard, a full ring, a full queue, a refuse
 So is a test of crates/part_tests, as `rt ci` builds it, which calls kernels and motes once they are out of memory: it
 has to pass, or to end with an error of its own if it has no kernel or mote to call.
 
-A library in C that is loaded before the C library refuses. `cc` compiles it, or else the compiler of the Rattle kit.
+A library in C that is loaded before the C library refuses. `cc` compiles it, or, if there is no `cc`, the compiler of
+the Rattle kit.
 """
 from __future__ import annotations
 

@@ -58,8 +58,8 @@ def run(scenario: str | Path | bytes | Plan, parameters: Mapping[str, Value] | N
     """Runs a scenario: a file by its name, a text in bytes, or what a plan makes with these parameters.
 
     Returns a `Run` with `report` and `scenario`. Raises a `Fault`, whose text can be shown, if the scenario is
-    refused, if a limit is met, or if there is no program. A file that holds a report is read and isn't run; then
-    `scenario` is None.
+    refused, if the run reaches a limit, or if there is no program. A file that holds a report is read and isn't run;
+    then `scenario` is None.
     """
     if isinstance(scenario, Plan):
         name, data = 'plan', scenario.scenario(dict(parameters or {})).encode()

@@ -1,7 +1,7 @@
 """Compiles the program without proving it: tools/compile [--fast]
 
-./run calls this if no program of these sources is built. The first program is there within a minute, but isn't
-optimized. --fast makes an optimized one, from what the first has left if that is there; ./run starts this in the
+./run calls this if no program of these sources is built. The first program is ready within a minute, but isn't
+optimized. --fast makes an optimized one, and uses what the first has left, if anything; ./run starts it in the
 background. Both are kept in out/programs by a digest of the sources, and nothing is done if they are there already.
 """
 from __future__ import annotations

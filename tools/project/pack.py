@@ -6,10 +6,10 @@ folder: nothing is installed, and nothing is fetched from a network.
 
     tar xzf motesim-VERSION.tar.gz && cd motesim-VERSION && ./run examples/flooding.toml
 
-The archive has the program that the environment variable MOTESIM names, or else the proved `motesim` of these sources,
-if ./prove has built it; the page PROVED.md then describes the proof and the kit. Otherwise it has one that is compiled
-without a proof; tools/pack and the archive's ./run say so.
-The same tree and binary yield the same archive, byte for byte.
+The archive has the program that the environment variable MOTESIM names, or without it the proved `motesim` of these
+sources, if ./prove has built it; the page PROVED.md then describes the proof and the kit. Otherwise it has one that is
+compiled without a proof; tools/pack and the archive's ./run say so. The same tree and binary yield the same archive,
+byte for byte.
 """
 from __future__ import annotations
 
@@ -51,7 +51,7 @@ def commit() -> str:
 
 
 def program() -> Path:
-    """The program that MOTESIM names, or the proved one of these sources; else the fast one, compiled without a proof."""
+    """The program that MOTESIM names, or the proved one of these sources, or the fast one, compiled without a proof."""
     if os.environ.get('MOTESIM'):
         return program_path()
     found = program_of_sources()

@@ -21,7 +21,7 @@ def take_program(words: argparse.ArgumentParser) -> None:
 
 
 def program_of(named: str | None) -> str:
-    """The program that is named, else the one that all tools run."""
+    """The program that is named, or, if none is, the one that all tools run."""
     path = Path(named) if named else program_path()
     if not is_program(path):
         raise Fault('there is no program %s' % path)

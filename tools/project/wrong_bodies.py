@@ -41,7 +41,7 @@ def words() -> argparse.Namespace:
     asked = words_of(__doc__)
     asked.add_argument('--list', action='store_true', help='print the mutants, their checks and functions; try none')
     asked.add_argument('--built', action='store_true', help='use the libraries as rt ci has left them, and build none')
-    asked.add_argument('--changed', action='store_true', help='leave out what was refused over the very same texts')
+    asked.add_argument('--changed', action='store_true', help='leave out what was refused over exactly the same texts')
     asked.add_argument('--gate', action='store_true', help='those of %s that have changed, and a tenth of all' % GATE)
     asked.add_argument('names', nargs='*', metavar='CRATE or CRATE/NAME', help='crates, or mutants (all)')
     return asked.parse_args()

@@ -204,7 +204,7 @@ The first difference in a trace is at moment 9, in the trace of mote 1:
         text, first, _ = compared('mote 0 a\nmedium\nleft 0\n', 'mote 0 a\nmote 1 b\n4 halt\nmedium\nleft 2\n')
         self.assertEqual(first and tuple(first), (4, 1, 0))
         for line in ['  mote 1 is not in A and runs b in B', '  A has no such mote', '  B, line 3: 4 halt',
-                     'Copies that would come after the end: 0 in A, 2 in B']:
+                     'Copies that would arrive after the end: 0 in A, 2 in B']:
             self.assertIn(line + '\n', text + '\n')
 
     def test_what_came_before_has_packets_and_events(self) -> None:

@@ -161,20 +161,20 @@ class Texts(unittest.TestCase):
         self.assertIn('mote 0 is silent', found)
 
     def test_both_ways(self) -> None:
-        _, came, read = self.one('link 1 and 3 loses everything both ways', kinds=('both-ways',))
+        _, came, read = self.one('link between 1 and 3 loses everything both ways', kinds=('both-ways',))
         self.assertEqual(read.losses, {(1, 3): 1, (3, 1): 1})
         self.assertEqual(len(came), 8)
 
     def test_every(self) -> None:
         found = faults_by_words(base_of(), kinds=('every',), every=(2, 3))
         self.assertEqual(len(found), 16)
-        self.assertEqual(self.one('link 2 to 3 loses each 3. packet', kinds=('every',), every=(3,))[2].losses,
+        self.assertEqual(self.one('link 2 to 3 loses 1 packet in 3', kinds=('every',), every=(3,))[2].losses,
                          {(2, 3): 3})
 
     def test_every_is_no_fault_where_as_much_is_lost(self) -> None:
         base = base_of(DIAMOND + '[[loss]]\nfrom = 0\nto = 1\nevery = 3\n')
         words = [it.words for it in faults_of(base, Asked(('every',), every=(2, 3, 4))) if it.slot[1:] == (0, 1)]
-        self.assertEqual(words, ['link 0 to 1 loses each 2. packet'])
+        self.assertEqual(words, ['link 0 to 1 loses 1 packet in 2'])
 
     def test_packets(self) -> None:
         # (of five packets 2 is lost by every = 3, which next loses packet 5; packet 1 can't be lost alone)

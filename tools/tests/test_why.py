@@ -571,7 +571,7 @@ class Runs(unittest.TestCase):
                       self.near('small_network.toml', 'mote 1 receives 12'))
         self.assertIn('packet 1 of mote 2, with the value 40, was sent at 19: it would arrive at 21, after the end',
                       self.near('small_network.toml', 'mote 1 receives 40'))
-        self.assertIn('the event msg 31 for echo was refused at 10, since the queue was full',
+        self.assertIn('the event msg 31 for echo was refused at 10, because the queue was full',
                       self.near('small_network.toml', 'mote 1 prints echo 31'))
         self.assertIn('it halted at 0', self.near('runaway.toml', 'mote 0 prints a 9'))
 

@@ -182,7 +182,7 @@ def broken_links() -> Iterator[str]:
 
 
 def open_mutants() -> list[str]:
-    """Mutants that were refused only since an answer by hand no longer fits, or at a limit."""
+    """Mutants that were refused only because an answer by hand no longer fits, or at a limit."""
     rows = [it.split('\t') for it in text_of(LOG).splitlines() if not it.startswith('#')] if LOG.is_file() else []
     return [row[0] for row in rows if len(row) > 2 and row[2] in ('answer', 'limit')]
 

@@ -85,7 +85,7 @@ def gap_of(line: Line, threshold: float, is_rising: bool) -> tuple[float, float]
 
 
 def by_key(curve: Sequence[Runs]) -> list[dict[Key, tuple[float, float]]] | None:
-    """The runs of each point by their keys, if points have keys in common; else None."""
+    """The runs of each point by their keys, if points have keys in common; otherwise None."""
     if any(len(set(it.keys)) != len(it.ys) for it in curve):
         return None
     points = [dict(zip(it.keys, zip(it.xs, it.ys))) for it in curve]

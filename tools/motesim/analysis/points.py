@@ -157,7 +157,7 @@ def is_seed(name: str) -> bool:
 
 
 def repeats_of(varying: Sequence[str], over: str) -> list[str]:
-    """The parameters that only repeat a run: those that are named, or else `seed` and those that end in `_seed`."""
+    """The parameters that only repeat a run: those in `over`, or, if it is empty, `seed` and those in `_seed`."""
     return [it for it in over.split(',') if it] or [it for it in varying if is_seed(it)]
 
 

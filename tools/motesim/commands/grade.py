@@ -7,11 +7,11 @@
 
 A solution is a scenario NAME.toml, or with --net also a program NAME.mote. With --net only the text of the program
 that --program names (or the only one) is taken from it, so nobody gains by changing the net; a sentence holds if it
-holds in all nets. With --hidden a net counts as with --net, but a page of marks shows nothing of it.
+holds in all nets. A net of --hidden counts like one of --net, but a page of marks shows nothing of it.
 
 Each entry of the folder has a row, whatever it is, and none stops the others: each run has limits (--seconds of
-processor time, --memory, --report), and several run at once (--jobs). If a run lasts 10 times its --seconds since the
-machine has other work, the solution isn't marked: grade it again.
+processor time, --memory, --report), and several run at once (--jobs). If a run lasts 10 times its --seconds
+because the machine has other work, the solution isn't marked: grade it again.
 
 Tables `[[change]]` of EXPECTATIONS are not tried: they replace texts of one solution. -o writes the marks to a file:
 NAME.csv for a spreadsheet, NAME.toml, or NAME.html, a page that links each first failed sentence to its timeline.

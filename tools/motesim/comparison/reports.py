@@ -275,7 +275,7 @@ def compared(a: Run, b: Run, most: int) -> tuple[list[str], Difference | None, b
     if found:
         lines += ['', *counted(only_in(reports, found), most)]
     if a.report.left != b.report.left:
-        lines += ['', 'Copies that would come after the end: %d in A, %d in B' % (a.report.left, b.report.left)]
+        lines += ['', 'Copies that would arrive after the end: %d in A, %d in B' % (a.report.left, b.report.left)]
     return lines, found[0] if found else None, False
 
 

@@ -8,7 +8,8 @@ from motesim.contiki.use import Use
 # The differences, each with the words of the notation that it concerns.
 DIFFERENCES: tuple[tuple[frozenset[str], str], ...] = (
     (frozenset({'kill', 'start', 'exit'}),
-     'motesim lets a process that is in the midst of a call be neither started nor killed (`busy`); Contiki does it.'),
+     'In motesim a process that is in the middle of a call can be neither started nor killed (`busy`); Contiki allows '
+     'it.'),
     (frozenset({'broadcast', 'kill', 'start', 'exit', 'gone', 'poll'}),
      'A broadcast, PROCESS_EVENT_EXITED and the polls reach exactly the processes that were on the list when they '
      'began, and have not left since; Contiki follows the list as it changes.'),

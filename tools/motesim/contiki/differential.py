@@ -7,7 +7,7 @@ smallest that still differs, and writes it to a file.
   tools/differential --count 1000              the scenarios of seeds from 0
   tools/differential --seed 7000 --count 50000 the scenarios of seeds from 7000
   tools/differential net.toml ..               scenarios of your own
-  tools/differential --gate                    all examples and cases, and 300 scenarios whose seed is the commit
+  tools/differential --gate                    all examples and cases, and 300 scenarios with the commit as seed
 
 The last lines list the features that the scenarios reached. Ends with status 0 if all agree, 1 if some differ, and 2
 if there is no `motesim` or no C compiler.
@@ -191,7 +191,7 @@ def main() -> int:
     words.add_argument('--one-thread', action='store_true', help='leave out the runs with workers')
     words.add_argument('--strict', action='store_true', help='have gcc or clang look for warnings in the programs too')
     words.add_argument('--gate', action='store_true', help='compare all examples and cases, and %d random scenarios '
-                       'whose seed is the commit' % GATE_COUNT)
+                       'with the commit as seed' % GATE_COUNT)
     words.add_argument('-o', dest='folder', default='.', metavar='FOLDER', help='the folder for scenarios that differ')
     asked = words.parse_args()
     compilers()

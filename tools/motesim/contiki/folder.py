@@ -31,7 +31,7 @@ HOST_PAGE = '''
 make host && ./host
 ```
 
-runs the very same files in a small simulator, `contiki_host`, and writes the same report as motesim. Each statement
+runs exactly the same files in a small simulator, `contiki_host`, and writes the same report as motesim. Each statement
 has a line `WORK();` for it, which is empty on Contiki.
 '''
 

@@ -1,7 +1,7 @@
 """Random programs, by the grammar as data: each statement and expression can occur, in each place that allows it.
 
 The weights make programs that do something: most wait in a loop, set their timers to near moments, and post to one
-another. All else is chance.
+another. Everything else is chance.
 """
 from __future__ import annotations
 

@@ -57,7 +57,7 @@ class Tokens:
     def comments_from(self, first: int) -> Comments:
         """The comments from the token `first` to the last one that was consumed.
 
-        Those in the midst of it are above it too.
+        Those in the middle of it are above it too.
         """
         last = self.next - 1
         above = list(self.above[first])

@@ -283,7 +283,7 @@ def open_results(path: Path, columns: Sequence[str]) -> CsvFile | SqliteFile:
     file: CsvFile | SqliteFile = SqliteFile(path, columns) if is_sqlite(path) else CsvFile(path, columns)
     if file.found != list(columns):
         raise Fault('%s has other columns than this sweep: another plan, other parameters or other measures made it. '
-                    'Another file is named with -o' % path)
+                    'Name another file with -o' % path)
     return file
 
 

@@ -1,1 +1,1 @@
-"""Explanations of faults, with hints, and warnings of things that are legal and hardly meant."""
+"""Explanations of faults, with hints, and warnings of things that are legal but probably not meant."""

@@ -29,7 +29,7 @@ WISHES = {
     'break': 'There is no `break`: let the test of the `while` become false.',
     'int': 'A variable has 16 bits and no type: `var x = 0;`, at the head of its `code`.',
     'let': 'A variable is declared at the head of its `code`: `var x = 0;`.',
-    'const': 'There are no constants: a variable that nothing assigns serves, `var period = 40;`.',
+    'const': 'There are no constants: use a variable that is never assigned, `var period = 40;`.',
     'function': 'There are no functions: a `thread` is run by `spawn`, and shares the variables of its process.',
     'fn': 'There are no functions: a `thread` is run by `spawn`, and shares the variables of its process.',
     'def': 'There are no functions: a `thread` is run by `spawn`, and shares the variables of its process.',
@@ -45,8 +45,9 @@ WISHES = {
     'println': 'A program prints numbers: `print x;`.',
     'random': 'There is no chance in a mote: each run is the same. A generator with a seed serves, as '
               '`dice = ((dice * 25173) + 13849); if (dice < 6554) { .. }`, which is so 1 time in 10. At the start of '
-              '`body` mix its seed, else motes draw in step: `dice = ((self * 257) + 1); dice = (dice * ((2 * dice) + '
-              '1)); dice = (dice + (dice / 256)); dice = (dice * ((2 * dice) + 1));`. This is for at most 255 motes.',
+              '`body` mix its seed, otherwise motes draw in step: `dice = ((self * 257) + 1); dice = (dice * ((2 * '
+              'dice) + 1)); dice = (dice + (dice / 256)); dice = (dice * ((2 * dice) + 1));`. This is for at most 255 '
+              'motes.',
     'id': 'A mote\'s number is `self`.',
     'time': 'The current moment is `now` (its low 16 bits).',
     'clock': 'The current moment is `now` (its low 16 bits).',

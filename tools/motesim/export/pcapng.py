@@ -5,7 +5,7 @@ nothing else; numbers are in network order:
 
     byte 0      1, the version of this header
     byte 1      what it is: 0 sent, 1 received, 2 lost by the medium, 3 lost as eight packets waited, 4 collided,
-                5 came to a mote that had halted, 6 would have come after the end
+                5 arrived at a mote that had halted, 6 would have arrived after the end
     bytes 2-3   the mote that sends
     bytes 4-5   the mote that the copy goes to; 65535 of a packet that is sent, which is for all that hear it
     bytes 6-13  the packet's number at its sender

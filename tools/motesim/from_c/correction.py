@@ -57,7 +57,7 @@ def _spans(text: str, fault: ProgramError) -> Iterator[tuple[int, int]]:
 
 
 def _rank(text: str, made: Correction) -> int:
-    """2 if a text with a correction has no fault, 1 if its first one is further down, else 0."""
+    """2 if a text with a correction has no fault, 1 if its first one is further down, otherwise 0."""
     found = find_fault(made.applied(text))
     return 2 if found is None else int(found.token.line > made.first + (made.above is not None))
 

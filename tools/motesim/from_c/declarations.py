@@ -37,8 +37,8 @@ class Declarations(Lines):
             return ''
         value = number_of(defined[2])
         if value is None:
-            raise NoCounterpart('There are no constants: a variable that nothing assigns serves, `var period = 40;`.')
-        self.why('There are no constants: a variable that nothing assigns serves.')
+            raise NoCounterpart('There are no constants: use a variable that is never assigned, `var period = 40;`.')
+        self.why('There are no constants: use a variable that is never assigned.')
         return self.declared(defined[1].lower(), str(value % 65_536))
 
     def declared(self, name: str, value: str) -> str:

@@ -261,7 +261,7 @@ class Task:
 
 
 def unmarked(name: str, why: str) -> Marks:
-    """A solution that has to be marked again, since the reason isn't its own."""
+    """A solution that has to be marked again, because the reason isn't its own."""
     return Marks(name, why='not marked, run it again: %s' % why, is_open=True)
 
 

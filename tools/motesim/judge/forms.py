@@ -85,8 +85,7 @@ ORDER = Table('ORDER', 'Each of the lines is', ('mote 1 sends 1 %s',), (
     (('after mote 0 sends 1', 'after mote 2'), 'after the first line of the event; `after mote 2` means after mote 2 '
      'did the same'),
     (('before mote 2 prints P', 'before printing P', 'before some mote'),
-     'before the first line of the event, or there is '
-     'no such line'),
+     'before the first line of the event, if there is one'),
     (('within 10 of receiving 1', 'within 10 moments of it receives 1', 'within 1 moment of mote 2 sending 5'),
      'at most that many moments after a line of the event'),
     (('within 10 of each time it receives 1', 'within 10 of every time mote 0 sends'),

@@ -1,6 +1,6 @@
 """Decides whether a sentence holds for a report.
 
-`Judge(report, scenario).broken(sentence)` is None if it holds, and else explains why not.
+`Judge(report, scenario).broken(sentence)` is None if it holds, and otherwise explains why not.
 """
 from __future__ import annotations
 
@@ -129,7 +129,7 @@ class Judge:
         return {sum(1 << s for s in heard - value.but)}
 
     def fits(self, pattern: Pattern, mote: int) -> bytes:
-        """For each line of the pattern's kind that a mote has, 1 if it has the pattern, else 0."""
+        """For each line of the pattern's kind that a mote has, 1 if it has the pattern, otherwise 0."""
         trace, kind = self.report.trace, str(pattern[0])
         place, fields = trace.place(mote, kind), trace.of[kind]
         # (a value may be unknown for this mote, whether or not it has such lines)

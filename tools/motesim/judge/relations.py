@@ -95,7 +95,7 @@ def _why_not(relation: Relation, line: Found, order: Order) -> str:
     """The reason why a line doesn't have this relation to the events."""
     here, first = 'this line of mote %d' % line.line.mote, order.first()
     if first is None:
-        return '%s is there, and no line is `%s`' % (here, relation.words)
+        return '%s is there, but no line shows `%s`' % (here, relation.words)
     if relation.kind == 'after':
         return '%s is not after the first `%s`, at %d (line %d)' % (here, relation.words, first.line.at, first.row)
     if relation.kind == 'before':
@@ -133,7 +133,7 @@ def _answered(relation: Relation, name: str, lines: Sequence[Found], order: Orde
             more = ': the next is at %d (line %d)' % (found.line.at, found.row) if found else ''
             return '`%s` at %d is this line, and %s no such line up to %d%s' % (
                 relation.words, event.line.at, has(name), until, more), event.row
-    return None if order.events else ('no line is `%s`' % relation.words, None)
+    return None if order.events else ('no line shows `%s`' % relation.words, None)
 
 
 def broken(it: Does, name: str, lines: Sequence[Found], events: Sequence[Found], end: int) -> Why | None:

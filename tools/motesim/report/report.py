@@ -42,8 +42,8 @@ class Outcome(NamedTuple):
     received  the mote received it: it has a line `recv`
     full      eight packets were waiting already: a line `lost`
     collided  it met others: a line `collide`
-    halted    it came to a mote that had halted: no line
-    left      it would have come after the end: no line
+    halted    it arrived at a mote that had halted: no line
+    left      it would have arrived after the end: no line
     """
     packet: Packet
     copy: Copy
@@ -144,7 +144,7 @@ class Report:
     def fates(self) -> bytearray:
         """The outcome of each copy in the columns of the log: its place in OUTCOMES.
 
-        A copy without a line was lost by the medium, came to a mote that had halted, or is one of the `left`, which
+        A copy without a line was lost by the medium, arrived at a mote that had halted, or is one of the `left`, which
         would arrive last of all.
         """
         log, motes = self.log, len(self.motes)

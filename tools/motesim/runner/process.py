@@ -171,7 +171,7 @@ class Running:
         return self._process.stdout, self._process.stderr
 
     def _read(self) -> None:
-        """Reads until the program has ended, or has met a limit."""
+        """Reads until the program has ended, or has reached a limit."""
         report, fault = (pipe.fileno() for pipe in self._pipes())
         left = {report, fault}
         poll = select.poll()
@@ -215,7 +215,7 @@ class Running:
         return data
 
     def _check(self) -> None:
-        """Ends the run if it has met a limit of time, processor time or memory."""
+        """Ends the run if it has reached a limit of time, processor time or memory."""
         now = time.monotonic()
         if now < self._look:
             return

@@ -75,7 +75,7 @@ def is_report(data: bytes) -> bool:
 
 
 def is_scenario(path: str | Path, data: bytes) -> bool:
-    """True if a file contains a scenario, not a report: by its first line, or else by its name."""
+    """True if a file contains a scenario, not a report: by its first line, or by its name."""
     return not is_report(data) and (str(path).endswith('.toml') or OF_SCENARIO.match(data) is not None)
 
 
@@ -90,7 +90,7 @@ def read_run(path: str | Path, scenario: str | Path | None = None, limits: Limit
              program: Path | None = None) -> Run:
     """A report from a file, with the scenario from another one if it is named.
 
-    A scenario is run: a text that begins as one, or else a file NAME.toml. The name `-` is standard input.
+    A scenario is run: a text that begins as one, or a file NAME.toml. The name `-` is standard input.
     """
     data = read_file(path)
     refuse_program(path, data)

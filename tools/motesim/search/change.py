@@ -23,7 +23,7 @@ from motesim.toml import read_toml
 
 NUMBERS = ('range', 'base', 'per')
 LONGEST_NAME = 32
-NOT_SO = '%s is written in a way in which this can\'t be changed in the text'
+NOT_SO = '%s is written in a form that the tool can\'t change in the text'
 
 
 class CannotChange(Fault):

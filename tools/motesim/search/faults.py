@@ -168,7 +168,7 @@ def _both_ways(base: Base, asked: Asked) -> Iterator[FaultyPart]:
     losses = base.scenario_itself.losses
     for one, other in base.scenario_itself.links():
         if losses.get((one, other)) != 1 or losses.get((other, one)) != 1:
-            yield FaultyPart('both-ways', 'link %d and %d loses everything both ways' % (one, other),
+            yield FaultyPart('both-ways', 'link between %d and %d loses everything both ways' % (one, other),
                              ('both', one, other), ('apart', one, other))
 
 
@@ -178,7 +178,7 @@ def _every(base: Base, asked: Asked) -> Iterator[FaultyPart]:
         for every in asked.every:
             # (a link that loses as much already, or more, wouldn't lose more)
             if every < losses.get((sender, receiver), every + 1):
-                yield FaultyPart('every', 'link %d to %d loses each %d. packet' % (sender, receiver, every),
+                yield FaultyPart('every', 'link %d to %d loses 1 packet in %d' % (sender, receiver, every),
                                  ('link', sender, receiver), ('lose', sender, receiver, every))
 
 

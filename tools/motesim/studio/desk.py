@@ -174,7 +174,7 @@ class Desk:
         return document(where, name, data)
 
     def first(self) -> Document:
-        """The document that the page opens with: the named file, or else the first example of docs/use/EXAMPLES.md."""
+        """The document that the page opens with: the named file, or the first example of docs/use/EXAMPLES.md."""
         return self.read('folder', self.mine) if self.mine else self.read('example', 'flooding.toml')
 
     def stamp(self, where: str, name: str) -> str:

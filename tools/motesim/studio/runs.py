@@ -31,7 +31,7 @@ class Superseded(Fault):
 
 
 class LimitMet(Fault):
-    """A run met a limit."""
+    """A run reached a limit."""
 
 
 class Runs:
@@ -79,7 +79,7 @@ class Runs:
         return got
 
     def in_words(self, met: runner.LimitMet) -> str:
-        """The limit that a run met, and how to raise it."""
+        """The limit that a run reached, and how to raise it."""
         seconds, memory, output = self.limits
         what, option, more = {
             'seconds': ('after ' + counted(seconds, 'second'), '--seconds', seconds * 6),

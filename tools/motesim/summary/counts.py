@@ -126,7 +126,7 @@ def shown(value: int | float | str | None) -> str:
 
 
 def table(rows: list[Row], names: list[str]) -> Iterator[str]:
-    """The rows in columns: names of programs at the left of theirs, all else at the right."""
+    """The rows in columns: names of programs are aligned left, everything else is aligned right."""
     texts = [names, *([shown(value) for value in row.values()] for row in rows)]
     widths = [max(map(len, column)) for column in zip(*texts)]
     lefts = [name == 'program' for name in names]

@@ -68,7 +68,7 @@ def read_flow(words: str) -> tuple[Mark, Mark]:
     marks = [FORM.fullmatch(part) for part in parts]
     if len(parts) > 2 or not all(marks):
         raise FlowFault('no flow: %r. A flow is END or BEGIN -> END; each is `print PROCESS`, `send` or `recv`, '
-                        'followed by values if not all are meant, `1 to 99`' % words)
+                        'followed by values such as `1 to 99` if you don\'t mean all' % words)
     found = [Mark(it[1] or 'print', it[2], int(it[3] or 0), int(it[4] or it[3] or MOST_WORD)) for it in marks if it]
     # (a message has one value, so a value that its end excludes doesn't begin one)
     begin, end = (found[0], found[1]) if len(found) == 2 else (Mark('send'), found[0])

@@ -74,7 +74,7 @@ def does(answer: Answer) -> bool:
 
 
 def first_with_line(answers: Sequence[Answer]) -> Answer | None:
-    """The first of these that a line shows, or else the first."""
+    """The first of these that a line shows, or, if no line shows any, the first."""
     return next((it for it in answers if not isinstance(it, Lineless)), answers[0] if answers else None)
 
 
@@ -302,7 +302,7 @@ class Asker:
         return sorted(shown, key=lambda one: self.traces.moment(one.where))
 
     def of_each(self, asked: list[Answer]) -> Answer:
-        """The line of a sentence on each of several motes: the first that breaks it, or else the last of all."""
+        """The line of a sentence on each of several motes: the first that breaks it, or otherwise the last of all."""
         broken = next((one for one in asked if not does(one)), None)
         if broken:
             return broken

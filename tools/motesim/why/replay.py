@@ -1,8 +1,8 @@
 """Runs the program of one mote again along its trace, and notes what caused each line: docs/use/KERNEL.md.
 
-What arrives at the mote is read off its trace; all else follows from its program. Each line that the replay writes has
-to be the next line of the trace, so that what it notes is about this very run. A trace that continues differently is a
-`Parted`: then it isn't the trace of this program.
+The replay reads the mote's arrivals from its trace; everything else follows from its program. Each line that the replay
+writes has to be the next line of the trace, so that what it notes is about this very run. A trace that continues
+differently is a `Parted`: then it isn't the trace of this program.
 """
 from __future__ import annotations
 

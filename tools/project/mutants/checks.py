@@ -24,7 +24,7 @@ KINDS = CONTRACT, INVARIANT, ANSWER, LIMIT, NOT_REFUSED, UNKNOWN = (
 REFUSED, OPEN = (CONTRACT, INVARIANT), (ANSWER, LIMIT)
 # The notes of a check about a goal that `search` did not prove, with the words for them in the log.
 NOTES = {'allow values at which this goal is false': 'false', 'gave up at one of its limits': 'search gave up'}
-# The prover's words for a limit of its own, which it meets wherever it checks the same.
+# The prover's words for a limit of its own, which it reaches each time it checks the same text.
 LIMITS = re.compile(r'ran out of (stack|the (steps|memory))|outgrew the memory limit|stopped at the step limit')
 COULD_NOT_TELL = 'could not tell'
 # How the last line of a check begins that has got as far as a verdict.

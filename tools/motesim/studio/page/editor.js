@@ -1,4 +1,4 @@
-// The editor of the text: CodeMirror, if Debian's package is installed, else a plain text area.
+// The editor of the text: CodeMirror, if Debian's package is installed, otherwise a plain text area.
 import {byId} from '../../timeline/page/dom.js';
 import {defineMode} from './notation.js';
 import {offsetOf, replacements} from './text.js';

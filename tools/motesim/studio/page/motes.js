@@ -68,7 +68,7 @@ const groundEdits = {
     editText({what: 'move', mote, x: toX, y: toY});
   },
 
-  /** Reacts to a click: adds a mote if one is wanted, else shows the link between two motes. */
+  /** Reacts to a click: adds a mote if one is wanted, otherwise shows the link between two motes. */
   click(x, y, mote) {
     const map = maps[0];
     if (ground.adding) {

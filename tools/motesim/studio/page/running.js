@@ -1,4 +1,4 @@
-// Runs the text, and shows its run, its error, or the limit that it met.
+// Runs the text, and shows its run, its error, or the limit that it reached.
 import {Run} from '../../timeline/page/data.js';
 import {selectNothing} from '../../timeline/page/details.js';
 import {byId} from '../../timeline/page/dom.js';

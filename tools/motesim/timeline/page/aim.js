@@ -5,7 +5,7 @@ import {time} from './time.js';
 /** The place of the mouse over the lanes, from their left edge; below 0 if it is elsewhere. */
 export const mouse = {x: -1};
 
-/** The place of the chosen moment, if one was chosen and is in view; else of the mouse; else the middle. */
+/** The place of the chosen moment, if one was chosen and is in view; otherwise that of the mouse, or the middle. */
 export function aim() {
   const x = (Math.floor(play.now) + 0.5 - time.begin) * time.scale;
   if (play.now > 0 && x >= 0 && x <= time.width) return x;

@@ -195,7 +195,7 @@ const LEGEND = [
   [RING, 'a copy that found eight others waiting'],
   [REFUSED, 'a copy received, refused by the full event queue'],
   [UNHEARD, 'a copy received, without a receiver'],
-  [GONE, 'a copy that came to a mote that had halted'],
+  [GONE, 'a copy that arrived at a mote that had halted'],
   [LEFT, 'a copy due after the end'],
 ];
 

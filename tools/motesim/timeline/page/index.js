@@ -7,7 +7,7 @@ const FATES = ['handed', 'full', 'deaf', 'ring', 'collided', 'lost', 'gone', 'le
 export const [HANDED, REFUSED, UNHEARD, RING, COLLIDED, MEDIUM, GONE, LEFT, RECEIVED] = FATES.keys();
 export const FATE_WORDS = ['received and handed on', 'received, but the event queue was full',
   'received, but the program has no receiver', 'lost: eight packets were waiting already', 'collided with others',
-  'lost on the way', 'came to a mote that had halted', 'would arrive after the end', 'received, but not handed on'];
+  'lost on the way', 'arrived at a mote that had halted', 'would arrive after the end', 'received, but not handed on'];
 
 /** Classes of lines in the overview, the most notable last. */
 export const OTHER = 1;
