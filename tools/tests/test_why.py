@@ -385,7 +385,7 @@ class Misses(unittest.TestCase):
         said = self.misses('mote 0 prints b 9')
         self.assertIn('line 24: `print data` was reached once, at 4', said)
         self.assertIn('b waits at line 23: `yield_until is(msg)` since 4, and nothing called it since; line 8: `post b '
-                      'msg 5` would have, and was reached last at 4', said)
+                      'msg 5`, which calls it, was last reached at 4', said)
 
     def test_a_condition_that_never_held(self) -> None:
         scenario = SCENARIO.replace('    yield_until is(packet);\n    print data;',
@@ -399,13 +399,48 @@ class Misses(unittest.TestCase):
         false = ' was never reached, since line 16: `if (n > 7)` was tested 3 times, and was never true, the last ' \
                 'time at 30'
         self.assertIn('worker waits at line 28: `yield_until is(go)` since 0; its condition was tested once since, and '
-                      'was never true; line 17: `synch worker go 1` would have, and' + false,
+                      'was never true; line 17: `synch worker go 1`, which calls it,' + false,
                       self.misses('mote 0 prints worker 1', found))
-        self.assertIn('its process late never started; line 18: `start late` would have, and' + false,
+        self.assertIn('its process late never started; line 18: `start late`, which starts it,' + false,
                       self.misses('mote 0 prints late 7', found))
         self.assertIn('line 9: `print n` was never reached, since nothing ran its thread count_up; line 21: `spawn '
-                      'count_up` would have, and' + false.replace('16', '20').replace('n > 7', 'n == 9'),
+                      'count_up`, which runs it,' + false.replace('16', '20').replace('n > 7', 'n == 9'),
                       self.misses('mote 0 prints boss 9', found))
+
+    def test_a_timer_whose_event_went_elsewhere(self) -> None:
+        head = 'version = 2\nend = 40\nmedium = { range = 10, base = 2, per = 100, collide = false }\n' \
+               'mote = [{ x = 0, y = 0, program = "p" }]\n[programs]\np = """\n'
+        lost = head + '''process p; autostart p;
+code p {
+  etimer round;
+  etimer retry;
+  body {
+    set round 5;
+    set retry 9;
+    yield_until fired(retry);
+    yield_until fired(round);
+    print 9;
+  }
+}
+"""
+'''
+        words = self.misses('mote 0 prints p 9', Source('test', answer(lost.encode()).report, Scenario.parse(lost)))
+        self.assertIn('p waits at line 9: `yield_until fired(round)` since 9, and nothing called it since; timer round '
+                      'was due at 5: its event was taken while p waited at line 8: `yield_until fired(retry)`', words)
+        ctimer = head + '''process p; autostart p;
+code p {
+  ctimer c { send 1; }
+  body {
+    set c 5;
+    yield_until fired(c);
+    print 9;
+  }
+}
+"""
+'''
+        words = self.misses('mote 0 prints p 9', Source('test', answer(ctimer.encode()).report, Scenario.parse(ctimer)))
+        self.assertTrue(any('c is a ctimer: its event goes to the process ctimer, which runs its block, so `fired(c)` '
+                            'is never true here' in it for it in words), words)
 
     def test_a_condition_that_was_false_the_last_time(self) -> None:
         text = CALLED.replace('if (n == 9)', 'if (n == 2)').replace('print n;', 'if (n == 3) { print n; } n = 0;')
@@ -547,7 +582,7 @@ class Runs(unittest.TestCase):
         assert isinstance(missing, Missing)
         words = [it.words for _, its in misses(asker, missing) for it in its]
         self.assertIn('hops waits at line 19: `yield_until is(msg)` since 0, and nothing called it since; line 11: '
-                      '`synch hops msg data` would have, and was never reached, since wave waits at line 10: '
+                      '`synch hops msg data`, which calls it, was never reached, since wave waits at line 10: '
                       '`yield_until is(packet)` since 0', words)
 
     def test_the_if_that_led_to_a_statement(self) -> None:

@@ -15,7 +15,10 @@ from motesim.why.translate import Program, Statement
 MOST_CALLERS, DEEPEST = 3, 3
 SENDS, SETS = ('post', 'synch', 'poll'), ('set', 'reset', 'restart_timer')
 OF_EVENT, OF_TIMER, OF_SEMAPHORE = (re.compile(form % r'\(\s*(\w+)\s*\)') for form in ('is%s', 'fired%s', 'count%s'))
+# What a statement does to the process, its thread or its timer, if it isn't a call.
+DOES = {'start': 'starts it', 'spawn': 'runs it', 'restart': 'runs it', **dict.fromkeys(SETS, 'sets the timer')}
 NEVER, LAST = 'was never %s, the last time at %d', 'was not %s the last time, at %d'
+ELSEWHERE = '; timer %s was due at %d: its event was taken while %s waited at %s'
 # Events that the kernel makes, and no statement.
 OF_KERNEL = ('packet', 'timer', 'exited', 'exit', 'init', 'continue')
 
@@ -41,6 +44,7 @@ class Callers:
             if it.at <= end:
                 self.of.setdefault(it.statement, []).append(it)
         self.ends = [it for it in replay.calls if it.is_end and it.at <= end and it.frame.how != 'callback']
+        self.calls_of = [it for it in replay.calls if it.at <= end and it.frame.how != 'callback']
 
     def numbered(self, kinds: Iterable[str], name: str, process: int | None = None) -> list[int]:
         """The statements of these kinds that name this, by their numbers."""
@@ -97,6 +101,8 @@ class Callers:
         event, timer = OF_EVENT.search(it.text), OF_TIMER.search(it.text)
         if it.kind == 'acquire':
             found = self.numbered(('signal',), second(it))
+        elif timer and not event and (why := self.of_timer(process, timer[1], waits, since)):
+            return why
         elif timer and not event:
             found = self.numbered(SETS, timer[1], process)
         elif event and event[1] in OF_KERNEL:
@@ -110,6 +116,28 @@ class Callers:
         return self.told([one for one in found if one != waits and not any(
             here.at > since for here in self.reached(one))], 0)
 
+    def of_timer(self, process: int, name: str, waits: int, since: int) -> str:
+        """The event of the timer for which a process waits went elsewhere: to its block, or to another wait."""
+        number = next((number for number, it in enumerate(self.program.timers)
+                       if it.process == process and it.name == name), None)
+        if number is None:
+            return ''
+        if self.program.timers[number].callback:
+            return '; %s is a ctimer: its event goes to the process ctimer, which runs its block, so `fired(%s)` is ' \
+                   'never true here; an etimer posts its event to its own process' % (name, name)
+        # (where the process waited before each of its calls)
+        before, said = 0, ''
+        for it in self.calls_of:
+            if it.frame.process != process:
+                continue
+            if it.is_end:
+                before = it.waits[-1] if it.waits else 0
+            elif (it.frame.event, it.frame.word) == ('timer', number) and before and it.at <= since:
+                said = '' if before == waits else ELSEWHERE % (
+                    name, it.at, self.program.processes[process].name, in_words(self.program, before))
+        # (a timer that was set again since that event is another matter)
+        return said
+
     def waiting(self, process: int) -> str:
         """The place at which a process waits, as the reason for which it reached nothing behind it."""
         ends = [it for it in self.ends if it.frame.process == process]
@@ -121,15 +149,15 @@ class Callers:
             self.program.processes[process].name, in_words(self.program, waits), here[-1].at if here else 0)
 
     def told(self, numbers: Sequence[int], depth: int) -> str:
-        """Statements that would have called, each with how often it was reached and what kept the mote from it."""
+        """Statements that call it, when each was last reached, and what kept the mote from it."""
         found = []
         for number in numbers[:MOST_CALLERS]:
             here = self.reached(number)
-            words = '%s would have, and was ' % in_words(self.program, number)
+            it = self.program.statement(number)
+            words = '%s, which %s, was ' % (in_words(self.program, number), DOES.get(it.kind, 'calls it'))
             if here:
-                words += 'reached last at %d%s' % (here[-1].at, self.reason(number, depth + 1))
+                words += 'last reached at %d%s' % (here[-1].at, self.reason(number, depth + 1))
             else:
-                words += 'never reached%s' % (self.reason(number, depth + 1) or self.waiting(
-                    self.program.statement(number).process))
+                words += 'never reached%s' % (self.reason(number, depth + 1) or self.waiting(it.process))
             found.append(words)
         return ''.join('; ' + words for words in found)
