@@ -91,7 +91,7 @@ def wishes_of(plan: Plan) -> list[Wish]:
         except Fault as fault:
             raise tables.fault(path + ('threshold',), str(fault), '`threshold`: a number') from None
         if not wish.against and wish.show != 'cdf':
-            raise tables.fault(path, 'A plot needs the key `against`, and it is not there.', '`against`: a text',
+            raise tables.fault(path, 'A plot needs the key `against`, but it is missing.', '`against`: a text',
                                False)
         found.append(wish)
     if not found:

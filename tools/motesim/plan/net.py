@@ -50,7 +50,7 @@ class Builder:
         """The keys at the top; those that are tables or arrays are looked at by themselves."""
         for name, key in TOP.items():
             if key.is_needed and name not in self.tables.top:
-                rule = 'A plan needs the key `%s`, and it is not there.' % name
+                rule = 'A plan needs the key `%s`, but it is missing.' % name
                 raise self.tables.fault((), rule, key.may(name), False)
         return {name: self.tables.checked(self.tables.top[name], (name,), name, key)
                 for name, key in TOP.items() if key.kind is not object and name in self.tables.top}

@@ -161,7 +161,7 @@ class Tables:
                 raise self.fault(path + (name,), '%s has no key of this name.' % what, known, False)
         for name, key in keys.items():
             if key.is_needed and name not in table:
-                rule = '%s needs the key `%s`, and it is not there.' % (what, name)
+                rule = '%s needs the key `%s`, but it is missing.' % (what, name)
                 raise self.fault(path, rule, key.may(name), False)
         return {name: self.checked(table[name], path + (name,), name, key) if name in table else key.default
                 for name, key in keys.items()}
