@@ -1,4 +1,4 @@
-"""Files that are written whole, names that are no UTF-8, and errors of the tools themselves."""
+"""Files that are written whole, names that are not UTF-8, and errors of the tools themselves."""
 from __future__ import annotations
 
 import os
@@ -111,7 +111,7 @@ class Whole(Room):
 
 
 class OddNames(Room):
-    """File names that are no UTF-8, or that the terminal can't show."""
+    """File names that are not UTF-8, or that the terminal can't show."""
 
     def run_it(self, *words: str | Path | bytes, **here: str) -> tuple[int, bytes]:
         env = {**os.environ, 'MOTESIM': str(write_stub(self.room)), **here}

@@ -233,7 +233,7 @@ class Scenarios(unittest.TestCase):
                     self.assertEqual(copy.at, None if is_lost else packet.at + scenario.delay(packet.sender, copy.to))
 
     def test_a_text_that_is_no_scenario_has_its_fault(self) -> None:
-        for change, said in [(('end = 20', 'end ='), 'no TOML'), (('end = 20', ''), 'the scenario has no key end'),
+        for change, said in [(('end = 20', 'end ='), 'not TOML'), (('end = 20', ''), 'the scenario has no key end'),
                              (('end = 20', 'end = 2.0'), 'end of the scenario is not a whole number'),
                              (('range = 5', 'range = true'), 'range of medium is not a whole number'),
                              (('x = 5\n', ''), 'mote 1 has no key x'), (('per = 100', 'per = 0'), 'at least 1')]:

@@ -125,7 +125,7 @@ class Callers:
         if self.program.timers[number].callback:
             return '; %s is a ctimer: its event goes to the process ctimer, which runs its block, so `fired(%s)` is ' \
                    'never true here; an etimer posts its event to its own process' % (name, name)
-        # (where the process waited before each of its calls)
+        # (the wait of the process before each of its calls)
         before, said = 0, ''
         for it in self.calls_of:
             if it.frame.process != process:
