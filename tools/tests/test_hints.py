@@ -233,10 +233,17 @@ class Warnings(unittest.TestCase):
             (CODE % 'yield_until is(packet); print data;', 5, 'no process is the `receiver`'),
             (CODE % 'while 1 { seq = (seq + 1); }', 5, 'nothing waits'),
             (CODE % 'yield_until fired(t);', 5, '`t` is never set'),
+            ('process a; autostart a; code a { ctimer c { print 1; } body { set c 5; yield_until fired(c); } }', 5,
+             'so `fired(c)` is never true here'),
             (CODE % 'send 1;', 50, 'nobody hears it'),
         ]:
             with self.subTest(wanted):
                 self.assertTrue(any(wanted in it for it in self.seen(program, x)))
+
+    def test_a_timer_of_another_code_is_no_ctimer(self) -> None:
+        text = ('process a, b; autostart a, b; code a { ctimer c { if fired(c) { print 1; } } body { set c 5; yield; } } '
+                'code b { etimer c; body { set c 5; yield_until fired(c); } }')
+        self.assertEqual(self.seen(text), [])
 
     def test_a_loop_that_waits_is_in_order(self) -> None:
         self.assertEqual(self.seen(program=CODE % 'set t 1; while 1 { yield_until fired(t); reset t; }'), [])

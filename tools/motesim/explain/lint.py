@@ -21,6 +21,8 @@ STILL_TRUE = ('a loop without an end, in which only `%s` waits: its test is abou
               'true until the next call, so the loop turns until the mote\'s work is used up, and the mote halts; `%s` '
               'waits for the next call first' % (AT_ONCE, LATER))
 LOOPS = ENDLESS, STILL_TRUE
+OF_CTIMER = ('`%s` is a `ctimer`: its event goes to the process ctimer, which runs its block, so `fired(%s)` is never '
+             'true here; an `etimer` posts its event to its own process')
 # The factor of the pattern for chance, by which so many motes and seeds draw different numbers, and its warning.
 FACTOR, MOST_DRAWING = '257', 255
 SAME_DRAWS = ('in a net of more than 255 motes, mote k + 255 draws with one seed as mote k does with the seed before '
@@ -100,6 +102,22 @@ class Program:
                     yield STILL_TRUE, self.tokens[at + 2 + waits[0]]
 
 
+    def awaited_ctimers(self) -> Iterator[Token]:
+        """Each name of a `ctimer` in `fired(..)` in its own code, outside the blocks of callback timers."""
+        for at, word in enumerate(self.words):
+            if word != 'code':
+                continue
+            names: set[str] = set()
+            here, end = at, self.end_of_block(at + 2)
+            while here < end:
+                if self.words[here] == 'ctimer':
+                    names.add(self.words[here + 1])
+                    here = self.end_of_block(here + 2)
+                elif self.words[here:here + 2] == ['fired', '('] and self.words[here + 2] in names:
+                    yield self.tokens[here + 2]
+                here += 1
+
+
 def of_program(program: Program) -> Iterator[Warned]:
     """Yields the warnings of a program."""
     name, started = program.name, {it.text for it in program.started}
@@ -114,6 +132,8 @@ def of_program(program: Program) -> Iterator[Warned]:
         yield Warned('packets are waited for, and no process is the `receiver`: they are dropped', name, packet)
     for text, token in program.endless_loops():
         yield Warned(text, name, token, instead=LATER if text == STILL_TRUE else '')
+    for token in program.awaited_ctimers():
+        yield Warned(OF_CTIMER % (token.text, token.text), name, token)
     for kind in 'etimer', 'ctimer':
         for at, word in enumerate(program.words[:-1]):
             if word == kind and program.tokens[at + 1].kind == 'name':
