@@ -34,7 +34,7 @@ density period runs first quartile median third quartile
    thin      1    5         12.000 13.000         14.000
    thin      2    5         22.000 23.000         24.000
    thin     10    5        102.000 103.000        104.000
-left out: 1 runs with a fault
+left out: 1 run with a fault: 1 at period 3, density thin
 '''
 
 
@@ -58,7 +58,7 @@ class PlotTest(unittest.TestCase):
 
     def test_empty_values_are_left_out(self) -> None:
         done = self.plot('--measure', 'late', '--against', 'density', '--over', 'seed,period')
-        self.assertIn('left out: 6 runs without a value of late\n', done.stdout)
+        self.assertIn('left out: 6 runs without a value of late: 3 at density dense; 3 at density thin\n', done.stdout)
 
     def test_quartiles(self) -> None:
         self.assertEqual(plot.quartiles([7.0]), (7.0, 7.0, 7.0))
@@ -69,12 +69,14 @@ class PlotTest(unittest.TestCase):
         interpreter_with(self, 'matplotlib')
         words = '--measure', 'sent', '--against', 'period', '--by', 'density', '-o', 'a.svg', '--title', 'How it goes'
         done = self.plot(*words)
-        self.assertEqual((done.returncode, done.stdout), (0, 'a.svg\n'), done)
+        self.assertEqual((done.returncode, done.stdout.splitlines()), (
+            0, ['a.svg', 'left out: 1 run with a fault: 1 at period 3, density thin']), done)
         text = (self.folder / 'a.svg').read_text()
         shown = [it.text for it in ElementTree.fromstring(text).iter() if it.tag.endswith('}text')]
         for words_there in ('How it goes', 'density thin', 'density dense', 'period', 'sent'):
             self.assertIn(words_there, shown)
-        self.assertIn('median, and quartiles over seed (5 runs); left out: 1 runs with a fault', shown)
+        self.assertIn('median, and quartiles over seed (5 runs); left out: 1 run with a fault: 1 at period 3, density '
+                      'thin', shown)
         self.plot(*words)
         self.assertEqual((self.folder / 'a.svg').read_text(), text)
 

@@ -19,7 +19,7 @@ from motesim.analysis.paired import Pair, Paired, differences, pairs_of
 from motesim.analysis.points import Wish, is_seed, shown_of
 from motesim.analysis.rows import by_net, once
 from motesim.analysis.text import columns_of_crossing, of_crossing, of_pairs, remarks
-from motesim.experiments.results import Row
+from motesim.experiments.results import Row, read_results
 from motesim.faults import Fault
 from motesim.plan.chance import Chance
 from skips import interpreter_with
@@ -255,9 +255,9 @@ class Pairs(unittest.TestCase):
         gaps = differences(found, 0.95, 'auto')
         self.assertEqual([(it.against, it.difference.runs, it.left_out) for it in gaps], [(1, 1, 2)])
         self.assertEqual(of_pairs(found, gaps, 'period'), [
-            'left out: 5 pairs; only those in which both sides have a value are compared: in 1 the run of A has no '
-            'value of sent; in 1 the run of B has no value of sent; in 1 the run of B has a fault; in 1 there is no '
-            'run of B; in 1 there is no run of A', 'no pair is left at period 2'])
+            'left out: 5 pairs of runs; only those in which both sides have a value are compared: in 1 the run of A '
+            'has no value of sent; in 1 the run of B has no value of sent; in 1 the run of B has a fault; in 1 there '
+            'is no run of B; in 1 there is no run of A', 'no pair is left at period 2'])
         with self.assertRaisesRegex(Fault, 'no pair of runs has a value of sent on both sides: in 1 the run of A has '
                                            'no value of sent'):
             pairs_of([row(1, 1, None)], [row(1, 1, 2)], 'sent', ['period', 'seed'], 'period', ('A', 'B'))
@@ -314,6 +314,17 @@ class Rows(unittest.TestCase):
         kept, lines = once([{**row(1, 1, None), 'fault': 'too busy'}, row(1, 1, 5)], 'net.csv')
         self.assertEqual((kept, len(lines)), ([row(1, 1, 5)], 1))
 
+    def test_runs_of_two_plans_are_not_mixed(self) -> None:
+        for column, what in ('plan_sha256', 'plans'), ('measures_sha256', 'sets of measures'):
+            rows: list[Row] = [{**row(1, seed, seed), column: 'digest%d' % (seed > 2)} for seed in (1, 2, 3, 4)]
+            with self.assertRaisesRegex(Fault, '^these are runs of 2 %s.*--where %s=digest0 selects those of one, '
+                                               '--over seed,%s mixes them' % (what, column, column)):
+                shown_of(rows, Wish('sent', 'period'))
+            shown = shown_of(rows, Wish('sent', 'period', over='seed,%s' % column))
+            self.assertEqual(shown.points[0].values, (1, 2, 3, 4))
+            # (two programs that a parameter selects)
+            shown_of([{**it, 'period': it[column]} for it in rows], Wish('sent', 'period'))
+
     def test_two_results_of_one_run_are_refused(self) -> None:
         with self.assertRaisesRegex(Fault, 'net.csv has two rows with period = 1, seed = 1, and they differ in sent: '
                                            'keep the rows of one plan'):
@@ -323,11 +334,11 @@ class Rows(unittest.TestCase):
         rows: list[Row] = [{**row(period, seed, 10 * seed + chance, chance_seed=chance),
                             'places_sha256': 'net%d' % seed}
                            for period in (1, 2) for seed in (1, 2) for chance in (0, 4)]
-        found, = by_net([rows], Wish('sent', 'period', nets=True))
+        found = by_net(rows, Wish('sent', 'period', nets=True))
         self.assertEqual([(it['period'], it['seed'], it['chance_seed'], it['sent']) for it in found],
                          [(1, 1, None, 12), (1, 2, None, 22), (2, 1, None, 12), (2, 2, None, 22)])
         with self.assertRaisesRegex(Fault, 'no column places_sha256'):
-            by_net([[row(1, 1, 1)]], Wish('sent', 'period'))
+            by_net([row(1, 1, 1)], Wish('sent', 'period'))
 
 
 class Shown(unittest.TestCase):
@@ -398,6 +409,19 @@ class Command(unittest.TestCase):
         self.assertIn('no interval for 1 mean: equal runs', ' '.join(rows[-1]))
         rows = self.plot('--measure', 'ratio', '--against', 'period', '--where', 'seed=2', '--show', 'mean')
         self.assertEqual(rows[2][-3:], ['none:', 'one', 'run'])
+
+    def test_a_side_of_two_plans_and_a_name_that_is_none(self) -> None:
+        lines = results().splitlines()
+        for name in 'net', 'more':
+            (self.folder / (name + '.csv')).write_text('\n'.join(
+                ['plan_sha256,' + lines[0], *('%s,%s' % (name, it) for it in lines[1:])]) + '\n')
+        self.plot('--measure', 'sent', '--against', 'period', '--compare', 'more.csv', *ONE)
+        text = (self.folder / 'net.csv').read_text()
+        (self.folder / 'net.csv').write_text(re.sub('^net(.*,thin,[12],)', r'old\1', text, flags=re.M))
+        self.plot('--measure', 'sent', '--against', 'period', '--compare', 'more.csv', *ONE, status=2)
+        self.assertIn('these are runs of 2 plans', self.seen)
+        self.plot('--measure', 'sent', '--against', 'period', '--where', 'sead=2', status=2)
+        self.assertIn('there is no parameter sead; there are: period, density, seed', self.seen)
 
     def test_rows_that_are_there_twice_are_named(self) -> None:
         path = self.folder / 'net.csv'
@@ -519,7 +543,7 @@ class Command(unittest.TestCase):
         (self.folder / 'more.csv').write_text(text)
         self.plot('--measure', 'sent', '--against', 'period', '--compare', 'more.csv', *ONE, '-o', 'a.svg')
         picture = ' '.join((self.folder / 'a.svg').read_text().split())
-        self.assertIn('left out: 1 pairs; only those in which both sides have a value are compared', picture)
+        self.assertIn('left out: 1 pair of runs; only those in which both sides have a value are compared', picture)
         self.assertIn('period,pairs,left out,', (self.folder / 'a.table.csv').read_text())
 
     def test_each_run_is_at_its_own_place_on_two_measures(self) -> None:
@@ -641,12 +665,12 @@ class Command(unittest.TestCase):
         rows = self.plot(*words, '--nets')
         self.assertEqual((self.seen, ' '.join(rows[0])), (
             '', "sent against period, over seed, averaged by net first: means with intervals of 95 % by Student's t"))
-        self.assertEqual(rows[1:3], [['period', 'nets', 'mean', 'low', 'high', 'interval'],
-                                     ['1', '3', '12.500', '10.016', '14.984', 't']])
+        self.assertEqual(rows[1:3], [['period', 'nets', 'runs', 'mean', 'low', 'high', 'interval'],
+                                     ['1', '3', '6', '12.500', '10.016', '14.984', 't']])
         rows = self.plot('--measure', 'sent', '--against', 'seed', '--over', 'chance_seed', '--pair', 'period=1,2',
                          '--nets')
-        self.assertIn('net by net', ' '.join(rows[0]))
-        self.assertEqual(rows[2][1], '1')
+        self.assertIn('run by run, and averaged by net', ' '.join(rows[0]))
+        self.assertEqual(rows[1][:4] + rows[2][:4], ['seed', 'nets', 'pairs', 'left', '1', '1', '2', '0'])
         self.plot(*words, '--where', 'chance_seed=1')
         self.assertEqual(self.seen, '')
         self.plot('--measure', 'sent', '--against', 'period')
@@ -660,6 +684,82 @@ class Command(unittest.TestCase):
         self.plot(*words, '-o', 'a.svg')
         self.assertIn(warned, self.seen)
         self.assertIn('6 runs in 3 nets: ', (self.folder / 'a.svg').read_text())
+
+    def written_nets(self, empty: Sequence[tuple[int, int, int]]) -> None:
+        """Runs of two periods in three nets with four seeds of chance: those of `empty` have no value."""
+        (self.folder / 'net.csv').write_text(
+            'period,net_seed,seed,sent,other,fault,places_sha256,parameters\n' + ''.join(
+                '%d,%d,%d,%s,%d,,net%d,period net_seed seed\n' % (
+                    period, net, seed, '' if (period, net, seed) in empty else 100 * period + 10 * net + seed * period,
+                    seed, net) for period in (1, 2) for net in (1, 2, 3) for seed in (1, 2, 3, 4)))
+
+    def test_averaged_pairs_are_of_runs_with_a_value_on_both_sides(self) -> None:
+        # Net 1 has the pairs 3 and 4, net 2 the pair 4, and net 3 none, though all have runs on both sides.
+        self.written_nets([(1, 1, 1), (2, 1, 2), (1, 2, 1), (1, 2, 2), (2, 2, 3), (1, 3, 1), (1, 3, 2), (2, 3, 3),
+                           (2, 3, 4)])
+        words = '--measure', 'sent', '--against', 'other', '--pair', 'period=1,2', '--nets'
+        text = (self.folder / 'net.csv').read_text().splitlines()
+        # (a parameter that is the same in all runs, from left to right)
+        (self.folder / 'net.csv').write_text('\n'.join(
+            ['motes,' + text[0], *('9,%s' % it.replace(',period net', ',motes period net') for it in text[1:])]) + '\n')
+        rows = self.plot(*words[:3], 'motes', *words[4:])
+        # (in net 1 the means are 113.5 and 217, in net 2 they are 124 and 228)
+        self.assertEqual(rows[2][:7], ['9', '2', '3', '9', '118.750', '222.500', '103.750'])
+        self.assertIn('left out: 9 pairs of runs; only those in which both sides have a value are compared', ' '.join(
+            rows[3]))
+        missing = 'nets with missing pairs, each the mean of the others: motes 9: net_seed 1 (2 of 4), net_seed 2 (1 ' \
+                  'of 4), net_seed 3 (none of 4)'
+        self.assertEqual(' '.join(rows[4]), missing)
+        interpreter_with(self, 'matplotlib')
+        self.plot(*words[:3], 'motes', *words[4:], '-o', 'a.svg')
+        self.assertIn(missing, ' '.join(re.sub('<[^>]*>', ' ', (self.folder / 'a.svg').read_text()).split()))
+        self.assertIn(missing, (self.folder / 'a.origin.csv').read_text())
+        with open(self.folder / 'a.table.csv', newline='') as file:
+            self.assertEqual(next(csv.DictReader(file))['nets with missing runs'],
+                             'net_seed 1 (2 of 4), net_seed 2 (1 of 4), net_seed 3 (none of 4)')
+
+    def test_runs_that_lack_a_value_are_counted_and_their_nets_are_named(self) -> None:
+        self.written_nets([(1, 1, 1), (1, 2, 1), (1, 2, 2), (1, 2, 3), *((2, 3, seed) for seed in (1, 2, 3, 4))])
+        words = '--measure', 'sent', '--against', 'period', '--show', 'mean'
+        out = 'left out: 8 runs without a value of sent: 4 at period 1; 4 at period 2'
+        rows = self.plot(*words, '--nets')
+        self.assertEqual(rows[1][:4], ['period', 'nets', 'runs', 'left'])
+        self.assertEqual([row[:4] for row in rows[2:4]], [['1', '3', '8', '4'], ['2', '2', '8', '4']])
+        self.assertEqual(' '.join(rows[4]), out)
+        missing = 'nets with missing runs, each the mean of the others: period 1: net_seed 1 (3 of 4), net_seed 2 (1 ' \
+                  'of 4); period 2: net_seed 3 (none of 4)'
+        self.assertEqual(' '.join(rows[5]), missing)
+        self.assertIn(out, [' '.join(row) for row in self.plot(*words)])
+        interpreter_with(self, 'matplotlib')
+        rows = self.plot(*words, '--nets', '-o', 'a.svg')
+        self.assertIn(missing, [' '.join(row) for row in rows])
+        picture = ' '.join(re.sub('<[^>]*>', ' ', (self.folder / 'a.svg').read_text()).split())
+        for shown in out, missing, '(2 to 3 nets of 8 runs)':
+            self.assertIn(shown, picture)
+        origin = (self.folder / 'a.origin.csv').read_text()
+        self.assertTrue(out in origin and missing in origin, origin)
+        with open(self.folder / 'a.table.csv', newline='') as file:
+            self.assertEqual([it['nets with missing runs'] for it in csv.DictReader(file)],
+                             ['net_seed 1 (3 of 4), net_seed 2 (1 of 4)', 'net_seed 3 (none of 4)'])
+
+    def test_a_mean_of_two_measures_in_a_net_is_of_runs_that_have_both(self) -> None:
+        self.written_nets([(1, 1, 1), (1, 1, 2)])
+        found = by_net(read_results(self.folder / 'net.csv')[1], Wish('sent', 'other', nets=True))
+        self.assertEqual((found[0]['sent'], found[0]['other']), (113.5, 3.5))
+
+    def test_the_words_below_a_picture_say_how_many_runs_its_points_have(self) -> None:
+        interpreter_with(self, 'matplotlib')
+        text = re.sub(r',(thin,[45]),[0-9]+,[0-9.]+', r',\1,,', results()).replace('1,thin,4,,', '1,thin,4,5,0.2')
+        (self.folder / 'net.csv').write_text(text)
+        self.plot('--measure', 'ratio', '--against', 'period', '--by', 'density', '--show', 'mean', '--threshold',
+                  '0.6', '-o', 'a.svg')
+        picture = ' '.join(re.sub('<[^>]*>', ' ', (self.folder / 'a.svg').read_text()).split())
+        for shown in ('(3 to 5 runs)', 'left out: 5 runs without a value of ratio: 1 at period 1, density thin; 2 at '
+                      'period 4, density thin; 2 at period 8, density thin', 'by the bootstrap of 4 runs, 3 to 4 at a '
+                      'point: '):
+            self.assertIn(shown, picture)
+        with open(self.folder / 'a.table.csv', newline='') as file:
+            self.assertEqual([it['left out'] for it in csv.DictReader(file)], ['0', '0', '0', '1', '2', '2'])
 
     def test_title_footer_axes_and_size_of_a_picture(self) -> None:
         interpreter_with(self, 'matplotlib')

@@ -48,6 +48,7 @@ class Crossing(NamedTuple):
                of its crossings belongs to which
     share      the part of the drawn curves that cross
     draws      how many independent draws the bootstrap has: the seeds, or the runs of a point
+    sizes      the least and the greatest number of runs of a point
     """
     at: float
     is_rising: bool
@@ -57,6 +58,7 @@ class Crossing(NamedTuple):
     share: float
     draws: int
     places: tuple[Place, ...] = ()
+    sizes: tuple[int, int] = (0, 0)
 
 
 def places_of(line: Line, threshold: float, is_log: bool = False, is_log_y: bool = False) -> list[Place]:
@@ -120,11 +122,12 @@ def crossing(curve: Sequence[Runs], threshold: float, confidence: float, middle:
         return None
     at, is_rising, gap = places[0]
     draws = len({key for it in curve for key in it.keys}) if by_key(curve) else min(len(it.ys) for it in curve)
+    sizes = min(len(it.ys) for it in curve), max(len(it.ys) for it in curve)
     if draws < 2 or len(places) > 1:
-        return Crossing(at, is_rising, gap, None, None, 1.0, draws, places)
+        return Crossing(at, is_rising, gap, None, None, 1.0, draws, places, sizes)
     gaps = [gap_of(it, threshold, is_rising) for it in drawn_lines(curve, middle, DRAWS)]
     part = part_of_draws(confidence, draws)
     low, high = between([left for left, _ in gaps], part)[0], between([right for _, right in gaps], part)[1]
     share = sum(math.isfinite(left) for left, _ in gaps) / len(gaps)
     # (the gap of the curve itself is always within)
-    return Crossing(at, is_rising, gap, min(low, gap[0]), max(high, gap[1]), share, draws, places)
+    return Crossing(at, is_rising, gap, min(low, gap[0]), max(high, gap[1]), share, draws, places, sizes)

@@ -10,7 +10,8 @@ from typing import Any
 
 from motesim.analysis.paired import Difference
 from motesim.analysis.points import Point, Shown, Wish, order
-from motesim.analysis.text import by_methods, crossings, crossings_of, heading, left_out, remarks, threshold_of
+from motesim.analysis.text import MOST_BELOW, by_methods, counted, crossings, crossings_of, heading, left_out, remarks
+from motesim.analysis.text import threshold_of
 from motesim.experiments import packages
 from motesim.experiments.measures import Cell
 from motesim.experiments.results import text_of
@@ -210,16 +211,21 @@ def _scale(axes: Any, places: list[Cell], wish: Wish, is_scale: bool) -> None:
         axes.minorticks_off()
 
 
+def between(counts: Sequence[int]) -> str:
+    """The least and the greatest of some counts."""
+    return '%d' % counts[0] if len(set(counts)) == 1 else '%d to %d' % (min(counts), max(counts))
+
+
 def _note(shown: Shown, wish: Wish) -> str:
     """The words below a picture."""
     of_points = [point.estimate.runs for point in shown.points]
-    runs = max([curve.runs for curve in shown.curves()] if wish.show == 'cdf' else of_points)
-    counted = 'nets' if wish.nets else 'runs'
+    runs = between([curve.runs for curve in shown.curves()] if wish.show == 'cdf' else of_points)
+    of_nets = ' of %s runs' % between(list(shown.runs_at.values())) if shown.runs_at and wish.show != 'cdf' else ''
     of_mean = 'mean, and intervals of %g %% %s' % (wish.confidence, by_methods(shown.methods()))
     what = {'median': 'median, and quartiles', 'points': 'all runs', 'cdf': 'part of the runs', 'heat': 'mean'}.get(
         wish.show, of_mean if shown.methods() else 'mean')
-    note = '%s over %s (%d %s)' % (what, ', '.join(shown.over), runs, counted) if shown.over else ''
-    first = '; '.join(it for it in [note, *left_out(shown, wish), *remarks(shown, wish)] if it)
+    note = '%s over %s (%s %s%s)' % (what, ', '.join(shown.over), runs, counted(wish), of_nets) if shown.over else ''
+    first = '; '.join(it for it in [note, *left_out(shown, wish, MOST_BELOW), *remarks(shown, wish)] if it)
     return '\n'.join(it for it in [first, *crossings(shown, wish)] if it)
 
 

@@ -1,6 +1,7 @@
 """Two sweeps compared run by run: the same parameters on both sides, so that what they have in common drops out.
 
-Only runs in which both sides have a value are compared; the others are counted, with the reason.
+Only runs in which both sides have a value are compared; the others are counted, with the reason. If nets are averaged,
+these pairs are: each net counts once, as the mean of its pairs.
 
 The difference of two shares of runs, of a measure that is 0 or 1 in each, has the interval of method 10 of R. G.
 Newcombe ("Improved confidence intervals for the difference between binomial proportions based on paired data",
@@ -16,7 +17,7 @@ from collections.abc import Mapping, Sequence
 from typing import NamedTuple
 
 from motesim.analysis.estimates import AUTO, Estimate, Measured, mean_by_wilson, mean_of, measured
-from motesim.analysis.points import PLACES
+from motesim.analysis.points import PLACES, Net, name_of_net, order
 from motesim.experiments.measures import Cell
 from motesim.experiments.results import Row
 from motesim.faults import Fault
@@ -29,18 +30,42 @@ class Pair(NamedTuple):
     against: Cell
     one: float
     other: float
+    # The net's name and its places on both sides, and how many pairs of runs this is the mean of.
+    net: tuple[Cell, ...] = ()
+    runs: int = 1
 
 
 class Paired(NamedTuple):
-    """The pairs, those that lack a value by the value to the right and the reason, and how many are of two nets."""
+    """The pairs, those that lack a value by the value to the right and the reason, and how many are of two nets.
+
+    without  by the value to the right and the net's name: the pairs that lack a value
+    """
     pairs: list[Pair]
     left_out: dict[tuple[Cell, str], int]
     of_two_nets: int = 0
+    without: Mapping[tuple[Cell, str], int] = {}
+
+    def by_net(self) -> Paired:
+        """The same with one pair for each net: the mean of its pairs."""
+        groups: dict[tuple[Cell, ...], list[Pair]] = {}
+        for it in self.pairs:
+            groups.setdefault((it.against, *it.net), []).append(it)
+        return self._replace(pairs=[
+            Pair(its[0].against, statistics.fmean(it.one for it in its), statistics.fmean(it.other for it in its),
+                 its[0].net, len(its)) for its in groups.values()])
+
+    def nets(self) -> list[Net]:
+        """The nets in which pairs lack a value."""
+        having: Counter[tuple[Cell, Cell]] = Counter()
+        for it in self.pairs:
+            having[it.against, it.net[0] if it.net else None] += it.runs
+        return sorted((Net((None, against), name, having[against, name], having[against, name] + count)
+                       for (against, name), count in self.without.items()), key=lambda it: order(it.place[1]))
 
 
 class Difference(NamedTuple):
-    """Of the pairs with one value: the means of both sides, the difference with its interval, who has more, and how
-    many pairs are left out."""
+    """Of the pairs with one value: the means of both sides, the difference with its interval, who has more, how many
+    pairs are left out, how many pairs of runs there are, and the nets in which pairs lack a value."""
     against: Cell
     one: float
     other: float
@@ -48,6 +73,8 @@ class Difference(NamedTuple):
     greater: int
     less: int
     left_out: int = 0
+    pairs: int = 0
+    nets: Sequence[Net] = ()
 
 
 def _by_key(rows: Sequence[Row], names: Sequence[str], side: str) -> dict[Key, Row]:
@@ -69,27 +96,35 @@ def _lack(row: Row | None, measure: str, side: str) -> str:
 
 
 def pairs_of(one: Sequence[Row], other: Sequence[Row], measure: str, names: Sequence[str], against: str,
-             sides: tuple[str, str] = ('the first side', 'the second side')) -> Paired:
-    """The runs that both sides have, by these parameters."""
+             sides: tuple[str, str] = ('the first side', 'the second side'),
+             nets: Sequence[str] | None = None) -> Paired:
+    """The runs that both sides have, by these parameters; with the nets of the pairs, if their names are given."""
     first, second = _by_key(one, names, sides[0]), _by_key(other, names, sides[1])
     if not first.keys() & second.keys():
         raise Fault('the two sides have no run in common: no parameters (%s) are the same' % ', '.join(names))
     pairs, of_two_nets = [], 0
     left_out: Counter[tuple[Cell, str]] = Counter()
+    without: Counter[tuple[Cell, str]] = Counter()
     for key in first | second:
         its = first.get(key), second.get(key)
         lacks = [_lack(row, measure, side) for row, side in zip(its, sides)]
+        # (a run with a fault has no places)
+        known = next((row for row in its if row and row.get(PLACES) is not None), its[0] or its[1] or {})
+        net = '' if nets is None else name_of_net(known, nets)
         if any(lacks):
-            left_out[key[list(names).index(against)], ' and '.join(filter(None, lacks))] += 1
+            place = key[list(names).index(against)]
+            left_out[place, ' and '.join(filter(None, lacks))] += 1
+            without[place, net] += nets is not None
             continue
         mine, yours = its[0] or {}, its[1] or {}
-        pairs.append(Pair(mine[against], _number(mine, measure), _number(yours, measure)))
         places = mine.get(PLACES), yours.get(PLACES)
+        pairs.append(Pair(mine[against], _number(mine, measure), _number(yours, measure),
+                          () if nets is None else (net, *places)))
         of_two_nets += None not in places and places[0] != places[1]
     if not pairs:
         raise Fault('no pair of runs has a value of %s on both sides: %s' % (
             measure, '; '.join(reasons(left_out))))
-    return Paired(pairs, dict(left_out), of_two_nets)
+    return Paired(pairs, dict(left_out), of_two_nets, +without)
 
 
 def reasons(left_out: Mapping[tuple[Cell, str], int]) -> list[str]:
@@ -113,13 +148,15 @@ def differences(paired: Paired, confidence: float, interval: str) -> list[Differ
         groups.setdefault(pair.against, []).append(pair)
     kind = measured([value for pair in paired.pairs for value in (pair.one, pair.other)])
     found = []
+    nets = paired.nets()
     for against, its in groups.items():
         gaps = [pair.other - pair.one for pair in its]
         left = sum(count for (place, _), count in paired.left_out.items() if place == against)
         found.append(Difference(against, statistics.fmean(it.one for it in its),
                                 statistics.fmean(it.other for it in its),
                                 _difference(its, confidence, interval, kind), sum(it > 0 for it in gaps),
-                                sum(it < 0 for it in gaps), left))
+                                sum(it < 0 for it in gaps), left, sum(it.runs for it in its),
+                                [it for it in nets if it.place[1] == against]))
     return found
 
 

@@ -19,6 +19,14 @@ MOST_VALUES = 4
 REJECTED = 'rejected'
 # The column with the digest of a net's places.
 PLACES = 'places_sha256'
+# The columns with the digests of a run's plan (with the files that it reads) and of its measures.
+MADE_BY = {'plan_sha256': 'plans, or of changed files next to one', 'measures_sha256': 'sets of measures'}
+# The columns of a row that is the mean of a net: its runs, those that have values, those that have none, and the net's
+# name. (No parameter has such a name.)
+RUNS, WITH, WITHOUT, NET = '(runs)', '(with a value)', '(without a value)', '(net)'
+
+# The place of a point: the value of `by`, and that of the parameter from left to right.
+Place = tuple[Cell, Cell]
 
 
 class Wish(NamedTuple):
@@ -81,6 +89,14 @@ class Point(NamedTuple):
         return [self.estimate, self.across] if self.across else [self.estimate]
 
 
+class Net(NamedTuple):
+    """A net of which some runs have no value: its point, its name, how many runs have one, and how many it has."""
+    place: Place
+    name: str
+    having: int
+    runs: int
+
+
 class Curve(NamedTuple):
     """The runs with one value of `by`: the values of those that have one, in their order, and how many runs it has."""
     by: Cell
@@ -91,9 +107,14 @@ class Curve(NamedTuple):
 class Shown(NamedTuple):
     """The shown points, the parameters in which their runs differ, and the number of omitted runs.
 
-    not_above_0  how many runs a logarithmic axis has no place for
-    lacking      how many runs have no value, for each value of `by` that has such runs
-    shared       the runs and the nets of a point of which several runs are in one net, if there is such a point
+    faults, empty  how many runs have a fault, and how many no value
+    not_above_0    how many runs a logarithmic axis has no place for
+    lacking        how many runs have no value, for each value of `by` that has such runs; of averaged nets: how many
+                   nets
+    shared         the runs and the nets of a point of which several runs are in one net, if there is such a point
+    faults_at, empty_at  the places of the omitted runs
+    runs_at        of averaged nets: how many runs each point has
+    nets           of averaged nets: those in which runs have no value
     """
     points: list[Point]
     over: list[str]
@@ -102,6 +123,10 @@ class Shown(NamedTuple):
     not_above_0: int = 0
     lacking: Mapping[Cell, int] = {}
     shared: tuple[int, int] | None = None
+    faults_at: Mapping[Place, int] = {}
+    empty_at: Mapping[Place, int] = {}
+    runs_at: Mapping[Place, int] = {}
+    nets: Sequence[Net] = ()
 
     def curves(self) -> list[Curve]:
         """The runs of each value of `by`, also of one whose runs have no value."""
@@ -135,7 +160,7 @@ def _check(rows: Sequence[Row], wish: Wish) -> None:
     """Checks that the names exist."""
     parameters, measures = parameters_of(rows), measures_of(rows)
     for name in [wish.by, *wish.over.split(',')]:
-        if name and name not in parameters:
+        if name and name not in [*parameters, *MADE_BY]:
             raise Fault('there is no parameter %s; there are: %s' % (name, ', '.join(parameters)))
     if wish.against and wish.against not in [*parameters, *measures]:
         raise Fault('there is no parameter %s; there are: %s' % (wish.against, ', '.join(parameters)))
@@ -176,6 +201,25 @@ def check_mixture(rows: Sequence[Row], mixed: Sequence[str], repeats: Sequence[s
     raise Fault('%s would mix runs that differ in %s%s: %s' % (what, names, counted, ', '.join(ways)))
 
 
+def is_repeat(name: str, over: str) -> bool:
+    """Returns whether a parameter only repeats runs: one that is named, or else a seed."""
+    return name in over.split(',') if over else is_seed(name)
+
+
+def check_made(rows: Sequence[Row], names: Sequence[str], wish: Wish) -> None:
+    """Refuses to mix runs of several plans or sets of measures that have the same values of these names."""
+    for column, what in MADE_BY.items():
+        digests: dict[tuple[Cell, ...], list[Cell]] = {}
+        for row in rows:
+            if row.get(column) is not None:
+                digests.setdefault(tuple(row[name] for name in names), []).append(row[column])
+        mixed = next((sorted(set(its), key=order) for its in digests.values() if len(set(its)) > 1), None)
+        if mixed and column not in wish.over.split(','):
+            repeats = [it for it in parameters_of(rows) if is_repeat(it, wish.over)]
+            raise Fault('these are runs of %d %s: --where %s=%s selects those of one, --over %s mixes them' % (
+                len(mixed), what, column, text_of(mixed[0]), ','.join([*repeats, column])))
+
+
 def check_pairs(rows: Sequence[Row], wish: Wish, kept: Sequence[str]) -> None:
     """Refuses to mix pairs of treatments at one point of a comparison run by run."""
     good = [row for row in rows if not row['fault']]
@@ -195,6 +239,25 @@ def shared_nets(rows: Sequence[Row], names: Sequence[str], measure: str) -> tupl
     return next(((runs, nets) for runs, nets in counts if 1 < nets < runs), None)
 
 
+def names_of_nets(rows: Sequence[Row], over: str) -> list[str]:
+    """The parameters that repeat runs and don't vary within nets: they are the names of the nets."""
+    if PLACES not in rows[0]:
+        raise Fault('the results have no column %s, by which nets are known: run the sweep again' % PLACES)
+    good = [row for row in rows if not row['fault']]
+    varying = [name for name in parameters_of(rows) if len({row[name] for row in good}) > 1]
+    repeats = repeats_of(varying, over)
+    fixed = [name for name in varying if name not in repeats]
+    groups: dict[tuple[Cell, ...], list[Row]] = {}
+    for row in good:
+        groups.setdefault((*(row[name] for name in fixed), row[PLACES]), []).append(row)
+    return [name for name in repeats if all(len({row[name] for row in group}) == 1 for group in groups.values())]
+
+
+def name_of_net(row: Row, names: Sequence[str]) -> str:
+    """The name of a run's net: by these parameters, or else by its places."""
+    return ' '.join('%s %s' % (name, text_of(row[name])) for name in names) or 'net %s' % text_of(row[PLACES])[:8]
+
+
 def shown_of(rows: Sequence[Row], wish: Wish) -> Shown:
     """The points that are to be shown."""
     _check(rows, wish)
@@ -206,23 +269,59 @@ def shown_of(rows: Sequence[Row], wish: Wish) -> Shown:
     repeats = repeats_of(varying, wish.over)
     check_mixture(good, [it for it in over if it not in repeats], repeats, wish.by,
                   'each point' if wish.against else 'a line')
-    groups: dict[tuple[Cell, Cell], list[tuple[float, tuple[Cell, ...]]]] = {}
+    check_made(good, [it for it in varying if it not in repeats], wish)
+    groups: dict[Place, list[tuple[float, tuple[Cell, ...]]]] = {}
     lacking: Counter[Cell] = Counter()
+    empty_at: Counter[Place] = Counter()
     for row in good:
-        value = number_of(row, wish.measure)
-        group = groups.setdefault((row[wish.by] if wish.by else None, row[wish.against] if wish.against else None), [])
+        value, place = number_of(row, wish.measure), _place(row, wish)
+        group = groups.setdefault(place, [])
         if value is None:
-            lacking[row[wish.by] if wish.by else None] += 1
+            lacking[place[0]] += 1
         else:
             group.append((value, tuple(row[name] for name in over)))
+        empty_at[place] += _lacking_runs(row, value)
     keys = sorted(groups, key=lambda key: (order(key[0]), order(key[1])))
     kind = measured([value for its in groups.values() for value, _ in its])
     points = []
     for key in (it for it in keys if groups[it]):
         values = [value for value, _ in groups[key]]
         points.append(Point(*key, tuple(values), wish.estimate(values, kind), keys=tuple(it for _, it in groups[key])))
-    return Shown(points, over, len(rows) - len(good), lacking.total(), lacking=lacking,
-                 shared=shared_nets(good, [it for it in (wish.by, wish.against) if it], wish.measure))
+    return Shown(points, over, len(rows) - len(good), empty_at.total(), lacking=lacking,
+                 shared=shared_nets(good, [it for it in (wish.by, wish.against) if it], wish.measure),
+                 faults_at=Counter(_place(row, wish) for row in rows if row['fault']), empty_at=+empty_at,
+                 runs_at=_runs_at(good, wish), nets=_nets(good, wish))
+
+
+def _place(row: Row, wish: Wish) -> Place:
+    return row[wish.by] if wish.by else None, row[wish.against] if wish.against else None
+
+
+def _lacking_runs(row: Row, value: float | None) -> int:
+    """The number of runs of a row that have no value: of a net several, of a run one."""
+    return _whole(row, WITHOUT) if WITHOUT in row else int(value is None)
+
+
+def _whole(row: Row, name: str) -> int:
+    found = row[name]
+    assert isinstance(found, int)
+    return found
+
+
+def _runs_at(rows: Sequence[Row], wish: Wish) -> dict[Place, int]:
+    """The number of runs with a value at each point, of averaged nets."""
+    found: Counter[Place] = Counter()
+    for row in rows:
+        if WITH in row:
+            found[_place(row, wish)] += _whole(row, WITH)
+    return found
+
+
+def _nets(rows: Sequence[Row], wish: Wish) -> list[Net]:
+    """The averaged nets of which runs have no value."""
+    found = [Net(_place(row, wish), str(row[NET]), _whole(row, WITH), _whole(row, RUNS)) for row in rows
+             if RUNS in row and row[RUNS] != row[WITH]]
+    return sorted(found, key=lambda it: (order(it.place[0]), order(it.place[1])))
 
 
 def _of_two_measures(rows: Sequence[Row], good: Sequence[Row], varying: Sequence[str], wish: Wish) -> Shown:
@@ -230,6 +329,7 @@ def _of_two_measures(rows: Sequence[Row], good: Sequence[Row], varying: Sequence
     over = repeats_of(varying, wish.over)
     kept = [name for name in varying if name not in over]
     along = [name for name in kept if name != wish.by]
+    check_made(good, kept, wish)
     if len(along) > 1 and wish.show != 'points':
         check_mixture(good, along, over, wish.by, 'one line')
     groups: dict[tuple[Cell, ...], list[tuple[float, float, tuple[Cell, ...]]]] = {}
@@ -238,8 +338,8 @@ def _of_two_measures(rows: Sequence[Row], good: Sequence[Row], varying: Sequence
     for row in good:
         x, y = number_of(row, wish.against), number_of(row, wish.measure)
         key = tuple(row[name] for name in kept)
+        empty += _lacking_runs(row, None if x is None else y)
         if x is None or y is None:
-            empty += 1
             continue
         if wish.log and x <= 0:
             not_above_0 += 1
@@ -255,4 +355,4 @@ def _of_two_measures(rows: Sequence[Row], good: Sequence[Row], varying: Sequence
         points.append(Point(bys[key], across.middle, values, wish.estimate(values, of_y), across, keys, xs))
     points.sort(key=lambda it: (order(it.by), order(it.against)))
     return Shown(points, over, len(rows) - len(good), empty, not_above_0,
-                 shared=shared_nets(good, kept, wish.measure))
+                 shared=shared_nets(good, kept, wish.measure), nets=_nets(good, wish._replace(against='')))

@@ -2,9 +2,11 @@
 from __future__ import annotations
 
 import statistics
+from collections import Counter
 from collections.abc import Sequence
 
-from motesim.analysis.points import PLACES, Wish, measures_of, number_of, parameters_of, repeats_of
+from motesim.analysis.points import NET, PLACES, RUNS, WITH, WITHOUT, Wish, measures_of, name_of_net, names_of_nets
+from motesim.analysis.points import number_of, parameters_of, repeats_of
 from motesim.experiments.measures import Cell
 from motesim.experiments.results import Row, text_of
 from motesim.faults import Fault
@@ -46,33 +48,32 @@ def once(rows: Sequence[Row], file: str) -> tuple[list[Row], list[str]]:
                                  'run counts once' % (file, more, 's' if more > 1 else '', shown_key(names, first))]
 
 
-def by_net(sides: Sequence[Sequence[Row]], wish: Wish) -> list[list[Row]]:
-    """For each side its rows with a row for each net: the mean of the measures of the runs in it.
+def by_net(rows: Sequence[Row], wish: Wish) -> list[Row]:
+    """The rows with one for each net: the mean of the measures, of the net's runs in which all of them have a value.
 
-    Parameters that vary within nets, such as a seed of chance, have no value in these rows. Rows with a fault stay.
+    Parameters that vary within nets, such as a seed of chance, have no value in these rows. The columns RUNS, WITH,
+    WITHOUT and NET say how many runs a net has, how many have values and how many not, and how it is called. Rows with
+    a fault stay; they count as runs of the net with the same name.
     """
-    rows = [row for its in sides for row in its]
-    if PLACES not in rows[0]:
-        raise Fault('the results have no column %s, by which nets are known: run the sweep again' % PLACES)
+    names = names_of_nets(rows, wish.over)
     good = [row for row in rows if not row['fault']]
     varying = [name for name in parameters_of(rows) if len({row[name] for row in good}) > 1]
     repeats = repeats_of(varying, wish.over)
     fixed = [name for name in varying if name not in repeats or name in (wish.against, wish.by)]
     measures = [name for name in (wish.measure, wish.against) if name in measures_of(rows)]
-    groups: list[dict[Key, list[Row]]] = [{} for _ in sides]
-    for its, of_side in zip(sides, groups):
-        for row in its:
-            if not row['fault']:
-                of_side.setdefault((*(row[name] for name in fixed), row[PLACES]), []).append(row)
-    every = [group for of_side in groups for group in of_side.values()]
-    within = [name for name in repeats if any(len({row[name] for row in group}) > 1 for group in every)]
+    groups: dict[Key, list[Row]] = {}
+    for row in good:
+        groups.setdefault((*(row[name] for name in fixed), row[PLACES]), []).append(row)
+    faults = Counter(tuple(row[name] for name in {*fixed, *names}) for row in rows if row['fault'] and names)
+    within = [name for name in repeats if any(len({row[name] for row in group}) > 1 for group in groups.values())]
     blank: Row = dict.fromkeys(within)
-    found = []
-    for its, of_side in zip(sides, groups):
-        made: list[Row] = [{**group[0], **blank, **{name: mean_of(group, name) for name in measures}}
-                           for group in of_side.values()]
-        found.append(made + [row for row in its if row['fault']])
-    return found
+    made: list[Row] = []
+    for group in groups.values():
+        full = [row for row in group if all(number_of(row, name) is not None for name in measures)]
+        made.append({**group[0], **blank, **{name: mean_of(full, name) for name in measures},
+                     RUNS: len(group) + faults[tuple(group[0][name] for name in {*fixed, *names})], WITH: len(full),
+                     WITHOUT: len(group) - len(full), NET: name_of_net(group[0], names)})
+    return made + [row for row in rows if row['fault']]
 
 
 def mean_of(rows: Sequence[Row], measure: str) -> float | None:

@@ -3,7 +3,7 @@ from __future__ import annotations
 
 import math
 import statistics
-from collections.abc import Sequence
+from collections.abc import Mapping, Sequence
 from functools import lru_cache
 from typing import Any
 
@@ -11,13 +11,16 @@ from motesim.analysis.crossings import Crossing, Middle, Runs, crossing
 from motesim.analysis.estimates import DRAWN, ENOUGH_RUNS, LEAST_RUNS, NAMES, OF_ROW, Estimate
 from motesim.analysis.estimates import is_skewed_near_an_end, measured
 from motesim.analysis.paired import Difference, Paired, reasons
-from motesim.analysis.points import Curve, Point, Shown, Wish
+from motesim.analysis.points import Curve, Net, Place, Point, Shown, Wish, order
 from motesim.experiments.measures import Cell
 from motesim.experiments.results import line_of, text_of
 from motesim.faults import Fault
 from motesim.summary.counts import table
 
 Row = dict[str, Any]
+
+# The column that names the nets with missing runs, and how many points or nets the words below a picture name.
+NETS, MOST_BELOW = 'nets with missing runs', 6
 
 # The methods that draw runs again.
 DRAWING = ('bootstrap', 'bootstrap-t')
@@ -36,9 +39,14 @@ def rows_of(shown: Shown, wish: Wish) -> list[Row]:
         return [{**({wish.by: it.by} if wish.by else {}), wish.measure: value, 'part of runs': number / it.runs}
                 for it in shown.curves() for number, value in _steps(it)]
     rows: list[Row] = []
+    is_less = any((it.by, it.against) in {**shown.empty_at, **shown.faults_at} for it in shown.points)
     for point in shown.points:
-        counted = 'nets' if wish.nets else 'runs'
-        row: Row = {**_of_by(point, wish), **_of_against(point, wish), counted: point.estimate.runs}
+        place = point.by, point.against
+        row: Row = {**_of_by(point, wish), **_of_against(point, wish), counted(wish): point.estimate.runs}
+        if shown.runs_at:
+            row['runs'] = shown.runs_at[place]
+        if is_less:
+            row['left out'] = shown.empty_at.get(place, 0) + shown.faults_at.get(place, 0)
         low, middle, high = point.estimate.low, point.estimate.middle, point.estimate.high
         if wish.show == 'median':
             rows.append({**row, 'first quartile': low, 'median': middle, 'third quartile': high})
@@ -48,13 +56,51 @@ def rows_of(shown: Shown, wish: Wish) -> list[Row]:
     return rows
 
 
-def rows_with_crossings(shown: Shown, wish: Wish) -> list[Row]:
-    """The points as rows of the table behind a picture: each has the crossing of its curve."""
+def some(number: int, word: str) -> str:
+    """A number of things."""
+    return '%d %s%s' % (number, word, '' if number == 1 else 's')
+
+
+def counted(wish: Wish) -> str:
+    """The word for what a point counts."""
+    return 'nets' if wish.nets else 'runs'
+
+
+def rows_of_picture(shown: Shown, wish: Wish) -> list[Row]:
+    """The points as rows of the table behind a picture: each has the crossing of its curve, and its nets with missing
+    runs."""
     rows, found = rows_of(shown, wish), crossings_of(shown, wish)
+    if shown.runs_at and wish.show not in ('points', 'cdf'):
+        places = [(point.by, point.against) for point in shown.points]
+        rows = [{**row, NETS: ', '.join(of_net(it) for it in shown.nets if it.place == place)}
+                for row, place in zip(rows, places)]
     if not found:
         return rows
     return [{**row, 'threshold': float(wish.threshold), **columns_of_crossing(found[row.get(wish.by)])}
             for row in rows]
+
+
+def of_net(net: Net) -> str:
+    """A net with missing runs."""
+    return '%s (%s of %d)' % (net.name, net.having or 'none', net.runs)
+
+
+def of_place(place: Place, by: str, against: str) -> str:
+    """The place of a point, as in `motes 60, jitter 4`."""
+    return ', '.join('%s %s' % (name, text_of(value)) for name, value in ((against, place[1]), (by, place[0])) if name)
+
+
+def of_missing(nets: Sequence[Net], by: str, against: str, what: str, most: int | None) -> list[str]:
+    """The line that names the nets with missing runs, or the first of them."""
+    if not nets:
+        return []
+    places: dict[str, list[str]] = {}
+    for it in nets[:most]:
+        places.setdefault(of_place(it.place, by, against), []).append(of_net(it))
+    names = '; '.join(('%s: ' % place if place else '') + ', '.join(its) for place, its in places.items())
+    more = len(nets) - len(nets[:most])
+    return ['nets with missing %s, each the mean of the others: %s%s' % (
+        what, names, '; and %d more, which the picture\'s .origin.csv names' % more if more else '')]
 
 
 def _steps(curve: Curve) -> list[tuple[int, float | None]]:
@@ -113,23 +159,34 @@ def by_methods(methods: Sequence[str]) -> str:
     return 'by ' + ' or '.join(names) if names else ''
 
 
-def left_out(shown: Shown, wish: Wish) -> list[str]:
-    """The lines about omitted runs."""
+def _at(counts: Mapping[Place, int], wish: Wish, most: int | None) -> str:
+    """The number of omitted runs at each point."""
+    if not wish.against or not counts:
+        return ''
+    places = sorted(counts, key=lambda it: (order(it[0]), order(it[1])))
+    more = len(places) - len(places[:most])
+    names = ['%d at %s' % (counts[it], of_place(it, wish.by, wish.against)) for it in places[:most]]
+    return ': ' + '; '.join(names + ['and some at %d more points' % more] * bool(more))
+
+
+def left_out(shown: Shown, wish: Wish, most: int | None = None) -> list[str]:
+    """The lines about omitted runs, and at which points they are; `most` limits how many points and nets are named."""
     lines = []
     if shown.faults:
-        lines.append('left out: %d runs with a fault' % shown.faults)
+        lines.append('left out: %s with a fault%s' % (some(shown.faults, 'run'), _at(shown.faults_at, wish, most)))
     if shown.lacking and wish.show == 'cdf':
         curves = [it for it in shown.curves() if len(it.values) < it.runs]
-        counts = ['%d of %d runs' % (it.runs - len(it.values), it.runs) for it in curves]
+        counts = ['%d of %d %s' % (it.runs - len(it.values), it.runs, counted(wish)) for it in curves]
         names = [' (%s %s)' % (wish.by, text_of(it.by)) if wish.by else '' for it in curves]
         lines.append('no value of %s in %s: so much of a curve is missing at its end' % (
             wish.measure, ', '.join(map(''.join, zip(counts, names)))))
     elif shown.empty:
-        lines.append('left out: %d runs without a value of %s' % (shown.empty, wish.measure))
-    for count, name in (shown.not_above_0, wish.against), (_not_above_0(shown, wish), wish.measure):
-        if count:
-            lines.append('left out: %d run%s whose %s isn\'t above 0' % (count, 's' if count > 1 else '', name))
-    return lines
+        lines.append('left out: %s without a value of %s%s' % (some(shown.empty, 'run'), wish.measure,
+                                                              _at(shown.empty_at, wish, most)))
+    for number, name in (shown.not_above_0, wish.against), (_not_above_0(shown, wish), wish.measure):
+        if number:
+            lines.append('left out: %s whose %s isn\'t above 0' % (some(number, counted(wish)[:-1]), name))
+    return lines + of_missing(shown.nets, wish.by, wish.against if shown.runs_at else '', 'runs', most)
 
 
 def _not_above_0(shown: Shown, wish: Wish) -> int:
@@ -261,8 +318,9 @@ def of_crossing(found: Crossing | None, wish: Wish) -> str:
     ends = 'before the first point' if math.isinf(found.low) else '%.4g' % found.low, (
         'behind the last point' if math.isinf(found.high) else '%.4g' % found.high)
     share = '' if found.share > 0.995 else '; %d %% of the drawn curves cross' % round(100 * found.share)
-    return '%s\n  with %g %%, by the bootstrap of %d runs: %s to %s%s' % (at, wish.confidence, found.draws, *ends,
-                                                                          share)
+    few = ', %d to %d at a point' % found.sizes if found.sizes[0] < found.sizes[1] else ''
+    return '%s\n  with %g %%, by the bootstrap of %d %s%s: %s to %s%s' % (
+        at, wish.confidence, found.draws, counted(wish), few, *ends, share)
 
 
 def columns_of_crossing(found: Crossing | None) -> Row:
@@ -274,19 +332,22 @@ def columns_of_crossing(found: Crossing | None) -> Row:
 
 
 def rows_of_differences(found: Sequence[Difference], against: str, one: str, other: str,
-                        counted: str = 'pairs') -> list[Row]:
-    """A paired comparison as rows of a table."""
-    return [{against: it.against, counted: it.difference.runs, 'left out': it.left_out, one: it.one, other: it.other,
+                        is_by_net: bool = False) -> list[Row]:
+    """A paired comparison as rows of a table: of nets also how many there are, and which have missing pairs."""
+    return [{against: it.against, **({'nets': it.difference.runs} if is_by_net else {}), 'pairs': it.pairs,
+             'left out': it.left_out, one: it.one, other: it.other,
              'difference': it.difference.middle, 'low': it.difference.low, 'high': it.difference.high,
-             'interval': OF_ROW[it.difference.method], 'greater': it.greater, 'less': it.less} for it in found]
+             'interval': OF_ROW[it.difference.method], 'greater': it.greater, 'less': it.less,
+             **({NETS: ', '.join(map(of_net, it.nets))} if is_by_net else {})} for it in found]
 
 
-def of_pairs(paired: Paired, found: Sequence[Difference], against: str) -> list[str]:
+def of_pairs(paired: Paired, found: Sequence[Difference], against: str, most: int | None = None) -> list[str]:
     """Which pairs are left out and why, and whether both sides had the same nets."""
     lines = []
     if paired.left_out:
-        lines.append('left out: %d pairs; only those in which both sides have a value are compared: %s' % (
-            sum(paired.left_out.values()), '; '.join(reasons(paired.left_out))))
+        lines.append('left out: %s of runs; only those in which both sides have a value are compared: %s' % (
+            some(sum(paired.left_out.values()), 'pair'), '; '.join(reasons(paired.left_out))))
+    lines += of_missing(paired.nets(), '', against, 'pairs', most)
     empty = [place for place in dict.fromkeys(place for place, _ in paired.left_out)
              if all(place != it.against for it in found)]
     if empty:

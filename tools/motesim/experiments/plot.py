@@ -14,8 +14,8 @@ from motesim.analysis.estimates import AUTO, MEANS
 from motesim.analysis.estimates import quartiles as quartiles
 from motesim.analysis.origin import origin_of, origin_path
 from motesim.analysis.paired import differences, pairs_of
-from motesim.analysis.points import MEDIAN, SHOWS, Wish, check_pairs, measures_of, order, parameters_of
-from motesim.analysis.points import shared_nets, shown_of
+from motesim.analysis.points import MEDIAN, SHOWS, Wish, check_made, check_pairs, is_repeat, measures_of, names_of_nets
+from motesim.analysis.points import order, parameters_of, shared_nets, shown_of
 from motesim.analysis.rows import by_net, once
 from motesim.experiments import packages
 from motesim.experiments.asked import values_of
@@ -134,16 +134,15 @@ def warn(lines: Sequence[str], shared: tuple[int, int] | None) -> None:
 
 def show(rows: Sequence[Row], wish: Wish, source: Source) -> bool:
     """Draws a picture or prints a table; returns whether it has the wanted form."""
-    shown = shown_of(by_net([rows], wish)[0] if wish.nets else rows, wish)
+    shown = shown_of(by_net(rows, wish) if wish.nets else rows, wish)
     if not shown.points:
         raise Fault('; '.join(['there is no value of %s to show' % wish.measure, *text.left_out(shown, wish)]))
     text.check_log_y(shown, wish)
     if wish.file and packages.is_here('matplotlib'):
         picture = source.folder / wish.file
         drawing.draw(shown, wish, picture)
-        notes = text.crossings(shown, wish) + text.remarks(shown, wish)
-        write_tables(picture, text.rows_with_crossings(shown, wish), source, rows, [
-            text.heading(shown, wish), *text.left_out(shown, wish), *notes])
+        notes = [*text.crossings(shown, wish), *text.left_out(shown, wish), *text.remarks(shown, wish)]
+        write_tables(picture, text.rows_of_picture(shown, wish), source, rows, [text.heading(shown, wish), *notes])
         print('\n'.join(map(str, [picture, *notes])))
         warn(text.remarks(shown, wish), shown.shared)
         return True
@@ -161,27 +160,30 @@ def compare(sides: Sides, wish: Wish, source: Source) -> bool:
     if wish.against not in kept:
         raise Fault('there is no parameter %s on both sides; there are: %s' % (wish.against, ', '.join(kept)))
     check_pairs([*rows, *others], wish, kept)
-    if wish.nets:
-        rows, others = by_net([rows, others], wish)
-    paired = pairs_of(rows, others, wish.measure, kept, wish.against, names)
-    found = differences(paired, wish.part, wish.interval)
+    for side in rows, others:
+        check_made([row for row in side if not row['fault']], [it for it in kept if not is_repeat(it, wish.over)], wish)
+    nets = names_of_nets([*rows, *others], wish.over) if wish.nets else None
+    paired = pairs_of(rows, others, wish.measure, kept, wish.against, names, nets)
+    found = differences(paired.by_net() if wish.nets else paired, wish.part, wish.interval)
     found.sort(key=lambda it: order(it.against))
     by = text.by_methods([it.difference.method for it in found])
     words = '%s against %s: %s less %s, %s' % (wish.measure, wish.against, names[1], names[0],
-                                               'net by net' if wish.nets else 'run by run')
+                                               'run by run, and averaged by net' if wish.nets else 'run by run')
     words += ', with intervals of %g %% %s' % (wish.confidence, by) if by else ''
-    made = text.rows_of_differences(found, wish.against, *names)
-    shared = shared_nets([row for row in rows if not row['fault']], [wish.against], wish.measure)
-    notes = text.of_pairs(paired, found, wish.against) + text.of_nets(shared)
-    notes += text.of_intervals([it.difference for it in found])
+    made = text.rows_of_differences(found, wish.against, *names, wish.nets)
+    good = [row for row in rows if not row['fault']]
+    shared = None if wish.nets else shared_nets(good, [wish.against], wish.measure)
+    more = text.of_nets(shared) + text.of_intervals([it.difference for it in found])
+    notes = text.of_pairs(paired, found, wish.against) + more
     warn(notes, shared)
     if wish.file and packages.is_here('matplotlib'):
         picture = source.folder / wish.file
-        drawing.draw_differences(found, wish, words, notes, picture)
+        below = text.of_pairs(paired, found, wish.against, text.MOST_BELOW) + more
+        drawing.draw_differences(found, wish, words, below, picture)
         write_tables(picture, made, source, [*sides.one, *sides.other], [words, *notes])
         print('\n'.join([str(picture), *notes]))
         return True
-    print('\n'.join([words, *table(made, list(made[0])), *notes]))
+    print('\n'.join([words, *table(made, [it for it in made[0] if it != text.NETS]), *notes]))
     return not wish.file
 
 
@@ -217,8 +219,10 @@ def chosen(rows: Sequence[Row], where: Sequence[str]) -> list[Row]:
     found = list(rows)
     for words in where:
         name, sign, value = words.partition('=')
-        if not sign or rows and name not in rows[0]:
+        if not sign:
             raise Fault('--where needs NAME=VALUE, not %r' % words)
+        if rows and name not in rows[0]:
+            raise Fault('there is no parameter %s; there are: %s' % (name, ', '.join(parameters_of(rows))))
         values = {text_of_value(it) for it in values_of(value)} if value else {''}
         found = [row for row in found if text_of(row[name]) in values]
     return found
