@@ -241,8 +241,8 @@ class Warnings(unittest.TestCase):
                 self.assertTrue(any(wanted in it for it in self.seen(program, x)))
 
     def test_a_timer_of_another_code_is_no_ctimer(self) -> None:
-        text = ('process a, b; autostart a, b; code a { ctimer c { if fired(c) { print 1; } } body { set c 5; yield; } } '
-                'code b { etimer c; body { set c 5; yield_until fired(c); } }')
+        text = ('process a, b; autostart a, b; code a { ctimer c { if fired(c) { print 1; } } body { set c 5; yield; } '
+                '} code b { etimer c; body { set c 5; yield_until fired(c); } }')
         self.assertEqual(self.seen(text), [])
 
     def test_a_loop_that_waits_is_in_order(self) -> None:

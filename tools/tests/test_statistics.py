@@ -317,7 +317,7 @@ class Rows(unittest.TestCase):
     def test_runs_of_two_plans_are_not_mixed(self) -> None:
         for column, what in ('plan_sha256', 'plans'), ('measures_sha256', 'sets of measures'):
             rows: list[Row] = [{**row(1, seed, seed), column: 'digest%d' % (seed > 2)} for seed in (1, 2, 3, 4)]
-            with self.assertRaisesRegex(Fault, '^these are runs of 2 %s.*--where %s=digest0 selects those of one, '
+            with self.assertRaisesRegex(Fault, '^these are runs of 2 %s.*--where %s=digest0 selects some, '
                                                '--over seed,%s mixes them' % (what, column, column)):
                 shown_of(rows, Wish('sent', 'period'))
             shown = shown_of(rows, Wish('sent', 'period', over='seed,%s' % column))

@@ -15,6 +15,7 @@ SHOWS = (MEDIAN, 'mean', 'points', 'cdf', 'heat')
 # A parameter of this name, or one that ends in `_seed`, makes runs that are repetitions of one another.
 SEED, SEEDS = 'seed', '_seed'
 MOST_VALUES = 4
+SELECTS = '--where %s=%s selects some'
 # A column about a run's net that can be shown like a measure.
 REJECTED = 'rejected'
 # The column with the digest of a net's places.
@@ -194,7 +195,7 @@ def check_mixture(rows: Sequence[Row], mixed: Sequence[str], repeats: Sequence[s
     values = sorted({row[first] for row in rows}, key=order)
     shown = ', '.join(map(text_of, values[:MOST_VALUES])) + (', ..' if len(values) > MOST_VALUES else '')
     ways = [] if by else ['--by %s separates them' % first]
-    ways += ['--where %s=%s selects some' % (first, text_of(values[0])),
+    ways += [SELECTS % (first, text_of(values[0])),
              '--over %s mixes them' % ','.join(dict.fromkeys([*repeats, *mixed]))]
     names = ' and '.join(['%s (%s)' % (first, shown), *mixed[1:]])
     counted = ' (repetitions are: %s)' % (', '.join(repeats) or 'none')
@@ -216,8 +217,8 @@ def check_made(rows: Sequence[Row], names: Sequence[str], wish: Wish) -> None:
         mixed = next((sorted(set(its), key=order) for its in digests.values() if len(set(its)) > 1), None)
         if mixed and column not in wish.over.split(','):
             repeats = [it for it in parameters_of(rows) if is_repeat(it, wish.over)]
-            raise Fault('these are runs of %d %s: --where %s=%s selects those of one, --over %s mixes them' % (
-                len(mixed), what, column, text_of(mixed[0]), ','.join([*repeats, column])))
+            raise Fault('these are runs of %d %s: %s, --over %s mixes them' % (
+                len(mixed), what, SELECTS % (column, text_of(mixed[0])), ','.join([*repeats, column])))
 
 
 def check_pairs(rows: Sequence[Row], wish: Wish, kept: Sequence[str]) -> None:
