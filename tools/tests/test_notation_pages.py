@@ -100,5 +100,12 @@ class Tables(unittest.TestCase):
         self.assertEqual(set(listed[1].split()), RESERVED)
 
 
+class Readme(unittest.TestCase):
+    def test_those_who_know_contiki_and_those_with_an_error_find_their_page(self) -> None:
+        text = (TOP / 'README.md').read_text()
+        for page in 'docs/use/FROM_CONTIKI.md', 'docs/use/EXPLAIN.md':
+            self.assertIn('](%s)' % page, text)
+
+
 if __name__ == '__main__':
     unittest.main()

@@ -153,6 +153,8 @@ class Crossings(unittest.TestCase):
                                 '  falls below 0.6 at x 1.5, between the points 1 and 2\n'
                                 '  rises above 0.6 at x 3, between the points 2 and 4')
         self.assertEqual(columns_of_crossing(found)['crossings'], 3)
+        open_end = columns_of_crossing(found._replace(low=1.5, high=math.inf))
+        self.assertEqual((open_end['crossing low'], open_end['crossing high']), (1.5, math.inf))
 
     def test_on_a_logarithmic_axis_lines_are_straight_in_the_logarithm(self) -> None:
         # (half way up from 10 to 40 is 20, which is where the picture with --log shows it)
@@ -814,6 +816,21 @@ class Command(unittest.TestCase):
         done = subprocess.run([interpreter, '-B', '-c', script], cwd=self.folder, capture_output=True, text=True,
                               env={**os.environ, 'PYTHONPATH': str(TOOLS)})
         self.assertEqual(done.stdout, '30 48.833333333333336 [20, 50, 90]\n', done.stderr)
+
+    def test_a_frame_has_each_run_once_and_says_what_it_leaves_out(self) -> None:
+        interpreter = interpreter_with(self, 'pandas')
+        end = 'period density seed,'
+        (self.folder / 'net.csv').write_text(HEAD[:-1] + ',plan_sha256\n' + ''.join(
+            '%s,%s\n' % (line, digest) for line, digest in (
+                ('1,thin,1,7,0.5,,' + end[:-1], '1234567890123456'), ('1,thin,2,8,0.5,,' + end[:-1], 'abc'),
+                ('1,thin,2,8,0.5,,' + end[:-1], 'abc'), ('1,thin,3,,,no answer,' + end[:-1], 'abc'))))
+        script = ('from motesim.analysis import frame\nruns = frame("net.csv")\n'
+                  'print(len(runs), runs.plan_sha256[0] + "")')
+        done = subprocess.run([interpreter, '-B', '-c', script], cwd=self.folder, capture_output=True, text=True,
+                              env={**os.environ, 'PYTHONPATH': str(TOOLS)})
+        self.assertEqual(done.stdout, '2 1234567890123456\n', done.stderr)
+        self.assertIn('net.csv: 1 row of the same run as another row', done.stderr)
+        self.assertIn('frame: net.csv: left out: 1 of 3 runs, which have a fault', done.stderr)
 
     def test_whole_numbers_with_gaps_stay_whole_in_a_frame(self) -> None:
         interpreter = interpreter_with(self, 'pandas')

@@ -373,6 +373,7 @@ class SweepTest(Bed):
             (('--measure', 'sent', '--measure', 'sent'), 'two columns would have the name sent'),
             (('--measure', 'sent', '--vary', 'speed=1'), 'has no parameter speed; it has: period, motes, name'),
             (('--measure', 'sent', '--vary', 'motes=0'), 'net.plan.toml, line 12:'),
+            (('--measure', 'sent', '--vary', 'motes=2', '--vary', 'motes=3,4'), '--vary names motes twice'),
             (('--measure', 'python: no.py:x'), 'no.py: No such file'),
             (('--measure', 'sent of mote 4', '--vary', 'motes=2,4'),
              'no mote 4: the largest net has the motes 0 to 3'),

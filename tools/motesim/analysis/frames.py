@@ -1,20 +1,36 @@
 """The rows of a sweep as a pandas DataFrame."""
 from __future__ import annotations
 
+import sys
 from collections.abc import Sequence
 from pathlib import Path
 from typing import Any
 
+from motesim.analysis.rows import once
 from motesim.experiments import packages
 from motesim.experiments.measures import Cell
-from motesim.experiments.results import read_results
+from motesim.experiments.results import read_results, text_of
 
 
 def frame(path: str | Path, with_faults: bool = False) -> Any:
-    """A DataFrame with a row for each run of a sweep's file; runs with a fault only if the caller asks for them."""
+    """A DataFrame with a row for each run of a sweep's file; runs with a fault only if the caller asks for them.
+
+    Standard error has how many rows are left out: those with a fault, and those of a run that is there twice.
+    """
     columns, rows = read_results(Path(path))
     pandas: Any = packages.load('pandas')
+    lines: list[str] = []
+    if {'fault', 'parameters'} <= set(columns) and rows:
+        rows, lines = once(rows, str(path))
+    # (a digest may have only digits)
+    digests = [name for name in columns if name.endswith('_sha256')]
+    rows = [{**row, **{name: text_of(row[name]) or None for name in digests}} for row in rows]
     kept = [row for row in rows if with_faults or not row.get('fault')]
+    if len(kept) < len(rows):
+        lines = [*lines, '%s: left out: %d of %d runs, which have a fault; frame(.., with_faults=True) has them' % (
+            path, len(rows) - len(kept), len(rows))]
+    for line in lines:
+        print('frame: %s' % line, file=sys.stderr)
     made = pandas.DataFrame(kept, columns=columns)
     return made.astype({name: 'Int64' for name in columns if _is_of_numbers_and_gaps([row[name] for row in kept])})
 

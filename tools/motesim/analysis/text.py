@@ -324,11 +324,9 @@ def of_crossing(found: Crossing | None, wish: Wish) -> str:
 
 
 def columns_of_crossing(found: Crossing | None) -> Row:
-    """A curve's first crossing, and how many it has, as columns: an end of the interval beyond the axis is empty."""
+    """A curve's first crossing, and how many it has, as columns: an end of the interval beyond the axis is infinite."""
     at, low, high = (found.at, found.low, found.high) if found else (None, None, None)
-    ends = {'crossing ' + name: None if it is None or math.isinf(it) else it
-            for name, it in (('low', low), ('high', high))}
-    return {'crossings': len(found.places) if found else 0, 'crossing': at, **ends}
+    return {'crossings': len(found.places) if found else 0, 'crossing': at, 'crossing low': low, 'crossing high': high}
 
 
 def rows_of_differences(found: Sequence[Difference], against: str, one: str, other: str,

@@ -86,10 +86,14 @@ def sweep_of(plan: Plan, vary: Sequence[str], measures: Sequence[str], seconds: 
     asked: dict[str, list[Value]] = {}
     for name, values in table['vary'].items():
         asked[name] = _values_in_plan(plan, name, values)
+    named: set[str] = set()
     for words in vary:
         name, sign, text = words.partition('=')
         if not sign:
             raise Fault('--vary needs NAME=VALUES, not %r' % words)
+        if name in named:
+            raise Fault('--vary names %s twice: write all its values behind one, such as %s=10,20' % (name, name))
+        named.add(name)
         asked[name] = values_of(text)
     plan.with_given({name: values[0] for name, values in asked.items()})
     if not all(type(it) is str for it in table['measure']):
