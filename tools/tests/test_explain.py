@@ -156,6 +156,29 @@ class Programs(unittest.TestCase):
             assert fault
             self.assertEqual((fault.kind, fault.token.line), (int(kind), 2))
 
+    def shown_of(self, source: str, quotes: str = "'''") -> str:
+        """What is shown of the first fault of a program, which begins on line 7 of a scenario."""
+        text = 'version = 2\nend = 9\nmedium = { range = 10, base = 2, per = 100, collide = false }\n' \
+               'mote = [{ x = 0, y = 0, program = "p" }]\n[programs]\np = %s\n%s%s\n' % (quotes, source, quotes)
+        fault = program_faults.find_fault(source)
+        assert fault
+        return ' '.join(' '.join(explain.of_program('a.toml', text, 'p', fault)).split())
+
+    def test_the_line_of_a_brace_is_its_own(self) -> None:
+        head = 'process p; autostart p;\ncode p {\n'
+        for quotes in "'''", '"""':
+            self.assertIn('line 9, which is line 3 of program p: {',
+                          self.shown_of(head + '{\n  body { print 1; }\n}\n', quotes))
+            self.assertIn('line 11, which is line 5 of program p: }',
+                          self.shown_of(head + '  body { print 1; }\n}\n}\n', quotes))
+
+    def test_the_first_of_two_mistakes_has_the_hint(self) -> None:
+        text = 'process p; autostart p;\ncode p {\n  body {\n    n = 1;\n    %s\n  }\n}\n'
+        for other in 'sleep(5);', 'packetbuf_copyfrom("Hello", 6);', 'while 1 { break; }':
+            shown = self.shown_of(text % other)
+            self.assertIn('line 10, which is line 4 of program p: n = 1;', shown)
+            self.assertIn('Insert below line 8: var n = 0;', shown)
+
 
 class Scenarios(unittest.TestCase):
     def test_a_scenario_in_order(self) -> None:

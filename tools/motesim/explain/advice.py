@@ -5,7 +5,7 @@ from typing import NamedTuple
 
 from motesim.explain import forms, hints, names
 from motesim.from_c.correction import correction
-from motesim.notation.faults import ProgramError
+from motesim.notation.faults import ProgramError, tokens_of
 
 OF_PARENTHESES = ('Only an operation of two values has parentheses, as `(a + b)`, and each has its own; `if`, `while` '
                   'and '
@@ -66,8 +66,17 @@ def advice(source: str, fault: ProgramError) -> Advice | None:
         return Advice(hint) if hint else _declared(source, fault)
     reasons = ' '.join(found.reasons) or hint or OF_PARENTHESES
     if found.line is None:
-        return Advice(reasons)
+        # (the reason may be about a later line, and the variable that is assigned here needs its declaration first)
+        return _declared(source, fault) if _is_assigned(source, fault) else Advice(reasons)
     return Advice(reasons, found.line, found.first, found.last, found.above)
+
+
+def _is_assigned(source: str, fault: ProgramError) -> bool:
+    """Returns whether a fault is a variable that isn't declared, before its `=`."""
+    tokens = tokens_of(source)
+    at = next((at for at, it in enumerate(tokens) if it == fault.token), len(tokens))
+    is_before = [it.text for it in tokens[at + 1:at + 2]] == ['=']
+    return fault.kind == 3 and is_before and _declared(source, fault) is not None
 
 
 def _declared(source: str, fault: ProgramError) -> Advice | None:

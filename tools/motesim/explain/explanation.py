@@ -60,12 +60,12 @@ def place_of_token(text: str, program: str, token: program_faults.Token) -> Plac
     line, rows = program_line(text, program, token), text.split('\n')
     inner = line.strip()
     begin = scenario_faults.place_of(text, ('programs', program)).line + token.line - 1
+    offset = offset_of(text, program)
     # (a text of several lines begins on the line of its quotes, or on the one below)
-    for row in begin, begin + 1:
+    for row in (begin, begin + 1) if offset is None else (token.line + offset,):
         if inner and inner in ''.join(rows[row - 1:row]):
             before = len(line) - len(line.lstrip())
             return Place(row, rows[row - 1].index(inner) + token.column - before, len(token.text))
-    offset = offset_of(text, program)
     return None if inner or offset is None else Place(token.line + offset, token.column, 1)
 
 
