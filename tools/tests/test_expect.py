@@ -186,6 +186,18 @@ class Sentences(unittest.TestCase):
                 assert broken is not None
                 self.assertEqual(broken.row, row, broken.why)
 
+    def test_a_sentence_of_another_form_is_shown_whole(self) -> None:
+        for sentence, meant in (('mote 0 prints 9', 'mote 0 prints p 9'),
+                                ('mote 0 prints p 1010, 2020', 'mote 0 prints just p 1010, 2020'),
+                                ('mote 0 collides', 'some copy collides at mote 0')):
+            names = Names(('etimer', 'ctimer', 'radio', 'p'), 3)
+            with self.assertRaisesRegex(SentenceFault, 'Did you mean: %s$' % meant):
+                read_sentence(sentence, names)
+            read_sentence(meant, names)
+        with self.assertRaises(SentenceFault) as caught:
+            read_sentence('mote 0 prints 9 times', Names(('p',), 3))
+        self.assertNotIn('prints p 9 times', str(caught.exception))
+
     def test_just_and_finally_have_neither_order_nor_count(self) -> None:
         for words, seen in (
                 ('finally prints a 1 after mote 0 sends 1', 'no order: .* `mote 3 prints a 1 after mote 0 sends 1`'),

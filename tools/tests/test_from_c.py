@@ -5,7 +5,7 @@ import c_mistakes
 from here import TOP
 from motesim.explain.advice import advice
 from motesim.from_c.correction import correction
-from motesim.from_c.scope import Scope
+from motesim.from_c.scope import Scope, allowed
 from motesim.from_c.places import Surroundings
 from motesim.from_c.statements import Statements
 from motesim.notation.faults import find_fault, tokens_of
@@ -153,6 +153,12 @@ class Corpus(unittest.TestCase):
             text = repaired(text) or ''
         self.assertIsNone(find_fault(text))
         self.assertEqual(words(text), words(OURS))
+
+
+class NamesOfPrograms(unittest.TestCase):
+    def test_a_name_that_is_cut_has_no_low_line_at_its_end(self) -> None:
+        self.assertEqual([allowed(it) for it in ('retransmissions_left', 'Seq', 'while')],
+                         ['retransmissions', 'seq', 'my_while'])
 
 
 class Timers(unittest.TestCase):

@@ -8,7 +8,7 @@ from __future__ import annotations
 import operator
 import re
 import textwrap
-from collections.abc import Callable
+from collections.abc import Callable, Sequence
 from dataclasses import dataclass
 
 from motesim.faults import Fault
@@ -70,6 +70,19 @@ def redirected(rest: str) -> str | None:
     return REDIRECTS.get(word[0].lower()) if word else None
 
 
+def other_form(sentence: str, place: int, wanted: Sequence[str]) -> str | None:
+    """The sentence that was most likely meant, if it has another form: with a process, with `just`, or on a copy."""
+    before, rest = sentence[:place], sentence[place:]
+    names = next((it for it in wanted if it.startswith('a process (')), '').partition('(')[2].rstrip(')').split(', ')
+    if names[-1] not in ('', '..') and re.search(r'\bprints? $', before) and re.match(r'\d+\b(?! times)', rest):
+        return '%s%s %s' % (before, names[-1], rest)
+    of_values = re.fullmatch(r'(.*\bprints? )(\w+ \d+) ?', before)
+    if of_values and re.fullmatch(r'(, *\d+)+', rest):
+        return '%sjust %s%s' % (*of_values.groups(), rest)
+    mote = re.fullmatch(r'(mote \d+) ', before)
+    return 'some copy collides at %s' % mote[1] if mote and rest == 'collides' else None
+
+
 def gerund(many: str) -> str:
     """A verb as in `within 10 of receiving 1`."""
     return many.removesuffix('e') + 'ing'
@@ -81,7 +94,7 @@ class SentenceFault(Fault):
     def __init__(self, sentence: str, place: int, wanted: list[str], hint: str = ''):
         self.sentence, self.place, self.wanted = sentence, place, wanted
         may = textwrap.wrap('Allowed here: ' + ', '.join(wanted), WIDTH, break_on_hyphens=False)
-        like = meant(sentence[place:], wanted)
+        like = other_form(sentence, place, wanted) or meant(sentence[place:], wanted)
         lines = [sentence, ' ' * place + '^', *may]
         lines += ['Did you mean: %s' % like] if like else []
         hints = textwrap.wrap('Hint: %s' % hint, WIDTH, break_on_hyphens=False) if hint else []
