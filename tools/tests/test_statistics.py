@@ -488,6 +488,14 @@ class Command(unittest.TestCase):
         self.assertIn('note,"bootstrap: 2,000 draws with replacement, by SplitMix64 with the seed 1"\n',
                       (self.folder / 'a.origin.csv').read_text())
 
+    def test_a_picture_of_the_same_name_in_another_format_loses_its_table(self) -> None:
+        interpreter_with(self, 'matplotlib')
+        words = '--measure', 'sent', '--against', 'period', *ONE
+        line = 'plot: a.table.csv and a.origin.csv were those of a.svg, and are now those of a.png\n'
+        for name, said in ('a.svg', ''), ('a.svg', ''), ('a.png', line):
+            self.plot(*words, '-o', name)
+            self.assertEqual(self.seen, said)
+
     def test_treatments_are_not_mixed(self) -> None:
         self.plot('--measure', 'sent', '--against', 'period', status=2)
         self.assertEqual(self.seen, (
