@@ -91,7 +91,11 @@ class Estimates(unittest.TestCase):
         values = [1.0] * 9 + [0.9]
         self.assertEqual(estimates.mean_of(values, 0.95, 'bootstrap-t').method, 'too alike')
         found = estimates.mean_of(values, 0.95, 'bootstrap-t', 'share')
-        self.assertEqual((found.low, found.method), (0.0, 'bootstrap-t'))
+        self.assertEqual((found.low, found.method), (0.0, 'bootstrap-t, open'))
+        rows: list[Row] = [{**row(1, seed, value), 'ratio': value} for seed, value in enumerate(values)]
+        wish = Wish('ratio', 'period', show='mean', interval='bootstrap-t')
+        shown = remarks(shown_of(rows, wish), wish)
+        self.assertTrue(any('an end of 1 interval by bootstrap-t is only that of the scale' in it for it in shown))
 
     def test_means_of_few_skewed_runs_near_1_have_a_line(self) -> None:
         skewed = [1.0, 1.0, 0.99, 1.0, 1.0, 0.98, 1.0, 0.8, 1.0, 1.0]

@@ -213,7 +213,8 @@ def mean_of(values: Sequence[float], confidence: float, interval: str = AUTO, me
         return found
     low, high = (max(0.0, found.low), min(1.0, found.high)) if measure == 'share' else (found.low, found.high)
     if math.isfinite(low) and math.isfinite(high):
-        return found._replace(low=low, high=high)
+        is_open = not (math.isfinite(found.low) and math.isfinite(found.high))
+        return found._replace(low=low, high=high, method=OPEN if is_open else found.method)
     return found._replace(low=None, high=None, method='too alike')
 
 
@@ -230,11 +231,14 @@ METHODS: dict[str, Callable[[Sequence[float], float], Estimate]] = {
 # The methods that can be wished for.
 MEANS = (AUTO, 't', 'bootstrap', 'bootstrap-t')
 # Each method in a heading, and in a row.
+# The method bootstrap-t if an end of the interval is only that of the scale, 0 or 1.
+OPEN = 'bootstrap-t, open'
 NAMES = {'t': 'Student\'s t', 'bootstrap': 'the bootstrap', 'bootstrap-t': 'the bootstrap of Student\'s t',
+         OPEN: 'the bootstrap of Student\'s t',
          'wilson': 'Wilson\'s score',
          'within': 'Student\'s t cut at 0 and 1', 'within pairs': 'Student\'s t cut at -1 and 1',
          'newcombe': 'Newcombe\'s method 10'}
-OF_ROW = {'t': 't', 'bootstrap': 'bootstrap', 'bootstrap-t': 'bootstrap-t', 'wilson': 'Wilson',
+OF_ROW = {'t': 't', 'bootstrap': 'bootstrap', 'bootstrap-t': 'bootstrap-t', OPEN: OPEN, 'wilson': 'Wilson',
           'within': 't, cut at 0 and 1', 'within pairs': 't, cut at -1 and 1', 'newcombe': 'Newcombe 10',
           'one': 'none: one run', 'alike': 'none: equal runs',
           'too alike': 'none: nearly equal runs', 'quartiles': 'quartiles'}

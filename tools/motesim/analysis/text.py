@@ -8,7 +8,7 @@ from functools import lru_cache
 from typing import Any
 
 from motesim.analysis.crossings import Crossing, Middle, Runs, crossing
-from motesim.analysis.estimates import DRAWN, ENOUGH_RUNS, LEAST_RUNS, NAMES, OF_ROW, Estimate
+from motesim.analysis.estimates import DRAWN, ENOUGH_RUNS, LEAST_RUNS, NAMES, OF_ROW, OPEN, Estimate
 from motesim.analysis.estimates import is_skewed_near_an_end, measured
 from motesim.analysis.paired import Difference, Paired, reasons
 from motesim.analysis.points import Curve, Net, Place, Point, Shown, Wish, order
@@ -23,7 +23,7 @@ Row = dict[str, Any]
 NETS, MOST_BELOW = 'nets with missing runs', 6
 
 # The methods that draw runs again.
-DRAWING = ('bootstrap', 'bootstrap-t')
+DRAWING = ('bootstrap', 'bootstrap-t', OPEN)
 # The methods whose intervals of few skewed runs are too narrow.
 NARROW = ('t', 'within', 'bootstrap')
 # (a picture, its table and the lines on the terminal need the same crossings)
@@ -155,7 +155,7 @@ def how(shown: Shown, wish: Wish) -> str:
 
 def by_methods(methods: Sequence[str]) -> str:
     """The methods of intervals, in words."""
-    names = [NAMES[it] for it in dict.fromkeys(methods) if it in NAMES]
+    names = list(dict.fromkeys(NAMES[it] for it in methods if it in NAMES))
     return 'by ' + ' or '.join(names) if names else ''
 
 
@@ -256,6 +256,11 @@ def of_intervals(estimates: Sequence[Estimate], is_drawn: bool = False) -> list[
     if few:
         lines.append('the bootstrap of %d runs is too narrow: use --interval t, or %d runs or more' % (
             min(few), LEAST_RUNS))
+    is_open = sum(it.method == OPEN for it in estimates)
+    if is_open:
+        lines.append('an end of %s by bootstrap-t is only that of the scale, 0 or 1, because too many draws have equal '
+                     'runs: it says nothing about that side; make more runs, or ask for less confidence' % some(
+                         is_open, 'interval'))
     alike = sum(it.method == 'alike' for it in estimates)
     if alike:
         lines.append('no interval for %d mean%s: equal runs don\'t show how far others would spread' % (
