@@ -268,6 +268,14 @@ class Pairs(unittest.TestCase):
                                            'no value of sent'):
             pairs_of([row(1, 1, None)], [row(1, 1, 2)], 'sent', ['period', 'seed'], 'period', ('A', 'B'))
 
+    def test_few_skewed_differences_have_a_line(self) -> None:
+        for gaps, is_said in ([0] * 15 + [1, 2, 1, 30, 3], True), ([0] * 25 + [1, 2, 1, 30, 3], False), (
+                [1, 2, 3, 4, 5], False):
+            found = pairs_of([row(1, seed, 0) for seed in range(len(gaps))],
+                             [row(1, seed, gap) for seed, gap in enumerate(gaps)], 'sent', ['period', 'seed'], 'period')
+            lines = of_pairs(found, differences(found, 0.95, 't'), 'period')
+            self.assertEqual(any('1 mean difference of fewer than 30 skewed pairs' in it for it in lines), is_said)
+
     def test_pairs_of_two_nets_are_counted(self) -> None:
         for places, count in (('a', 0), ('b', 1), (None, 0)):
             one: Row = {**row(1, 1, 3), 'places_sha256': 'a'}

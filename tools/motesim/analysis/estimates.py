@@ -168,8 +168,13 @@ def mean_by_bootstrap_t(values: Sequence[float], confidence: float) -> Estimate:
 
 def is_skewed_near_an_end(values: Sequence[float]) -> bool:
     """Returns whether shares are near 0 or 1 and so skewed that intervals of few runs are too narrow."""
+    return not NEAR < statistics.fmean(values) < 1 - NEAR and is_skewed(values)
+
+
+def is_skewed(values: Sequence[float]) -> bool:
+    """Returns whether values are so skewed that Student's t of few of them is too narrow."""
     mean, runs = statistics.fmean(values), len(values)
-    if NEAR < mean < 1 - NEAR or runs < 3 or len(set(values)) == 1:
+    if runs < 3 or len(set(values)) == 1:
         return False
     skewness = sum((it - mean) ** 3 for it in values) / runs / statistics.pstdev(values) ** 3
     return abs(skewness) > SKEWED

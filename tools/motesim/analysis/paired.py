@@ -16,7 +16,7 @@ from collections import Counter
 from collections.abc import Mapping, Sequence
 from typing import NamedTuple
 
-from motesim.analysis.estimates import AUTO, Estimate, Measured, mean_by_wilson, mean_of, measured
+from motesim.analysis.estimates import AUTO, Estimate, Measured, is_skewed, mean_by_wilson, mean_of, measured
 from motesim.analysis.points import PLACES, Net, name_of_net, order
 from motesim.experiments.measures import Cell
 from motesim.experiments.results import Row
@@ -65,7 +65,8 @@ class Paired(NamedTuple):
 
 class Difference(NamedTuple):
     """Of the pairs with one value: the means of both sides, the difference with its interval, who has more, how many
-    pairs are left out, how many pairs of runs there are, and the nets in which pairs lack a value."""
+    pairs are left out, how many pairs of runs there are, the nets in which pairs lack a value, and whether the
+    differences are skewed."""
     against: Cell
     one: float
     other: float
@@ -75,6 +76,7 @@ class Difference(NamedTuple):
     left_out: int = 0
     pairs: int = 0
     nets: Sequence[Net] = ()
+    is_skewed: bool = False
 
 
 def _by_key(rows: Sequence[Row], names: Sequence[str], side: str) -> dict[Key, Row]:
@@ -156,7 +158,7 @@ def differences(paired: Paired, confidence: float, interval: str) -> list[Differ
                                 statistics.fmean(it.other for it in its),
                                 _difference(its, confidence, interval, kind), sum(it > 0 for it in gaps),
                                 sum(it < 0 for it in gaps), left, sum(it.runs for it in its),
-                                [it for it in nets if it.place[1] == against]))
+                                [it for it in nets if it.place[1] == against], is_skewed(gaps)))
     return found
 
 
