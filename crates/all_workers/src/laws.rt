@@ -6,5 +6,5 @@ ghost use Rattle.all_workers.specs.Held.{AgendaIsHeld};
 /// that the workers hold together with those in the inboxes, each once. The agenda is that of the run of the net one
 /// turn at a time, after all turns before the window.
 pub fn agenda_is_held()
-    ensures { AgendaIsHeld }
+    ensures agenda_is_held { AgendaIsHeld }
 {}

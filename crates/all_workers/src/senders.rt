@@ -20,7 +20,7 @@ pub fn make_endpoints(
     inboxes: &[Inbox],
     takers: Vec<Taker>,
 ) -> Result<Vec<Endpoint>, Refused>
-    requires few { length inboxes.now ≤ 2 ^ 16 }
+    requires inboxes_bounded { length inboxes.now ≤ 2 ^ 16 }
     requires settled { Settled inboxes.now takers.items }
     ensures together { IfOk result (λ endpoints. Together inboxes.now endpoints.items) }
     ensures starts { IfOk result (λ endpoints. AllZip StartsAs takers.items endpoints.items) }

@@ -19,7 +19,7 @@ pub fn lookahead_of(net: &Net) -> u64
 
 /// The length of a window: the lookahead, or `longest`, if that is above 0 and less.
 pub fn window_length(lookahead: u64, longest: u32) -> u64
-    requires { 0 < lookahead }
+    requires positive { 0 < lookahead }
     ensures value { result ≡ length_of_window lookahead longest }
     ensures above_zero { 0 < result }
     ensures within { result ≤ lookahead }
@@ -35,7 +35,7 @@ pub fn window_length(lookahead: u64, longest: u32) -> u64
 /// The exclusive end of a window that begins at `from`: `from + width`, cut off at `end + 1`.
 pub fn window_end(from: u64, width: u64, end: u64) -> u64
     requires above_zero { 0 < width }
-    requires early { end ≤ latest_end }
+    requires end_bounded { end ≤ latest_end }
     requires from { from ≤ end }
     ensures value { result ≡ end_of_window end width from }
     ensures later { from < result }

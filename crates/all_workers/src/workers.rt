@@ -26,7 +26,7 @@ pub struct Workers {
 
 /// The shares of this many workers before the motes' first turns: each mote wakes at 0.
 fn first_shares(alloc: Global, net: &Net, of: &[u16], workers: u16) -> Result<Vec<Share>, Refused>
-    requires { length of.now ≡ length (net_of net.now).motes }
+    requires covers_motes { length of.now ≡ length (net_of net.now).motes }
     ensures first { let n = net_of net.now in IfOk result (λ shares. AreFirst n of.now workers shares.items) }
     ensures err { IfErr result (λ e. e ≡ Memory) }
 {
@@ -51,7 +51,7 @@ impl Workers {
         inboxes: Vec<Inbox>,
         takers: Vec<Taker>,
     ) -> Result<Workers, Refused>
-        requires few { length inboxes.items ≤ 16 }
+        requires inboxes_bounded { length inboxes.items ≤ 16 }
         requires cut { IsCut (length (net_of net.now).motes) (length inboxes.items) of.now }
         requires fresh { AllZip IsFresh inboxes.items takers.items }
         ensures at { IfOk result (λ group. IsAt (net_of net.now) of.now 0 group) }

@@ -35,7 +35,7 @@ impl Drop for Endpoint {
 impl Endpoint {
     /// Its taker and its senders.
     pub fn into_parts(self) -> (Taker, Vec<Option<Sender>>)
-        ensures { (result.0 ≡ self.taker) × (result.1 ≡ self.senders) }
+        ensures parts { (result.0 ≡ self.taker) × (result.1 ≡ self.senders) }
     {
         let Endpoint {
             worker: _,
@@ -159,7 +159,7 @@ impl Endpoint {
         to: usize,
         window: u64,
     ) -> Result<(), InboxError>
-        requires there { to < length self.old.senders.items }
+        requires in_range { to < length self.old.senders.items }
         requires sender { IfSome (sender_to self.old to) (λ s. (s.inbox ≡ inbox.now) × (s.state.marked ≡ true)) }
         ensures marks { OnOk result (MarksOne to window self.old self.new) }
     {

@@ -23,7 +23,7 @@ pub fn no_marks(alloc: Global, senders: usize) -> Result<Vec<u64>, AllocError>
 /// Returns whether the mark of window number `window` (from 0) has come from each sender: whether more marks than
 /// `window` have, those of the windows up to this one.
 pub fn all_past(marks: &[u64], window: u64) -> bool
-    ensures { IsTrue result ↔ AllPast window marks.now }
+    ensures decides { IsTrue result ↔ AllPast window marks.now }
 {
     for sender in 0..marks.len() {
         if marks[sender] <= window {

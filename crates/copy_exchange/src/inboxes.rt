@@ -69,7 +69,7 @@ pub fn pair_inboxes(
     inboxes: Vec<Inbox>,
     takers: Vec<Taker>,
 ) -> Result<Vec<(Inbox, Taker)>, InboxError>
-    ensures { IfOk result (λ pairs. pairs.items ≡ zip inboxes.items takers.items) }
+    ensures pairs { IfOk result (λ pairs. pairs.items ≡ zip inboxes.items takers.items) }
 {
     let mut pairs = Vec::with_capacity(alloc, inboxes.len())?;
     for pair in inboxes.into_iter().zip(takers) {
@@ -80,8 +80,8 @@ pub fn pair_inboxes(
 
 /// Between windows, how many copies were delivered to a worker that it has not taken yet.
 pub fn known(inbox: &Inbox, taker: &Taker) -> u64
-    requires { IsSettled inbox.now taker.now }
-    ensures { length (gathered_by taker.now) ≡ length (taken_by taker.now) + result }
+    requires is_settled { IsSettled inbox.now taker.now }
+    ensures count { length (gathered_by taker.now) ≡ length (taken_by taker.now) + result }
 {
     inbox.known(taker)
 }

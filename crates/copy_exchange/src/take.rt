@@ -62,7 +62,7 @@ pub struct Standing<'a> {
 /// Returns whether the copy is for a mote of the worker, isn't from one of its motes, and arrives no sooner than the
 /// worker's next window begins.
 fn is_expected(standing: &Standing<'_>, copy: RadioCopy) -> bool
-    ensures { IsTrue result ↔ IsExpectedAt (position_of standing.now) copy }
+    ensures decides { IsTrue result ↔ IsExpectedAt (position_of standing.now) copy }
 {
     if !is_own(standing.of, standing.worker, copy.to) {
         return false;
@@ -80,7 +80,7 @@ fn hear(
     arrived: &mut Vec<RadioCopy>,
     item: Item,
 ) -> Result<(), MarkError>
-    requires { (d : TakerState) × Counts marks.old.items d × IsNextTaken d item }
+    requires is_next { (d : TakerState) × Counts marks.old.items d × IsNextTaken d item }
     ensures counts { OnOk result
         ((d : TakerState) → Counts marks.old.items d → IsNextTaken d item
         → Counts marks.new.items (state_with d item)) }

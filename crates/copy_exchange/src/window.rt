@@ -22,7 +22,7 @@ pub fn endpoints(
     inboxes: &[Inbox],
     takers: Vec<Taker>,
 ) -> Result<Vec<Endpoint>, InboxError>
-    requires few { length inboxes.now ≤ 2 ^ 16 }
+    requires inboxes_bounded { length inboxes.now ≤ 2 ^ 16 }
     requires settled { Settled inboxes.now takers.items }
     ensures together { IfOk result (λ endpoints. Together inboxes.now endpoints.items) }
     ensures starts { IfOk result (λ endpoints. AllZip StartsAs takers.items endpoints.items) }
@@ -53,8 +53,8 @@ fn senders_of(
     takers: &mut Vec<Taker>,
     worker: usize,
 ) -> Result<Vec<Option<Sender>>, InboxError>
-    requires { AreTakersOf inboxes.now takers.old.items }
-    ensures { IfOk result (λ senders. Opens worker takers.old.items takers.new.items senders.items) }
+    requires are_takers_of { AreTakersOf inboxes.now takers.old.items }
+    ensures opens { IfOk result (λ senders. Opens worker takers.old.items takers.new.items senders.items) }
 {
     let mut senders = Vec::with_capacity(alloc, inboxes.len())?;
     for other in 0..inboxes.len() {
@@ -66,7 +66,7 @@ fn senders_of(
 
 // Makes a sender on an inbox; none on the worker's own.
 fn sender_on(inbox: &Inbox, taker: &mut Taker, own: bool) -> Result<Option<Sender>, InboxError>
-    requires { taker.old.inbox ≡ inbox.now }
+    requires inbox { taker.old.inbox ≡ inbox.now }
     ensures sender { IfOk result (λ sender. sender ≡ opened_sender own taker.old) }
     ensures taker { OnOk result (taker.new ≡ opened_taker own taker.old) }
 {
@@ -88,7 +88,7 @@ pub fn gather_window<R: Wait>(
     inboxes: &[Inbox],
     endpoints: Vec<Endpoint>,
 ) -> Result<Vec<Taker>, InboxError>
-    requires { AllReturn inboxes.now endpoints.items }
+    requires all_return { AllReturn inboxes.now endpoints.items }
     ensures settled { IfOk result (λ takers. Settled inboxes.now takers.items) }
     ensures plain { IfOk result (λ takers. Each IsPlain takers.items) }
     ensures gathers { IfOk result (λ takers. AllZip (GathersDelivered endpoints.items) endpoints.items takers.items) }
@@ -109,7 +109,7 @@ pub fn gather_back<R: Wait>(
 ) -> Result<Vec<Taker>, InboxError>
     requires workers { map (λ endpoint. endpoint.worker) endpoints.items ≡ range_with_len 0 (length inboxes.now) }
     requires on_inboxes { Each (IsOnInboxes inboxes.now) endpoints.items }
-    ensures { IfOk result (λ takers. GathersBack endpoints.items takers.items) }
+    ensures gathers_back { IfOk result (λ takers. GathersBack endpoints.items takers.items) }
 {
     let (mut takers, rows) = split_endpoints(alloc, endpoints)?;
     for senders in rows {
@@ -148,7 +148,7 @@ fn gather_all<R: Wait>(
 )
     requires takers { AreTakersOf inboxes.now takers.old.items }
     requires senders { AreSendersOn inboxes.now senders.items }
-    ensures { GathersRow takers.old.items takers.new.items senders.items }
+    ensures gathers_row { GathersRow takers.old.items takers.new.items senders.items }
 {
     for (place, sender) in senders.into_iter().enumerate() {
         gather_one(rt, &inboxes[place], &mut takers[place], sender);

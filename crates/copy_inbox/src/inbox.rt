@@ -206,7 +206,7 @@ impl Inbox {
     /// # Errors
     /// `Memory` if an allocation fails. The taker is unchanged then.
     pub fn sender(&self, taker: &mut Taker) -> Result<Sender, InboxError>
-        requires { taker.old.inbox ≡ self.now }
+        requires inbox { taker.old.inbox ≡ self.now }
         ensures inbox { IfOk result (λ sender. sender.inbox ≡ self.now) }
         ensures fresh { IfOk result
             (λ sender. sender.state ≡ make_sender_state taker.old.state.marked taker.old.state.made []) }
@@ -237,7 +237,7 @@ impl Inbox {
         sender: &mut Sender,
         copy: RadioCopy,
     ) -> Result<(), RadioCopy>
-        requires { sender.old.inbox ≡ self.now }
+        requires inbox { sender.old.inbox ≡ self.now }
         ensures inbox { sender.new.inbox ≡ sender.old.inbox }
         ensures pushed { OnOk result (sender.new.state ≡ after_pushing sender.old.state (Packet copy)) }
         ensures comes_back { IfErr result (λ back. back ≡ copy) }
@@ -306,8 +306,8 @@ impl Inbox {
 
     /// The number of copies and marks of gathered senders that have not been taken yet.
     pub fn known(&self, taker: &Taker) -> u64
-        requires { taker.now.inbox ≡ self.now }
-        ensures { result ≡ known_of taker.now.state.gathered taker.now.state.taken }
+        requires inbox { taker.now.inbox ≡ self.now }
+        ensures count { result ≡ known_of taker.now.state.gathered taker.now.state.taken }
     {
         let Taker { known, .. } = taker;
         *known
@@ -317,7 +317,7 @@ impl Inbox {
     /// queue was found empty and nothing is known, and then nothing has changed. The items taken of a gathered sender
     /// stay a prefix of those that it pushed.
     pub fn take_next<R: Wait>(&self, rt: &R, taker: &mut Taker) -> Option<Item>
-        requires { taker.old.inbox ≡ self.now }
+        requires inbox { taker.old.inbox ≡ self.now }
         ensures still { (taker.new.inbox ≡ taker.old.inbox) × (taker.new.state.made ≡ taker.old.state.made)
             × (taker.new.state.gathered ≡ taker.old.state.gathered) }
         ensures taken { IfSome result (λ x. taker.new ≡ after_taking taker.old (x ∷ [])) }
@@ -392,7 +392,7 @@ impl Inbox {
         requires inbox { taker.inbox ≡ self }
         requires gathered { AllGathered taker.state }
         requires packets { NoMarkLeft taker.state }
-        ensures { IfOk result (λ copies. Empties taker.state copies.items) }
+        ensures empties { IfOk result (λ copies. Empties taker.state copies.items) }
     {
         let mut taker = taker;
         let known = self.known(&taker);

@@ -6,23 +6,23 @@ ghost use Rattle.delivery_laws.specs.Traces.{TracesThatBreakTheOthers};
 
 /// Each trace of the delivery machine delivers events in the order in which they were accepted.
 pub fn delivery_hands_on()
-    ensures { DeliveryHandsOn }
+    ensures delivery_hands_on { DeliveryHandsOn }
 {}
 
 /// Nothing follows a halt in a trace of the machine.
 pub fn nothing_follows_a_halt()
-    ensures { DeliveryHaltsLast }
+    ensures delivery_halts_last { DeliveryHaltsLast }
 {}
 
 /// No process of the machine starts while it is listed.
 pub fn only_the_unlisted_start()
-    ensures { DeliveryStartsTheUnlisted }
+    ensures delivery_starts_the_unlisted { DeliveryStartsTheUnlisted }
 {}
 
 /// The property holds of small correct traces, and fails for small traces that break one thing each. There are faults
 /// that it doesn't detect; the two laws above detect two of them.
 pub fn traces_are_told_apart()
-    ensures whole { TracesThatHandOn }
+    ensures traces_that_hand_on { TracesThatHandOn }
     ensures broken { TracesThatDoNot }
     ensures unseen { TracesThatPass }
     ensures others { TracesThatBreakTheOthers }

@@ -87,7 +87,7 @@ impl EventQueue {
     pub fn new(alloc: Global, capacity: u16) -> Result<EventQueue, AllocError>
         requires some_room { 1 ≤ capacity }
         requires limit { capacity ≤ 128 }
-        ensures { IfOk result (λ queue. queue ≡ empty_queue capacity) }
+        ensures empty { IfOk result (λ queue. queue ≡ empty_queue capacity) }
     {
         Ok(EventQueue {
             waiting: HeapCircularBuffer::with_capacity(alloc, usize::from(capacity))?,
@@ -107,7 +107,7 @@ impl EventQueue {
     /// The number of events that were ever accepted.
     #[inline(always)]
     pub fn accepted(&self) -> u64
-        ensures { result ≡ self.now.accepted }
+        ensures accepted { result ≡ self.now.accepted }
     {
         self.taken + self.waiting.len() as u64
     }
@@ -118,7 +118,7 @@ impl EventQueue {
     /// [`Full`] if the queue is full. It is unchanged then.
     #[tactic(auto, using(crate::proofs::Posting::length_posted))]
     pub fn post(&mut self, target: Target, event: Event) -> Result<u64, Full>
-        requires { self.old.accepted < 2 ^ 62 }
+        requires count_bounded { self.old.accepted < 2 ^ 62 }
         ensures serial { IfOk result (λ serial. serial ≡ self.old.accepted) }
         ensures ok { OnOk result (self.new ≡ with_posted self.old target event) }
         ensures room { OnOk result (length self.old.events < self.old.capacity) }

@@ -61,7 +61,7 @@ where
     R: Threads + Wait + Sync,
     T: Send + Drop,
     W: Work<T> + Sync,
-    requires { Each (W.ready work.now) workers.items }
+    requires ready { Each (W.ready work.now) workers.items }
     ensures makes { IfOk result (λ done. AllZip (W.makes work.now) workers.items done.items) }
     ensures reported { IfErr result (IsReported (W.errs work.now) workers.items) }
     ensures failed { IfErr result (λ e. is_own e ≡ true) }

@@ -19,7 +19,7 @@ struct Failure<L: Ledger> {
 
 impl<L: Ledger> Failure<L> {
     fn new(tokens: Book<L>) -> Failure<L>
-        requires { tokens.total ≡ 0 }
+        requires no_tokens { tokens.total ≡ 0 }
     {
         Failure {
             is_set: false,
@@ -28,8 +28,8 @@ impl<L: Ledger> Failure<L> {
     }
 
     fn set(&mut self, share: &mut Share<L>)
-        requires { 0 < share.old.parts }
-        ensures { share.new.parts ≡ share.old.parts }
+        requires has_part { 0 < share.old.parts }
+        ensures same_parts { share.new.parts ≡ share.old.parts }
     {
         let Failure { is_set, tokens } = self;
         if !*is_set {
@@ -39,7 +39,7 @@ impl<L: Ledger> Failure<L> {
     }
 
     fn see(&mut self, share: &mut Share<L>) -> bool
-        requires { 0 < share.old.parts }
+        requires has_part { 0 < share.old.parts }
         ensures parts { share.new.parts ≡ share.old.parts }
         ensures amount { share.new.amount ≡ share.old.amount + tokens_of result }
     {
@@ -54,7 +54,7 @@ impl<L: Ledger> Failure<L> {
     fn audit(&mut self, all: &mut Share<L>)
         requires parts { all.old.parts ≡ L.parts }
         requires even { all.old.amount % 2 ≡ 0 }
-        ensures { all.old.amount ≡ 0 }
+        ensures no_tokens { all.old.amount ≡ 0 }
     {
         let Failure { is_set: _, tokens } = self;
         tokens.audit(all);
@@ -71,7 +71,7 @@ pub struct Flag<L: Ledger> {
 
 impl<L: Ledger> Flag<L> {
     pub(crate) fn new(tokens: Book<L>) -> Flag<L>
-        requires { tokens.total ≡ 0 }
+        requires no_tokens { tokens.total ≡ 0 }
     {
         Flag {
             hint: AtomicBool::new(false),
@@ -81,15 +81,15 @@ impl<L: Ledger> Flag<L> {
 
     /// Sets the flag.
     pub(crate) fn set<R: Wait>(&self, rt: &R, share: &mut Share<L>)
-        requires { 0 < share.old.parts }
-        ensures { share.new.parts ≡ share.old.parts }
+        requires has_part { 0 < share.old.parts }
+        ensures same_parts { share.new.parts ≡ share.old.parts }
     {
         self.failure.lock(rt).set(share);
         self.hint.store(true, Ordering::SeqCst);
     }
 
     fn see<R: Wait>(&self, rt: &R, share: &mut Share<L>) -> bool
-        requires { 0 < share.old.parts }
+        requires has_part { 0 < share.old.parts }
         ensures parts { share.new.parts ≡ share.old.parts }
         ensures amount { share.new.amount ≡ share.old.amount + tokens_of result }
     {
@@ -100,7 +100,7 @@ impl<L: Ledger> Flag<L> {
     pub(crate) fn audit<R: Wait>(&self, rt: &R, all: &mut Share<L>)
         requires parts { all.old.parts ≡ L.parts }
         requires even { all.old.amount % 2 ≡ 0 }
-        ensures { all.old.amount ≡ 0 }
+        ensures no_tokens { all.old.amount ≡ 0 }
     {
         self.failure.lock(rt).audit(all);
     }
@@ -121,7 +121,7 @@ impl<'a, L: Ledger> Watch<'a, L> {
     pub(crate) fn new(flag: &'a Flag<L>, share: Share<L>) -> Watch<'a, L>
         requires part { share.parts ≡ 1 }
         requires amount { share.amount ≡ 0 }
-        ensures { result.seen ≡ false }
+        ensures unseen { result.seen ≡ false }
     {
         Watch {
             flag,
@@ -144,7 +144,7 @@ impl<'a, L: Ledger> Watch<'a, L> {
     }
 
     fn look<R: Wait>(&mut self, rt: &R)
-        requires { self.old.seen ≡ false }
+        requires unseen { self.old.seen ≡ false }
     {
         let Watch { flag, share, seen } = self;
         *seen = flag.see(rt, share);

@@ -21,7 +21,7 @@ pub enum Refused {
 impl Refused {
     /// Returns whether the worker failed itself.
     pub(crate) fn is_own(self) -> bool
-        ensures { result ≡ is_own self }
+        ensures value { result ≡ is_own self }
     {
         match self {
             Refused::Memory | Refused::Thread => true,
@@ -31,7 +31,7 @@ impl Refused {
 
     /// Which of two reasons is reported: `Memory` and `Thread` go before `Stopped`, else the first before the other.
     fn graver(self, other: Refused) -> Refused
-        ensures { result ≡ graver self other }
+        ensures value { result ≡ graver self other }
     {
         match self {
             Refused::Stopped => other,
@@ -42,7 +42,7 @@ impl Refused {
 
 /// The reason that is reported, with one more reason.
 pub(crate) fn gravest(so_far: Option<Refused>, other: Refused) -> Refused
-    ensures { result ≡ gravest so_far other }
+    ensures value { result ≡ gravest so_far other }
 {
     match so_far {
         Some(first) => first.graver(other),
@@ -91,7 +91,7 @@ pub trait Work<T> {
     /// # Errors
     /// `Stopped` only if the worker saw the flag set.
     fn work<L: Ledger>(&self, worker: T, watch: &mut Watch<'_, L>) -> Result<T, Refused>
-        requires { ready self.now worker }
+        requires ready { ready self.now worker }
         ensures makes { IfOk result (makes self.now worker) }
         ensures errs { IfErr result (errs self.now worker) }
         ensures seen { IfErr result (λ e. e ≡ Stopped → watch.new.seen ≡ true) };

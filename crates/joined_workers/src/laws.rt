@@ -7,11 +7,11 @@ ghost use Rattle.joined_workers.specs.Laws.{StandsUntilNext, WindowMovesOn};
 /// have come to its end, each worker keeps its own, and has gathered of each mote of another worker all copies for its
 /// own.
 pub fn a_window_moves_on()
-    ensures { WindowMovesOn }
+    ensures window_moves_on { WindowMovesOn }
 {}
 
 /// No event is pending, in a share or an inbox, before the moment of the workers; and they are at each later moment
 /// too, up to that of the first pending event.
 pub fn workers_stand_until_next()
-    ensures { StandsUntilNext }
+    ensures stands_until_next { StandsUntilNext }
 {}

@@ -10,21 +10,21 @@ use worker_window::Share;
 
 /// `Share::next`, as a function with one clause, for the loop's proof.
 fn next_of(share: &Share) -> Option<u64>
-    ensures { TellsNext share.now result }
+    ensures tells_next { TellsNext share.now result }
 {
     share.next()
 }
 
 /// The `first_out` of a worker, as a function with one clause, for the loop's proof.
 fn first_out_of(worker: &Worker) -> Option<u64>
-    ensures { result ≡ worker.now.first_out }
+    ensures value { result ≡ worker.now.first_out }
 {
     worker.first_out
 }
 
 /// When the first of the copies that these workers delivered arrives.
 pub fn first_of_all(workers: &[Worker]) -> Option<u64>
-    ensures { FirstOfAll workers.now result }
+    ensures first_of_all { FirstOfAll workers.now result }
 {
     let mut first = None;
     for worker in workers {
@@ -35,7 +35,7 @@ pub fn first_of_all(workers: &[Worker]) -> Option<u64>
 
 /// The moment of the first pending event, in these shares or the inboxes, if there is one.
 fn next_of_all(first_out: Option<u64>, shares: &[Share]) -> Option<u64>
-    ensures { IsNextOfAll first_out shares.now result }
+    ensures is_next_of_all { IsNextOfAll first_out shares.now result }
 {
     let mut next = first_out;
     for share in shares {
@@ -46,7 +46,7 @@ fn next_of_all(first_out: Option<u64>, shares: &[Share]) -> Option<u64>
 
 /// The moment of the first pending event, in the shares or the inboxes, if there is one.
 pub fn next_moment(group: &Workers) -> Option<u64>
-    ensures { IsNextOfAll group.now.first_out group.now.shares.items result }
+    ensures is_next_of_all { IsNextOfAll group.now.first_out group.now.shares.items result }
 {
     next_of_all(group.first_out, &group.shares)
 }

@@ -25,7 +25,7 @@ use worker_window::Gate;
 /// The first moment of the next window: that of the first pending event, or after the end, if nothing is pending up to
 /// the end.
 fn window_start(group: &Workers, end: u64) -> u64
-    requires { end ≤ latest_end }
+    requires end_bounded { end ≤ latest_end }
     ensures value { BeginsAt end group.now result }
     ensures within { result ≤ end + 1 }
 {
@@ -55,7 +55,7 @@ pub fn run_group<R, G>(
 where
     R: Threads + Wait + RandomSource + AllocGlobal + Sync,
     G: Gate + Sync,
-    requires few { length group.inboxes.items ≤ 16 }
+    requires inboxes_bounded { length group.inboxes.items ≤ 16 }
     requires at { IsAt (net_of net.now) of.now 0 group }
     requires plain { Each IsPlain group.takers.items }
     ensures at { let n = net_of net.now in IfOk result (λ done. IsAt n of.now (suc n.end) done) }

@@ -34,7 +34,7 @@ fn gather_endpoints<R: Wait>(
     inboxes: &[Inbox],
     endpoints: Vec<Endpoint>,
 ) -> Result<Vec<Taker>, Refused>
-    requires { AllReturn inboxes.now endpoints.items }
+    requires all_return { AllReturn inboxes.now endpoints.items }
     ensures settled { IfOk result (λ takers. Settled inboxes.now takers.items) }
     ensures plain { IfOk result (λ takers. Each IsPlain takers.items) }
     ensures gathers { IfOk result (λ takers. AllZip (GathersDelivered endpoints.items) endpoints.items takers.items) }
@@ -57,7 +57,8 @@ fn run_together<R, G>(
 where
     R: Threads + Wait + RandomSource + AllocGlobal + Sync,
     G: Gate + Sync,
-    requires { Each (IsReady (net_of window.net.now) window.of.now window.inboxes.now window.until) workers.items }
+    requires ready { Each (IsReady (net_of window.net.now) window.of.now window.inboxes.now window.until)
+        workers.items }
     ensures runs { let n = net_of window.entry.net.now in IfOk result (λ done. AllZip
         (RunsWorker n window.entry.of.now window.entry.inboxes.now window.entry.until) workers.items done.items) }
     ensures failed { IfErr result (λ e. is_own e ≡ true) }
@@ -79,8 +80,8 @@ fn run_threads<R, G>(
 where
     R: Threads + Wait + RandomSource + AllocGlobal + Sync,
     G: Gate + Sync,
-    requires early { until ≤ 2 ^ 40 }
-    requires few { length group.inboxes.items ≤ 16 }
+    requires until_bounded { until ≤ 2 ^ 40 }
+    requires inboxes_bounded { length group.inboxes.items ≤ 16 }
     requires stands { (from : ℕ) × IsAt (net_of net.now) of.now from group × (from ≤ until) }
     requires plain { Each IsPlain group.takers.items }
     ensures runs { IfOk result (GroupRunsUntil (net_of net.now) of.now until group) }
@@ -132,8 +133,8 @@ pub(crate) fn run_group_window<R, G>(
 where
     R: Threads + Wait + RandomSource + AllocGlobal + Sync,
     G: Gate + Sync,
-    requires early { until ≤ 2 ^ 40 }
-    requires few { length group.inboxes.items ≤ 16 }
+    requires until_bounded { until ≤ 2 ^ 40 }
+    requires inboxes_bounded { length group.inboxes.items ≤ 16 }
     requires stands { (from : ℕ) × IsAt (net_of net.now) of.now from group × (from ≤ until) }
     requires plain { Each IsPlain group.takers.items }
     ensures runs { IfOk result (GroupRunsUntil (net_of net.now) of.now until group) }

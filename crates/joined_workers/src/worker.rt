@@ -65,7 +65,7 @@ pub fn sooner(one: Option<u64>, other: Option<u64>) -> Option<u64>
 
 /// When the first of these copies arrives.
 fn first_of(copies: &[RadioCopy]) -> Option<u64>
-    ensures { IsFirstOf copies.now result }
+    ensures is_first_of { IsFirstOf copies.now result }
 {
     let mut first = None;
     for copy in copies {
@@ -82,7 +82,8 @@ fn run_worker<R: Wait + RandomSource + AllocGlobal, G: Gate>(
     window: &WorkersWindow<'_>,
     worker: Worker,
 ) -> Result<Worker, Refused>
-    requires { IsReady (net_of window.now.net.now) window.now.of.now window.now.inboxes.now window.now.until worker }
+    requires ready { IsReady (net_of window.now.net.now) window.now.of.now window.now.inboxes.now window.now.until
+        worker }
     ensures runs { IfOk result (RunsWorker
         (net_of window.now.net.now) window.now.of.now window.now.inboxes.now window.now.until worker) }
     // No worker waits for another within a window.

@@ -15,7 +15,7 @@ ghost use Rattle.kernel_laws.specs.Laws.{CallsKeepStep, ListedAreRunning, CallsS
 /// Whatever its program is, and whatever calls follow its boot: the lines of a kernel, joined, deliver each accepted
 /// event, in order, nothing follows a halt, and only a process that is not listed starts.
 pub fn kernels_hand_on()
-    ensures { KernelsHandOn }
+    ensures kernels_hand_on { KernelsHandOn }
 {}
 
 /// Lines that go with a mote are in order; a mote that was not booted has none, and each call of its kernel keeps that
@@ -87,7 +87,7 @@ pub fn no_timer_is_forgotten()
 /// next life begins with the variables that the one before left. If the mote halts, the lines have the last life up to
 /// there.
 pub fn prints_are_the_reading()
-    ensures whole { PrintsAreTheReading }
+    ensures prints_are_the_reading { PrintsAreTheReading }
     ensures so_far { PrintsSoFarAreTheReading }
 {}
 

@@ -12,17 +12,17 @@ ghost use Rattle.mark_laws.specs.Laws.{TurnsAreRuns, FlaggedStuckIsOver, UnlessO
 /// of a window that it hasn't begun, and each other has taken a prefix of that, with the marks of the windows that it
 /// itself has finished.
 pub fn all_stand()
-    ensures { AllStand }
+    ensures all_stand { AllStand }
 {}
 
 /// No worker is more than one window ahead of another.
 pub fn one_window_ahead()
-    ensures { OneWindowAhead }
+    ensures one_window_ahead { OneWindowAhead }
 {}
 
 /// While any worker has a window left, some worker can push, take or continue.
 pub fn someone_goes_on()
-    ensures { SomeoneGoesOn }
+    ensures someone_goes_on { SomeoneGoesOn }
 {}
 
 /// A run that can't continue is at the end, with all pushed and all taken; and at the end no step is left.
@@ -40,7 +40,7 @@ pub fn runs_are_bounded()
 
 /// Each run can continue to the end.
 pub fn every_run_can_end()
-    ensures { EveryRunCanEnd }
+    ensures every_run_can_end { EveryRunCanEnd }
 {}
 
 /// A step that one worker can take, it can still take after a step of another.
@@ -52,23 +52,23 @@ pub fn nobody_is_held_up()
 /// A copy that a worker takes was sent in the window that the worker is in, or in the next one; and a mark has the
 /// number of its window.
 pub fn taken_is_of_window()
-    ensures { TakenIsOfWindow }
+    ensures taken_is_of_window { TakenIsOfWindow }
 {}
 
 /// If each copy arrives no sooner than the end of the window in which it was sent, a worker takes none that arrives
 /// before the end of the window that the worker is in.
 pub fn no_copy_is_too_soon()
-    ensures { NoCopyIsTooSoon }
+    ensures no_copy_is_too_soon { NoCopyIsTooSoon }
 {}
 
 /// The same for any test of copies by which a copy that passes for a window also passes for the window before it.
 pub fn each_taken_passes()
-    ensures { EachTakenPasses }
+    ensures each_taken_passes { EachTakenPasses }
 {}
 
 /// The items that one worker has pushed to another and the other hasn't taken are no more than those of two windows.
 pub fn two_windows_lie_there()
-    ensures { TwoWindowsLieThere }
+    ensures two_windows_lie_there { TwoWindowsLieThere }
 {}
 
 /// The same if each worker has one queue for the items of all others, of which it takes the oldest: the senders on each

@@ -7,7 +7,7 @@ ghost use Rattle.mark_laws.specs.RunLaws.{NoCopyIsUnexpected};
 /// If `run_marked` returns Ok, the actions of all threads together are those that [`ends_at_the_end`] compares with the
 /// protocol.
 pub fn each_run_has_all()
-    ensures { EachRunHasAll }
+    ensures each_run_has_all { EachRunHasAll }
 {}
 
 /// The plan of the protocol consists of the copies that the workers sent one another, window by window. Then the items
@@ -20,12 +20,12 @@ pub fn ends_at_the_end()
 
 /// No two senders on an inbox have the same number.
 pub fn senders_are_apart()
-    ensures { SendersAreApart }
+    ensures senders_are_apart { SendersAreApart }
 {}
 
 /// Wherever the protocol has led, each copy that a worker may take is expected: it is for a mote of this worker, from
 /// a mote of another, and arrives no sooner than the worker's next window. So no thread finds a copy that isn't
 /// expected, as long as each other one ran its motes in each window that it has begun.
 pub fn no_copy_is_unexpected()
-    ensures { NoCopyIsUnexpected }
+    ensures no_copy_is_unexpected { NoCopyIsUnexpected }
 {}

@@ -7,5 +7,5 @@ ghost use Rattle.marked_workers.specs.AtEnd.{MarkedWindowsLeadToTheEnd};
 /// the motes have come to the end by windows of the law of windows, each worker keeps its own, and has taken all copies
 /// for its own.
 pub fn marked_windows_lead_to_the_end()
-    ensures { MarkedWindowsLeadToTheEnd }
+    ensures marked_windows_lead_to_the_end { MarkedWindowsLeadToTheEnd }
 {}

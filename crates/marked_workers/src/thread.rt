@@ -51,7 +51,7 @@ fn send_window<R: Wait + RandomSource + AllocGlobal, G: Gate>(
     window: u64,
     until: u64,
 ) -> Result<(), Refused>
-    requires early { until ≤ 2 ^ 40 }
+    requires until_bounded { until ≤ 2 ^ 40 }
     requires cut { IsCut (length (net_of run.now.net.now).motes) (length run.now.inboxes.now) run.now.of.now }
     requires ready { CanRun (net_of run.now.net.now) run.now.of.now until worker.old.share [] }
     requires on_inboxes { IsOnInboxes run.now.inboxes.now worker.old.endpoint.base }
@@ -77,7 +77,7 @@ fn send_window<R: Wait + RandomSource + AllocGlobal, G: Gate>(
 /// The reason why a worker gave up, if it stopped taking items. A copy that isn't expected comes only if another worker
 /// has broken the protocol, which none does; it counts as an error of the thread's work.
 fn gave_up(error: MarkError) -> Refused
-    ensures { result ≡ refused_of_marks error }
+    ensures value { result ≡ refused_of_marks error }
 {
     match error {
         MarkError::Memory => Refused::Memory,
@@ -131,9 +131,9 @@ fn run_one<R: Wait + RandomSource + AllocGlobal, G: Gate, L: Ledger>(
     window: u64,
     until: u64,
 ) -> Result<(), Refused>
-    requires early { until ≤ 2 ^ 40 }
+    requires until_bounded { until ≤ 2 ^ 40 }
     requires wide { 0 < run.now.width }
-    requires there { window < windows_of run.now.width (net_of run.now.net.now).end }
+    requires window_exists { window < windows_of run.now.width (net_of run.now.net.now).end }
     requires until { until ≡ bound run.now.width (net_of run.now.net.now).end (suc window) }
     requires cut { IsCut (length (net_of run.now.net.now).motes) (length run.now.inboxes.now) run.now.of.now }
     requires stands { (first : MarkWorkerOfCode) × HasRun (net_of run.now.net.now) run.now.of.now run.now.width
@@ -179,7 +179,7 @@ fn run_worker<R: Wait + RandomSource + AllocGlobal, G: Gate, L: Ledger>(
 
 /// Gives the worker a count of marks for each sender on its inbox.
 fn with_marks(alloc: Global, run: &WorkersRun<'_>, worker: Worker) -> Result<MarkWorker, Refused>
-    requires { IsFirst (net_of run.now.net.now) run.now.of.now run.now.inboxes.now worker }
+    requires is_first { IsFirst (net_of run.now.net.now) run.now.of.now run.now.inboxes.now worker }
     ensures same { IfOk result (IsSame worker) }
     ensures started { IfOk result (IsStarted (net_of run.now.net.now) run.now.of.now run.now.inboxes.now) }
     ensures refused { IfErr result (λ reason. reason ≡ Memory) }
@@ -201,7 +201,7 @@ fn with_marks(alloc: Global, run: &WorkersRun<'_>, worker: Worker) -> Result<Mar
 
 /// The worker without its counts of marks. Each worker takes all copies that are delivered to it.
 fn without_marks(worker: MarkWorker) -> Worker
-    ensures { IsSame result worker }
+    ensures is_same { IsSame result worker }
 {
     let MarkWorker { share, endpoint } = worker;
     let MarkEndpoint {

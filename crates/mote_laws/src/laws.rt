@@ -10,7 +10,7 @@ ghost use Rattle.mote_laws.specs.Stamps.{TurnsStamp, PacketsCountUp, TurnsNeverG
 /// Whatever its program is, and whatever turns it takes: each trace of a mote delivers events in the order in which
 /// they were accepted; nothing follows a halt, and only a process that is not listed starts.
 pub fn motes_hand_on()
-    ensures { MotesHandOn }
+    ensures motes_hand_on { MotesHandOn }
 {}
 
 /// The lines of a mote go with its state, turn after turn.

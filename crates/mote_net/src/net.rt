@@ -57,12 +57,12 @@ impl Net {
         programs: Vec<NamedProgram>,
         motes: Vec<MoteSetup>,
     ) -> Net
-        requires early { end ≤ latest_end }
-        requires some { fewest_motes ≤ length motes.items }
-        requires few { length motes.items ≤ most_motes }
+        requires end_bounded { end ≤ latest_end }
+        requires enough_motes { fewest_motes ≤ length motes.items }
+        requires motes_bounded { length motes.items ≤ most_motes }
         requires placed { length medium.places ≡ length motes.items }
         requires fit { IsTrue (list_all (is_mote_of (length programs.items)) motes.items) }
-        ensures { net_of result ≡ record {
+        ensures net { net_of result ≡ record {
           end = end;
           collide = collide;
           radio = medium;
@@ -81,14 +81,14 @@ impl Net {
     /// The last moment at which turns are taken.
     pub fn end(&self) -> u64
         ensures value { result ≡ (net_of self.now).end }
-        ensures early { result ≤ latest_end }
+        ensures bounded { result ≤ latest_end }
     {
         u64::from(self.end)
     }
 
     /// Returns `true` if copies that reach a mote at one moment are all lost.
     pub fn collide(&self) -> bool
-        ensures { result ≡ (net_of self.now).collide }
+        ensures value { result ≡ (net_of self.now).collide }
     {
         self.collide
     }
@@ -104,16 +104,16 @@ impl Net {
     /// The number of motes.
     pub fn motes(&self) -> u16
         ensures value { result ≡ length (net_of self.now).motes }
-        ensures some { fewest_motes ≤ result }
-        ensures few { result ≤ most_motes }
+        ensures lower_bound { fewest_motes ≤ result }
+        ensures upper_bound { result ≤ most_motes }
     {
         self.motes.len() as u16
     }
 
     /// The program of a mote of the net.
     pub fn program(&self, mote: u16) -> &Program
-        requires { mote < length (net_of self.now).motes }
-        ensures { option_map (λ m. m.tree) (slice_get (net_of self.now).motes mote) ≡ Some (tree_of result.now) }
+        requires mote_exists { mote < length (net_of self.now).motes }
+        ensures tree { option_map (λ m. m.tree) (slice_get (net_of self.now).motes mote) ≡ Some (tree_of result.now) }
     {
         let place = self.motes[usize::from(mote)].program;
         &self.programs[place].program
@@ -121,8 +121,8 @@ impl Net {
 
     /// The name of the program of a mote of the net.
     pub fn program_name(&self, mote: u16) -> &str
-        requires { mote < length (net_of self.now).motes }
-        ensures { option_map (λ m. m.program) (slice_get (net_of self.now).motes mote) ≡ Some result.now }
+        requires mote_exists { mote < length (net_of self.now).motes }
+        ensures name { option_map (λ m. m.program) (slice_get (net_of self.now).motes mote) ≡ Some result.now }
     {
         let place = self.motes[usize::from(mote)].program;
         self.programs[place].name.as_str()
@@ -130,7 +130,7 @@ impl Net {
 
     /// The number of events that the queue of a mote of the net holds.
     pub fn queue(&self, mote: u16) -> u16
-        requires { mote < length (net_of self.now).motes }
+        requires mote_exists { mote < length (net_of self.now).motes }
         ensures value { option_map (λ m. m.queue) (slice_get (net_of self.now).motes mote) ≡ Some result }
         ensures shortest { shortest_queue ≤ result }
         ensures longest { result ≤ longest_queue }

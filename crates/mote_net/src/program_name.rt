@@ -42,7 +42,7 @@ impl ProgramName {
     /// # Errors
     /// If an allocation failed.
     pub fn from_str(alloc: Global, text: &str) -> Result<ProgramName, AllocError>
-        ensures { IfOk result (λ name. name ≡ text.now) }
+        ensures text { IfOk result (λ name. name ≡ text.now) }
     {
         let text = String::from_str(alloc, text)?;
         Ok(ProgramName { text })
@@ -50,7 +50,7 @@ impl ProgramName {
 
     /// The name as a text.
     pub fn as_str(&self) -> &str
-        ensures { result.now ≡ self.now }
+        ensures text { result.now ≡ self.now }
     {
         self.text.as_str()
     }

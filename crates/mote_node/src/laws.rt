@@ -4,21 +4,21 @@ ghost use Rattle.mote_node.specs.Laws.{HaltedRests, TurnsRise, WakesInTime, Wake
 
 /// The wake that a turn gives is above the turn's own moment.
 pub fn wakes_later()
-    ensures { WakesLater }
+    ensures wakes_later { WakesLater }
 {}
 
 /// A node that has not halted wakes when its first timer is due, or before: at the moment after its turn, if the timer
 /// is due by then.
 pub fn wakes_in_time()
-    ensures { WakesInTime }
+    ensures wakes_in_time { WakesInTime }
 {}
 
 /// Turns happen only at rising moments.
 pub fn turns_rise()
-    ensures { TurnsRise }
+    ensures turns_rise { TurnsRise }
 {}
 
 /// A turn of a node that has halted changes only its clock, and writes nothing.
 pub fn halted_rests()
-    ensures { HaltedRests }
+    ensures halted_rests { HaltedRests }
 {}

@@ -90,8 +90,8 @@ impl Drop for Mote {
 /// When a mote that has not halted wakes after its turn at this moment.
 #[tactic(auto, unfolding(crate::specs::Wake::wake_after))]
 fn wake_after(kernel: &Kernel, moment: u64) -> Option<u64>
-    requires { moment ≤ 2 ^ 40 }
-    ensures { (t : Tree) → IfSome (mote_in t kernel.now) (λ m. result ≡ wake_after moment m) }
+    requires moment_bounded { moment ≤ 2 ^ 40 }
+    ensures value { (t : Tree) → IfSome (mote_in t kernel.now) (λ m. result ≡ wake_after moment m) }
 {
     if kernel.pending() {
         return Some(moment + 1);
@@ -104,7 +104,7 @@ fn wake_after(kernel: &Kernel, moment: u64) -> Option<u64>
 
 /// Returns whether the moment isn't above that of the last turn.
 fn is_past(moment: u64, last: Option<u64>) -> bool
-    ensures { result ≡ is_past moment last }
+    ensures value { result ≡ is_past moment last }
 {
     match last {
         Some(last) => moment <= last,
@@ -168,7 +168,7 @@ impl Mote {
     /// When it wakes next: at 0 before its first turn; never, once it has halted or failed.
     #[tactic(auto, unfolding(crate::specs::Public::node_in))]
     pub fn wake(&self) -> Option<u64>
-        ensures { (t : Tree) → result ≡ wake_in (node_in t self.now) }
+        ensures value { (t : Tree) → result ≡ wake_in (node_in t self.now) }
     {
         if self.failed || self.kernel.is_halted() {
             return None;
@@ -192,7 +192,7 @@ impl Mote {
         moment: u64,
         arrivals: &[Arrival],
     ) -> Result<TurnOut, MoteError>
-        requires { moment ≤ 2 ^ 40 }
+        requires moment_bounded { moment ≤ 2 ^ 40 }
         ensures ok { let t = tree_of program.now in
             IfOk result (λ out. option_map (turn_told out) (node_in t self.new)
             ≡ option_map (turn_of moment arrivals.now) (node_in t self.old)) }
@@ -226,7 +226,7 @@ impl Mote {
         arrivals: &[Arrival],
         out: &mut Out,
     ) -> Result<Option<u64>, MoteError>
-        requires { moment ≤ 2 ^ 40 }
+        requires moment_bounded { moment ≤ 2 ^ 40 }
         ensures ok { let t = tree_of program.now in
             IfOk result (λ wake. option_map (turn_told (told_with out.new wake)) (node_in t self.new)
             ≡ option_map (turn_of moment arrivals.now) (node_in t self.old)) }

@@ -25,8 +25,8 @@ fn boot(
     moment: u64,
     out: &mut Out,
 ) -> Result<(), AllocError>
-    requires { moment ≤ 2 ^ 40 }
-    ensures { let t = tree_of program.now in
+    requires moment_bounded { moment ≤ 2 ^ 40 }
+    ensures goes_on { let t = tree_of program.now in
         OnOk result (GoesOn (boot_due moment) (mote_in t kernel.old) out.old (mote_in t kernel.new) out.new) }
 {
     if !kernel.is_booted() {
@@ -66,7 +66,7 @@ fn hear_all(
     packets: &[Arrival],
     out: &mut Out,
 ) -> Result<(), AllocError>
-    ensures { (t : Tree) → OnOk result
+    ensures goes_on { (t : Tree) → OnOk result
         (GoesOn (hear_all moment packets.now) (mote_in t kernel.old) out.old (mote_in t kernel.new) out.new) }
 {
     let mut any = false;
@@ -83,7 +83,7 @@ fn hear_all(
 /// If a timer is due, asks for a poll of the etimer process.
 #[tactic(auto, unfolding(crate::specs::Turn::poll_due))]
 fn poll_etimer(kernel: &mut Kernel, moment: u64)
-    ensures { (t : Tree) → mote_in t kernel.new ≡ option_map (poll_due moment) (mote_in t kernel.old) }
+    ensures polls_due { (t : Tree) → mote_in t kernel.new ≡ option_map (poll_due moment) (mote_in t kernel.old) }
 {
     if let Some(due) = kernel.next_expiration() {
         if due <= moment {
@@ -99,8 +99,8 @@ fn run_all(
     moment: u64,
     out: &mut Out,
 ) -> Result<(), AllocError>
-    requires { moment ≤ 2 ^ 40 }
-    ensures { let t = tree_of program.now in
+    requires moment_bounded { moment ≤ 2 ^ 40 }
+    ensures goes_on { let t = tree_of program.now in
         OnOk result (GoesOn (runs_of most_runs moment) (mote_in t kernel.old) out.old (mote_in t kernel.new) out.new) }
 {
     match kernel.run_all(program, moment, RUNS, out) {
@@ -118,8 +118,8 @@ fn turn_mote(
     packets: &[Arrival],
     out: &mut Out,
 ) -> Result<(), AllocError>
-    requires { moment ≤ 2 ^ 40 }
-    ensures { let t = tree_of program.now in
+    requires moment_bounded { moment ≤ 2 ^ 40 }
+    ensures goes_on { let t = tree_of program.now in
         OnOk result (GoesOn (mote_turn moment packets.now) (mote_in t kernel.old) out.old
         (mote_in t kernel.new) out.new) }
 {
@@ -160,8 +160,8 @@ pub fn turn_in_net(
     packets: &[Arrival],
     out: &mut Out,
 ) -> Result<(), AllocError>
-    requires { moment ≤ 2 ^ 40 }
-    ensures { let t = tree_of program.now in
+    requires moment_bounded { moment ≤ 2 ^ 40 }
+    ensures goes_on { let t = tree_of program.now in
         OnOk result (GoesOn (net_turn collide moment packets.now) (mote_in t kernel.old) out.old
         (mote_in t kernel.new) out.new) }
 {

@@ -26,13 +26,13 @@ pub fn names_are_declared(program: &Program)
 /// The list of what a block names leaves out none of its names: if two ways to number names agree on the list, they
 /// make the same block.
 pub fn each_name_is_listed()
-    ensures { EachNameIsListed }
+    ensures each_name_is_listed { EachNameIsListed }
 {}
 
 /// Both properties hold of a small tree that names something of each class, and fail for small trees that break one
 /// thing each.
 pub fn trees_are_told_apart()
-    ensures whole { TreesThatDeclare }
+    ensures trees_that_declare { TreesThatDeclare }
     ensures undeclared { TreesThatDoNot }
     ensures lacking { TreesThatLack }
 {}

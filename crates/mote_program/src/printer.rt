@@ -16,8 +16,8 @@ use std::alloc::{AllocError, Global};
 
 /// The number of braces that are open after a token, from the number before it.
 fn braces_behind(braces: usize, token: &Token) -> usize
-    requires { braces + 1 < 2 ^ 64 }
-    ensures { result ≡ braces_behind braces (token_of token.now) }
+    requires bounded { braces + 1 < 2 ^ 64 }
+    ensures value { result ≡ braces_behind braces (token_of token.now) }
 {
     match token {
         Token::OpenBrace => braces + 1,
@@ -28,7 +28,7 @@ fn braces_behind(braces: usize, token: &Token) -> usize
 
 /// Returns `true` if a `(` follows the word without a space.
 fn tells(keyword: Keyword) -> bool
-    ensures { result ≡ tells keyword }
+    ensures value { result ≡ tells keyword }
 {
     matches!(
         keyword,
@@ -43,7 +43,7 @@ fn tells(keyword: Keyword) -> bool
 
 /// Returns `true` if a token ends its line, with these after it.
 fn ends_line(token: &Token, rest: &[Token]) -> bool
-    ensures { result ≡ ends_line (token_of token.now) (map token_of rest.now) }
+    ensures value { result ≡ ends_line (token_of token.now) (map token_of rest.now) }
 {
     match token {
         Token::Semicolon | Token::OpenBrace => true,
@@ -54,7 +54,7 @@ fn ends_line(token: &Token, rest: &[Token]) -> bool
 
 /// Returns `true` if there is no space between a token and the next.
 fn stands_close(token: &Token, rest: &[Token]) -> bool
-    ensures { result ≡ stands_close (token_of token.now) (map token_of rest.now) }
+    ensures value { result ≡ stands_close (token_of token.now) (map token_of rest.now) }
 {
     match (token, rest) {
         (Token::Open | Token::Bang, _) => true,
@@ -66,7 +66,7 @@ fn stands_close(token: &Token, rest: &[Token]) -> bool
 
 /// The depth of a line that begins with these tokens: a closing brace is indented as the line that opened it.
 fn line_depth(braces: usize, rest: &[Token]) -> usize
-    ensures { result ≡ line_depth braces (map token_of rest.now) }
+    ensures value { result ≡ line_depth braces (map token_of rest.now) }
 {
     match rest {
         [Token::CloseBrace, ..] => braces.saturating_sub(1),
@@ -76,7 +76,7 @@ fn line_depth(braces: usize, rest: &[Token]) -> usize
 
 /// Adds two spaces for each open brace.
 fn indent(text: &mut String, mut depth: usize) -> Result<(), AllocError>
-    ensures { OnOk result (string_bytes text.new ≡ string_bytes text.old ++ indentation depth) }
+    ensures appended { OnOk result (string_bytes text.new ≡ string_bytes text.old ++ indentation depth) }
 {
     while depth > 0 {
         text.push_str("  ")?;
@@ -87,7 +87,7 @@ fn indent(text: &mut String, mut depth: usize) -> Result<(), AllocError>
 
 /// Adds the space or line feed after a token, with this many braces open.
 fn part(text: &mut String, braces: usize, token: &Token, rest: &[Token]) -> Result<(), AllocError>
-    ensures { OnOk result (string_bytes text.new ≡ string_bytes text.old ++ gap braces (token_of token.now)
+    ensures appended { OnOk result (string_bytes text.new ≡ string_bytes text.old ++ gap braces (token_of token.now)
         (map token_of rest.now)) }
 {
     if ends_line(token, rest) {
@@ -102,7 +102,7 @@ fn part(text: &mut String, braces: usize, token: &Token, rest: &[Token]) -> Resu
 
 /// The canonical text of tokens.
 pub(crate) fn print(alloc: Global, mut tokens: &[Token]) -> Result<String, AllocError>
-    ensures { IfOk result (λ t. string_bytes t ≡ canonical_text (map token_of tokens.entry.now)) }
+    ensures text { IfOk result (λ t. string_bytes t ≡ canonical_text (map token_of tokens.entry.now)) }
 {
     let mut text = String::new(alloc);
     let mut braces = 0;

@@ -11,7 +11,7 @@ use std::alloc::{AllocError, Global};
 
 /// The word of a keyword.
 fn keyword_word(keyword: Keyword) -> &'static str
-    ensures { result.now ≡ keyword_word keyword }
+    ensures value { result.now ≡ keyword_word keyword }
 {
     match keyword {
         Keyword::Event => "event",
@@ -77,7 +77,7 @@ fn keyword_word(keyword: Keyword) -> &'static str
 
 /// The sign of an operator.
 fn operator_sign(operator: Operator) -> &'static str
-    ensures { result.now ≡ operator_sign operator }
+    ensures value { result.now ≡ operator_sign operator }
 {
     match operator {
         Operator::Add => "+",
@@ -98,7 +98,7 @@ fn operator_sign(operator: Operator) -> &'static str
 
 /// Adds the digits of a number.
 fn push_number(alloc: Global, text: &mut String, number: u32) -> Result<(), AllocError>
-    ensures { OnOk result (string_bytes text.new ≡ string_bytes text.old ++ spelling (token.Number number)) }
+    ensures appended { OnOk result (string_bytes text.new ≡ string_bytes text.old ++ spelling (token.Number number)) }
 {
     let digits = format!(in alloc; "{number}")?;
     text.push_str(digits.as_str())
@@ -106,7 +106,7 @@ fn push_number(alloc: Global, text: &mut String, number: u32) -> Result<(), Allo
 
 /// Adds a token to a text. A bad token adds nothing.
 pub(crate) fn spell(alloc: Global, text: &mut String, token: &Token) -> Result<(), AllocError>
-    ensures { OnOk result (string_bytes text.new ≡ string_bytes text.old ++ spelling (token_of token.now)) }
+    ensures appended { OnOk result (string_bytes text.new ≡ string_bytes text.old ++ spelling (token_of token.now)) }
 {
     match token {
         Token::Keyword(keyword) => text.push_str(keyword_word(*keyword)),

@@ -25,7 +25,7 @@ use std::alloc::AllocError;
 
 /// The name with a number; empty if there is none, which no program has.
 pub(crate) fn name_at<'a>(names: &'a Names, place: usize) -> &'a str
-    ensures { result.now ≡ slice_index_or names.now place [] }
+    ensures name { result.now ≡ slice_index_or names.now place [] }
 {
     if place < names.len() {
         names.get(place)
@@ -36,7 +36,8 @@ pub(crate) fn name_at<'a>(names: &'a Names, place: usize) -> &'a str
 
 /// The name of a timer of a process, by its number in the program.
 fn timer_name<'a>(code: &'a ProcessText, timer: u8) -> &'a str
-    ensures { result.now ≡ slice_index_or (code.now.etimers ++ code.now.ctimers) (timer - code.now.first_timer) [] }
+    ensures name { result.now ≡ slice_index_or (code.now.etimers ++ code.now.ctimers)
+        (timer - code.now.first_timer) [] }
 {
     let place = usize::from(timer.saturating_sub(code.first_timer));
     if place < code.etimers.len() {
@@ -56,7 +57,7 @@ pub(crate) struct Scoped<'a> {
 impl<'a> Scoped<'a> {
     /// The name with a number.
     fn name(&self, class: Class, number: u8) -> Token<'a>
-        ensures { token_of result ≡ token.Name (name_in (names_in self.now) (class_of class) number) }
+        ensures token { token_of result ≡ token.Name (name_in (names_in self.now) (class_of class) number) }
     {
         let place = usize::from(number);
         let name = match class {
@@ -71,7 +72,7 @@ impl<'a> Scoped<'a> {
     }
 
     fn cast(&self, event: CastEvent) -> Token<'a>
-        ensures { token_of result ≡ cast_token (cast_map (name_in (names_in self.now) an_event) (cast_of event)) }
+        ensures token { token_of result ≡ cast_token (cast_map (name_in (names_in self.now) an_event) (cast_of event)) }
     {
         match event {
             CastEvent::Continue => Token::Keyword(Keyword::Continue),
@@ -83,7 +84,7 @@ impl<'a> Scoped<'a> {
     }
 
     fn sent(&self, event: SentEvent) -> Token<'a>
-        ensures { token_of result ≡ sent_token (sent_map (name_in (names_in self.now) an_event) (sent_of event)) }
+        ensures token { token_of result ≡ sent_token (sent_map (name_in (names_in self.now) an_event) (sent_of event)) }
     {
         match event {
             SentEvent::Cast(cast) => self.cast(cast),
@@ -92,7 +93,7 @@ impl<'a> Scoped<'a> {
     }
 
     fn any(&self, event: AnyEvent) -> Token<'a>
-        ensures { token_of result ≡ any_token (any_map (name_in (names_in self.now) an_event) (any_of event)) }
+        ensures token { token_of result ≡ any_token (any_map (name_in (names_in self.now) an_event) (any_of event)) }
     {
         match event {
             AnyEvent::Sent(sent) => self.sent(sent),
@@ -106,7 +107,8 @@ impl<'a> Scoped<'a> {
 
 /// Adds one token.
 pub(crate) fn add<'a>(out: &mut Vec<Token<'a>>, token: Token<'a>) -> Result<(), AllocError>
-    ensures { OnOk result (map token_of out.new.items ≡ map token_of out.old.items ++ token_of token.entry ∷ []) }
+    ensures appended { OnOk result (map token_of out.new.items
+        ≡ map token_of out.old.items ++ token_of token.entry ∷ []) }
 {
     out.push(token)?;
     Ok(())
@@ -114,7 +116,7 @@ pub(crate) fn add<'a>(out: &mut Vec<Token<'a>>, token: Token<'a>) -> Result<(), 
 
 /// Adds some tokens.
 pub(crate) fn add_all<'a>(out: &mut Vec<Token<'a>>, more: &[Token<'a>]) -> Result<(), AllocError>
-    ensures { OnOk result (map token_of out.new.items ≡ map token_of out.old.items ++ map token_of more.now) }
+    ensures appended { OnOk result (map token_of out.new.items ≡ map token_of out.old.items ++ map token_of more.now) }
 {
     out.extend_from_slice(more)
 }
@@ -125,7 +127,7 @@ fn telling<'a>(
     keyword: Keyword,
     operand: Token<'a>,
 ) -> Result<(), AllocError>
-    ensures { OnOk result (map token_of out.new.items ≡ map token_of out.old.items
+    ensures appended { OnOk result (map token_of out.new.items ≡ map token_of out.old.items
         ++ telling keyword (token_of operand.entry)) }
 {
     add_all(
@@ -137,7 +139,7 @@ fn telling<'a>(
 impl<'a> Scoped<'a> {
     /// Adds an expression.
     fn expression(&self, expr: &Expr, out: &mut Vec<Token<'a>>) -> Result<(), AllocError>
-        ensures { OnOk result (map token_of out.new.items ≡ map token_of out.old.items
+        ensures appended { OnOk result (map token_of out.new.items ≡ map token_of out.old.items
             ++ expression_tokens (expression_map (name_in (names_in self.now)) (expression_of expr.now))) }
     {
         match expr {
@@ -173,7 +175,7 @@ impl<'a> Scoped<'a> {
 
     /// Adds a keyword and a semicolon.
     fn bare(&self, keyword: Keyword, out: &mut Vec<Token<'a>>) -> Result<(), AllocError>
-        ensures { OnOk result (map token_of out.new.items ≡ map token_of out.old.items ++ bare keyword) }
+        ensures appended { OnOk result (map token_of out.new.items ≡ map token_of out.old.items ++ bare keyword) }
     {
         add_all(out, &[Token::Keyword(keyword), Token::Semicolon])
     }
@@ -186,7 +188,7 @@ impl<'a> Scoped<'a> {
         number: u8,
         out: &mut Vec<Token<'a>>,
     ) -> Result<(), AllocError>
-        ensures { OnOk result (map token_of out.new.items ≡ map token_of out.old.items
+        ensures appended { OnOk result (map token_of out.new.items ≡ map token_of out.old.items
             ++ about keyword (name_in (names_in self.now) (class_of class) number)) }
     {
         let name = self.name(class, number);
@@ -200,7 +202,7 @@ impl<'a> Scoped<'a> {
         value: &Expr,
         out: &mut Vec<Token<'a>>,
     ) -> Result<(), AllocError>
-        ensures { OnOk result (map token_of out.new.items ≡ map token_of out.old.items
+        ensures appended { OnOk result (map token_of out.new.items ≡ map token_of out.old.items
             ++ valued keyword (expression_map (name_in (names_in self.now)) (expression_of value.now))) }
     {
         add(out, Token::Keyword(keyword))?;
@@ -210,7 +212,7 @@ impl<'a> Scoped<'a> {
 
     /// Adds a semicolon, and before it `into` and the variable that gets the result, if there is one.
     fn into_end(&self, told: Option<u8>, out: &mut Vec<Token<'a>>) -> Result<(), AllocError>
-        ensures { OnOk result (map token_of out.new.items ≡ map token_of out.old.items
+        ensures appended { OnOk result (map token_of out.new.items ≡ map token_of out.old.items
             ++ into_tokens (option_map (name_in (names_in self.now) a_variable) told)) }
     {
         match told {
@@ -232,7 +234,7 @@ impl<'a> Scoped<'a> {
         value: &Expr,
         out: &mut Vec<Token<'a>>,
     ) -> Result<(), AllocError>
-        ensures { OnOk result (map token_of out.new.items ≡ map token_of out.old.items
+        ensures appended { OnOk result (map token_of out.new.items ≡ map token_of out.old.items
             ++ (map token_of front.now ++ expression_tokens
             (expression_map (name_in (names_in self.now)) (expression_of value.now)))) }
     {
@@ -248,7 +250,7 @@ impl<'a> Scoped<'a> {
         told: Option<u8>,
         out: &mut Vec<Token<'a>>,
     ) -> Result<(), AllocError>
-        ensures { OnOk result (map token_of out.new.items ≡ map token_of out.old.items
+        ensures appended { OnOk result (map token_of out.new.items ≡ map token_of out.old.items
             ++ action_tokens (action_map (name_in (names_in self.now))
             (post process (sent_of event) (expression_of word.now) told))) }
     {
@@ -265,7 +267,7 @@ impl<'a> Scoped<'a> {
         told: Option<u8>,
         out: &mut Vec<Token<'a>>,
     ) -> Result<(), AllocError>
-        ensures { OnOk result (map token_of out.new.items ≡ map token_of out.old.items
+        ensures appended { OnOk result (map token_of out.new.items ≡ map token_of out.old.items
             ++ action_tokens (action_map (name_in (names_in self.now))
             (broadcast (cast_of event) (expression_of word.now) told))) }
     {
@@ -281,7 +283,7 @@ impl<'a> Scoped<'a> {
         word: &Expr,
         out: &mut Vec<Token<'a>>,
     ) -> Result<(), AllocError>
-        ensures { OnOk result (map token_of out.new.items ≡ map token_of out.old.items
+        ensures appended { OnOk result (map token_of out.new.items ≡ map token_of out.old.items
             ++ action_tokens (action_map (name_in (names_in self.now))
             (synch process (sent_of event) (expression_of word.now)))) }
     {
@@ -292,7 +294,7 @@ impl<'a> Scoped<'a> {
     }
 
     fn set(&self, timer: u8, interval: &Expr, out: &mut Vec<Token<'a>>) -> Result<(), AllocError>
-        ensures { OnOk result (map token_of out.new.items ≡ map token_of out.old.items
+        ensures appended { OnOk result (map token_of out.new.items ≡ map token_of out.old.items
             ++ action_tokens (action_map (name_in (names_in self.now)) (set timer (expression_of interval.now)))) }
     {
         let timer = self.name(Class::Timer, timer);
@@ -301,7 +303,7 @@ impl<'a> Scoped<'a> {
     }
 
     fn assign(&self, variable: u8, value: &Expr, out: &mut Vec<Token<'a>>) -> Result<(), AllocError>
-        ensures { OnOk result (map token_of out.new.items ≡ map token_of out.old.items
+        ensures appended { OnOk result (map token_of out.new.items ≡ map token_of out.old.items
             ++ action_tokens (action_map (name_in (names_in self.now)) (assign variable (expression_of value.now)))) }
     {
         let variable = self.name(Class::Variable, variable);
@@ -311,7 +313,7 @@ impl<'a> Scoped<'a> {
 
     /// Adds a statement that has no block.
     fn action(&self, action: &Action, out: &mut Vec<Token<'a>>) -> Result<(), AllocError>
-        ensures { OnOk result (map token_of out.new.items ≡ map token_of out.old.items
+        ensures appended { OnOk result (map token_of out.new.items ≡ map token_of out.old.items
             ++ action_tokens (action_map (name_in (names_in self.now)) (action_of action.now))) }
     {
         match action {
@@ -352,7 +354,7 @@ impl<'a> Scoped<'a> {
     /// Adds a statement.
     #[cycle(unparse)]
     fn statement(&self, statement: &Stmt, out: &mut Vec<Token<'a>>) -> Result<(), AllocError>
-        ensures { OnOk result (map token_of out.new.items ≡ map token_of out.old.items
+        ensures appended { OnOk result (map token_of out.new.items ≡ map token_of out.old.items
             ++ statement_tokens (statement_map (name_in (names_in self.now)) (statement_of statement.now))) }
     {
         match statement {
@@ -378,7 +380,7 @@ impl<'a> Scoped<'a> {
     /// Adds a block.
     #[cycle(unparse)]
     pub(crate) fn block(&self, block: &Block, out: &mut Vec<Token<'a>>) -> Result<(), AllocError>
-        ensures { OnOk result (map token_of out.new.items ≡ map token_of out.old.items
+        ensures appended { OnOk result (map token_of out.new.items ≡ map token_of out.old.items
             ++ block_tokens (body_map (name_in (names_in self.now)) (block_of block.now))) }
     {
         add(out, Token::OpenBrace)?;

@@ -24,7 +24,8 @@ fn listed<'a>(
     names: &'a Names,
     out: &mut Vec<Token<'a>>,
 ) -> Result<(), AllocError>
-    ensures { OnOk result (map token_of out.new.items ≡ map token_of out.old.items ++ flat_map (listed_tokens keyword)
+    ensures appended { OnOk result (map token_of out.new.items
+        ≡ map token_of out.old.items ++ flat_map (listed_tokens keyword)
         names.now) }
 {
     for place in 0..names.len() {
@@ -41,8 +42,9 @@ fn valued<'a>(
     values: &[u16],
     out: &mut Vec<Token<'a>>,
 ) -> Result<(), AllocError>
-    requires { length values.now ≡ length names.now }
-    ensures { OnOk result (map token_of out.new.items ≡ map token_of out.old.items ++ flat_map (valued_tokens keyword)
+    requires same_length { length values.now ≡ length names.now }
+    ensures appended { OnOk result (map token_of out.new.items
+        ≡ map token_of out.old.items ++ flat_map (valued_tokens keyword)
         (zip names.now values.now)) }
 {
     for place in 0..names.len() {
@@ -65,7 +67,7 @@ fn valued<'a>(
 impl<'a> Scoped<'a> {
     /// Adds a block of the process.
     fn flat_block(&self, block: &FlatBlock, out: &mut Vec<Token<'a>>) -> Result<(), AllocError>
-        ensures { OnOk result (map token_of out.new.items ≡ map token_of out.old.items
+        ensures appended { OnOk result (map token_of out.new.items ≡ map token_of out.old.items
             ++ block_tokens (block_with (names_in self.now) (tree_in block.now))) }
     {
         self.block(block.block(), out)
@@ -79,8 +81,8 @@ impl<'a> Scoped<'a> {
         blocks: &[FlatBlock],
         out: &mut Vec<Token<'a>>,
     ) -> Result<(), AllocError>
-        requires { length blocks.now ≡ length names.now }
-        ensures { OnOk result (map token_of out.new.items ≡ map token_of out.old.items
+        requires same_length { length blocks.now ≡ length names.now }
+        ensures appended { OnOk result (map token_of out.new.items ≡ map token_of out.old.items
             ++ flat_map (named_tokens keyword) (zip names.now
             (map (block_with (names_in self.now)) (map tree_in blocks.now)))) }
     {
@@ -99,7 +101,7 @@ impl<'a> Scoped<'a> {
         block: &Option<FlatBlock>,
         out: &mut Vec<Token<'a>>,
     ) -> Result<(), AllocError>
-        ensures { OnOk result (map token_of out.new.items ≡ map token_of out.old.items
+        ensures appended { OnOk result (map token_of out.new.items ≡ map token_of out.old.items
             ++ handler_tokens keyword (option_map (block_with (names_in self.now)) (option_map tree_in block.now))) }
     {
         match block {
@@ -113,7 +115,7 @@ impl<'a> Scoped<'a> {
 
     /// Adds what the code declares.
     fn declared(&self, out: &mut Vec<Token<'a>>) -> Result<(), AllocError>
-        ensures { OnOk result (map token_of out.new.items ≡ map token_of out.old.items
+        ensures appended { OnOk result (map token_of out.new.items ≡ map token_of out.old.items
             ++ declared_tokens (code_with (names_in self.now) (code_of self.now.code.now))) }
     {
         let code = self.code;
@@ -125,7 +127,7 @@ impl<'a> Scoped<'a> {
 
     /// Adds the blocks that the process runs, and the last brace.
     fn runs(&self, out: &mut Vec<Token<'a>>) -> Result<(), AllocError>
-        ensures { OnOk result (map token_of out.new.items ≡ map token_of out.old.items
+        ensures appended { OnOk result (map token_of out.new.items ≡ map token_of out.old.items
             ++ runs_tokens (code_with (names_in self.now) (code_of self.now.code.now))) }
     {
         let code = self.code;
@@ -138,7 +140,7 @@ impl<'a> Scoped<'a> {
 
     /// Adds the code, of the process with this name.
     fn code(&self, name: &'a str, out: &mut Vec<Token<'a>>) -> Result<(), AllocError>
-        ensures { OnOk result (map token_of out.new.items ≡ map token_of out.old.items
+        ensures appended { OnOk result (map token_of out.new.items ≡ map token_of out.old.items
             ++ code_tokens (name.now, code_with (names_in self.now) (code_of self.now.code.now))) }
     {
         add_all(
@@ -156,7 +158,7 @@ impl<'a> Scoped<'a> {
 
 /// Adds the codes of all processes.
 fn codes<'a>(program: &'a Program, out: &mut Vec<Token<'a>>) -> Result<(), AllocError>
-    ensures { OnOk result (map token_of out.new.items ≡ map token_of out.old.items
+    ensures appended { OnOk result (map token_of out.new.items ≡ map token_of out.old.items
         ++ flat_map code_tokens (codes_of_tree (tree_of program.now))) }
 {
     for place in 0..program.codes.len() {
@@ -171,7 +173,8 @@ fn codes<'a>(program: &'a Program, out: &mut Vec<Token<'a>>) -> Result<(), Alloc
 
 /// Adds the process line.
 fn processes<'a>(names: &'a Names, out: &mut Vec<Token<'a>>) -> Result<(), AllocError>
-    ensures { OnOk result (map token_of out.new.items ≡ map token_of out.old.items ++ process_tokens names.now) }
+    ensures appended { OnOk result (map token_of out.new.items
+        ≡ map token_of out.old.items ++ process_tokens names.now) }
 {
     let first = Token::Name(name_at(names, 0));
     add_all(out, &[Token::Keyword(Keyword::Process), first])?;
@@ -188,7 +191,7 @@ fn autostart<'a>(
     numbers: &[u8],
     out: &mut Vec<Token<'a>>,
 ) -> Result<(), AllocError>
-    ensures { OnOk result (map token_of out.new.items ≡ map token_of out.old.items
+    ensures appended { OnOk result (map token_of out.new.items ≡ map token_of out.old.items
         ++ autostart_tokens (map (λ i. slice_index_or names.now i []) numbers.now)) }
 {
     let [first, others @ ..] = numbers else {
@@ -209,7 +212,7 @@ fn receiver<'a>(
     receiver: Option<u8>,
     out: &mut Vec<Token<'a>>,
 ) -> Result<(), AllocError>
-    ensures { OnOk result (map token_of out.new.items ≡ map token_of out.old.items
+    ensures appended { OnOk result (map token_of out.new.items ≡ map token_of out.old.items
         ++ receiver_tokens (option_map (λ i. slice_index_or names.now i []) receiver)) }
 {
     let Some(process) = receiver else {
@@ -224,7 +227,8 @@ fn receiver<'a>(
 
 /// Adds what the program declares.
 fn head<'a>(program: &'a Program, out: &mut Vec<Token<'a>>) -> Result<(), AllocError>
-    ensures { OnOk result (let t = tree_of program.now in map token_of out.new.items ≡ map token_of out.old.items ++
+    ensures appended { OnOk result (let t = tree_of program.now in map token_of out.new.items
+        ≡ map token_of out.old.items ++
         head_tokens t.events (zip t.semaphores t.counts) t.processes
         (map (λ i. slice_index_or t.processes i []) t.autostart)
         (option_map (λ i. slice_index_or t.processes i []) t.receiver)) }
@@ -243,7 +247,7 @@ fn head<'a>(program: &'a Program, out: &mut Vec<Token<'a>>) -> Result<(), AllocE
 
 /// The tokens of a program.
 pub(crate) fn unparse<'a>(alloc: Global, program: &'a Program) -> Result<Vec<Token<'a>>, AllocError>
-    ensures { IfOk result (λ ts. map token_of ts.items ≡ spelled_tokens (tree_of program.now)) }
+    ensures tokens { IfOk result (λ ts. map token_of ts.items ≡ spelled_tokens (tree_of program.now)) }
 {
     let mut out = Vec::new(alloc);
     head(program, &mut out)?;

@@ -28,7 +28,7 @@ impl Callbacks {
     /// # Errors
     /// `AllocError` if an allocation fails.
     pub fn new(alloc: Global, n: u16) -> Result<Callbacks, AllocError>
-        ensures { IfOk result (λ callbacks. callbacks ≡ numbers [] n) }
+        ensures empty { IfOk result (λ callbacks. callbacks ≡ numbers [] n) }
     {
         Ok(Callbacks {
             waiting: NumberList::new(alloc, n)?,
@@ -37,15 +37,15 @@ impl Callbacks {
 
     /// Puts a timer's callback at the front of the list. One that is there keeps its place.
     pub fn put(&mut self, id: u16)
-        requires { id < self.old.limit }
-        ensures { self.new ≡ numbers (with_member id self.old.members) self.old.limit }
+        requires in_range { id < self.old.limit }
+        ensures after { self.new ≡ numbers (with_member id self.old.members) self.old.limit }
     {
         self.waiting.add(id);
     }
 
     /// Takes a timer's callback off the list, and returns whether it was there.
     pub fn remove(&mut self, id: u16) -> bool
-        requires { id < self.old.limit }
+        requires in_range { id < self.old.limit }
         ensures was_there { result ≡ is_member id self.old.members }
         ensures after { self.new ≡ numbers (without_member id self.old.members) self.old.limit }
     {
@@ -56,8 +56,8 @@ impl Callbacks {
 
     /// Returns whether a timer's callback is on the list.
     pub fn holds(&self, id: u16) -> bool
-        requires { id < self.now.limit }
-        ensures { result ≡ is_member id self.now.members }
+        requires in_range { id < self.now.limit }
+        ensures value { result ≡ is_member id self.now.members }
     {
         self.waiting.contains(id)
     }

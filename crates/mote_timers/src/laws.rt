@@ -5,12 +5,12 @@ ghost use Rattle.mote_timers.specs.TimerCalls.{DueFromNextExpiration};
 
 /// After any calls, a timer is on the timer list at most once, and so a walk along it comes to an end.
 pub fn listed_once()
-    ensures { ListedOnce }
+    ensures listed_once { ListedOnce }
 {}
 
 /// No call adds a timer or takes one away: the numbers that a caller may use stay the same.
 pub fn timers_stay()
-    ensures { KeepsTimers }
+    ensures keeps_timers { KeepsTimers }
 {}
 
 /// A timer that was set, and neither fired nor stopped nor purged since, is due exactly from its start plus its
@@ -22,5 +22,5 @@ pub fn due_from_expiration()
 
 /// The next expiration is the first moment at which `next_due` finds a timer, from the front of the list on.
 pub fn due_from_next_expiration()
-    ensures { DueFromNextExpiration }
+    ensures due_from_next_expiration { DueFromNextExpiration }
 {}

@@ -31,7 +31,7 @@ impl NumberList {
     /// # Errors
     /// `AllocError` if an allocation fails.
     pub fn new(alloc: Global, limit: u16) -> Result<NumberList, AllocError>
-        ensures { IfOk result (λ list. list ≡ numbers [] limit) }
+        ensures empty { IfOk result (λ list. list ≡ numbers [] limit) }
     {
         Ok(NumberList {
             members: Vec::with_capacity(alloc, usize::from(limit))?,
@@ -48,15 +48,15 @@ impl NumberList {
 
     /// Returns whether a number is on the list.
     pub fn contains(&self, number: u16) -> bool
-        ensures { result ≡ is_member number self.now.members }
+        ensures value { result ≡ is_member number self.now.members }
     {
         self.members.contains(&number)
     }
 
     /// Puts a number at the front. One that is on the list keeps its place.
     pub fn add(&mut self, number: u16)
-        requires { number < self.old.limit }
-        ensures { self.new ≡ numbers (with_member number self.old.members) self.old.limit }
+        requires in_range { number < self.old.limit }
+        ensures after { self.new ≡ numbers (with_member number self.old.members) self.old.limit }
     {
         if !self.contains(number) {
             self.members.insert(0, number).unwrap();
@@ -65,7 +65,7 @@ impl NumberList {
 
     /// Keeps the numbers for which the closure returns true.
     pub fn retain<F: FnMut(&u16) -> bool>(&mut self, keep: F)
-        requires { F.IsAlwaysCallable keep }
+        requires callable { F.IsAlwaysCallable keep }
         ensures kept { IsFiltered (CalledAt F.FnMut) keep self.old.members self.new.members }
         ensures limit { self.new.limit ≡ self.old.limit }
     {
@@ -74,7 +74,7 @@ impl NumberList {
 
     /// Takes a number off the list, if it is there.
     pub fn remove(&mut self, number: u16)
-        ensures { self.new ≡ numbers (without_member number self.old.members) self.old.limit }
+        ensures after { self.new ≡ numbers (without_member number self.old.members) self.old.limit }
     {
         self.retain(|k| *k != number);
     }

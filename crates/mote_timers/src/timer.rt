@@ -22,7 +22,7 @@ impl Timer {
 
     /// A timer before it is first set.
     pub fn unset() -> Timer
-        ensures { result ≡ unset }
+        ensures value { result ≡ unset }
     {
         Timer {
             start: 0,
@@ -33,22 +33,22 @@ impl Timer {
 
     /// The moment from which on the timer is due.
     pub fn expiration(&self) -> u64
-        requires { self.now.start ≤ 2 ^ 62 }
-        ensures { result ≡ expiration self.now }
+        requires start_bounded { self.now.start ≤ 2 ^ 62 }
+        ensures value { result ≡ expiration self.now }
     {
         self.start + u64::from(self.interval)
     }
 
     /// Returns whether the timer is due at this moment.
     pub fn is_due(&self, now: u64) -> bool
-        ensures { result ≡ is_due now self.now }
+        ensures value { result ≡ is_due now self.now }
     {
         now >= self.start && now - self.start >= u64::from(self.interval)
     }
 
     /// Returns whether this process owns the timer.
     pub fn is_owned_by(&self, owner: Proc) -> bool
-        ensures { result ≡ is_owned_by owner self.now }
+        ensures value { result ≡ is_owned_by owner self.now }
     {
         self.owner == Some(owner)
     }

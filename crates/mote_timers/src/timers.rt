@@ -71,7 +71,7 @@ impl Timers {
     /// 62. It gets this owner, and its place on the list is as in `set`.
     #[tactic(auto, unfolding(crate::specs::TimerLists::reset_timer))]
     pub fn reset(&mut self, id: u16, owner: Proc)
-        requires { id < length self.old.timers }
+        requires is_timer { id < length self.old.timers }
         ensures after { self.new ≡ reset_timer self.old id owner }
         ensures count { length self.new.timers ≡ length self.old.timers }
     {
@@ -100,7 +100,7 @@ impl Timers {
     /// Takes a timer off the list. It has no owner then, so it has expired.
     #[tactic(auto, unfolding(crate::specs::TimerLists::stop_timer))]
     pub fn stop(&mut self, id: u16)
-        requires { id < length self.old.timers }
+        requires is_timer { id < length self.old.timers }
         ensures after { self.new ≡ stop_timer self.old id }
         ensures count { length self.new.timers ≡ length self.old.timers }
     {
@@ -110,8 +110,8 @@ impl Timers {
 
     /// Returns whether a timer has no owner: it was never set, or was stopped, or its event was posted.
     pub fn expired(&self, id: u16) -> bool
-        requires { id < length self.now.timers }
-        ensures { IsTrue result ↔ IsNone (timer_at self.now.timers id).owner }
+        requires is_timer { id < length self.now.timers }
+        ensures decides { IsTrue result ↔ IsNone (timer_at self.now.timers id).owner }
     {
         self.timers[usize::from(id)].owner.is_none()
     }
@@ -134,7 +134,7 @@ impl Timers {
 
     /// Takes a timer off the list, as its event was posted. It has no owner then.
     pub fn fire(&mut self, id: u16)
-        requires { id < length self.old.timers }
+        requires is_timer { id < length self.old.timers }
         ensures after { self.new ≡ stop_timer self.old id }
         ensures count { length self.new.timers ≡ length self.old.timers }
     {
@@ -154,7 +154,7 @@ impl Timers {
     /// The earliest moment at which a timer on the list is due, if there is one on it.
     #[tactic(auto, unfolding(crate::specs::TimerLists::next_expiration_of))]
     pub fn next_expiration(&self) -> Option<u64>
-        ensures { result ≡ next_expiration_of self.now }
+        ensures value { result ≡ next_expiration_of self.now }
     {
         earliest(&self.timers, self.listed.as_slice())
     }
@@ -163,7 +163,7 @@ impl Timers {
         requires is_timer { id < length self.old.timers }
         requires start { timer.start ≤ 2 ^ 62 }
         requires owner { IsSome timer.owner }
-        ensures { self.new ≡ with_timer self.old id timer }
+        ensures after { self.new ≡ with_timer self.old id timer }
     {
         self.timers[usize::from(id)] = timer;
         self.listed.add(id);
@@ -184,7 +184,7 @@ fn first_due_behind(timers: &[Timer], listed: &[u16], after: Option<u16>, now: u
 
 /// The part of the list after a member of it, or the whole list.
 fn listed_behind(listed: &[u16], after: Option<u16>) -> &[u16]
-    ensures { result.now ≡ behind after listed.now }
+    ensures value { result.now ≡ behind after listed.now }
 {
     match after {
         None => listed,
@@ -197,15 +197,15 @@ fn listed_behind(listed: &[u16], after: Option<u16>) -> &[u16]
 
 /// The place of a number on the list.
 fn place_of(listed: &[u16], id: u16) -> Option<usize>
-    ensures { result ≡ position (λ other. other == id) listed.now }
+    ensures position { result ≡ position (λ other. other == id) listed.now }
 {
     listed.iter().position(|other| *other == id)
 }
 
 /// The first of these timers that is due.
 fn first_due_of(timers: &[Timer], ids: &[u16], now: u64) -> Option<u16>
-    requires { All (λ id. id < length timers.now) ids.now }
-    ensures { result ≡ find (λ id. is_due now (timer_at timers.now id)) ids.now }
+    requires are_timers { All (λ id. id < length timers.now) ids.now }
+    ensures first_due { result ≡ find (λ id. is_due now (timer_at timers.now id)) ids.now }
 {
     ids.iter()
         .copied()
@@ -216,7 +216,7 @@ fn first_due_of(timers: &[Timer], ids: &[u16], now: u64) -> Option<u16>
 fn earliest(timers: &[Timer], ids: &[u16]) -> Option<u64>
     requires bounded { All (λ timer. timer.start ≤ 2 ^ 62) timers.now }
     requires are_timers { All (λ id. id < length timers.now) ids.now }
-    ensures { result ≡ least (map (λ id. expiration (timer_at timers.now id)) ids.now) }
+    ensures value { result ≡ least (map (λ id. expiration (timer_at timers.now id)) ids.now) }
 {
     let mut earliest = None;
     for id in ids {
@@ -228,14 +228,14 @@ fn earliest(timers: &[Timer], ids: &[u16]) -> Option<u64>
 
 /// The sooner of the best moment so far, if there is one, and another.
 fn sooner(best: Option<u64>, moment: u64) -> u64
-    ensures { result ≡ option_map_or (λ earlier. min earlier moment) best moment }
+    ensures value { result ≡ option_map_or (λ earlier. min earlier moment) best moment }
 {
     best.map_or(moment, |earlier| earlier.min(moment))
 }
 
 /// Returns whether the process owns this timer. Nobody owns a number without a timer.
 fn is_owned(timers: &[Timer], id: u16, owner: Proc) -> bool
-    ensures { result ≡ is_owned_by owner (timer_at timers.now id) }
+    ensures value { result ≡ is_owned_by owner (timer_at timers.now id) }
 {
     timers
         .get(usize::from(id))

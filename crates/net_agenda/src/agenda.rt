@@ -23,7 +23,7 @@ pub struct Agenda {
 
 /// The sum of two counts of copies. If it overflows, there are more copies than any memory holds.
 fn plus(one: u64, other: u64) -> Result<u64, AllocError>
-    ensures { IfOk result (λ sum. sum ≡ one + other) }
+    ensures sum { IfOk result (λ sum. sum ≡ one + other) }
 {
     one.checked_add(other).ok_or(AllocError)
 }
@@ -31,7 +31,7 @@ fn plus(one: u64, other: u64) -> Result<u64, AllocError>
 impl Agenda {
     /// No event is pending.
     pub fn new(alloc: Global) -> Agenda
-        ensures { Holds result.buckets [] }
+        ensures empty { Holds result.buckets [] }
     {
         Agenda {
             alloc,
@@ -42,7 +42,7 @@ impl Agenda {
 
     /// Adds a pending event of a mote at a moment.
     fn put(&mut self, moment: u64, coming: Coming) -> Result<(), AllocError>
-        ensures { OnOk result (Adds self.old.buckets self.new.buckets (item_at moment coming ∷ [])) }
+        ensures adds { OnOk result (Adds self.old.buckets self.new.buckets (item_at moment coming ∷ [])) }
     {
         if let Some(bucket) = self.buckets.get_mut(&moment) {
             return bucket.put(coming);
@@ -58,7 +58,7 @@ impl Agenda {
     /// # Errors
     /// `AllocError` if an allocation fails.
     pub fn put_wake(&mut self, moment: u64, mote: u16) -> Result<(), AllocError>
-        ensures { OnOk result (Adds self.old.buckets self.new.buckets (Wake moment mote ∷ [])) }
+        ensures adds { OnOk result (Adds self.old.buckets self.new.buckets (Wake moment mote ∷ [])) }
     {
         self.put(moment, Coming::Wake(mote))
     }
@@ -68,7 +68,7 @@ impl Agenda {
     /// # Errors
     /// `AllocError` if an allocation fails.
     pub fn put_next_wake(&mut self, wake: Option<u64>, mote: u16) -> Result<(), AllocError>
-        ensures { OnOk result (Adds self.old.buckets self.new.buckets (wake_items mote wake)) }
+        ensures adds { OnOk result (Adds self.old.buckets self.new.buckets (wake_items mote wake)) }
     {
         if let Some(moment) = wake {
             self.put_wake(moment, mote)?;
@@ -101,7 +101,7 @@ impl Agenda {
     /// # Errors
     /// `AllocError` if an allocation fails. Some of the packets may have been added then.
     pub fn put_copies(&mut self, copies: &[RadioCopy]) -> Result<(), AllocError>
-        ensures { OnOk result (Adds self.old.buckets self.new.buckets (map Packet copies.now)) }
+        ensures adds { OnOk result (Adds self.old.buckets self.new.buckets (map Packet copies.now)) }
     {
         let mut next = 0;
         while next < copies.len() {
@@ -140,7 +140,7 @@ impl Agenda {
     /// # Errors
     /// `AllocError` if an allocation fails. Some of the copies may have been added then.
     pub fn put_fates(&mut self, sent: &Sent, fates: &[Fate]) -> Result<(), AllocError>
-        ensures { OnOk result (Adds self.old.buckets self.new.buckets
+        ensures adds { OnOk result (Adds self.old.buckets self.new.buckets
             (map Packet (filter_map (copy_of sent.now) fates.now))) }
     {
         let mut next = 0;
@@ -155,7 +155,7 @@ impl Agenda {
     /// # Errors
     /// `AllocError` by its type only: the body allocates nothing and returns no error.
     pub fn drop_wake(&mut self, wake: Option<u64>, mote: u16) -> Result<(), AllocError>
-        ensures { OnOk result (DropsWake mote wake self.old.buckets self.new.buckets) }
+        ensures drops_wake { OnOk result (DropsWake mote wake self.old.buckets self.new.buckets) }
     {
         let Some(moment) = wake else {
             return Ok(());
@@ -179,7 +179,7 @@ impl Agenda {
         next: Option<u64>,
         mote: u16,
     ) -> Result<(), AllocError>
-        ensures { OnOk result (MovesWake mote wake next self.old.buckets self.new.buckets) }
+        ensures moves_wake { OnOk result (MovesWake mote wake next self.old.buckets self.new.buckets) }
     {
         if wake == next {
             return Ok(());
@@ -234,7 +234,8 @@ impl Agenda {
     /// # Errors
     /// Only for a number above `u64::MAX`, for which no memory has room.
     pub fn left(self) -> Result<u64, AllocError>
-        ensures { (items : List Item) → Holds self.buckets items → IfOk result (λ left. left ≡ length (packets items)) }
+        ensures count { (items : List Item) → Holds self.buckets items → IfOk result
+            (λ left. left ≡ length (packets items)) }
     {
         let mut buckets = self.buckets;
         // The map is asked for its length since it then says that its keys rise, which the proof needs.

@@ -17,7 +17,7 @@ const LONG: usize = 4_096;
 /// Makes room for more lines, if there is none. A short trace gets room for four times its lines, since they are
 /// copied then; one that isn't short gets all the room of a long one at once, and a long one grows as a list does.
 fn make_room(trace: &mut Vec<Line>, more: usize) -> Result<(), AllocError>
-    ensures { trace.new.items ≡ trace.old.items }
+    ensures same { trace.new.items ≡ trace.old.items }
 {
     let len = trace.len();
     if trace.capacity() - len < more && len < LONG {
@@ -32,7 +32,7 @@ fn make_room(trace: &mut Vec<Line>, more: usize) -> Result<(), AllocError>
 /// # Errors
 /// Out of memory only.
 pub fn extend_trace(trace: &mut Vec<Line>, lines: &mut Vec<Line>) -> Result<(), AllocError>
-    ensures { OnOk result (trace.new.items ≡ trace.old.items ++ lines.old.items) }
+    ensures appended { OnOk result (trace.new.items ≡ trace.old.items ++ lines.old.items) }
 {
     make_room(trace, lines.len())?;
     trace.append(lines)?;
@@ -48,8 +48,8 @@ pub fn add_lines(
     number: u16,
     lines: &mut Vec<Line>,
 ) -> Result<(), AllocError>
-    requires { number < length traces.old.items }
-    ensures { OnOk result (AddsLines number lines.old.items traces.old.items traces.new.items) }
+    requires in_range { number < length traces.old.items }
+    ensures adds_lines { OnOk result (AddsLines number lines.old.items traces.old.items traces.new.items) }
 {
     extend_trace(&mut traces[usize::from(number)], lines)
 }

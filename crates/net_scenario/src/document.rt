@@ -14,7 +14,7 @@ use toml::{Table, Value};
 
 /// The version of a document: the second if its number is 2.
 pub fn version_of(top: &Table) -> Version
-    ensures { result ≡ version_of (table_view top.now) }
+    ensures value { result ≡ version_of (table_view top.now) }
 {
     match value_at(top, "version") {
         Some(Value::Integer(2)) => Version::Second,
@@ -25,7 +25,7 @@ pub fn version_of(top: &Table) -> Version
 /// The first fault of the tables among the items.
 #[tactic(auto, using(crate::proofs::Each::after_item))]
 fn check_each(version: Version, items: &[Value], keys: &[Key]) -> Result<(), TableFault>
-    ensures { Checks result (first_some (keys_fault (known_in version (map rule_of keys.now)))
+    ensures checks { Checks result (first_some (keys_fault (known_in version (map rule_of keys.now)))
         (tables_in (items_view items.now))) }
 {
     for item in items {
@@ -38,7 +38,7 @@ fn check_each(version: Version, items: &[Value], keys: &[Key]) -> Result<(), Tab
 
 /// A mote's program has to be among the programs.
 fn check_program(programs: &Table, mote: &Table) -> Result<(), TableFault>
-    ensures { Checks result (program_fault (table_view programs.now) (table_view mote.now)) }
+    ensures checks { Checks result (program_fault (table_view programs.now) (table_view mote.now)) }
 {
     match value_at(programs, text_at(mote, "program")) {
         Some(_) => Ok(()),
@@ -49,7 +49,8 @@ fn check_program(programs: &Table, mote: &Table) -> Result<(), TableFault>
 /// The first mote whose program isn't among the programs is a fault.
 #[tactic(auto, using(crate::proofs::Each::after_item))]
 fn check_programs(programs: &Table, motes: &[Value]) -> Result<(), TableFault>
-    ensures { Checks result (first_some (program_fault (table_view programs.now)) (tables_in (items_view motes.now))) }
+    ensures checks { Checks result
+        (first_some (program_fault (table_view programs.now)) (tables_in (items_view motes.now))) }
 {
     for item in motes {
         if let Some(mote) = item.as_table() {
@@ -65,7 +66,7 @@ fn check_programs(programs: &Table, motes: &[Value]) -> Result<(), TableFault>
 /// The first fault of the tables.
 #[tactic(auto, using(crate::proofs::Each::document_fault_of))]
 pub fn check_document(top: &Table) -> Result<(), TableFault>
-    ensures { Checks result (document_fault (table_view top.now)) }
+    ensures checks { Checks result (document_fault (table_view top.now)) }
 {
     let version = version_of(top);
     check_keys(version, top, &top_keys())?;

@@ -44,7 +44,7 @@ impl ScenarioError {
 
     /// The number that is printed.
     pub fn number(&self) -> u8
-        ensures { result ≡ scenario_fault_number self.now }
+        ensures number { result ≡ scenario_fault_number self.now }
     {
         match self {
             ScenarioError::Toml => 1,

@@ -7,7 +7,7 @@ use program_reader::laws::{
 
 /// A text describes at most one net.
 pub fn at_most_one_net()
-    ensures { OneNet }
+    ensures one_net { OneNet }
 {
     at_most_one_tree();
     at_most_one_program_fault();
@@ -16,7 +16,7 @@ pub fn at_most_one_net()
 
 /// A text has at most one first fault.
 pub fn at_most_one_fault()
-    ensures { OneFault }
+    ensures one_fault { OneFault }
 {
     at_most_one_tree();
     at_most_one_program_fault();
@@ -25,7 +25,7 @@ pub fn at_most_one_fault()
 
 /// No text describes a net and has a fault.
 pub fn never_a_net_and_a_fault()
-    ensures { NeverBoth }
+    ensures never_both { NeverBoth }
 {
     at_most_one_tree();
     at_most_one_program_fault();
@@ -34,7 +34,7 @@ pub fn never_a_net_and_a_fault()
 
 /// Each text describes a net or has a fault.
 pub fn a_net_or_a_fault()
-    ensures { NetOrFault }
+    ensures net_or_fault { NetOrFault }
 {
     tree_or_fault();
 }

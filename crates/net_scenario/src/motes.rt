@@ -19,8 +19,8 @@ use toml::{Table, Value};
 
 /// The index of the program with a name, among programs in byte order of their names.
 fn index_of(programs: &[NamedProgram], name: &str) -> Option<usize>
-    requires { AreInOrder programs.now }
-    ensures { result ≡ position_from (λ p. bytes_eq p.name name.now) 0 programs.now }
+    requires are_in_order { AreInOrder programs.now }
+    ensures position { result ≡ position_from (λ p. bytes_eq p.name name.now) 0 programs.now }
 {
     match programs.binary_search_by(|program| program.name.as_str().cmp(name)) {
         Ok(index) => Some(index),

@@ -12,7 +12,7 @@ use crate::limits::{LONGEST_NAME, MOST_PROGRAMS};
 use toml::Table;
 
 fn is_name_byte(byte: u8) -> bool
-    ensures { result ≡ is_name_byte byte }
+    ensures value { result ≡ is_name_byte byte }
 {
     match byte {
         b'A'..=b'Z' | b'a'..=b'z' | b'0'..=b'9' | b'_' | b'-' => true,
@@ -21,25 +21,25 @@ fn is_name_byte(byte: u8) -> bool
 }
 
 fn has_name_bytes(name: &str) -> bool
-    ensures { result ≡ list_all is_name_byte name.now }
+    ensures value { result ≡ list_all is_name_byte name.now }
 {
     name.bytes().all(|byte| is_name_byte(byte))
 }
 
 fn is_program_name(name: &str) -> bool
-    ensures { result ≡ is_program_name name.now }
+    ensures value { result ≡ is_program_name name.now }
 {
     !name.is_empty() && name.len() <= LONGEST_NAME && has_name_bytes(name)
 }
 
 fn any_misnamed(table: &Table) -> bool
-    ensures { result ≡ list_any (λ k. not (is_program_name (string_bytes k))) (keys_of table.now.entries) }
+    ensures value { result ≡ list_any (λ k. not (is_program_name (string_bytes k))) (keys_of table.now.entries) }
 {
     table.keys().any(|name| !is_program_name(name.as_str()))
 }
 
 fn any_no_text(table: &Table) -> bool
-    ensures { result ≡ list_any (λ v. not (is_some (as_str (view v)))) (values_of table.now.entries) }
+    ensures value { result ≡ list_any (λ v. not (is_some (as_str (view v)))) (values_of table.now.entries) }
 {
     table.values().any(|value| !value.is_str())
 }
@@ -50,7 +50,7 @@ fn any_no_text(table: &Table) -> bool
 /// The first fault of the names.
 #[tactic(auto, using(crate::proofs::Tables::names_fault_of))]
 pub fn check_names(table: &Table) -> Result<(), TableFault>
-    ensures { Checks result (names_fault (table_view table.now)) }
+    ensures checks { Checks result (names_fault (table_view table.now)) }
 {
     if any_misnamed(table) {
         return Err(TableFault::UnknownKey);

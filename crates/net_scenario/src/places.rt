@@ -12,8 +12,8 @@ use toml::{Table, Value};
 
 /// The place of a mote.
 fn place_told(table: &Table) -> Place
-    requires { keys_fault mote_rules (table_view table.now) ≡ None }
-    ensures { result ≡ place_told (table_view table.now) }
+    requires no_fault { keys_fault mote_rules (table_view table.now) ≡ None }
+    ensures value { result ≡ place_told (table_view table.now) }
 {
     Place {
         x: integer_at(table, "x"),
@@ -26,8 +26,8 @@ fn place_told(table: &Table) -> Place
 /// # Errors
 /// If an allocation failed.
 pub fn places_of(alloc: Global, items: &[Value]) -> Result<Vec<Place>, AllocError>
-    requires { first_some (keys_fault mote_rules) (tables_in (items_view items.now)) ≡ None }
-    ensures { IfOk result (λ v. v.items ≡ map place_told (tables_in (items_view items.now))) }
+    requires no_fault { first_some (keys_fault mote_rules) (tables_in (items_view items.now)) ≡ None }
+    ensures places { IfOk result (λ v. v.items ≡ map place_told (tables_in (items_view items.now))) }
 {
     let mut places = Vec::new(alloc);
     for item in items {
@@ -40,8 +40,8 @@ pub fn places_of(alloc: Global, items: &[Value]) -> Result<Vec<Place>, AllocErro
 
 /// One loss.
 fn loss_of(table: &Table) -> Loss
-    requires { keys_fault loss_rules (table_view table.now) ≡ None }
-    ensures { result ≡ loss_of (table_view table.now) }
+    requires no_fault { keys_fault loss_rules (table_view table.now) ≡ None }
+    ensures value { result ≡ loss_of (table_view table.now) }
 {
     Loss {
         sender: natural_at(table, "from"),
@@ -55,8 +55,8 @@ fn loss_of(table: &Table) -> Loss
 /// # Errors
 /// If an allocation failed.
 pub fn losses_of(alloc: Global, items: &[Value]) -> Result<Vec<Loss>, AllocError>
-    requires { first_some (keys_fault loss_rules) (tables_in (items_view items.now)) ≡ None }
-    ensures { IfOk result (λ v. v.items ≡ map loss_of (tables_in (items_view items.now))) }
+    requires no_fault { first_some (keys_fault loss_rules) (tables_in (items_view items.now)) ≡ None }
+    ensures losses { IfOk result (λ v. v.items ≡ map loss_of (tables_in (items_view items.now))) }
 {
     let mut losses = Vec::new(alloc);
     for item in items {

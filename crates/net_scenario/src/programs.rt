@@ -13,7 +13,7 @@ use toml::Table;
 
 /// The program of a text, or its reported error.
 fn read_program(alloc: Global, name: &str, text: &str) -> Result<NamedProgram, ScenarioError>
-    ensures { ReadsProgram (record { name = name.now; text = text.now }) result }
+    ensures reads_program { ReadsProgram (record { name = name.now; text = text.now }) result }
 {
     let name = ProgramName::from_str(alloc, name)?;
     match read(alloc, text) {

@@ -18,13 +18,13 @@ use toml::Table;
 
 /// The allowed lengths of a queue.
 fn queue_length() -> Kind
-    ensures { result ≡ queue_length }
+    ensures value { result ≡ queue_length }
 {
     Kind::Number(SHORTEST_QUEUE, LONGEST_QUEUE)
 }
 
 fn any_other_kind(table: &Table) -> bool
-    ensures { result ≡ list_any (λ v. not (has_kind queue_length (view v))) (values_of table.now.entries) }
+    ensures value { result ≡ list_any (λ v. not (has_kind queue_length (view v))) (values_of table.now.entries) }
 {
     table
         .values()
@@ -32,7 +32,7 @@ fn any_other_kind(table: &Table) -> bool
 }
 
 fn any_out_of_range(table: &Table) -> bool
-    ensures { result ≡ list_any (λ v. not (is_in_range queue_length (view v))) (values_of table.now.entries) }
+    ensures value { result ≡ list_any (λ v. not (is_in_range queue_length (view v))) (values_of table.now.entries) }
 {
     table
         .values()
@@ -45,7 +45,7 @@ fn any_out_of_range(table: &Table) -> bool
 /// The first fault of the lengths.
 #[tactic(auto, using(crate::proofs::Tables::lengths_fault_of, crate::proofs::Tables::lengths_fault_of_none))]
 pub fn check_lengths(queue: Option<&Table>) -> Result<(), TableFault>
-    ensures { Checks result (lengths_fault (members_of queue.entry)) }
+    ensures checks { Checks result (lengths_fault (members_of queue.entry)) }
 {
     if let Some(table) = queue {
         if any_other_kind(table) {
@@ -59,7 +59,7 @@ pub fn check_lengths(queue: Option<&Table>) -> Result<(), TableFault>
 }
 
 fn any_without_program(programs: &Table, table: &Table) -> bool
-    ensures { result ≡ list_any (λ k. is_none (get_member (string_bytes k) (table_view programs.now)))
+    ensures value { result ≡ list_any (λ k. is_none (get_member (string_bytes k) (table_view programs.now)))
         (keys_of table.now.entries) }
 {
     table
@@ -73,7 +73,7 @@ fn any_without_program(programs: &Table, table: &Table) -> bool
 /// The fault of a queue for a program that the scenario doesn't have.
 #[tactic(auto, using(crate::proofs::Tables::queue_fault_of))]
 pub fn check_queue_names(programs: &Table, queue: Option<&Table>) -> Result<(), TableFault>
-    ensures { Checks result (queue_fault (table_view programs.now) (members_of queue.entry)) }
+    ensures checks { Checks result (queue_fault (table_view programs.now) (members_of queue.entry)) }
 {
     if let Some(table) = queue
         && any_without_program(programs, table)
@@ -85,7 +85,7 @@ pub fn check_queue_names(programs: &Table, queue: Option<&Table>) -> Result<(), 
 
 /// The length at a name.
 fn length_at(table: &Table, program: &str) -> u16
-    requires { lengths_fault (table_view table.now) ≡ None }
+    requires no_fault { lengths_fault (table_view table.now) ≡ None }
     ensures value { result ≡ queue_of (table_view table.now) program.now }
     ensures shortest { shortest_queue ≤ result }
     ensures longest { result ≤ longest_queue }
@@ -98,7 +98,7 @@ fn length_at(table: &Table, program: &str) -> u16
 
 /// The number of events that the queue holds in motes of a program.
 pub fn queue_of(queue: Option<&Table>, program: &str) -> u16
-    requires { lengths_fault (members_of queue) ≡ None }
+    requires no_fault { lengths_fault (members_of queue) ≡ None }
     ensures value { result ≡ queue_of (members_of queue.entry) program.now }
     ensures shortest { shortest_queue ≤ result }
     ensures longest { result ≤ longest_queue }

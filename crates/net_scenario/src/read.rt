@@ -19,7 +19,7 @@ use toml::Table;
 
 /// The table of a TOML text.
 fn parse_toml(alloc: Global, text: &str) -> Result<Table, ScenarioError>
-    ensures { Parses text.now result }
+    ensures parses { Parses text.now result }
 {
     match toml::table_from_str(alloc, text) {
         Ok(table) => Ok(table),
@@ -30,8 +30,8 @@ fn parse_toml(alloc: Global, text: &str) -> Result<Table, ScenarioError>
 
 /// The medium of a document: the numbers of its table, the places of the motes and the losses.
 fn medium_of(alloc: Global, top: &Table) -> Result<Medium, ScenarioError>
-    requires { document_fault (table_view top.now) ≡ None }
-    ensures { MakesRadio (radio_told (table_view top.now)) result }
+    requires no_fault { document_fault (table_view top.now) ≡ None }
+    ensures makes_radio { MakesRadio (radio_told (table_view top.now)) result }
 {
     let places = places_of(alloc, items_at(top, "mote"))?;
     let losses = losses_of(alloc, items_at(top, "loss"))?;
@@ -45,8 +45,8 @@ fn medium_of(alloc: Global, top: &Table) -> Result<Medium, ScenarioError>
 
 /// The net of a document without fault, if its programs can be read and there is a medium of its numbers and losses.
 fn net_from(alloc: Global, top: &Table) -> Result<Net, ScenarioError>
-    requires { document_fault (table_view top.now) ≡ None }
-    ensures { MakesNet (table_view top.now) result }
+    requires no_fault { document_fault (table_view top.now) ≡ None }
+    ensures makes_net { MakesNet (table_view top.now) result }
 {
     let programs = read_programs(alloc, table_at(top, "programs"))?;
     let medium = medium_of(alloc, top)?;
@@ -64,7 +64,7 @@ fn net_from(alloc: Global, top: &Table) -> Result<Net, ScenarioError>
 /// `queue` and the motes name; the texts of all programs, in byte order of their names; the numbers and losses of the
 /// medium. `Memory` may be returned instead of any of these, only if an allocation failed.
 pub fn read_scenario(alloc: Global, text: &str) -> Result<Net, ScenarioError>
-    ensures { Answers text.now result }
+    ensures answers { Answers text.now result }
 {
     if text.len() > LONGEST_TEXT {
         return Err(ScenarioError::OutOfRange);

@@ -39,7 +39,7 @@ pub struct Key {
 }
 
 const fn needed(since: Version, name: &'static str, kind: Kind) -> Key
-    ensures { rule_of result ≡ record { since = since; name = name.now; kind = kind; is_needed = true } }
+    ensures rule { rule_of result ≡ record { since = since; name = name.now; kind = kind; is_needed = true } }
 {
     Key {
         since,
@@ -50,7 +50,7 @@ const fn needed(since: Version, name: &'static str, kind: Kind) -> Key
 }
 
 const fn optional(since: Version, name: &'static str, kind: Kind) -> Key
-    ensures { rule_of result ≡ record { since = since; name = name.now; kind = kind; is_needed = false } }
+    ensures rule { rule_of result ≡ record { since = since; name = name.now; kind = kind; is_needed = false } }
 {
     Key {
         since,
@@ -62,7 +62,7 @@ const fn optional(since: Version, name: &'static str, kind: Kind) -> Key
 
 /// The keys of a document. The counts of motes and losses are checked here, before the tables themselves.
 pub fn top_keys() -> [Key; 7]
-    ensures { map rule_of result ≡ top_rules }
+    ensures rules { map rule_of result ≡ top_rules }
 {
     [
         needed(First, "version", Kind::Number(1, 2)),
@@ -77,7 +77,7 @@ pub fn top_keys() -> [Key; 7]
 
 /// The keys of `medium`.
 pub fn medium_keys() -> [Key; 4]
-    ensures { map rule_of result ≡ medium_rules }
+    ensures rules { map rule_of result ≡ medium_rules }
 {
     [
         needed(First, "range", Kind::Number(0, WIDEST_RANGE)),
@@ -89,7 +89,7 @@ pub fn medium_keys() -> [Key; 4]
 
 /// The keys of each `loss`.
 pub fn loss_keys() -> [Key; 3]
-    ensures { map rule_of result ≡ loss_rules }
+    ensures rules { map rule_of result ≡ loss_rules }
 {
     [
         needed(First, "from", Kind::Number(0, LARGEST_IN_LOSS)),
@@ -100,7 +100,7 @@ pub fn loss_keys() -> [Key; 3]
 
 /// The keys of each `mote`.
 pub fn mote_keys() -> [Key; 3]
-    ensures { map rule_of result ≡ mote_rules }
+    ensures rules { map rule_of result ≡ mote_rules }
 {
     [
         needed(First, "x", Kind::Number(-FARTHEST, FARTHEST)),
@@ -111,13 +111,13 @@ pub fn mote_keys() -> [Key; 3]
 
 /// The value at a key.
 pub fn value_at<'a>(table: &'a Table, name: &str) -> Option<&'a Value>
-    ensures { option_map (λ v. view v.now) result ≡ get_member name.now (table_view table.now) }
+    ensures value { option_map (λ v. view v.now) result ≡ get_member name.now (table_view table.now) }
 {
     table.get(name)
 }
 
 fn are_tables(items: &[Value]) -> bool
-    ensures { result ≡ list_all (λ v. is_some (as_table (view v))) items.now }
+    ensures value { result ≡ list_all (λ v. is_some (as_table (view v))) items.now }
 {
     items.iter().all(|item| item.is_table())
 }
@@ -125,7 +125,7 @@ fn are_tables(items: &[Value]) -> bool
 /// Returns `true` if a value is of this kind, whatever its range.
 #[tactic(auto, using(crate::proofs::Tables::are_tables_view))]
 pub fn fits_kind(value: &Value, kind: Kind) -> bool
-    ensures { result ≡ has_kind kind (view value.now) }
+    ensures value { result ≡ has_kind kind (view value.now) }
 {
     match kind {
         Kind::Number(_, _) => value.is_integer(),
@@ -142,7 +142,7 @@ pub fn fits_kind(value: &Value, kind: Kind) -> bool
 /// Returns `true` if a value of this kind is within its range.
 #[tactic(auto, using(crate::proofs::Tables::items_len_view))]
 pub fn fits_range(value: &Value, kind: Kind) -> bool
-    ensures { result ≡ is_in_range kind (view value.now) }
+    ensures value { result ≡ is_in_range kind (view value.now) }
 {
     match kind {
         Kind::Number(low, high) => match value.as_integer() {
@@ -158,20 +158,20 @@ pub fn fits_range(value: &Value, kind: Kind) -> bool
 }
 
 fn is_missing(table: &Table, key: Key) -> bool
-    ensures { result ≡ misses (table_view table.now) (rule_of key) }
+    ensures value { result ≡ misses (table_view table.now) (rule_of key) }
 {
     key.is_needed && value_at(table, key.name).is_none()
 }
 
 fn is_key(version: Version, keys: &[Key], name: &str) -> bool
-    ensures { result ≡ list_any (λ k. has_come k.since version && bytes_eq k.name.now name.now) keys.now }
+    ensures value { result ≡ list_any (λ k. has_come k.since version && bytes_eq k.name.now name.now) keys.now }
 {
     keys.iter()
         .any(|key| version.has(key.since) && key.name == name)
 }
 
 fn is_other_kind(table: &Table, key: Key) -> bool
-    ensures { result ≡ holds_other_kind (table_view table.now) (rule_of key) }
+    ensures value { result ≡ holds_other_kind (table_view table.now) (rule_of key) }
 {
     match value_at(table, key.name) {
         Some(value) => !fits_kind(value, key.kind),
@@ -180,7 +180,7 @@ fn is_other_kind(table: &Table, key: Key) -> bool
 }
 
 fn is_out_of_range(table: &Table, key: Key) -> bool
-    ensures { result ≡ holds_out_of_range (table_view table.now) (rule_of key) }
+    ensures value { result ≡ holds_out_of_range (table_view table.now) (rule_of key) }
 {
     match value_at(table, key.name) {
         Some(value) => !fits_range(value, key.kind),
@@ -189,7 +189,7 @@ fn is_out_of_range(table: &Table, key: Key) -> bool
 }
 
 fn has_unknown(version: Version, table: &Table, keys: &[Key]) -> bool
-    ensures { result ≡ list_any (λ n. not
+    ensures value { result ≡ list_any (λ n. not
         (list_any (λ k. has_come k.since version && bytes_eq k.name.now (string_bytes n)) keys.now))
         (keys_of table.now.entries) }
 {
@@ -199,14 +199,15 @@ fn has_unknown(version: Version, table: &Table, keys: &[Key]) -> bool
 }
 
 fn any_missing(version: Version, table: &Table, keys: &[Key]) -> bool
-    ensures { result ≡ list_any (λ k. has_come k.since version && misses (table_view table.now) (rule_of k)) keys.now }
+    ensures value { result ≡ list_any
+        (λ k. has_come k.since version && misses (table_view table.now) (rule_of k)) keys.now }
 {
     keys.iter()
         .any(|key| version.has(key.since) && is_missing(table, *key))
 }
 
 fn any_other_kind(version: Version, table: &Table, keys: &[Key]) -> bool
-    ensures { result ≡ list_any (λ k. has_come k.since version
+    ensures value { result ≡ list_any (λ k. has_come k.since version
         && holds_other_kind (table_view table.now) (rule_of k)) keys.now }
 {
     keys.iter()
@@ -214,7 +215,7 @@ fn any_other_kind(version: Version, table: &Table, keys: &[Key]) -> bool
 }
 
 fn any_out_of_range(version: Version, table: &Table, keys: &[Key]) -> bool
-    ensures { result ≡ list_any (λ k. has_come k.since version
+    ensures value { result ≡ list_any (λ k. has_come k.since version
         && holds_out_of_range (table_view table.now) (rule_of k)) keys.now }
 {
     keys.iter().any(|key| version.has(key.since) && is_out_of_range(table, *key))
@@ -226,7 +227,7 @@ fn any_out_of_range(version: Version, table: &Table, keys: &[Key]) -> bool
 /// The first fault of the table against these keys.
 #[tactic(auto, using(crate::proofs::Tables::keys_fault_of))]
 pub fn check_keys(version: Version, table: &Table, keys: &[Key]) -> Result<(), TableFault>
-    ensures { Checks result (keys_fault (known_in version (map rule_of keys.now)) (table_view table.now)) }
+    ensures checks { Checks result (keys_fault (known_in version (map rule_of keys.now)) (table_view table.now)) }
 {
     if any_missing(version, table, keys) {
         return Err(TableFault::MissingKey);

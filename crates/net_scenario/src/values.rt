@@ -10,8 +10,8 @@ use toml::{Table, Value};
 
 /// The number at a key.
 pub fn natural_at(table: &Table, name: &str) -> u32
-    requires { HoldsNumber (pos 0) (pos 4294967295) name.now (table_view table.now) }
-    ensures { integer_at name.now (table_view table.now) ≡ Some (pos result) }
+    requires holds_number { HoldsNumber (pos 0) (pos 4294967295) name.now (table_view table.now) }
+    ensures value { integer_at name.now (table_view table.now) ≡ Some (pos result) }
 {
     match value_at(table, name) {
         Some(Value::Integer(number)) => *number as u32,
@@ -21,8 +21,8 @@ pub fn natural_at(table: &Table, name: &str) -> u32
 
 /// The signed number at a key.
 pub fn integer_at(table: &Table, name: &str) -> i32
-    requires { HoldsNumber (negsuc 2147483647) (pos 2147483647) name.now (table_view table.now) }
-    ensures { integer_at name.now (table_view table.now) ≡ Some result }
+    requires holds_number { HoldsNumber (negsuc 2147483647) (pos 2147483647) name.now (table_view table.now) }
+    ensures value { integer_at name.now (table_view table.now) ≡ Some result }
 {
     match value_at(table, name) {
         Some(Value::Integer(number)) => *number as i32,
@@ -32,7 +32,7 @@ pub fn integer_at(table: &Table, name: &str) -> i32
 
 /// The flag at a key, false if there is none.
 pub fn boolean_at(table: &Table, name: &str) -> bool
-    ensures { result ≡ boolean_at name.now (table_view table.now) }
+    ensures value { result ≡ boolean_at name.now (table_view table.now) }
 {
     match value_at(table, name) {
         Some(Value::Boolean(flag)) => *flag,
@@ -42,7 +42,7 @@ pub fn boolean_at(table: &Table, name: &str) -> bool
 
 /// A value's text, empty if it has none.
 pub fn text_of(value: &Value) -> &str
-    ensures { result.now ≡ unwrap_or (as_str (view value.now)) [] }
+    ensures value { result.now ≡ unwrap_or (as_str (view value.now)) [] }
 {
     match value {
         Value::String(text) => text.as_str(),
@@ -52,7 +52,7 @@ pub fn text_of(value: &Value) -> &str
 
 /// The text at a key, empty if there is none.
 pub fn text_at<'a>(table: &'a Table, name: &str) -> &'a str
-    ensures { result.now ≡ text_at name.now (table_view table.now) }
+    ensures value { result.now ≡ text_at name.now (table_view table.now) }
 {
     match value_at(table, name) {
         Some(value) => text_of(value),
@@ -62,8 +62,8 @@ pub fn text_at<'a>(table: &'a Table, name: &str) -> &'a str
 
 /// The table at a key.
 pub fn table_at<'a>(table: &'a Table, name: &str) -> &'a Table
-    requires { HoldsTable name.now (table_view table.now) }
-    ensures { table_view result.now ≡ table_at name.now (table_view table.now) }
+    requires holds_table { HoldsTable name.now (table_view table.now) }
+    ensures table { table_view result.now ≡ table_at name.now (table_view table.now) }
 {
     match value_at(table, name) {
         Some(value) => match value.as_table() {
@@ -76,7 +76,7 @@ pub fn table_at<'a>(table: &'a Table, name: &str) -> &'a Table
 
 /// The table at a key, if there is one.
 pub fn table_if_any<'a>(table: &'a Table, name: &str) -> Option<&'a Table>
-    ensures { members_of result ≡ table_at name.now (table_view table.now) }
+    ensures members { members_of result ≡ table_at name.now (table_view table.now) }
 {
     match value_at(table, name) {
         Some(value) => value.as_table(),
@@ -86,7 +86,7 @@ pub fn table_if_any<'a>(table: &'a Table, name: &str) -> Option<&'a Table>
 
 /// The items of the array at a key, or none if there is no array.
 pub fn items_at<'a>(table: &'a Table, name: &str) -> &'a [Value]
-    ensures { items_view result.now ≡ items_at name.now (table_view table.now) }
+    ensures items { items_view result.now ≡ items_at name.now (table_view table.now) }
 {
     match value_at(table, name) {
         Some(Value::Array(items)) => items,

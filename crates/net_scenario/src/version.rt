@@ -12,7 +12,7 @@ pub enum Version {
 impl Version {
     /// Returns `true` if this version has the keys that came in the other.
     pub fn has(self, since: Version) -> bool
-        ensures { result ≡ has_come since self }
+        ensures value { result ≡ has_come since self }
     {
         match (since, self) {
             (Version::Second, Version::First) => false,

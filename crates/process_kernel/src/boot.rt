@@ -10,8 +10,8 @@ use program_tree::{Proc, Program};
 
 impl Machine {
     fn start_each(&mut self, program: &Program, processes: &[u8]) -> Result<(), Stop>
-        requires { HasRoom 1 self.old }
-        ensures { Follows program.now self.old result self.new
+        requires room { HasRoom 1 self.old }
+        ensures follows { Follows program.now self.old result self.new
             (λ calls. starts_of calls (map Proc.Own processes.now)) }
     {
         for process in processes {
@@ -26,8 +26,8 @@ impl Machine {
     /// `Halted` if the mote halts meanwhile; `Memory` if an allocation fails.
     #[tactic(auto, unfolding(crate::specs::Boot::boot_of))]
     pub fn boot(&mut self, program: &Program) -> Result<u16, Stop>
-        requires { HasRoom 1 self.old }
-        ensures { Follows program.now self.old result self.new boot_of }
+        requires room { HasRoom 1 self.old }
+        ensures follows { Follows program.now self.old result self.new boot_of }
     {
         self.start(program, Proc::Etimer)?;
         self.start(program, Proc::Ctimer)?;

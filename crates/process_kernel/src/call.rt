@@ -16,7 +16,7 @@ use program_tree::{Event, Proc, ProcessText, Program, SystemEvent};
 use protothread::{Part, PtState, Step, Thread};
 
 fn has_ended(answer: PtState) -> bool
-    ensures { result ≡ is_an_end answer }
+    ensures value { result ≡ is_an_end answer }
 {
     match answer {
         PtState::Waiting => false,
@@ -34,7 +34,7 @@ impl Machine {
     #[cycle(kernel)]
     #[tactic(auto, unfolding(crate::specs::Call::call_of, crate::specs::Call::answered))]
     pub fn call(&mut self, program: &Program, process: Proc, event: &Event) -> Result<(), Stop>
-        requires { HasRoom 0 self.old }
+        requires room { HasRoom 0 self.old }
         ensures follows { Follows program.now self.old result self.new
             (λ calls state. calls.call state process event.now) }
         ensures pays { OnOk result (Pays process self.old self.new) }
@@ -66,8 +66,8 @@ impl Machine {
         process: Proc,
         event: &Event,
     ) -> Result<PtState, Stop>
-        requires { HasRoom 0 self.old }
-        ensures { Follows program.now self.old result self.new
+        requires room { HasRoom 0 self.old }
+        ensures follows { Follows program.now self.old result self.new
             (λ calls state. react_of calls state process event.now) }
     {
         match process {
@@ -97,8 +97,9 @@ impl Machine {
         number: u8,
         event: &Event,
     ) -> Result<PtState, Stop>
-        requires { HasRoom 0 self.old }
-        ensures { Follows program.now self.old result self.new (λ calls state. own_of calls state number event.now) }
+        requires room { HasRoom 0 self.old }
+        ensures follows { Follows program.now self.old result self.new
+            (λ calls state. own_of calls state number event.now) }
     {
         if number >= program.processes() {
             return Ok(PtState::Ended);
@@ -119,8 +120,8 @@ impl Machine {
         number: u8,
         event: &Event,
     ) -> Result<(), Stop>
-        requires { HasRoom 0 self.old }
-        ensures { Follows program.now self.old result self.new
+        requires room { HasRoom 0 self.old }
+        ensures follows { Follows program.now self.old result self.new
             (λ calls state. handler_of calls state (code_of text.now) number event.now) }
     {
         if is_event(SystemEvent::Poll, event) {
@@ -145,7 +146,7 @@ impl Machine {
     ) -> Result<PtState, Stop>
         requires room { HasRoom 0 self.old }
         requires text { slice_get (tree_of program.now).codes number ≡ Some (code_of text.now) }
-        ensures { Follows program.now self.old result self.new
+        ensures follows { Follows program.now self.old result self.new
             (λ calls state. resume_of calls state (code_of text.now) number event.now) }
     {
         let mut body = self.take_thread(number)?;
@@ -158,8 +159,9 @@ impl Machine {
     #[cycle(kernel)]
     #[tactic(auto, unfolding(crate::specs::Ctimer::ctimer_of))]
     fn react_as_ctimer(&mut self, program: &Program, event: &Event) -> Result<(), Stop>
-        requires { HasRoom 0 self.old }
-        ensures { Follows program.now self.old result self.new (λ calls state. ctimer_of calls state event.now) }
+        requires room { HasRoom 0 self.old }
+        ensures follows { Follows program.now self.old result self.new
+            (λ calls state. ctimer_of calls state event.now) }
     {
         if !is_event(SystemEvent::Timer, event) {
             return Ok(());
@@ -174,8 +176,9 @@ impl Machine {
     #[cycle(kernel)]
     #[tactic(auto, unfolding(crate::specs::Ctimer::callback_of))]
     fn call_back(&mut self, program: &Program, event: &Event) -> Result<(), Stop>
-        requires { HasRoom 0 self.old }
-        ensures { Follows program.now self.old result self.new (λ calls state. callback_of calls state event.now) }
+        requires room { HasRoom 0 self.old }
+        ensures follows { Follows program.now self.old result self.new
+            (λ calls state. callback_of calls state event.now) }
     {
         let timer = event.word;
         if timer >= program.timers() {
@@ -197,8 +200,8 @@ impl Machine {
         process: u8,
         event: &Event,
     ) -> Result<(), Stop>
-        requires { HasRoom 0 self.old }
-        ensures { Follows program.now self.old result self.new
+        requires room { HasRoom 0 self.old }
+        ensures follows { Follows program.now self.old result self.new
             (λ calls state. part_of calls state (code_of text.now) part process event.now) }
     {
         if part.is_empty(text) {
@@ -218,8 +221,8 @@ impl Machine {
         process: u8,
         event: &Event,
     ) -> Result<(), Stop>
-        requires { HasRoom 0 self.old }
-        ensures { Follows program.now self.old result self.new
+        requires room { HasRoom 0 self.old }
+        ensures follows { Follows program.now self.old result self.new
             (λ calls state. part_of calls state (code_of text.now) part process event.now) }
     {
         let mut thread = Thread::fresh(part);
@@ -238,8 +241,8 @@ impl Machine {
         process: u8,
         event: &Event,
     ) -> Result<PtState, Stop>
-        requires { HasRoom 0 self.old }
-        ensures { Follows program.now self.old (told_answer (code_of text.now) thread.new result) self.new
+        requires room { HasRoom 0 self.old }
+        ensures follows { Follows program.now self.old (told_answer (code_of text.now) thread.new result) self.new
             (λ calls state. calls.run state (code_of text.now)
             (remainder_of (code_of text.now) thread.old) process event.now) }
     {

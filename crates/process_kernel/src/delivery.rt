@@ -18,8 +18,9 @@ impl Machine {
     /// # Errors
     /// `Halted` if the mote halts meanwhile; `Memory` if an allocation fails.
     pub fn deliver_front(&mut self, program: &Program) -> Result<(), Stop>
-        requires { HasRoom 0 self.old }
-        ensures { Follows program.now self.old result self.new (λ calls. deliver_front calls self.old.queue.events) }
+        requires room { HasRoom 0 self.old }
+        ensures follows { Follows program.now self.old result self.new
+            (λ calls. deliver_front calls self.old.queue.events) }
     {
         match self.queue.take() {
             Some(posted) => self.deliver(program, &posted),
@@ -30,8 +31,9 @@ impl Machine {
     /// Delivers an event to the processes that it was posted to.
     #[tactic(auto, unfolding(crate::specs::Delivery::deliver_of))]
     fn deliver(&mut self, program: &Program, posted: &Posted) -> Result<(), Stop>
-        requires { HasRoom 0 self.old }
-        ensures { Follows program.now self.old result self.new (λ calls state. deliver_of calls state posted.now) }
+        requires room { HasRoom 0 self.old }
+        ensures follows { Follows program.now self.old result self.new
+            (λ calls state. deliver_of calls state posted.now) }
     {
         match posted.target {
             Target::One(process) => {
@@ -44,8 +46,8 @@ impl Machine {
 
     /// Delivers an event to each member of the current process list.
     fn broadcast(&mut self, program: &Program, posted: &Posted) -> Result<(), Stop>
-        requires { HasRoom 0 self.old }
-        ensures { Follows program.now self.old result self.new
+        requires room { HasRoom 0 self.old }
+        ensures follows { Follows program.now self.old result self.new
             (λ calls. walk_broadcast calls posted.now self.old.members.items) }
     {
         if self.is_numbered {
@@ -59,7 +61,7 @@ impl Machine {
     fn broadcast_to_first_list(&mut self, program: &Program, posted: &Posted) -> Result<(), Stop>
         requires units { HasRoom 0 self.old }
         requires numbered { self.old.is_numbered ≡ true }
-        ensures { Follows program.now self.old result self.new
+        ensures follows { Follows program.now self.old result self.new
             (λ calls. walk_broadcast calls posted.now self.old.members.items) }
     {
         for place in 0..self.members.len() {
@@ -72,8 +74,8 @@ impl Machine {
     /// The walk over a list that has changed. It is not inlined, since its frame has a copy of the list.
     #[inline(never)]
     fn broadcast_to_snapshot(&mut self, program: &Program, posted: &Posted) -> Result<(), Stop>
-        requires { HasRoom 0 self.old }
-        ensures { Follows program.now self.old result self.new
+        requires room { HasRoom 0 self.old }
+        ensures follows { Follows program.now self.old result self.new
             (λ calls. walk_broadcast calls posted.now self.old.members.items) }
     {
         let members = self.snapshot();
@@ -87,8 +89,9 @@ impl Machine {
         posted: &Posted,
         members: &[Member],
     ) -> Result<(), Stop>
-        requires { HasRoom 0 self.old }
-        ensures { Follows program.now self.old result self.new (λ calls. walk_broadcast calls posted.now members.now) }
+        requires room { HasRoom 0 self.old }
+        ensures follows { Follows program.now self.old result self.new
+            (λ calls. walk_broadcast calls posted.now members.now) }
     {
         for member in members {
             self.give_in_turn(program, posted, *member)?;
@@ -106,8 +109,8 @@ impl Machine {
         posted: &Posted,
         member: Member,
     ) -> Result<(), Stop>
-        requires { HasRoom 0 self.old }
-        ensures { Follows program.now self.old result self.new
+        requires room { HasRoom 0 self.old }
+        ensures follows { Follows program.now self.old result self.new
             (λ calls state. visit_of calls state posted.now member) }
     {
         self.poll_due(program)?;
@@ -125,8 +128,8 @@ impl Machine {
         process: Proc,
         is_there: bool,
     ) -> Result<(), Stop>
-        requires { HasRoom 0 self.old }
-        ensures { Follows program.now self.old result self.new
+        requires room { HasRoom 0 self.old }
+        ensures follows { Follows program.now self.old result self.new
             (λ calls state. give_of calls state posted.now process is_there) }
     {
         if !is_there {

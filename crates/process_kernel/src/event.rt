@@ -7,7 +7,7 @@ use program_tree::{Event, SystemEvent};
 
 /// An event of the kernel's own, with a word; its sender is 0.
 pub fn system_event(event: SystemEvent, word: u16) -> Event
-    ensures { result ≡ told event word }
+    ensures value { result ≡ told event word }
 {
     Event {
         number: event.number(),
@@ -18,7 +18,7 @@ pub fn system_event(event: SystemEvent, word: u16) -> Event
 
 /// Returns whether it is this event of the kernel's own.
 pub fn is_event(which: SystemEvent, event: &Event) -> bool
-    ensures { result ≡ has_number_of which event.now }
+    ensures value { result ≡ has_number_of which event.now }
 {
     event.number == which.number()
 }

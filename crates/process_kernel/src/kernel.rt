@@ -112,8 +112,8 @@ impl Kernel {
     ///
     /// `Memory`: out of memory, so the kernel fails from then on. `Failed`: it ran out of memory before.
     pub fn boot(&mut self, program: &Program, now: u64, out: &mut Out) -> Result<Ran, KernelError>
-        requires { now ≤ 2 ^ 40 }
-        ensures { let t = tree_of program.now in
+        requires moment_bounded { now ≤ 2 ^ 40 }
+        ensures tells { let t = tree_of program.now in
             Tells (boot_given now) (mote_in t self.old) out.old result (mote_in t self.new) out.new }
     {
         if self.failed {
@@ -131,7 +131,7 @@ impl Kernel {
 
     /// One kernel run at this moment, whose lines and packets are appended to those of the machine.
     fn run_on(&mut self, program: &Program, now: u64) -> Result<Ran, KernelError>
-        requires { now ≤ 2 ^ 40 }
+        requires moment_bounded { now ≤ 2 ^ 40 }
         ensures told { let t = tree_of program.now in
             Tells (run_given now) (mote_in t self.old) self.old.machine.out result
             (mote_in t self.new) self.new.machine.out }
@@ -155,8 +155,8 @@ impl Kernel {
     ///
     /// `Memory`: out of memory, so the kernel fails from then on. `Failed`: it ran out of memory before.
     pub fn run(&mut self, program: &Program, now: u64, out: &mut Out) -> Result<Ran, KernelError>
-        requires { now ≤ 2 ^ 40 }
-        ensures { let t = tree_of program.now in
+        requires moment_bounded { now ≤ 2 ^ 40 }
+        ensures tells { let t = tree_of program.now in
             Tells (run_given now) (mote_in t self.old) out.old result (mote_in t self.new) out.new }
     {
         mem::swap(&mut self.machine.out, out);
@@ -168,7 +168,7 @@ impl Kernel {
     /// At most `most` kernel runs at this moment, until one leaves nothing to do or the mote halts. Their lines and
     /// packets are appended to those of the machine.
     fn run_all_on(&mut self, program: &Program, now: u64, most: u8) -> Result<(), KernelError>
-        requires { now ≤ 2 ^ 40 }
+        requires moment_bounded { now ≤ 2 ^ 40 }
         ensures ok { let t = tree_of program.now in
             OnOk result (GoesOn (runs_of most now) (mote_in t self.old) self.old.machine.out
             (mote_in t self.new) self.new.machine.out) }
@@ -203,7 +203,7 @@ impl Kernel {
         most: u8,
         out: &mut Out,
     ) -> Result<(), KernelError>
-        requires { now ≤ 2 ^ 40 }
+        requires moment_bounded { now ≤ 2 ^ 40 }
         ensures ok { let t = tree_of program.now in
             OnOk result (GoesOn (runs_of most now) (mote_in t self.old) out.old (mote_in t self.new) out.new) }
         ensures err { let t = tree_of program.now in
@@ -284,7 +284,7 @@ impl Kernel {
 
     /// Records how a boot or a run ended, and returns its result.
     fn close(&mut self, ran: Result<u16, Stop>) -> Result<Ran, KernelError>
-        ensures { Closes self.old ran result self.new }
+        ensures closes { Closes self.old ran result self.new }
     {
         self.booted = true;
         match ran {

@@ -22,7 +22,7 @@ use trace_lines::What;
 impl Machine {
     /// The current process list.
     pub fn snapshot(&self) -> ArrayVec<Member, MOST_PROCESSES>
-        ensures { result.items ≡ self.now.members.items }
+        ensures members { result.items ≡ self.now.members.items }
     {
         let mut members = ArrayVec::new();
         members.try_extend_from_slice(&self.members).unwrap();
@@ -32,8 +32,8 @@ impl Machine {
     /// The incarnation that had this place on the process list when the boot or run began.
     #[inline(always)]
     pub fn first_member(&self, place: usize) -> Member
-        requires { place < length (first_list_of self.now) }
-        ensures { slice_get (first_list_of self.now) place ≡ Some result }
+        requires in_range { place < length (first_list_of self.now) }
+        ensures member { slice_get (first_list_of self.now) place ≡ Some result }
     {
         if self.is_numbered {
             self.members[place]
@@ -140,7 +140,7 @@ impl Machine {
 
     /// Puts a new incarnation at the front of the list.
     fn list_first(&mut self, process: Proc) -> Result<(), AllocError>
-        requires there { place_of process < length self.old.shown.states.items }
+        requires process_exists { place_of process < length self.old.shown.states.items }
         requires away { stands_in self.old.members.items process ≡ false }
         requires room { self.old.started + 1 < 2 ^ 32 }
         ensures exact { (t : Tree) → OnOk result
@@ -171,7 +171,7 @@ impl Machine {
     /// `Memory` if an allocation for the list or for the line fails. It is never `Halted`.
     #[tactic(auto, unfolding(crate::specs::ProcessList::enlist_of))]
     pub fn enlist(&mut self, process: Proc) -> Result<(), Stop>
-        requires there { place_of process < length self.old.shown.states.items }
+        requires process_exists { place_of process < length self.old.shown.states.items }
         requires away { stands_in self.old.members.items process ≡ false }
         requires room { self.old.started + 1 < 2 ^ 32 }
         ensures exact { (t : Tree) → Tells result (state_of t self.new) (enlist_of (state_of t self.old) process) }

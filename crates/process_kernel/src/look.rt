@@ -21,7 +21,7 @@ pub struct Shown {
 
 impl Shown {
     pub(crate) fn set_state(&mut self, place: usize, state: ProcessState)
-        requires { place < length self.old.states.items }
+        requires in_range { place < length self.old.states.items }
         ensures states { self.new.states.items ≡ slice_set self.old.states.items place state }
         ensures kernel { (self.new.moment ≡ self.old.moment) × (self.new.mote ≡ self.old.mote) }
         ensures timers { (self.new.timers ≡ self.old.timers) × (self.new.timer_count ≡ self.old.timer_count) }

@@ -21,7 +21,7 @@ use trace_lines::What;
 
 /// An event that a program posts. It has no sender.
 fn posted(number: u8, word: u16) -> Event
-    ensures { result ≡ posted number word }
+    ensures value { result ≡ posted number word }
 {
     Event {
         number,
@@ -32,7 +32,7 @@ fn posted(number: u8, word: u16) -> Event
 
 /// The number by which EXITED names a process.
 fn process_number(process: Proc) -> u16
-    ensures { result ≡ number_told process }
+    ensures value { result ≡ number_told process }
 {
     match process {
         Proc::Own(number) => u16::from(number),
@@ -57,8 +57,8 @@ impl Machine {
         current: u8,
         op: &Op,
     ) -> Result<(), Stop>
-        requires { HasRoom 1 self.old }
-        ensures { Follows program.now self.old (told_thread (code_of text.now) thread.new result) self.new
+        requires room { HasRoom 1 self.old }
+        ensures follows { Follows program.now self.old (told_thread (code_of text.now) thread.new result) self.new
             (λ calls state. perform_of calls state (remainder_of (code_of text.now) thread.old) current op.now) }
     {
         match op {
@@ -75,8 +75,9 @@ impl Machine {
     #[cycle(kernel)]
     #[tactic(auto, unfolding(crate::specs::Operation::act_of))]
     fn act(&mut self, program: &Program, current: u8, op: &Op) -> Result<(), Stop>
-        requires { HasRoom 1 self.old }
-        ensures { Follows program.now self.old result self.new (λ calls state. act_of calls state current op.now) }
+        requires room { HasRoom 1 self.old }
+        ensures follows { Follows program.now self.old result self.new
+            (λ calls state. act_of calls state current op.now) }
     {
         match op {
             Op::Post(..) => {}
@@ -106,8 +107,8 @@ impl Machine {
     #[cycle(kernel)]
     #[tactic(auto, unfolding(crate::specs::Start::start_of))]
     pub fn start(&mut self, program: &Program, process: Proc) -> Result<(), Stop>
-        requires { HasRoom 1 self.old }
-        ensures { Follows program.now self.old result self.new (λ calls state. start_of calls state process) }
+        requires room { HasRoom 1 self.old }
+        ensures follows { Follows program.now self.old result self.new (λ calls state. start_of calls state process) }
     {
         if self.is_busy(process) {
             return self.write(What::Busy(process));
@@ -124,8 +125,9 @@ impl Machine {
     #[cycle(kernel)]
     #[tactic(auto, unfolding(crate::specs::Kill::kill_of))]
     fn kill(&mut self, program: &Program, process: Proc, current: u8) -> Result<(), Stop>
-        requires { HasRoom 0 self.old }
-        ensures { Follows program.now self.old result self.new (λ calls state. kill_of calls state process current) }
+        requires room { HasRoom 0 self.old }
+        ensures follows { Follows program.now self.old result self.new
+            (λ calls state. kill_of calls state process current) }
     {
         if self.is_busy(process) {
             self.write(What::Busy(process))
@@ -142,8 +144,9 @@ impl Machine {
     #[cycle(kernel)]
     #[tactic(auto, unfolding(crate::specs::Exit::exit_of))]
     pub fn exit(&mut self, program: &Program, process: Proc, behalf: Proc) -> Result<(), Stop>
-        requires { HasRoom 0 self.old }
-        ensures { Follows program.now self.old result self.new (λ calls state. exit_of calls state process behalf) }
+        requires room { HasRoom 0 self.old }
+        ensures follows { Follows program.now self.old result self.new
+            (λ calls state. exit_of calls state process behalf) }
     {
         if !self.is_listed(process) {
             return Ok(());
@@ -162,8 +165,9 @@ impl Machine {
     #[cycle(kernel)]
     #[tactic(auto, unfolding(crate::specs::Exit::last_run_of))]
     fn run_last(&mut self, program: &Program, process: Proc) -> Result<(), Stop>
-        requires { HasRoom 0 self.old }
-        ensures { Follows program.now self.old result self.new (λ calls state. last_run_of calls state process) }
+        requires room { HasRoom 0 self.old }
+        ensures follows { Follows program.now self.old result self.new
+            (λ calls state. last_run_of calls state process) }
     {
         self.spend()?;
         self.react(program, process, &system_event(SystemEvent::Exit, 0))?;
@@ -179,8 +183,8 @@ impl Machine {
         skipped: Proc,
         members: &[Member],
     ) -> Result<(), Stop>
-        requires { HasRoom 0 self.old }
-        ensures { Follows program.now self.old result self.new
+        requires room { HasRoom 0 self.old }
+        ensures follows { Follows program.now self.old result self.new
             (λ calls. walk_of calls event.now skipped members.now) }
     {
         for member in members {

@@ -19,8 +19,8 @@ impl Machine {
     #[inline(always)]
     #[tactic(auto, unfolding(crate::specs::Polls::polls_of, crate::specs::Polls::polls_due_of))]
     pub fn poll_due(&mut self, program: &Program) -> Result<(), Stop>
-        requires { HasRoom 0 self.old }
-        ensures { Follows program.now self.old result self.new polls_due_of }
+        requires room { HasRoom 0 self.old }
+        ensures follows { Follows program.now self.old result self.new polls_due_of }
     {
         if !self.poll_requested {
             return Ok(());
@@ -32,8 +32,9 @@ impl Machine {
     /// The polls: each member of the current process list has its turn.
     #[inline(never)]
     fn poll_all(&mut self, program: &Program) -> Result<(), Stop>
-        requires { HasRoom 0 self.old }
-        ensures { Follows program.now self.old result self.new (λ calls. walk_polls calls self.old.members.items) }
+        requires room { HasRoom 0 self.old }
+        ensures follows { Follows program.now self.old result self.new
+            (λ calls. walk_polls calls self.old.members.items) }
     {
         if self.is_numbered {
             self.poll_first_list(program)
@@ -47,7 +48,8 @@ impl Machine {
     fn poll_first_list(&mut self, program: &Program) -> Result<(), Stop>
         requires units { HasRoom 0 self.old }
         requires numbered { self.old.is_numbered ≡ true }
-        ensures { Follows program.now self.old result self.new (λ calls. walk_polls calls self.old.members.items) }
+        ensures follows { Follows program.now self.old result self.new
+            (λ calls. walk_polls calls self.old.members.items) }
     {
         for place in 0..self.members.len() {
             let member = self.first_member(place);
@@ -60,8 +62,9 @@ impl Machine {
     /// The polls of a list that has changed. It is not inlined, since its frame has a copy of the list.
     #[inline(never)]
     fn poll_snapshot(&mut self, program: &Program) -> Result<(), Stop>
-        requires { HasRoom 0 self.old }
-        ensures { Follows program.now self.old result self.new (λ calls. walk_polls calls self.old.members.items) }
+        requires room { HasRoom 0 self.old }
+        ensures follows { Follows program.now self.old result self.new
+            (λ calls. walk_polls calls self.old.members.items) }
     {
         let members = self.snapshot();
         self.walk_polls(program, members.as_slice())
@@ -69,8 +72,8 @@ impl Machine {
 
     /// Calls each of these incarnations that needs a poll at its turn.
     fn walk_polls(&mut self, program: &Program, members: &[Member]) -> Result<(), Stop>
-        requires { HasRoom 0 self.old }
-        ensures { Follows program.now self.old result self.new (λ calls. walk_polls calls members.now) }
+        requires room { HasRoom 0 self.old }
+        ensures follows { Follows program.now self.old result self.new (λ calls. walk_polls calls members.now) }
     {
         for member in members {
             let is_there = self.is_on_list(*member);
@@ -89,8 +92,9 @@ impl Machine {
         is_there: bool,
     ) -> Result<(), Stop>
         requires room { HasRoom 0 self.old }
-        requires there { is_there ≡ holds_member self.old.members.items member }
-        ensures { Follows program.now self.old result self.new (λ calls state. poll_turn_of calls state member) }
+        requires membership { is_there ≡ holds_member self.old.members.items member }
+        ensures follows { Follows program.now self.old result self.new
+            (λ calls state. poll_turn_of calls state member) }
     {
         if !is_there {
             return Ok(());

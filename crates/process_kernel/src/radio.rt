@@ -14,7 +14,7 @@ use trace_lines::What;
 
 /// A packet as an event: its value, and the mote that sent it.
 fn packet_event(packet: &Arrival) -> Event
-    ensures { result ≡ packet_of packet.now }
+    ensures value { result ≡ packet_of packet.now }
 {
     Event {
         number: SystemEvent::Packet.number(),

@@ -34,7 +34,7 @@ impl Ring {
     ///
     /// Out of memory.
     pub fn new(alloc: Global) -> Result<Ring, AllocError>
-        ensures { IfOk result (λ ring. ring ≡ buffer [] 8) }
+        ensures empty { IfOk result (λ ring. ring ≡ buffer [] 8) }
     {
         Ok(Ring {
             packets: HeapCircularBuffer::with_capacity(alloc, ROOM)?,

@@ -21,7 +21,7 @@ use trace_lines::Out;
 
 /// A fresh body for each process: none is allocated before its process is called.
 fn fresh_bodies(alloc: Global, program: &Program) -> Result<Vec<Option<Box<Thread>>>, AllocError>
-    ensures { IfOk result (λ threads. remainders_of (tree_of program.now).codes threads.items
+    ensures fresh { IfOk result (λ threads. remainders_of (tree_of program.now).codes threads.items
         ≡ map (λ c. fresh_of c Body) (tree_of program.now).codes) }
 {
     let mut threads = Vec::with_capacity(alloc, usize::from(program.processes()))?;
@@ -32,7 +32,7 @@ fn fresh_bodies(alloc: Global, program: &Program) -> Result<Vec<Option<Box<Threa
 }
 
 fn first_variables(alloc: Global, program: &Program) -> Result<Vec<Vars>, AllocError>
-    ensures { IfOk result (λ variables. variables.items ≡ map (λ c. c.starts) (tree_of program.now).codes) }
+    ensures variables { IfOk result (λ variables. variables.items ≡ map (λ c. c.starts) (tree_of program.now).codes) }
 {
     let mut variables = Vec::with_capacity(alloc, usize::from(program.processes()))?;
     for process in 0..program.processes() {
@@ -42,7 +42,7 @@ fn first_variables(alloc: Global, program: &Program) -> Result<Vec<Vars>, AllocE
 }
 
 fn first_semaphores(alloc: Global, program: &Program) -> Result<Vec<Semaphore>, AllocError>
-    ensures { IfOk result (λ semaphores. semaphores.items ≡ (tree_of program.now).counts) }
+    ensures semaphores { IfOk result (λ semaphores. semaphores.items ≡ (tree_of program.now).counts) }
 {
     let mut semaphores = Vec::new(alloc);
     for count in program.semaphores() {
@@ -83,7 +83,7 @@ impl Machine {
     ) -> Result<Machine, AllocError>
         requires some_room { 1 ≤ queue }
         requires limit { queue ≤ 128 }
-        ensures { let t = tree_of program.now in
+        ensures state { let t = tree_of program.now in
             IfOk result (λ m. state_of t m ≡ record
             (unbooted t mote queue).state {
               exiting = [];
@@ -115,7 +115,7 @@ impl Machine {
     /// Makes the tables of the processes, none of which is listed, and room for a list of all of them. The data that a
     /// run touches are allocated in a row, right after the timers and the states, so that they are close together.
     fn make_tables(&mut self, alloc: Global, program: &Program) -> Result<(), AllocError>
-        ensures { let t = tree_of program.now in let n = length t.processes + 3 in
+        ensures tables { let t = tree_of program.now in let n = length t.processes + 3 in
             OnOk result (state_of t self.new
             ≡ record (state_of t self.old) {
               exiting = replicate n false;
@@ -148,7 +148,7 @@ impl Machine {
     ) -> Result<Machine, AllocError>
         requires some_room { 1 ≤ queue }
         requires limit { queue ≤ 128 }
-        ensures { IfOk result (λ m. state_of (tree_of program.now) m
+        ensures state { IfOk result (λ m. state_of (tree_of program.now) m
             ≡ (unbooted (tree_of program.now) mote queue).state) }
     {
         let mut machine = Machine::without_tables(alloc, program, mote, queue)?;

@@ -22,8 +22,8 @@ impl Machine {
     /// `Halted` if the mote halts meanwhile; `Memory` if an allocation fails.
     #[tactic(auto, unfolding(crate::specs::Run::kernel_of))]
     pub fn run_kernel(&mut self, program: &Program) -> Result<u16, Stop>
-        requires { HasRoom 0 self.old }
-        ensures { Follows program.now self.old result self.new kernel_of }
+        requires room { HasRoom 0 self.old }
+        ensures follows { Follows program.now self.old result self.new kernel_of }
     {
         self.poll_due(program)?;
         self.deliver_front(program)?;
@@ -33,7 +33,7 @@ impl Machine {
     /// Begins a boot or a run at this moment.
     #[tactic(auto, unfolding(crate::specs::Run::begun_of))]
     pub fn begin(&mut self, moment: u64)
-        requires { moment ≤ 2 ^ 40 }
+        requires moment_bounded { moment ≤ 2 ^ 40 }
         ensures exact { (t : Tree) → state_of t self.new ≡ begun_of (state_of t self.old) moment }
         ensures room { HasRoom 1 self.new }
         ensures grows { Grows self.old.out self.new.out }
@@ -59,7 +59,7 @@ impl Machine {
 
     /// Counts what is left to do: the queued events, and one more if a poll is requested.
     pub fn left(&self) -> u16
-        ensures { result ≡ length self.now.queue.events + (if self.now.poll_requested then 1 else 0) }
+        ensures count { result ≡ length self.now.queue.events + (if self.now.poll_requested then 1 else 0) }
     {
         self.queue.len() as u16 + u16::from(self.poll_requested)
     }
@@ -67,8 +67,8 @@ impl Machine {
 
 /// Numbers the members again, from the first on.
 fn number(members: &mut [Member])
-    requires { length members.old ≤ 67 }
-    ensures { members.new ≡ numbered_from 0 members.old }
+    requires bounded { length members.old ≤ 67 }
+    ensures numbered { members.new ≡ numbered_from 0 members.old }
 {
     for place in 0..members.len() {
         members[place].incarnation = place as u32;

@@ -15,7 +15,7 @@ use program_tree::Proc;
 /// The place of a process in the tables. Two tests are faster than a `match`, which is a jump table at each use.
 #[inline(always)]
 pub fn place_of(process: Proc) -> usize
-    ensures { result ≡ place_of process }
+    ensures value { result ≡ place_of process }
 {
     let system = usize::from(matches!(process, Proc::Ctimer))
         + 2 * usize::from(matches!(process, Proc::Radio));
@@ -28,21 +28,21 @@ pub fn place_of(process: Proc) -> usize
 
 /// Returns whether both are the same process.
 pub fn is_same(left: Proc, right: Proc) -> bool
-    ensures { result ≡ are_same left right }
+    ensures value { result ≡ are_same left right }
 {
     place_of(left) == place_of(right)
 }
 
 /// The state at a place of the table; past its end nothing is running.
 pub fn state_at(states: &[ProcessState], place: usize) -> ProcessState
-    ensures { result ≡ unwrap_or (slice_get states.now place) ProcessState.Off }
+    ensures value { result ≡ unwrap_or (slice_get states.now place) ProcessState.Off }
 {
     states.get(place).copied().unwrap_or(ProcessState::Off)
 }
 
 /// Returns whether a process in this state has started and not ended: it is running or called.
 pub fn is_alive(state: ProcessState) -> bool
-    ensures { result ≡ lives state }
+    ensures value { result ≡ lives state }
 {
     match state {
         ProcessState::Off => false,
@@ -54,14 +54,14 @@ pub fn is_alive(state: ProcessState) -> bool
 impl Machine {
     /// The state of a process; `Off` if the mote has no such process.
     pub fn process_state(&self, process: Proc) -> ProcessState
-        ensures { result ≡ state_of_process self.now.shown.states.items process }
+        ensures value { result ≡ state_of_process self.now.shown.states.items process }
     {
         state_at(&self.shown.states, place_of(process))
     }
 
     /// Returns whether a process is running: it has started, and isn't being called.
     pub fn is_running(&self, process: Proc) -> bool
-        ensures { result ≡ is_running_state (state_of_process self.now.shown.states.items process) }
+        ensures value { result ≡ is_running_state (state_of_process self.now.shown.states.items process) }
     {
         match self.process_state(process) {
             ProcessState::Off => false,
@@ -72,7 +72,7 @@ impl Machine {
 
     /// Returns whether a process is being exited; false if the mote has no such process.
     pub fn is_exiting(&self, process: Proc) -> bool
-        ensures { result ≡ at_process self.now.exiting.items process }
+        ensures value { result ≡ at_process self.now.exiting.items process }
     {
         self.exiting
             .get(place_of(process))
@@ -82,7 +82,7 @@ impl Machine {
 
     /// Returns whether its body or a handler of it is being executed, or it is being exited.
     pub fn is_busy(&self, process: Proc) -> bool
-        ensures { result ≡ (is_called_state
+        ensures value { result ≡ (is_called_state
             (state_of_process self.now.shown.states.items process) || at_process self.now.exiting.items process) }
     {
         match self.process_state(process) {
@@ -94,7 +94,7 @@ impl Machine {
 
     /// Returns whether a process needs a poll; false if the mote has no such process.
     pub fn process_needs_poll(&self, process: Proc) -> bool
-        ensures { result ≡ at_process self.now.needs_poll.items process }
+        ensures value { result ≡ at_process self.now.needs_poll.items process }
     {
         self.needs_poll
             .get(place_of(process))
@@ -104,7 +104,7 @@ impl Machine {
 
     /// Returns whether the mote has such a process.
     pub fn has_process(&self, process: Proc) -> bool
-        ensures { result ≡ nat_lt (place_of process) (length self.now.shown.states.items) }
+        ensures value { result ≡ nat_lt (place_of process) (length self.now.shown.states.items) }
     {
         place_of(process) < self.shown.states.len()
     }
@@ -113,7 +113,7 @@ impl Machine {
     #[inline(always)]
     #[tactic(auto, using(crate::proofs::Numbered::held_there, crate::proofs::Numbered::held_past))]
     pub fn is_on_list(&self, member: Member) -> bool
-        ensures { result ≡ holds_member self.now.members.items member }
+        ensures value { result ≡ holds_member self.now.members.items member }
     {
         if !self.is_numbered {
             return self.is_among_all(member);
@@ -126,8 +126,8 @@ impl Machine {
     /// that is numbered has changed since then.
     #[inline(always)]
     pub fn is_still_on_list(&self, member: Member) -> bool
-        requires { holds_member (first_list_of self.now) member ≡ true }
-        ensures { result ≡ holds_member self.now.members.items member }
+        requires was_listed { holds_member (first_list_of self.now) member ≡ true }
+        ensures value { result ≡ holds_member self.now.members.items member }
     {
         if self.is_numbered {
             true
@@ -139,7 +139,7 @@ impl Machine {
     /// Returns whether this incarnation is on the process list, by looking at each member.
     #[inline(never)]
     fn is_among_all(&self, member: Member) -> bool
-        ensures { result ≡ holds_member self.now.members.items member }
+        ensures value { result ≡ holds_member self.now.members.items member }
     {
         self.members.iter().any(|x| member.incarnation == x.incarnation
             && place_of(member.process) == place_of(x.process))
@@ -147,7 +147,7 @@ impl Machine {
 
     /// Returns whether some incarnation of the process is on the process list.
     pub fn is_listed(&self, process: Proc) -> bool
-        ensures { result ≡ stands_in self.now.members.items process }
+        ensures value { result ≡ stands_in self.now.members.items process }
     {
         self.members
             .iter()

@@ -15,14 +15,14 @@ use crate::machine::{Machine, Stop};
 use program_tree::{Event, Proc, Program, SystemEvent, Target};
 
 fn is_callback(program: &Program, timer: u16) -> bool
-    ensures { result ≡ is_of_callback (tree_of program.now) timer }
+    ensures value { result ≡ is_of_callback (tree_of program.now) timer }
 {
     timer < program.timers() && program.is_callback(timer)
 }
 
 /// Who gets the event of a timer: the process that sets it, or for a callback timer the ctimer process.
 fn owner(program: &Program, timer: u16, current: u8) -> Proc
-    ensures { result ≡ owner_of (tree_of program.now) timer current }
+    ensures value { result ≡ owner_of (tree_of program.now) timer current }
 {
     if is_callback(program, timer) {
         Proc::Ctimer
@@ -34,7 +34,7 @@ fn owner(program: &Program, timer: u16, current: u8) -> Proc
 impl Machine {
     /// Puts the callback of a timer, if it has one, on the callback list.
     fn put_callback(&mut self, program: &Program, timer: u16)
-        requires { timer < self.old.shown.timer_count }
+        requires is_timer { timer < self.old.shown.timer_count }
         ensures exact { state_of (tree_of program.now) self.new
             ≡ record (state_of (tree_of program.now) self.old) {
               callbacks = if is_of_callback
@@ -52,7 +52,7 @@ impl Machine {
     /// A timer was set: its callback, if it has one, waits for it, and the etimer process is to be polled.
     #[tactic(auto, unfolding(crate::specs::TimerOperations::timer_is_set))]
     fn timer_is_set(&mut self, program: &Program, timer: u16)
-        requires { timer < self.old.shown.timer_count }
+        requires is_timer { timer < self.old.shown.timer_count }
         ensures exact { state_of (tree_of program.now) self.new
             ≡ timer_is_set (state_of (tree_of program.now) self.old) timer }
         ensures kept { KeepsCounts self.old self.new }

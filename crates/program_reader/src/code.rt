@@ -52,7 +52,7 @@ impl Cursor<'_> {
 
     /// The same for a process, by its number.
     fn opening_of(&mut self, scope: &Scope, process: usize) -> Result<(), Refusal>
-        requires { process < length scope.now.processes }
+        requires process_exists { process < length scope.now.processes }
         ensures ok { OnOk result ((s : faults.Scope) → ReadsOpening (slice_index_or scope.now.processes process []) s
             self.old self.new) }
         ensures err { (f : Fault) → result ≡ Err (Refusal.Fault f)
@@ -136,7 +136,7 @@ impl Reader<'_> {
     /// Reads the text between the braces of a code. Its names are then in scope.
     #[tactic(auto, using(crate::proofs::ContentLaws::content_steps))]
     fn content(&mut self) -> Result<Content, Refusal>
-        requires { HasNoOwnNames self.old.scope }
+        requires has_no_own_names { HasNoOwnNames self.old.scope }
         ensures body { IfOk result (λ c. IsWithinLimits (tree_in c.body)) }
         ensures callbacks { IfOk result (λ c. All (λ b. IsWithinLimits (tree_in b)) c.callbacks.items) }
         ensures threads { IfOk result (λ c. All (λ b. IsWithinLimits (tree_in b)) c.thread_blocks.items) }

@@ -24,7 +24,7 @@ use std::alloc::{AllocError, Global};
 
 /// Adds this many timers of one kind.
 fn add_timers(timers: &mut Vec<Timer>, count: usize, timer: Timer) -> Result<(), AllocError>
-    ensures { OnOk result (timers.new.items ≡ timers.old.items ++ replicate count timer) }
+    ensures appended { OnOk result (timers.new.items ≡ timers.old.items ++ replicate count timer) }
 {
     for _added in 0..count {
         timers.push(timer)?;
@@ -34,7 +34,7 @@ fn add_timers(timers: &mut Vec<Timer>, count: usize, timer: Timer) -> Result<(),
 
 /// The timers of all processes, in the order of the text.
 fn timers(alloc: Global, mut codes: &[ProcessText]) -> Result<Vec<Timer>, AllocError>
-    ensures { IfOk result (λ timers. timers.items ≡ all_timers (map code_of codes.entry.now)) }
+    ensures timers { IfOk result (λ timers. timers.items ≡ all_timers (map code_of codes.entry.now)) }
 {
     let mut timers = Vec::new(alloc);
     while let [code, rest @ ..] = codes {
@@ -56,7 +56,7 @@ fn timers(alloc: Global, mut codes: &[ProcessText]) -> Result<Vec<Timer>, AllocE
 impl Reader<'_> {
     /// The codes of the processes, in their order.
     fn codes(&mut self) -> Result<Vec<ProcessText>, Refusal>
-        requires { HasNoOwnNames self.old.scope }
+        requires has_no_own_names { HasNoOwnNames self.old.scope }
         ensures ok { IfOk result (λ codes. HasCodes (map code_of codes.items) [] (scope_of self.old.scope)
             (scope_of self.new.scope) self.old.cursor self.new.cursor) }
         ensures err { (f : Fault) → result ≡ Err (Refusal.Fault f) → (more : machine.Pending) →
@@ -127,7 +127,7 @@ struct Parts {
 impl Reader<'_> {
     /// The codes, after which the text ends.
     fn last_codes(&mut self) -> Result<Vec<ProcessText>, Refusal>
-        requires { HasNoOwnNames self.old.scope }
+        requires has_no_own_names { HasNoOwnNames self.old.scope }
         ensures ok { IfOk result (λ codes. HasCodes (map code_of codes.items) [] (scope_of self.old.scope)
             (scope_of self.new.scope) self.old.cursor []) }
         ensures err { (f : Fault) → result ≡ Err (Refusal.Fault f) →
@@ -160,8 +160,8 @@ impl Reader<'_> {
 
     /// The program of the parts, with the names that are in scope after them.
     fn into_program(self, parts: Parts) -> Program
-        requires { IsMade (tree_with self.scope parts) }
-        ensures { tree_of result ≡ tree_with self.entry.scope parts }
+        requires is_made { IsMade (tree_with self.scope parts) }
+        ensures tree { tree_of result ≡ tree_with self.entry.scope parts }
     {
         Program::new(
             self.scope.events,
@@ -178,7 +178,7 @@ impl Reader<'_> {
 
 /// The program that the tokens are, or their first fault.
 pub(crate) fn program<'a>(alloc: Global, tokens: &'a [Token<'a>]) -> Result<Program, Refusal>
-    requires { AreLexed (map token_of tokens.now) }
+    requires are_lexed { AreLexed (map token_of tokens.now) }
     ensures ok { IfOk result (λ p. IsTreeOfTokens (map token_of tokens.now) (tree_of p)) }
     ensures err { (f : Fault) → result ≡ Err (Refusal.Fault f) →
         machine.tell nothing_yet (machine.from_events ∷ []) (map token_of tokens.now) ≡ machine.fault f.kind f.left }

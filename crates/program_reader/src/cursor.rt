@@ -39,27 +39,27 @@ impl<'a> Model for Cursor<'a> {
 
 impl<'a> Cursor<'a> {
     pub(crate) fn new(tokens: &'a [Token<'a>]) -> Self
-        ensures { result ≡ map token_of tokens.now }
+        ensures tokens { result ≡ map token_of tokens.now }
     {
         Cursor { rest: tokens }
     }
 
     /// The number of tokens that are left.
     pub(crate) fn left(&self) -> usize
-        ensures { result ≡ length self.now }
+        ensures count { result ≡ length self.now }
     {
         self.rest.len()
     }
 
     /// The next token, if there is one.
     pub(crate) fn peek(&self) -> Option<Token<'a>>
-        ensures { option_map token_of result ≡ first self.now }
+        ensures first_token { option_map token_of result ≡ first self.now }
     {
         self.rest.first().copied()
     }
 
     pub(crate) fn advance(&mut self)
-        ensures { self.new ≡ drop 1 self.old }
+        ensures after { self.new ≡ drop 1 self.old }
     {
         let rest = self.rest;
         if !rest.is_empty() {
@@ -69,7 +69,7 @@ impl<'a> Cursor<'a> {
 
     /// The fault of this kind at the next token.
     pub(crate) fn fault(&self, kind: ReadErrorKind) -> Refusal
-        ensures { result ≡ Refusal.Fault (record { kind = kind; left = length self.now }) }
+        ensures refusal { result ≡ Refusal.Fault (record { kind = kind; left = length self.now }) }
     {
         Refusal::Fault(Fault {
             kind,
@@ -79,7 +79,7 @@ impl<'a> Cursor<'a> {
 
     /// The fault of a token that isn't allowed here, or of the end.
     pub(crate) fn unfit(&self) -> Refusal
-        ensures { result ≡ Refusal.Fault (record { kind = unfit_at (first self.now); left = length self.now }) }
+        ensures refusal { result ≡ Refusal.Fault (record { kind = unfit_at (first self.now); left = length self.now }) }
     {
         match self.peek() {
             Some(Token::Bad) => self.fault(ReadErrorKind::BadToken),

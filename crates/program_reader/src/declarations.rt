@@ -47,7 +47,7 @@ const LARGEST: u32 = 65535;
 impl Scope {
     /// Returns `true` if no further name of this kind may be declared.
     fn is_full(&self, kind: Kind) -> bool
-        ensures { result ≡ is_full (scope_of self.now).names (class_of_kind kind) }
+        ensures value { result ≡ is_full (scope_of self.now).names (class_of_kind kind) }
     {
         match kind {
             Kind::Event => self.events.len() >= EVENTS,
@@ -114,7 +114,7 @@ impl<'a> Cursor<'a> {
         scope: &mut Scope,
         kind: Kind,
     ) -> Result<&'a str, Refusal>
-        requires { kind ≡ Kind.Etimer → scope.old.ctimers ≡ [] }
+        requires etimers_first { kind ≡ Kind.Etimer → scope.old.ctimers ≡ [] }
         ensures no_longer { OnOk result (length self.new ≤ length self.old) }
         ensures etimers { OnOk result (kind ≢ Kind.Etimer → scope.new.etimers ≡ scope.old.etimers) }
         ensures ctimers { OnOk result (kind ≢ Kind.Ctimer → scope.new.ctimers ≡ scope.old.ctimers) }
@@ -143,7 +143,7 @@ impl Reader<'_> {
     /// A new name and a semicolon.
     #[tactic(auto, using(crate::proofs::HeadLaws::new_goes, crate::proofs::HeadLaws::is_listed))]
     pub(crate) fn listed(&mut self, kind: Kind) -> Result<(), Refusal>
-        requires { kind ≡ Kind.Etimer → self.old.scope.ctimers ≡ [] }
+        requires etimers_first { kind ≡ Kind.Etimer → self.old.scope.ctimers ≡ [] }
         ensures no_longer { OnOk result (length self.new.cursor ≤ length self.old.cursor) }
         ensures ctimers { OnOk result (kind ≢ Kind.Ctimer → self.new.scope.ctimers ≡ self.old.scope.ctimers) }
         ensures ok { OnOk result (IsListed (class_of_kind kind) (scope_of self.old.scope) (scope_of self.new.scope)
@@ -158,7 +158,7 @@ impl Reader<'_> {
     /// A new name with its first value, and a semicolon.
     #[tactic(auto, using(crate::proofs::HeadLaws::new_goes, crate::proofs::HeadLaws::is_valued))]
     pub(crate) fn with_value(&mut self, kind: Kind, values: &mut Vec<u16>) -> Result<(), Refusal>
-        requires { kind ≢ Kind.Etimer }
+        requires not_etimer { kind ≢ Kind.Etimer }
         ensures no_longer { OnOk result (length self.new.cursor ≤ length self.old.cursor) }
         ensures etimers { OnOk result (self.new.scope.etimers ≡ self.old.scope.etimers) }
         ensures ctimers { OnOk result (kind ≢ Kind.Ctimer → self.new.scope.ctimers ≡ self.old.scope.ctimers) }

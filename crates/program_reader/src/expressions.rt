@@ -45,7 +45,7 @@ impl Drop for Sides {
 
 impl Sides {
     fn into_expression(self, alloc: Global) -> Result<Expr, AllocError>
-        ensures { IfOk result (λ e. expression_of e ≡ binary self.operator (expression_of self.left)
+        ensures expression { IfOk result (λ e. expression_of e ≡ binary self.operator (expression_of self.left)
             (expression_of self.right)) }
     {
         let Sides {
@@ -80,8 +80,8 @@ impl Reader<'_> {
     /// A keyword that asks about something, and after it in parentheses its name.
     #[tactic(auto, using(crate::proofs::ExpressionSteps::word_steps))]
     fn question(&mut self, place: &Context, telling: Telling) -> Result<Expr, Refusal>
-        requires here { first self.old.cursor ≡ Some (token.Keyword (telling_keyword telling)) }
-        ensures { AnswersExpression self.old self.new place.now result }
+        requires at_keyword { first self.old.cursor ≡ Some (token.Keyword (telling_keyword telling)) }
+        ensures answers_expression { AnswersExpression self.old self.new place.now result }
     {
         let class = telling.class();
         self.cursor.advance();
@@ -94,8 +94,8 @@ impl Reader<'_> {
     /// `is`, and after it in parentheses an event.
     #[tactic(auto, using(crate::proofs::ExpressionSteps::word_steps))]
     fn is(&mut self, place: &Context) -> Result<Expr, Refusal>
-        requires here { first self.old.cursor ≡ Some (token.Keyword Keyword.Is) }
-        ensures { AnswersExpression self.old self.new place.now result }
+        requires at_keyword { first self.old.cursor ≡ Some (token.Keyword Keyword.Is) }
+        ensures answers_expression { AnswersExpression self.old self.new place.now result }
     {
         self.cursor.advance();
         self.cursor.sign(Sign::Open)?;
@@ -107,8 +107,8 @@ impl Reader<'_> {
     /// An expression that begins with a keyword.
     #[tactic(auto, using(crate::proofs::ValueLaws::no_word))]
     fn word(&mut self, place: &Context, keyword: Keyword) -> Result<Expr, Refusal>
-        requires here { first self.old.cursor ≡ Some (token.Keyword keyword) }
-        ensures { AnswersExpression self.old self.new place.now result }
+        requires at_keyword { first self.old.cursor ≡ Some (token.Keyword keyword) }
+        ensures answers_expression { AnswersExpression self.old self.new place.now result }
     {
         match ValueWord::of(keyword) {
             Some(ValueWord::Alone(alone)) => {
@@ -126,8 +126,8 @@ impl Reader<'_> {
     #[tactic(auto, using(crate::proofs::ExpressionSteps::bang_start))]
     fn negation(&mut self, place: &Context) -> Result<Expr, Refusal>
         requires shallow { place.now.level ≤ LEVELS }
-        requires here { first self.old.cursor ≡ Some token.Bang }
-        ensures { AnswersExpression self.old self.new place.now result }
+        requires at_bang { first self.old.cursor ≡ Some token.Bang }
+        ensures answers_expression { AnswersExpression self.old self.new place.now result }
     {
         if place.level == LEVELS {
             return Err(self.cursor.fault(ReadErrorKind::TooDeep));
@@ -175,8 +175,8 @@ impl Reader<'_> {
     #[tactic(auto, using(crate::proofs::ExpressionSteps::open_start))]
     fn binary(&mut self, place: &Context) -> Result<Expr, Refusal>
         requires shallow { place.now.level ≤ LEVELS }
-        requires here { first self.old.cursor ≡ Some token.Open }
-        ensures { AnswersExpression self.old self.new place.now result }
+        requires at_open { first self.old.cursor ≡ Some token.Open }
+        ensures answers_expression { AnswersExpression self.old self.new place.now result }
     {
         if place.level == LEVELS {
             return Err(self.cursor.fault(ReadErrorKind::TooDeep));
@@ -191,7 +191,7 @@ impl Reader<'_> {
     #[tactic(auto, using(crate::proofs::ExpressionSteps::variable_start))]
     pub(crate) fn expression(&mut self, place: &Context) -> Result<Expr, Refusal>
         requires shallow { place.now.level ≤ LEVELS }
-        ensures { AnswersExpression self.old self.new place.now result }
+        ensures answers_expression { AnswersExpression self.old self.new place.now result }
     {
         match self.cursor.peek() {
             Some(Token::Number(number)) => {

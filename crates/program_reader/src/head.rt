@@ -50,7 +50,7 @@ impl Scope {
         number: u8,
         numbers: &mut Vec<u8>,
     ) -> Result<(), Refusal>
-        requires { place_of self.old.starting name.now ≡ None }
+        requires not_yet_listed { place_of self.old.starting name.now ≡ None }
         ensures scope { OnOk result (scope_of self.new ≡ with_starting (scope_of self.old)
             (self.old.starting ++ name.now ∷ [])) }
         ensures numbers { OnOk result (numbers.new.items ≡ numbers.old.items ++ number ∷ []) }
@@ -93,7 +93,7 @@ impl Reader<'_> {
     /// The process line.
     #[tactic(auto, using(crate::proofs::LineLaws::line_steps))]
     pub(crate) fn processes(&mut self) -> Result<(), Refusal>
-        requires { first self.old.cursor ≡ Some (token.Keyword word.Semaphore) → ⊥ }
+        requires at_keyword { first self.old.cursor ≡ Some (token.Keyword word.Semaphore) → ⊥ }
         ensures ok { OnOk result (ReadsProcesses (scope_of self.old.scope) (scope_of self.new.scope) self.old.cursor
             self.new.cursor) }
         ensures err { FailsIn (scope_of self.old.scope) (machine.from_semaphores ∷ []) self.old.cursor result }
@@ -130,7 +130,7 @@ impl Reader<'_> {
     /// Reads the names after `autostart`, if it is present, and adds their numbers.
     #[tactic(auto, using(crate::proofs::StartLaws::autostart_steps))]
     fn starting_names(&mut self, numbers: &mut Vec<u8>) -> Result<(), Refusal>
-        requires { numbers.old.items ≡ [] }
+        requires none_yet { numbers.old.items ≡ [] }
         ensures ok { OnOk result (ReadsAutostart (scope_of self.old.scope) (scope_of self.new.scope) numbers.new.items
             self.old.cursor self.new.cursor) }
         ensures err { (f : Fault) → result ≡ Err (Refusal.Fault f)

@@ -6,16 +6,17 @@ ghost use Rattle.program_tree.specs.declared.error.ReadErrorKind.{ReadErrorKind}
 
 /// A text has at most one tree.
 pub fn at_most_one_tree()
-    ensures { (text : List ℕ) (t u : Tree) → IsTreeOf text t → IsTreeOf text u → t ≡ u }
+    ensures at_most_one { (text : List ℕ) (t u : Tree) → IsTreeOf text t → IsTreeOf text u → t ≡ u }
 {}
 
 /// Each text has a tree or a reported error, and none has both.
 pub fn tree_or_fault()
-    ensures { (text : List ℕ) → HasTreeOrFault text }
+    ensures has_tree_or_fault { (text : List ℕ) → HasTreeOrFault text }
 {}
 
 /// At most one fault of a text is reported.
 pub fn at_most_one_fault()
-    ensures { (text : List ℕ) (j k : ReadErrorKind) (l m : ℕ) → IsToldOf text j l → IsToldOf text k m → (j ≡ k)
+    ensures at_most_one { (text : List ℕ) (j k : ReadErrorKind) (l m : ℕ) → IsToldOf text j l → IsToldOf text k m →
+        (j ≡ k)
         × (l ≡ m) }
 {}

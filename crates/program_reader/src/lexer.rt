@@ -52,7 +52,7 @@ static SIGNS: [Entry<'static>; 21] = [
 ];
 
 fn is_blank(byte: u8) -> bool
-    ensures { result ≡ is_blank byte }
+    ensures value { result ≡ is_blank byte }
 {
     byte == b' ' || byte == b'\t' || byte == b'\r' || byte == b'\n'
 }
@@ -78,14 +78,14 @@ fn line_len(rest: &[u8]) -> usize
 
 /// The first of the signs that a text begins with.
 fn first_sign(signs: &'static [Entry<'static>], rest: &[u8]) -> Option<Entry<'static>>
-    ensures { option_map entry_of result ≡ find (λ s. starts_with nat_eq rest.now s.0) (map entry_of signs.now) }
+    ensures value { option_map entry_of result ≡ find (λ s. starts_with nat_eq rest.now s.0) (map entry_of signs.now) }
 {
     signs.iter().find(|sign| rest.starts_with(sign.0)).copied()
 }
 
 /// The sign or the bad byte that a text begins with.
 fn sign_or_bad<'a>(rest: &[u8]) -> Front<'a>
-    requires { BeginsOther rest.now }
+    requires begins_other { BeginsOther rest.now }
     ensures piece { BeginsWith rest.now (option_map token_of result.token) result.len }
     ensures moves { 0 < result.len }
     ensures within { result.len ≤ length rest.now }
@@ -104,7 +104,7 @@ fn sign_or_bad<'a>(rest: &[u8]) -> Front<'a>
 
 /// The piece that a text begins with.
 fn first_piece<'a>(rest: &'a [u8]) -> Front<'a>
-    requires { 0 < length rest.now }
+    requires not_empty { 0 < length rest.now }
     ensures piece { BeginsWith rest.now (option_map token_of result.token) result.len }
     ensures moves { 0 < result.len }
     ensures within { result.len ≤ length rest.now }
@@ -147,7 +147,7 @@ impl<'a> Lexed<'a> {
 
 /// Cuts a text into its tokens.
 pub(crate) fn lex<'a>(alloc: Global, text: &'a str) -> Result<Lexed<'a>, AllocError>
-    ensures { IfOk result (λ t. IsLexed text.now (map token_of t.tokens.items) t.lines.items) }
+    ensures is_lexed { IfOk result (λ t. IsLexed text.now (map token_of t.tokens.items) t.lines.items) }
 {
     let mut lexed = Lexed {
         tokens: Vec::new(alloc),

@@ -65,7 +65,7 @@ impl Reader<'_> {
     /// The event timers of a process, which come before its callback timers.
     #[tactic(auto, using(crate::proofs::ListLaws::list_steps))]
     pub(crate) fn etimers(&mut self) -> Result<(), Refusal>
-        requires { self.old.scope.ctimers ≡ [] }
+        requires etimers_first { self.old.scope.ctimers ≡ [] }
         ensures no_longer { OnOk result (length self.new.cursor ≤ length self.old.cursor) }
         ensures ctimers { OnOk result (self.new.scope.ctimers ≡ []) }
         ensures ok { OnOk result (ReadsNames a_timer from_etimers from_ctimers etimer_marks (scope_of self.old.scope)

@@ -32,7 +32,7 @@ const SIMPLE: Context<'static> = Context {
 impl Reader<'_> {
     /// A block of a process, with its flat code.
     fn flat_block(&mut self, place: &Context) -> Result<FlatBlock, Refusal>
-        requires { place.now.level ≡ 0 }
+        requires outermost { place.now.level ≡ 0 }
         ensures names { fixed self.new.scope ≡ fixed self.old.scope }
         ensures no_longer { OnOk result (length self.new.cursor ≤ length self.old.cursor) }
         ensures within { IfOk result (λ b. IsWithinLimits (tree_in b)) }
@@ -115,7 +115,7 @@ impl Reader<'_> {
     /// The threads of a process, with their blocks.
     #[tactic(auto, using(crate::proofs::BlockLaws::blocks_steps))]
     pub(crate) fn threads(&mut self) -> Result<Vec<FlatBlock>, Refusal>
-        requires { self.old.scope.threads ≡ [] }
+        requires none_yet { self.old.scope.threads ≡ [] }
         ensures no_longer { OnOk result (length self.new.cursor ≤ length self.old.cursor) }
         ensures timers { OnOk result (KeepsTimers self.old.scope self.new.scope) }
         ensures within { IfOk result (λ blocks. All (λ b. IsWithinLimits (tree_in b)) blocks.items) }

@@ -70,7 +70,7 @@ impl Bare {
     }
 
     pub(crate) fn action(self) -> Action
-        ensures { action_of result ≡ bare_action self }
+        ensures action { action_of result ≡ bare_action self }
     {
         match self {
             Bare::Yield => Action::Yield,
@@ -96,7 +96,7 @@ impl Valued {
     }
 
     pub(crate) fn action(self, value: Expr) -> Action
-        ensures { action_of result ≡ valued_action self (expression_of value) }
+        ensures action { action_of result ≡ valued_action self (expression_of value) }
     {
         match self {
             Valued::Print => Action::Print(value),
@@ -128,7 +128,7 @@ impl About {
 
     /// The class of the thing that the name refers to.
     pub(crate) fn class(self) -> Class
-        ensures { class_of result ≡ about_class self }
+        ensures class { class_of result ≡ about_class self }
     {
         match self {
             About::Spawn => Class::Thread,
@@ -139,7 +139,7 @@ impl About {
     }
 
     pub(crate) fn action(self, number: u8) -> Action
-        ensures { action_of result ≡ about_action self number }
+        ensures action { action_of result ≡ about_action self number }
     {
         match self {
             About::Spawn => Action::Spawn(number),
@@ -158,7 +158,7 @@ impl About {
 impl Plain {
     /// The statement that begins with a keyword.
     pub(crate) fn of(keyword: Keyword) -> Option<Plain>
-        ensures some { IfSome result (λ p. keyword ≡ plain_keyword p) }
+        ensures same_keyword { IfSome result (λ p. keyword ≡ plain_keyword p) }
         ensures none { result ≡ None → IsNoAction (beginning keyword) }
     {
         let plain = match keyword {

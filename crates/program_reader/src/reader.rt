@@ -34,7 +34,7 @@ impl Reader<'_> {
     fn number(&self, place: &Context, class: Class) -> Result<u8, Refusal>
         ensures ok { IfOk result (λ i. IsNamed (scope_of self.now.scope).names (context_of place.now).thread
             (class_of class) i self.now.cursor) }
-        ensures few { IfOk result (λ i. i < most_of (class_of class)) }
+        ensures bounded { IfOk result (λ i. i < most_of (class_of class)) }
         ensures err { Fails (scope_of self.now.scope) (operand (context_of place.now) (name (class_of class)))
             self.now.cursor result }
     {
@@ -57,7 +57,7 @@ impl Reader<'_> {
             (operand (context_of place.now) (name (class_of class)))
             (λ n ms. operand_mark (context_of place.now) (name (class_of class)) (name_in n (class_of class) i) ∷ ms)
             self.old.cursor self.new.cursor) }
-        ensures few { IfOk result (λ i. i < most_of (class_of class)) }
+        ensures bounded { IfOk result (λ i. i < most_of (class_of class)) }
         ensures numbered { IfOk result (λ i. Numbered (scope_of self.old.scope).names
             (λ n. number_in n (class_of class) (name_in n (class_of class) i)) i) }
         ensures fits { IfOk result (λ i. Fits (scope_of self.old.scope).names (context_of place.now).thread

@@ -32,7 +32,7 @@ impl<'a> Context<'a> {
 
     /// One level deeper.
     pub(crate) fn inner(&self) -> Context<'a>
-        requires { self.now.level < LEVELS }
+        requires level_bounded { self.now.level < LEVELS }
         ensures context { context_of result ≡ inner (context_of self.now) }
         ensures level { result.level ≡ self.now.level + 1 }
     {
@@ -45,7 +45,7 @@ impl<'a> Context<'a> {
 
     /// Returns `true` if a name is that of the thread that is being read.
     fn is_own(&self, class: Class, name: &str) -> bool
-        ensures { result ≡ is_own_thread (context_of self.now).thread (class_of class) name.now }
+        ensures value { result ≡ is_own_thread (context_of self.now).thread (class_of class) name.now }
     {
         match (class, self.thread) {
             (Class::Thread, Some(own)) => own == name,
@@ -85,7 +85,7 @@ impl Scope {
     ghost use Rattle.program_reader.specs.Steps.{scope_of, context_of, class_of, look, most_of, IsFound};
 
     pub(crate) fn new(alloc: Global) -> Scope
-        ensures { scope_of result ≡ nothing_yet }
+        ensures empty { scope_of result ≡ nothing_yet }
     {
         Scope {
             events: Names::new(alloc),
@@ -103,7 +103,7 @@ impl Scope {
 
     /// Returns `true` if a name refers to anything.
     pub(crate) fn contains(&self, name: &str) -> bool
-        ensures { result ≡ is_in_scope (scope_of self.now).names name.now }
+        ensures value { result ≡ is_in_scope (scope_of self.now).names name.now }
     {
         self.events.place_of(name).is_some()
             || self.semaphores.place_of(name).is_some()
@@ -129,7 +129,7 @@ impl Scope {
 
     /// The number of a timer of the code.
     fn timer_number(&self, name: &str) -> Option<usize>
-        ensures few { IfSome result (λ i. i < 64) }
+        ensures bounded { IfSome result (λ i. i < 64) }
         ensures value { result ≡ look (scope_of self.now).names a_timer name.now }
     {
         let place = self.timer(name)?;
@@ -138,7 +138,7 @@ impl Scope {
 
     /// The number of a name of a class, before it is made a byte.
     fn place_of(&self, class: Class, name: &str) -> Option<usize>
-        ensures few { IfSome result (λ i. i < most_of (class_of class)) }
+        ensures bounded { IfSome result (λ i. i < most_of (class_of class)) }
         ensures value { result ≡ look (scope_of self.now).names (class_of class) name.now }
     {
         match class {
@@ -153,7 +153,7 @@ impl Scope {
 
     /// The number of a name of a class.
     fn number_of(&self, class: Class, name: &str) -> Option<u8>
-        ensures few { IfSome result (λ i. i < most_of (class_of class)) }
+        ensures bounded { IfSome result (λ i. i < most_of (class_of class)) }
         ensures value { result ≡ look (scope_of self.now).names (class_of class) name.now }
     {
         let place = self.place_of(class, name)?;
@@ -163,7 +163,7 @@ impl Scope {
     /// Finds the thing that a name refers to, if one of this class is expected.
     #[tactic(auto, using(crate::proofs::ScopeLaws::find_steps))]
     pub(crate) fn find(&self, place: &Context, class: Class, name: &str) -> Found
-        ensures few { (i : ℕ) → result ≡ Found.Here i → i < most_of (class_of class) }
+        ensures bounded { (i : ℕ) → result ≡ Found.Here i → i < most_of (class_of class) }
         ensures value { IsFound (scope_of self.now).names (context_of place.now).thread (class_of class) name.now
             result }
     {

@@ -30,7 +30,7 @@ const STATEMENTS: usize = 4_096;
 
 /// Returns `true` if a statement isn't allowed in a simple block.
 fn is_wait(keyword: Keyword) -> bool
-    ensures { result ≡ waits keyword }
+    ensures value { result ≡ waits keyword }
 {
     matches!(
         keyword,
@@ -50,7 +50,7 @@ impl Reader<'_> {
     /// Tests whether a statement may begin with this keyword here.
     #[tactic(auto, using(crate::proofs::StatementSteps::may_begin_steps))]
     fn may_begin(&self, place: &Context, keyword: Keyword) -> Result<(), Refusal>
-        requires here { first self.now.cursor ≡ Some (token.Keyword keyword) }
+        requires at_keyword { first self.now.cursor ≡ Some (token.Keyword keyword) }
         requires statement { IsStatement (beginning keyword) }
         ensures no_wait { OnOk result ((place.now.simple && waits keyword) ≡ false) }
         ensures room { OnOk result (self.now.scope.statements < STATEMENTS) }
@@ -68,7 +68,7 @@ impl Reader<'_> {
     /// Reads the keyword that a statement begins with, and counts the statement.
     #[tactic(auto, using(crate::proofs::StatementSteps::begin_ok))]
     fn begin(&mut self, place: &Context, keyword: Keyword) -> Result<(), Refusal>
-        requires here { first self.old.cursor ≡ Some (token.Keyword keyword) }
+        requires at_keyword { first self.old.cursor ≡ Some (token.Keyword keyword) }
         requires statement { IsStatement (beginning keyword) }
         ensures names { fixed self.new.scope ≡ fixed self.old.scope }
         ensures shorter { OnOk result (length self.new.cursor < length self.old.cursor) }
@@ -86,7 +86,7 @@ impl Reader<'_> {
     /// The number of the variable that an assignment begins with.
     #[tactic(auto, using(crate::proofs::StatementSteps::may_assign_steps))]
     fn may_assign(&self, place: &Context, name: &str) -> Result<u8, Refusal>
-        requires here { first self.now.cursor ≡ Some (token.Name name.now) }
+        requires at_name { first self.now.cursor ≡ Some (token.Name name.now) }
         ensures finds { IfOk result (λ i. Finds (scope_of self.now.scope).names (context_of place.now).thread
             a_variable name.now i) }
         ensures room { OnOk result (self.now.scope.statements < STATEMENTS) }
@@ -105,7 +105,7 @@ impl Reader<'_> {
     /// Reads the variable that an assignment begins with, and counts the statement.
     #[tactic(auto, using(crate::proofs::StatementSteps::target_steps))]
     fn target(&mut self, place: &Context, name: &str) -> Result<u8, Refusal>
-        requires here { first self.old.cursor ≡ Some (token.Name name.now) }
+        requires at_name { first self.old.cursor ≡ Some (token.Name name.now) }
         ensures names { fixed self.new.scope ≡ fixed self.old.scope }
         ensures shorter { OnOk result (length self.new.cursor < length self.old.cursor) }
         ensures counts { OnOk result (self.old.scope.statements < self.new.scope.statements) }
@@ -154,8 +154,8 @@ impl Reader<'_> {
 
     /// A statement that is its keyword alone.
     fn bare(&mut self, place: &Context, bare: Bare) -> Result<Action, Refusal>
-        requires here { first self.old.cursor ≡ Some (token.Keyword (bare_keyword bare)) }
-        ensures { AnswersAction self.old self.new place.now result }
+        requires at_keyword { first self.old.cursor ≡ Some (token.Keyword (bare_keyword bare)) }
+        ensures answers_action { AnswersAction self.old self.new place.now result }
     {
         self.begin(place, bare.keyword())?;
         self.cursor.sign(Sign::Semicolon)?;
@@ -165,8 +165,8 @@ impl Reader<'_> {
     /// A statement that is its keyword and an expression.
     fn valued(&mut self, place: &Context, valued: Valued) -> Result<Action, Refusal>
         requires shallow { place.now.level ≤ LEVELS }
-        requires here { first self.old.cursor ≡ Some (token.Keyword (valued_keyword valued)) }
-        ensures { AnswersAction self.old self.new place.now result }
+        requires at_keyword { first self.old.cursor ≡ Some (token.Keyword (valued_keyword valued)) }
+        ensures answers_action { AnswersAction self.old self.new place.now result }
     {
         self.begin(place, valued.keyword())?;
         let value = self.expression(place)?;
@@ -176,8 +176,8 @@ impl Reader<'_> {
 
     /// A statement that is its keyword and a name.
     fn about(&mut self, place: &Context, about: About) -> Result<Action, Refusal>
-        requires here { first self.old.cursor ≡ Some (token.Keyword (about_keyword about)) }
-        ensures { AnswersAction self.old self.new place.now result }
+        requires at_keyword { first self.old.cursor ≡ Some (token.Keyword (about_keyword about)) }
+        ensures answers_action { AnswersAction self.old self.new place.now result }
     {
         self.begin(place, about.keyword())?;
         let number = self.name(place, about.class())?;
@@ -187,8 +187,8 @@ impl Reader<'_> {
 
     fn post(&mut self, place: &Context) -> Result<Action, Refusal>
         requires shallow { place.now.level ≤ LEVELS }
-        requires here { first self.old.cursor ≡ Some (token.Keyword Keyword.Post) }
-        ensures { AnswersAction self.old self.new place.now result }
+        requires at_keyword { first self.old.cursor ≡ Some (token.Keyword Keyword.Post) }
+        ensures answers_action { AnswersAction self.old self.new place.now result }
     {
         self.begin(place, Keyword::Post)?;
         let process = self.name(place, Class::Process)?;
@@ -200,8 +200,8 @@ impl Reader<'_> {
 
     fn broadcast(&mut self, place: &Context) -> Result<Action, Refusal>
         requires shallow { place.now.level ≤ LEVELS }
-        requires here { first self.old.cursor ≡ Some (token.Keyword Keyword.Broadcast) }
-        ensures { AnswersAction self.old self.new place.now result }
+        requires at_keyword { first self.old.cursor ≡ Some (token.Keyword Keyword.Broadcast) }
+        ensures answers_action { AnswersAction self.old self.new place.now result }
     {
         self.begin(place, Keyword::Broadcast)?;
         let event = self.cast(place)?;
@@ -212,8 +212,8 @@ impl Reader<'_> {
 
     fn synch(&mut self, place: &Context) -> Result<Action, Refusal>
         requires shallow { place.now.level ≤ LEVELS }
-        requires here { first self.old.cursor ≡ Some (token.Keyword Keyword.Synch) }
-        ensures { AnswersAction self.old self.new place.now result }
+        requires at_keyword { first self.old.cursor ≡ Some (token.Keyword Keyword.Synch) }
+        ensures answers_action { AnswersAction self.old self.new place.now result }
     {
         self.begin(place, Keyword::Synch)?;
         let process = self.name(place, Class::Process)?;
@@ -225,8 +225,8 @@ impl Reader<'_> {
 
     fn set(&mut self, place: &Context) -> Result<Action, Refusal>
         requires shallow { place.now.level ≤ LEVELS }
-        requires here { first self.old.cursor ≡ Some (token.Keyword Keyword.Set) }
-        ensures { AnswersAction self.old self.new place.now result }
+        requires at_keyword { first self.old.cursor ≡ Some (token.Keyword Keyword.Set) }
+        ensures answers_action { AnswersAction self.old self.new place.now result }
     {
         self.begin(place, Keyword::Set)?;
         let timer = self.name(place, Class::Timer)?;
@@ -237,8 +237,8 @@ impl Reader<'_> {
 
     fn assign(&mut self, place: &Context, name: &str) -> Result<Action, Refusal>
         requires shallow { place.now.level ≤ LEVELS }
-        requires here { first self.old.cursor ≡ Some (token.Name name.now) }
-        ensures { AnswersAction self.old self.new place.now result }
+        requires at_name { first self.old.cursor ≡ Some (token.Name name.now) }
+        ensures answers_action { AnswersAction self.old self.new place.now result }
     {
         let variable = self.target(place, name)?;
         self.cursor.sign(Sign::Equals)?;
@@ -251,9 +251,9 @@ impl Reader<'_> {
     #[tactic(auto, using(crate::proofs::PlainLaws::no_action))]
     fn action(&mut self, place: &Context, keyword: Keyword) -> Result<Action, Refusal>
         requires shallow { place.now.level ≤ LEVELS }
-        requires here { first self.old.cursor ≡ Some (token.Keyword keyword) }
+        requires at_keyword { first self.old.cursor ≡ Some (token.Keyword keyword) }
         requires plain { IsPlain (beginning keyword) }
-        ensures { AnswersAction self.old self.new place.now result }
+        ensures answers_action { AnswersAction self.old self.new place.now result }
     {
         match Plain::of(keyword) {
             Some(Plain::Bare(bare)) => self.bare(place, bare),
@@ -271,7 +271,7 @@ impl Reader<'_> {
     fn plain(&mut self, place: &Context) -> Result<Action, Refusal>
         requires shallow { place.now.level ≤ LEVELS }
         requires plain { BeginsPlain (first self.old.cursor) }
-        ensures { AnswersAction self.old self.new place.now result }
+        ensures answers_action { AnswersAction self.old self.new place.now result }
     {
         match self.cursor.peek() {
             Some(Token::Name(name)) => self.assign(place, name),
@@ -283,8 +283,8 @@ impl Reader<'_> {
     #[cycle(statement)]
     fn branch(&mut self, place: &Context) -> Result<Stmt, Refusal>
         requires low { place.now.level ≤ LEVELS }
-        requires here { first self.old.cursor ≡ Some (token.Keyword Keyword.If) }
-        ensures { AnswersStatement self.old self.new place.now result }
+        requires at_keyword { first self.old.cursor ≡ Some (token.Keyword Keyword.If) }
+        ensures answers_statement { AnswersStatement self.old self.new place.now result }
     {
         self.begin(place, Keyword::If)?;
         let test = self.expression(place)?;
@@ -296,8 +296,8 @@ impl Reader<'_> {
     #[cycle(statement)]
     fn repeat(&mut self, place: &Context) -> Result<Stmt, Refusal>
         requires low { place.now.level ≤ LEVELS }
-        requires here { first self.old.cursor ≡ Some (token.Keyword Keyword.While) }
-        ensures { AnswersStatement self.old self.new place.now result }
+        requires at_keyword { first self.old.cursor ≡ Some (token.Keyword Keyword.While) }
+        ensures answers_statement { AnswersStatement self.old self.new place.now result }
     {
         self.begin(place, Keyword::While)?;
         let test = self.expression(place)?;
@@ -310,7 +310,7 @@ impl Reader<'_> {
     fn statement(&mut self, place: &Context) -> Result<Stmt, Refusal>
         requires low { place.now.level ≤ LEVELS }
         requires inside { IsInside (first self.old.cursor) }
-        ensures { AnswersStatement self.old self.new place.now result }
+        ensures answers_statement { AnswersStatement self.old self.new place.now result }
     {
         match self.cursor.peek() {
             Some(Token::Keyword(Keyword::If)) => self.branch(place),
@@ -357,7 +357,7 @@ impl Reader<'_> {
         requires low { place.now.level ≤ LEVELS }
         ensures same { self.new.scope ≡ self.old.scope }
         ensures no_longer { length self.new.cursor ≤ length self.old.cursor }
-        ensures here { OnOk result (first self.old.cursor ≡ Some token.OpenBrace) }
+        ensures found { OnOk result (first self.old.cursor ≡ Some token.OpenBrace) }
         ensures room { OnOk result (place.now.level < LEVELS) }
         ensures read { OnOk result (self.new.cursor ≡ drop 1 self.old.cursor) }
         ensures err { Fails (scope_of self.old.scope) (block (context_of place.now)) self.old.cursor result }

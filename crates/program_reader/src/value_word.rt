@@ -39,7 +39,7 @@ pub(crate) enum ValueWord {
 
 impl Alone {
     pub(crate) fn value(self) -> Expr
-        ensures { expression_of result ≡ alone_value self }
+        ensures expression { expression_of result ≡ alone_value self }
     {
         match self {
             Alone::Word => Expr::Word,
@@ -64,7 +64,7 @@ impl Telling {
     }
 
     pub(crate) fn value(self, number: u8) -> Expr
-        ensures { expression_of result ≡ telling_value self number }
+        ensures expression { expression_of result ≡ telling_value self number }
     {
         match self {
             Telling::Fired => Expr::Fired(number),
@@ -79,7 +79,7 @@ impl Telling {
 impl ValueWord {
     /// Classifies a keyword in an expression.
     pub(crate) fn of(keyword: Keyword) -> Option<ValueWord>
-        ensures some { IfSome result (λ v. keyword ≡ value_keyword v) }
+        ensures same_keyword { IfSome result (λ v. keyword ≡ value_keyword v) }
         ensures none { result ≡ None → word_of keyword ≡ no_value }
     {
         let word = match keyword {

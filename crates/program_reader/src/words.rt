@@ -83,13 +83,13 @@ static KEYWORDS: [Entry<'static>; 58] = [
 
 /// `a` to `z`, `0` to `9` and `_`.
 pub(crate) fn is_word_byte(byte: u8) -> bool
-    ensures { result ≡ spec.is_word_byte byte }
+    ensures value { result ≡ spec.is_word_byte byte }
 {
     byte.is_ascii_lowercase() || byte.is_ascii_digit() || byte == b'_'
 }
 
 fn are_digits(word: &[u8]) -> bool
-    ensures { result ≡ list_all is_ascii_digit word.now }
+    ensures value { result ≡ list_all is_ascii_digit word.now }
 {
     word.iter().all(|byte| byte.is_ascii_digit())
 }
@@ -104,8 +104,8 @@ fn is_number(word: &[u8]) -> bool
 
 /// The value of digits, or `TOO_LARGE` if that is less.
 fn number_value(digits: &[u8]) -> u32
-    requires { list_all is_ascii_digit digits.now ≡ true }
-    ensures { result ≡ min (digits_value 10 digits.now) 65536 }
+    requires are_digits { list_all is_ascii_digit digits.now ≡ true }
+    ensures value { result ≡ min (digits_value 10 digits.now) 65536 }
 {
     let mut value = 0;
     for digit in digits {
@@ -115,7 +115,7 @@ fn number_value(digits: &[u8]) -> u32
 }
 
 fn begins_lowercase(word: &[u8]) -> bool
-    ensures { result ≡ spec.begins is_ascii_lowercase word.now }
+    ensures value { result ≡ spec.begins is_ascii_lowercase word.now }
 {
     match word {
         [first, ..] => first.is_ascii_lowercase(),
@@ -125,7 +125,7 @@ fn begins_lowercase(word: &[u8]) -> bool
 
 /// The token next to a text in a table.
 fn lookup(table: &'static [Entry<'static>], word: &[u8]) -> Option<Token<'static>>
-    ensures { option_map token_of result ≡ spec.lookup (map entry_of table.now) word.now }
+    ensures value { option_map token_of result ≡ spec.lookup (map entry_of table.now) word.now }
 {
     table
         .iter()
@@ -135,8 +135,8 @@ fn lookup(table: &'static [Entry<'static>], word: &[u8]) -> Option<Token<'static
 
 /// The token of a name, which is bad if it is too long or doesn't begin with a letter.
 fn name<'a>(word: &'a [u8]) -> Token<'a>
-    requires { list_all spec.is_word_byte word.now ≡ true }
-    ensures { token_of result ≡ (if spec.is_name word.now then Name word.now else Bad) }
+    requires word_bytes { list_all spec.is_word_byte word.now ≡ true }
+    ensures value { token_of result ≡ (if spec.is_name word.now then Name word.now else Bad) }
 {
     if !begins_lowercase(word) || word.len() > LONGEST_NAME {
         return Token::Bad;
@@ -149,15 +149,15 @@ fn name<'a>(word: &'a [u8]) -> Token<'a>
 
 /// The token of a keyword.
 fn keyword(word: &[u8]) -> Option<Token<'static>>
-    ensures { option_map token_of result ≡ spec.lookup spec.keywords word.now }
+    ensures value { option_map token_of result ≡ spec.lookup spec.keywords word.now }
 {
     lookup(&KEYWORDS, word)
 }
 
 /// The token of a word.
 pub(crate) fn word_token<'a>(word: &'a [u8]) -> Token<'a>
-    requires { list_all spec.is_word_byte word.now ≡ true }
-    ensures { token_of result ≡ spec.word_token word.now }
+    requires word_bytes { list_all spec.is_word_byte word.now ≡ true }
+    ensures value { token_of result ≡ spec.word_token word.now }
 {
     if is_number(word) {
         return Token::Number(number_value(word));

@@ -39,7 +39,7 @@ impl ReadErrorKind {
 
     /// The number that is printed.
     pub fn number(self) -> u8
-        ensures { result ≡ kind_number self }
+        ensures number { result ≡ kind_number self }
     {
         self as u8
     }

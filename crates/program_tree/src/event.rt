@@ -47,14 +47,14 @@ impl SystemEvent {
 
     /// The number of the event.
     pub fn number(self) -> u8
-        ensures { result ≡ system_number self }
+        ensures number { result ≡ system_number self }
     {
         self as u8
     }
 
     /// The word for it in programs and reports.
     pub fn word(self) -> &'static str
-        ensures { result.now ≡ system_word self }
+        ensures word { result.now ≡ system_word self }
     {
         match self {
             SystemEvent::Init => "init",

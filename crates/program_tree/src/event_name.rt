@@ -28,7 +28,7 @@ impl CastEvent {
 
     /// The number of the event.
     pub fn number(self) -> u8
-        ensures { result ≡ cast_number (cast_of self) }
+        ensures number { result ≡ cast_number (cast_of self) }
     {
         match self {
             CastEvent::Continue => SystemEvent::Continue.number(),
@@ -52,7 +52,7 @@ impl SentEvent {
 
     /// The number of the event.
     pub fn number(self) -> u8
-        ensures { result ≡ sent_number (sent_of self) }
+        ensures number { result ≡ sent_number (sent_of self) }
     {
         match self {
             SentEvent::Cast(event) => event.number(),
@@ -76,7 +76,7 @@ impl AnyEvent {
 
     /// The number of the event.
     pub fn number(self) -> u8
-        ensures { result ≡ any_number (any_of self) }
+        ensures number { result ≡ any_number (any_of self) }
     {
         match self {
             AnyEvent::Sent(event) => event.number(),

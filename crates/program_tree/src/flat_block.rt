@@ -25,8 +25,8 @@ impl FlatBlock {
     /// # Errors
     /// If an allocation failed.
     pub fn new(alloc: Global, block: Block) -> Result<FlatBlock, AllocError>
-        requires { size (block_of block) < 2 ^ 16 }
-        ensures { IfOk result (λ b. tree_in b ≡ block_of block) }
+        requires size_bounded { size (block_of block) < 2 ^ 16 }
+        ensures tree { IfOk result (λ b. tree_in b ≡ block_of block) }
     {
         let code = flatten(alloc, &block)?;
         Ok(FlatBlock { block, code })
@@ -34,14 +34,14 @@ impl FlatBlock {
 
     /// The tree of the block.
     pub fn block(&self) -> &Block
-        ensures { block_of result.now ≡ tree_in self.now }
+        ensures tree { block_of result.now ≡ tree_in self.now }
     {
         &self.block
     }
 
     /// Its flat code, which is entered at place 0.
     pub fn code(&self) -> &[Instruction]
-        ensures { IsFlat (tree_in self.now) result.now }
+        ensures is_flat { IsFlat (tree_in self.now) result.now }
     {
         &self.code
     }

@@ -11,8 +11,8 @@ use std::alloc::{AllocError, Global};
 /// The number of statements in a block, those of inner blocks included.
 #[cycle(count)]
 fn count(block: &Block) -> u16
-    requires { size (block_of block.now) < 2 ^ 16 }
-    ensures { result ≡ size (block_of block.now) }
+    requires size_bounded { size (block_of block.now) < 2 ^ 16 }
+    ensures size { result ≡ size (block_of block.now) }
 {
     let mut total = 0;
     for i in 0..block.statements.len() {
@@ -24,8 +24,8 @@ fn count(block: &Block) -> u16
 /// The number of statements in the `else` block of an `if`, or 0 without one.
 #[cycle(count)]
 fn count_other(other: &Option<Block>) -> u16
-    requires { other_size (otherwise_of (option_map block_of other.now)) < 2 ^ 16 }
-    ensures { result ≡ other_size (otherwise_of (option_map block_of other.now)) }
+    requires size_bounded { other_size (otherwise_of (option_map block_of other.now)) < 2 ^ 16 }
+    ensures size { result ≡ other_size (otherwise_of (option_map block_of other.now)) }
 {
     match other {
         None => 0,
@@ -36,8 +36,8 @@ fn count_other(other: &Option<Block>) -> u16
 /// The number of statements that a statement counts as: itself and those of its blocks.
 #[cycle(count)]
 fn count_statement(statement: &Stmt) -> u16
-    requires { statement_size (statement_of statement.now) < 2 ^ 16 }
-    ensures { result ≡ statement_size (statement_of statement.now) }
+    requires size_bounded { statement_size (statement_of statement.now) < 2 ^ 16 }
+    ensures size { result ≡ statement_size (statement_of statement.now) }
 {
     match statement {
         Stmt::Do(_) => 1,
@@ -48,7 +48,7 @@ fn count_statement(statement: &Stmt) -> u16
 
 /// The place where a block is entered: that of its first statement, or `after` if it has none.
 fn entry(block: &Block, place: u16, after: u16) -> u16
-    ensures { result ≡ entry_of (block_of block.now) place after }
+    ensures value { result ≡ entry_of (block_of block.now) place after }
 {
     if block.statements.is_empty() {
         after
@@ -59,7 +59,7 @@ fn entry(block: &Block, place: u16, after: u16) -> u16
 
 /// The same for the `else` block of an `if`.
 fn other_entry(other: &Option<Block>, place: u16, after: u16) -> u16
-    ensures { result ≡ other_entry_of (otherwise_of (option_map block_of other.now)) place after }
+    ensures value { result ≡ other_entry_of (otherwise_of (option_map block_of other.now)) place after }
 {
     match other {
         None => after,
@@ -75,8 +75,8 @@ fn add_block(
     code: &mut Vec<Instruction>,
     alloc: Global,
 ) -> Result<(), AllocError>
-    requires { length code.old.items + size (block_of block.now) < 2 ^ 16 }
-    ensures { OnOk result (Emits (block_of block.now) after code.old.items code.new.items) }
+    requires size_bounded { length code.old.items + size (block_of block.now) < 2 ^ 16 }
+    ensures emits { OnOk result (Emits (block_of block.now) after code.old.items code.new.items) }
 {
     let statements = block.statements.len();
     for i in 0..statements {
@@ -99,8 +99,8 @@ fn add_other(
     code: &mut Vec<Instruction>,
     alloc: Global,
 ) -> Result<(), AllocError>
-    requires { length code.old.items + other_size (otherwise_of (option_map block_of other.now)) < 2 ^ 16 }
-    ensures { OnOk result (EmitsOther
+    requires size_bounded { length code.old.items + other_size (otherwise_of (option_map block_of other.now)) < 2 ^ 16 }
+    ensures emits_other { OnOk result (EmitsOther
         (otherwise_of (option_map block_of other.now)) after code.old.items code.new.items) }
 {
     match other {
@@ -117,8 +117,9 @@ fn add_statement(
     code: &mut Vec<Instruction>,
     alloc: Global,
 ) -> Result<(), AllocError>
-    requires { length code.old.items + statement_size (statement_of statement.now) < 2 ^ 16 }
-    ensures { OnOk result (EmitsStatement (statement_of statement.now) after code.old.items code.new.items) }
+    requires size_bounded { length code.old.items + statement_size (statement_of statement.now) < 2 ^ 16 }
+    ensures emits_statement { OnOk result (EmitsStatement
+        (statement_of statement.now) after code.old.items code.new.items) }
 {
     let place = code.len() as u16;
     match statement {
@@ -146,8 +147,8 @@ fn add_statement(
 /// # Errors
 /// If an allocation failed.
 pub fn flatten(alloc: Global, block: &Block) -> Result<Vec<Instruction>, AllocError>
-    requires { size (block_of block.now) < 2 ^ 16 }
-    ensures { IfOk result (λ code. IsFlat (block_of block.now) code.items) }
+    requires size_bounded { size (block_of block.now) < 2 ^ 16 }
+    ensures is_flat { IfOk result (λ code. IsFlat (block_of block.now) code.items) }
 {
     let mut code = Vec::new(alloc);
     add_block(block, END, &mut code, alloc)?;

@@ -31,7 +31,7 @@ impl Model for Names {
 impl Names {
     /// No names.
     pub fn new(alloc: Global) -> Names
-        ensures { result ≡ [] }
+        ensures empty { result ≡ [] }
     {
         Names {
             set: IndexSet::new(alloc),
@@ -40,14 +40,14 @@ impl Names {
 
     /// The number of names.
     pub fn len(&self) -> usize
-        ensures { result ≡ length self.now }
+        ensures length { result ≡ length self.now }
     {
         self.set.len()
     }
 
     /// Returns `true` if there are no names.
     pub fn is_empty(&self) -> bool
-        ensures { result ≡ (length self.now == 0) }
+        ensures value { result ≡ (length self.now == 0) }
     {
         self.set.is_empty()
     }
@@ -62,8 +62,8 @@ impl Names {
 
     /// The name with a number.
     pub fn get(&self, place: usize) -> &str
-        requires { place < length self.now }
-        ensures { result.now ≡ slice_index_or self.now place [] }
+        requires in_range { place < length self.now }
+        ensures name { result.now ≡ slice_index_or self.now place [] }
     {
         self.set.get_index(place).unwrap().as_str()
     }
@@ -73,7 +73,7 @@ impl Names {
     /// # Errors
     /// If an allocation failed.
     pub fn add(&mut self, alloc: Global, name: &str) -> Result<(), AllocError>
-        requires { place_of self.old name.now ≡ None }
+        requires not_yet_listed { place_of self.old name.now ≡ None }
         ensures ok { OnOk result (self.new ≡ self.old ++ name.now ∷ []) }
         ensures err { OnErr result (self.new ≡ self.old) }
     {

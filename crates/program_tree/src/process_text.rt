@@ -46,14 +46,14 @@ impl ProcessText {
 
     /// The number of the process.
     pub fn number(&self) -> u8
-        ensures { result ≡ (code_of self.now).number }
+        ensures number { result ≡ (code_of self.now).number }
     {
         self.number
     }
 
     /// The names of the variables, in the order of their declaration.
     pub fn variables(&self) -> &Names
-        ensures { result.now ≡ (code_of self.now).variables }
+        ensures variables { result.now ≡ (code_of self.now).variables }
     {
         &self.variables
     }
@@ -62,7 +62,7 @@ impl ProcessText {
     pub fn starts(&self) -> &[u16]
         ensures value { result.now ≡ (code_of self.now).starts }
         ensures paired { length result.now ≡ length (code_of self.now).variables }
-        ensures few { length result.now ≤ 64 }
+        ensures bounded { length result.now ≤ 64 }
     {
         &self.starts
     }
@@ -94,7 +94,7 @@ impl ProcessText {
     /// The number of threads. A process has at most 7, and each spawns only threads before itself.
     pub fn threads(&self) -> u8
         ensures value { result ≡ length (code_of self.now).thread_bodies }
-        ensures few { result ≤ 7 }
+        ensures bounded { result ≤ 7 }
         ensures within { All (λ b. IsWithinLimits b) (code_of self.now).thread_bodies }
         ensures earlier { IsTrue (threads_fit earlier_threads 0 (code_of self.now).thread_bodies) }
     {
@@ -104,7 +104,7 @@ impl ProcessText {
     /// The block of a thread, by its number, if there is such a thread. It spawns only threads before itself.
     pub fn thread(&self, number: u8) -> Option<&FlatBlock>
         ensures value { option_map (λ b. tree_in b.now) result ≡ slice_get (code_of self.now).thread_bodies number }
-        ensures few { IfSome result (λ b. number < 7) }
+        ensures number_bounded { IfSome result (λ b. number < 7) }
         ensures within { IfSome result (λ b. IsWithinLimits (tree_in b.now)) }
         ensures earlier { IfSome result (λ b. IsTrue (block_fits (earlier_threads number) (tree_in b.now))) }
     {

@@ -87,7 +87,7 @@ impl Program {
         codes: Vec<ProcessText>,
         timers: Vec<Timer>,
     ) -> Program
-        requires { IsMade (record {
+        requires is_made { IsMade (record {
           events = events;
           semaphores = semaphores;
           counts = counts.items;
@@ -97,7 +97,7 @@ impl Program {
           codes = map code_of codes.items;
           timers = timers.items;
         }) }
-        ensures { tree_of result ≡ record {
+        ensures tree { tree_of result ≡ record {
           events = events;
           semaphores = semaphores;
           counts = counts.items;
@@ -123,30 +123,30 @@ impl Program {
     /// The number of processes.
     pub fn processes(&self) -> u8
         ensures value { result ≡ length (tree_of self.now).processes }
-        ensures few { result ≤ 64 }
+        ensures bounded { result ≤ 64 }
     {
         self.processes.len() as u8
     }
 
     /// The name of a process, by its number.
     pub fn name(&self, process: u8) -> &str
-        requires { process < length (tree_of self.now).processes }
-        ensures { slice_get (tree_of self.now).processes process ≡ Some result.now }
+        requires process_exists { process < length (tree_of self.now).processes }
+        ensures name { slice_get (tree_of self.now).processes process ≡ Some result.now }
     {
         self.processes.get(usize::from(process))
     }
 
     /// The text that a process runs, by its number.
     pub fn process(&self, process: u8) -> &ProcessText
-        requires { process < length (tree_of self.now).processes }
-        ensures { slice_get (tree_of self.now).codes process ≡ Some (code_of result.now) }
+        requires process_exists { process < length (tree_of self.now).processes }
+        ensures code { slice_get (tree_of self.now).codes process ≡ Some (code_of result.now) }
     {
         &self.codes[usize::from(process)]
     }
 
     /// The name of a declared event, by its number, which is 0x8b or above.
     pub fn event_name(&self, number: u8) -> Option<&str>
-        ensures { option_map (λ n. n.now) result ≡ declared_name (tree_of self.now) number }
+        ensures name { option_map (λ n. n.now) result ≡ declared_name (tree_of self.now) number }
     {
         let place = usize::from(number.checked_sub(FIRST_DECLARED)?);
         if place < self.events.len() {
@@ -175,22 +175,22 @@ impl Program {
     /// The number of timers of both kinds together.
     pub fn timers(&self) -> u16
         ensures value { result ≡ length (tree_of self.now).timers }
-        ensures few { result ≤ 64 }
+        ensures bounded { result ≤ 64 }
     {
         self.timers.len() as u16
     }
 
     /// Returns `true` if a timer is a callback timer.
     pub fn is_callback(&self, timer: u16) -> bool
-        requires { timer < length (tree_of self.now).timers }
-        ensures { IfSome (slice_get (tree_of self.now).timers timer) (λ t. result ≡ t.is_callback) }
+        requires is_timer { timer < length (tree_of self.now).timers }
+        ensures value { IfSome (slice_get (tree_of self.now).timers timer) (λ t. result ≡ t.is_callback) }
     {
         self.timers[usize::from(timer)].is_callback
     }
 
     /// The process of a timer.
     pub fn timer_process(&self, timer: u16) -> u8
-        requires { timer < length (tree_of self.now).timers }
+        requires is_timer { timer < length (tree_of self.now).timers }
         ensures value { IfSome (slice_get (tree_of self.now).timers timer) (λ t. result ≡ t.process) }
         ensures within { result < length (tree_of self.now).processes }
     {
@@ -200,7 +200,7 @@ impl Program {
     /// The first count of each semaphore.
     pub fn semaphores(&self) -> &[u16]
         ensures value { result.now ≡ (tree_of self.now).counts }
-        ensures few { length result.now ≤ 64 }
+        ensures bounded { length result.now ≤ 64 }
     {
         &self.counts
     }

@@ -105,7 +105,7 @@ impl Block {
     /// A block of these statements.
     #[tactic(auto, using(crate::proofs::TreeLaws::listed_block))]
     pub fn new(statements: Vec<Stmt>) -> Block
-        ensures { listed (block_of result) ≡ map statement_of statements.items }
+        ensures statements { listed (block_of result) ≡ map statement_of statements.items }
     {
         Block { statements }
     }
@@ -113,7 +113,7 @@ impl Block {
     /// The statements, in order.
     #[tactic(auto, using(crate::proofs::TreeLaws::listed_block))]
     pub fn statements(&self) -> &[Stmt]
-        ensures { map statement_of result.now ≡ listed (block_of self.now) }
+        ensures statements { map statement_of result.now ≡ listed (block_of self.now) }
     {
         &self.statements
     }
@@ -122,7 +122,7 @@ impl Block {
 impl Expr {
     /// A copy of the expression. It fails only if an allocation does.
     pub(crate) fn clone_in(&self, alloc: Global) -> Result<Expr, AllocError>
-        ensures { IfOk result (λ e. expression_of e ≡ expression_of self.now) }
+        ensures same_expression { IfOk result (λ e. expression_of e ≡ expression_of self.now) }
     {
         match self {
             Expr::Number(number) => Ok(Expr::Number(*number)),
@@ -153,7 +153,7 @@ impl Expr {
 impl Action {
     /// A copy of the action. It fails only if an allocation does.
     pub(crate) fn clone_in(&self, alloc: Global) -> Result<Action, AllocError>
-        ensures { IfOk result (λ a. action_of a ≡ action_of self.now) }
+        ensures same_action { IfOk result (λ a. action_of a ≡ action_of self.now) }
     {
         match self {
             Action::Assign(variable, value) => Ok(Action::Assign(

@@ -18,7 +18,7 @@ pub enum PtState {
 impl PtState {
     /// The number of the state in `pt.h`, 0 to 3.
     pub fn number(self) -> u8
-        ensures { result ≡ state_number self }
+        ensures number { result ≡ state_number self }
     {
         match self {
             PtState::Waiting => 0,
@@ -30,7 +30,7 @@ impl PtState {
 
     /// Returns whether the protothread is to be called again (`PT_SCHEDULE` of `pt.h`).
     pub fn scheduled(self) -> bool
-        ensures { IsTrue result ↔ (state_number self < 2) }
+        ensures decides { IsTrue result ↔ (state_number self < 2) }
     {
         self.number() < 2
     }

@@ -37,7 +37,7 @@ impl Model for Calls {
 impl Calls {
     /// No threads.
     pub(crate) fn new() -> Calls
-        ensures { result ≡ [] }
+        ensures empty { result ≡ [] }
     {
         Calls {
             calls: ArrayVec::new(),
@@ -46,22 +46,22 @@ impl Calls {
 
     /// The number of these threads.
     pub(crate) fn len(&self) -> usize
-        ensures { result ≡ length self.now }
+        ensures length { result ≡ length self.now }
     {
         self.calls.len()
     }
 
     /// The innermost one.
     pub(crate) fn last(&self) -> Option<Call>
-        ensures { IsLast self.now result }
+        ensures is_last { IsLast self.now result }
     {
         self.calls.as_slice().last().copied()
     }
 
     /// Adds one that the innermost one spawns.
     pub(crate) fn push(&mut self, call: Call)
-        requires { CanSpawn self.old call.thread }
-        ensures { self.new ≡ self.old ++ call ∷ [] }
+        requires can_spawn { CanSpawn self.old call.thread }
+        ensures appended { self.new ≡ self.old ++ call ∷ [] }
     {
         self.calls.push(call);
     }

@@ -34,7 +34,7 @@ pub(crate) enum Deed {
 
 /// Continues if the test holds, and otherwise does the other action.
 fn passes_where(test: bool, other: Deed) -> Deed
-    ensures { result ≡ by_test test other }
+    ensures value { result ≡ by_test test other }
 {
     if test { Deed::Passes } else { other }
 }
@@ -48,7 +48,7 @@ pub(crate) fn done_by<L: Look>(
     event: &Event,
     look: &L,
 ) -> Deed
-    ensures { result ≡ deed_of process is_yielded vars.now event.now (L.looks look.now) (action_of action.now) }
+    ensures value { result ≡ deed_of process is_yielded vars.now event.now (L.looks look.now) (action_of action.now) }
 {
     match action {
         Action::Assign(variable, value) => {

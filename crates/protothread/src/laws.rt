@@ -7,28 +7,28 @@ ghost use Rattle.protothread.specs.Semaphores.{CountsAreSignalsLessTakes};
 /// More units of work change nothing: a step that answers an operation or gives up control answers the same with more
 /// units, and as many more are left.
 pub fn more_units_change_nothing()
-    ensures { MoreUnitsChangeNothing }
+    ensures more_units_change_nothing { MoreUnitsChangeNothing }
 {}
 
 /// A thread that has run away never does anything again, however many units of work it is given.
 pub fn run_away_is_for_good()
-    ensures { RunAwayIsForGood }
+    ensures run_away_is_for_good { RunAwayIsForGood }
 {}
 
 /// An operation costs a unit of work at least, so that a caller that performs one after another comes to an end.
 pub fn operations_cost_work()
-    ensures { OperationsCostWork }
+    ensures operations_cost_work { OperationsCostWork }
 {}
 
 /// A step answers 0 or 1 only if the thread, or the innermost of those that it spawned, waits or has restarted, and the
 /// next call continues from there.
 pub fn control_is_given_up_at_waits()
-    ensures { ControlIsGivenUpAtWaits }
+    ensures control_is_given_up_at_waits { ControlIsGivenUpAtWaits }
 {}
 
 /// A semaphore's count is the first one plus the signals minus those taken, modulo 65,536.
 pub fn counts_are_signals_less_takes()
-    ensures { CountsAreSignalsLessTakes }
+    ensures counts_are_signals_less_takes { CountsAreSignalsLessTakes }
 {}
 
 /// The runs of a fresh thread are exactly those of the block of its part, read by its structure: the same operations
@@ -36,5 +36,5 @@ pub fn counts_are_signals_less_takes()
 /// as blocks of their own: a `restart` or `exit` is that thread's alone, and while it yields or waits its spawner
 /// answers WAITING. The reading knows statements, blocks and threads, and nothing of how a thread keeps its place.
 pub fn runs_are_the_text()
-    ensures { RunsAreTheText }
+    ensures runs_are_the_text { RunsAreTheText }
 {}

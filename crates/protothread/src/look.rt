@@ -8,21 +8,21 @@ pub trait Look {
 
     /// The moment, modulo 65,536.
     fn now(&self) -> u16
-        ensures { result ≡ (looks self.now).moment % 2 ^ 16 };
+        ensures value { result ≡ (looks self.now).moment % 2 ^ 16 };
 
     /// The number of the mote.
     fn mote(&self) -> u16
-        ensures { result ≡ (looks self.now).mote };
+        ensures value { result ≡ (looks self.now).mote };
 
     /// Returns whether a timer has expired: nobody owns it.
     fn expired(&self, timer: u16) -> bool
-        ensures { IsTrue result ↔ Contains (looks self.now).expired timer };
+        ensures decides { IsTrue result ↔ Contains (looks self.now).expired timer };
 
     /// Returns whether a process is running or called.
     fn running(&self, process: u8) -> bool
-        ensures { IsTrue result ↔ Contains (looks self.now).running process };
+        ensures decides { IsTrue result ↔ Contains (looks self.now).running process };
 
     /// The count of a semaphore.
     fn count(&self, semaphore: u8) -> u16
-        ensures { result ≡ slice_index (looks self.now).counts semaphore };
+        ensures value { result ≡ slice_index (looks self.now).counts semaphore };
 }

@@ -21,7 +21,7 @@ pub enum Part {
 
 /// The flat code of a block; empty if there is no block.
 fn code_of_block(block: Option<&FlatBlock>) -> &[Instruction]
-    ensures { IsFlat (body_or_end (option_map (λ b. tree_in b.now) block.entry)) result.now }
+    ensures is_flat { IsFlat (body_or_end (option_map (λ b. tree_in b.now) block.entry)) result.now }
 {
     match block {
         Some(block) => block.code(),
@@ -44,7 +44,7 @@ impl Part {
     /// The flat code of the part. The body is asked for most often, so it is looked for first.
     #[inline(always)]
     pub(crate) fn code(self, text: &ProcessText) -> &[Instruction]
-        ensures { IsFlat (part_body (code_of text.now) self) result.now }
+        ensures is_flat { IsFlat (part_body (code_of text.now) self) result.now }
     {
         if let Part::Body = self {
             text.body().code()
@@ -56,7 +56,7 @@ impl Part {
     /// The flat code of any part.
     #[inline(never)]
     fn code_of_any(self, text: &ProcessText) -> &[Instruction]
-        ensures { IsFlat (part_body (code_of text.now) self) result.now }
+        ensures is_flat { IsFlat (part_body (code_of text.now) self) result.now }
     {
         match self {
             Part::Body => text.body().code(),
@@ -68,7 +68,7 @@ impl Part {
 
     /// Returns whether the part has no statement.
     pub fn is_empty(self, text: &ProcessText) -> bool
-        ensures { IsTrue result ↔ (whole_of (code_of text.now) self ≡ []) }
+        ensures decides { IsTrue result ↔ (whole_of (code_of text.now) self ≡ []) }
     {
         self.code(text).is_empty()
     }

@@ -22,14 +22,14 @@ impl Model for Semaphore {
 impl Semaphore {
     /// A semaphore with this count.
     pub fn new(count: u16) -> Semaphore
-        ensures { result ≡ count }
+        ensures count { result ≡ count }
     {
         Semaphore { count }
     }
 
     /// The count.
     pub fn count(&self) -> u16
-        ensures { result ≡ self.now }
+        ensures value { result ≡ self.now }
     {
         self.count
     }
@@ -49,7 +49,7 @@ impl Semaphore {
 
     /// Adds one, modulo 65,536.
     pub fn signal(&mut self)
-        ensures { self.new ≡ (self.old + 1) % 2 ^ 16 }
+        ensures after { self.new ≡ (self.old + 1) % 2 ^ 16 }
     {
         self.count = self.count.wrapping_add(1);
     }

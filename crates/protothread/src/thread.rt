@@ -55,7 +55,7 @@ enum Reach<'a> {
 /// The place to which a test leads.
 #[inline(always)]
 fn chosen<L: Look>(test: &Expr, vars: &Vars, event: &Event, look: &L, holds: u16, fails: u16) -> u16
-    ensures { result ≡ place_by vars.now event.now (L.looks look.now) (expression_of test.now) holds fails }
+    ensures value { result ≡ place_by vars.now event.now (L.looks look.now) (expression_of test.now) holds fails }
 {
     if evaluate(test, vars, event, look) != 0 {
         holds
@@ -67,7 +67,7 @@ fn chosen<L: Look>(test: &Expr, vars: &Vars, event: &Event, look: &L, holds: u16
 impl Thread {
     /// A thread that has the whole part to do.
     pub fn fresh(part: Part) -> Thread
-        ensures { (code : Code) → remainder_of code result ≡ fresh_of code part }
+        ensures fresh { (code : Code) → remainder_of code result ≡ fresh_of code part }
     {
         Thread {
             part,
@@ -80,7 +80,7 @@ impl Thread {
 
     /// The flat code of the innermost thread.
     fn innermost<'a>(&self, text: &'a ProcessText) -> &'a [Instruction]
-        ensures { StandsIn (code_of text.now) self.now result.now }
+        ensures stands_in { StandsIn (code_of text.now) self.now result.now }
     {
         match self.calls.last() {
             None => self.part.code(text),
@@ -90,7 +90,7 @@ impl Thread {
 
     /// The answer when the thread yields here: a spawner waits for the thread that it spawned.
     fn yield_answer(&self) -> PtState
-        ensures { result ≡ yielding (length self.now.calls) }
+        ensures value { result ≡ yielding (length self.now.calls) }
     {
         match self.calls.len() {
             0 => PtState::Yielded,
@@ -100,7 +100,7 @@ impl Thread {
 
     /// Continues at a place.
     fn go_on(&mut self, position: u16)
-        ensures { self.new ≡ record self.old { is_yielded = false; position = position } }
+        ensures after { self.new ≡ record self.old { is_yielded = false; position = position } }
     {
         self.is_yielded = false;
         self.position = position;
@@ -108,8 +108,8 @@ impl Thread {
 
     /// Makes the thread fresh again, if no thread is spawned.
     fn begin_again(&mut self)
-        requires { self.old.calls ≡ [] }
-        ensures { (code : Code) → remainder_of code self.new ≡ fresh_of code self.old.part }
+        requires no_calls { self.old.calls ≡ [] }
+        ensures fresh { (code : Code) → remainder_of code self.new ≡ fresh_of code self.old.part }
     {
         self.mark = Mark::AtRest;
         self.is_yielded = false;
@@ -118,7 +118,7 @@ impl Thread {
 
     /// Gives up control at the statement, which has yielded or not.
     fn give_up(&mut self, is_yielded: bool)
-        ensures { self.new ≡ record self.old { mark = Mark.AtRest; is_yielded = is_yielded } }
+        ensures after { self.new ≡ record self.old { mark = Mark.AtRest; is_yielded = is_yielded } }
     {
         self.mark = Mark::AtRest;
         self.is_yielded = is_yielded;
@@ -239,7 +239,7 @@ impl Thread {
     #[inline(always)]
     #[tactic(auto, unfolding(crate::specs::Step::advanced_of))]
     fn resume(&mut self, fuel: &mut Fuel) -> Option<Step>
-        ensures { Resumes result self.old self.new fuel.old fuel.new }
+        ensures resumes { Resumes result self.old self.new fuel.old fuel.new }
     {
         if let Mark::UnderWay(_) = self.mark {
             return None;
@@ -256,7 +256,7 @@ impl Thread {
     #[inline(never)]
     #[tactic(auto, unfolding(crate::specs::Step::advanced_of))]
     fn come_back(&mut self, fuel: &mut Fuel) -> Option<Step>
-        ensures { Resumes result self.old self.new fuel.old fuel.new }
+        ensures resumes { Resumes result self.old self.new fuel.old fuel.new }
     {
         match self.mark {
             Mark::AtRest => {

@@ -14,7 +14,7 @@ use program_tree::{Event, Expr, Operator, SystemEvent};
 /// The value of an operator between two values.
 #[inline(always)]
 fn apply(operator: Operator, left: u16, right: u16) -> u16
-    ensures { result ≡ applied operator left right }
+    ensures value { result ≡ applied operator left right }
 {
     match operator {
         Operator::Add => left.wrapping_add(right),
@@ -35,21 +35,21 @@ fn apply(operator: Operator, left: u16, right: u16) -> u16
 
 /// Returns whether this is the event with this word.
 fn is_event(event: &Event, system: SystemEvent, word: u8) -> bool
-    ensures { result ≡ has_number_and_word event.now (system_number system) word }
+    ensures value { result ≡ has_number_and_word event.now (system_number system) word }
 {
     event.number == system.number() && event.word == u16::from(word)
 }
 
 /// Returns whether a timer has expired; the contract states it by the list of those that have.
 fn has_expired<L: Look>(look: &L, timer: u8) -> bool
-    ensures { result ≡ list_any (λ t. timer == t) (L.looks look.now).expired }
+    ensures value { result ≡ list_any (λ t. timer == t) (L.looks look.now).expired }
 {
     look.expired(u16::from(timer))
 }
 
 /// Returns whether a process is running or called; the contract states it by the list of those that are.
 fn is_running<L: Look>(look: &L, process: u8) -> bool
-    ensures { result ≡ list_any (λ p. process == p) (L.looks look.now).running }
+    ensures value { result ≡ list_any (λ p. process == p) (L.looks look.now).running }
 {
     look.running(process)
 }
@@ -57,7 +57,7 @@ fn is_running<L: Look>(look: &L, process: u8) -> bool
 /// The value of a number or a variable, which most operands are.
 #[inline(always)]
 fn plain_value(operand: &Expr, vars: &Vars) -> Option<u16>
-    ensures { (event : Event) (looks : Looks)
+    ensures value { (event : Event) (looks : Looks)
         → IfSome result (λ found. found ≡ value vars.now event looks (expression_of operand.now)) }
 {
     match operand {
@@ -70,7 +70,7 @@ fn plain_value(operand: &Expr, vars: &Vars) -> Option<u16>
 /// The value of a number, a variable or the event's word.
 #[inline(always)]
 fn plain_or_word(operand: &Expr, vars: &Vars, event: &Event) -> Option<u16>
-    ensures { (looks : Looks) → IfSome result
+    ensures value { (looks : Looks) → IfSome result
         (λ found. found ≡ value vars.now event.now looks (expression_of operand.now)) }
 {
     match operand {
@@ -85,7 +85,7 @@ fn plain_or_word(operand: &Expr, vars: &Vars, event: &Event) -> Option<u16>
 /// the tests and assignments of most statements cost little.
 #[inline(always)]
 fn short_value(expression: &Expr, vars: &Vars, event: &Event) -> Option<u16>
-    ensures { (looks : Looks) → IfSome result
+    ensures value { (looks : Looks) → IfSome result
         (λ found. found ≡ value vars.now event.now looks (expression_of expression.now)) }
 {
     match expression {
@@ -106,7 +106,7 @@ fn short_value(expression: &Expr, vars: &Vars, event: &Event) -> Option<u16>
 /// The same, but not inlined.
 #[inline(never)]
 fn short_value_by_call(expression: &Expr, vars: &Vars, event: &Event) -> Option<u16>
-    ensures { (looks : Looks) → IfSome result
+    ensures value { (looks : Looks) → IfSome result
         (λ found. found ≡ value vars.now event.now looks (expression_of expression.now)) }
 {
     short_value(expression, vars, event)
@@ -114,7 +114,7 @@ fn short_value_by_call(expression: &Expr, vars: &Vars, event: &Event) -> Option<
 
 /// The value of an expression of any form.
 fn evaluate_tree<L: Look>(expression: &Expr, vars: &Vars, event: &Event, look: &L) -> u16
-    ensures { result ≡ value vars.now event.now (L.looks look.now) (expression_of expression.now) }
+    ensures value { result ≡ value vars.now event.now (L.looks look.now) (expression_of expression.now) }
 {
     match expression {
         Expr::Number(number) => *number,
@@ -147,7 +147,7 @@ fn evaluate_tree<L: Look>(expression: &Expr, vars: &Vars, event: &Event, look: &
 /// The value of an expression, for statements that are common: no call is made if the expression is short.
 #[inline(always)]
 pub(crate) fn evaluate<L: Look>(expression: &Expr, vars: &Vars, event: &Event, look: &L) -> u16
-    ensures { result ≡ value vars.now event.now (L.looks look.now) (expression_of expression.now) }
+    ensures value { result ≡ value vars.now event.now (L.looks look.now) (expression_of expression.now) }
 {
     match short_value(expression, vars, event) {
         Some(value) => value,
@@ -163,7 +163,7 @@ pub(crate) fn evaluate_by_call<L: Look>(
     event: &Event,
     look: &L,
 ) -> u16
-    ensures { result ≡ value vars.now event.now (L.looks look.now) (expression_of expression.now) }
+    ensures value { result ≡ value vars.now event.now (L.looks look.now) (expression_of expression.now) }
 {
     match short_value_by_call(expression, vars, event) {
         Some(value) => value,

@@ -26,7 +26,7 @@ impl Model for Vars {
 impl Vars {
     /// The variables of a text with the values of their declarations.
     pub fn new(text: &ProcessText) -> Vars
-        ensures { result ≡ (code_of text.now).starts }
+        ensures starts { result ≡ (code_of text.now).starts }
     {
         let mut values = ArrayVec::new();
         for start in text.starts() {
@@ -37,15 +37,15 @@ impl Vars {
 
     /// The value of a variable, by its number.
     pub fn get(&self, variable: u8) -> u16
-        requires { variable < length self.now }
-        ensures { result ≡ slice_index self.now variable }
+        requires in_range { variable < length self.now }
+        ensures value { result ≡ slice_index self.now variable }
     {
         self.values[usize::from(variable)]
     }
 
     /// The value of a variable of the text that these are made from. (There is no other variable; it would be 0.)
     pub(crate) fn value(&self, variable: u8) -> u16
-        ensures { result ≡ slice_index self.now variable }
+        ensures value { result ≡ slice_index self.now variable }
     {
         let variable = usize::from(variable);
         if variable < self.values.len() {
@@ -57,7 +57,7 @@ impl Vars {
 
     /// Gives a variable a value, if there is such a variable.
     pub(crate) fn set(&mut self, variable: u8, value: u16)
-        ensures { self.new ≡ slice_set self.old variable value }
+        ensures after { self.new ≡ slice_set self.old variable value }
     {
         let variable = usize::from(variable);
         if variable < self.values.len() {

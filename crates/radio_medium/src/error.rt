@@ -22,7 +22,7 @@ impl MediumError {
 
     /// The number that is printed.
     pub fn number(self) -> u8
-        ensures { result ≡ medium_fault_number self }
+        ensures number { result ≡ medium_fault_number self }
     {
         self as u8
     }

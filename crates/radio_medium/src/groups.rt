@@ -32,9 +32,9 @@ impl Group {
 
     /// The group of the motes with these numbers.
     fn of(places: &[Place], first: usize, after: usize) -> Group
-        requires some { first < after }
+        requires not_empty { first < after }
         requires motes { after ≤ length places.now }
-        ensures { HoldsMotes places.now first after result }
+        ensures holds_motes { HoldsMotes places.now first after result }
     {
         let mut group = Group {
             centre: places[first],
@@ -49,7 +49,7 @@ impl Group {
 
     /// Returns `true` if a mote of the group may be within the range of a place. Most groups are too far on one axis.
     pub(crate) fn is_near(self, range: u32, from: Place) -> bool
-        ensures { result ≡ false → IsBeyond self range from }
+        ensures is_beyond { result ≡ false → IsBeyond self range from }
     {
         reaches(range, from.x, self.centre.x, self.far_x)
             && reaches(range, from.y, self.centre.y, self.far_y)
@@ -58,14 +58,14 @@ impl Group {
 
 /// Returns `true` if |from - centre| <= range + farthest, on one axis.
 fn reaches(range: u32, from: i32, centre: i32, farthest: u64) -> bool
-    ensures { result ≡ nat_le (unsigned_abs (from -ℤ centre) - range) farthest }
+    ensures value { result ≡ nat_le (unsigned_abs (from -ℤ centre) - range) farthest }
 {
     gap(from, centre).saturating_sub(u64::from(range)) <= farthest
 }
 
 /// The number of groups that this many motes make.
 fn count_of(motes: usize) -> usize
-    requires { motes ≤ 1000 }
+    requires motes_bounded { motes ≤ 1000 }
     ensures enough { motes ≤ result * 32 }
     ensures filled { (i : ℕ) → i < result → i * 32 < motes }
 {
@@ -74,8 +74,8 @@ fn count_of(motes: usize) -> usize
 
 /// All motes by groups, in the order of their numbers.
 pub(crate) fn groups_of(alloc: Global, places: &[Place]) -> Result<Vec<Group>, AllocError>
-    requires { length places.now ≤ 1000 }
-    ensures { IfOk result (λ groups. AreGroups places.now groups.items) }
+    requires places_bounded { length places.now ≤ 1000 }
+    ensures are_groups { IfOk result (λ groups. AreGroups places.now groups.items) }
 {
     let count = count_of(places.len());
     let mut groups = Vec::with_capacity(alloc, count)?;

@@ -11,5 +11,5 @@ pub fn copies_come_later()
 
 /// The copies of a packet are sorted by receiver, and no mote has two of them.
 pub fn copies_rise()
-    ensures { CopiesRise }
+    ensures copies_rise { CopiesRise }
 {}

@@ -30,7 +30,7 @@ impl Link {
     fn fate(self, sent: &Sent) -> Fate
         requires fit { IsFit self }
         requires moment { sent.now.at ≤ 2 ^ 40 }
-        ensures { result ≡ fate_by sent.now self }
+        ensures value { result ≡ fate_by sent.now self }
     {
         let at = if is_lost(sent.number, self.every) {
             None
@@ -49,7 +49,7 @@ pub(crate) fn fates_along(
 ) -> Result<Vec<Fate>, AllocError>
     requires fit { All IsFit links.now }
     requires moment { sent.now.at ≤ 2 ^ 40 }
-    ensures { IfOk result (λ fates. fates.items ≡ map (fate_by sent.now) links.now) }
+    ensures fates { IfOk result (λ fates. fates.items ≡ map (fate_by sent.now) links.now) }
 {
     let mut fates = Vec::with_capacity(alloc, links.len())?;
     for link in links {
@@ -66,7 +66,8 @@ pub(crate) fn copies_along(
 ) -> Result<Vec<RadioCopy>, AllocError>
     requires fit { All IsFit links.now }
     requires moment { sent.now.at ≤ 2 ^ 40 }
-    ensures { IfOk result (λ copies. copies.items ≡ filter_map (copy_of sent.now) (map (fate_by sent.now) links.now)) }
+    ensures copies { IfOk result (λ copies. copies.items
+        ≡ filter_map (copy_of sent.now) (map (fate_by sent.now) links.now)) }
 {
     let mut copies = Vec::new(alloc);
     for link in links {
@@ -79,7 +80,7 @@ pub(crate) fn copies_along(
 
 /// The copy that has this fate, if it isn't lost.
 fn copy_with(fate: Fate, sent: &Sent) -> Option<RadioCopy>
-    ensures { result ≡ copy_of sent.now fate }
+    ensures value { result ≡ copy_of sent.now fate }
 {
     fate.at.map(|at| RadioCopy {
         at,
@@ -99,7 +100,7 @@ pub(crate) fn all_links(
 ) -> Result<Vec<Vec<Link>>, AllocError>
     requires limits { IsWithinLimits (radio_from places.now reach []) }
     requires per { 0 < reach.per }
-    ensures { let radio = radio_from places.now reach [] in
+    ensures links { let radio = radio_from places.now reach [] in
         IfOk result (λ all. map (λ links. links.items) all.items
         ≡ map (links_of radio (every_at every.now)) (motes radio)) }
 {
@@ -123,8 +124,8 @@ fn links_from(
     requires limits { IsWithinLimits (radio_from places.now reach []) }
     requires groups { AreGroups places.now groups.now }
     requires per { 0 < reach.per }
-    requires there { sender < length places.now }
-    ensures { let radio = radio_from places.now reach [] in
+    requires sender { sender < length places.now }
+    ensures links { let radio = radio_from places.now reach [] in
         IfOk result (λ links. links.items ≡ links_of radio (every_at every.now) sender) }
 {
     let from = places[usize::from(sender)];
@@ -159,12 +160,12 @@ fn put_links(
 ) -> Result<(), AllocError>
     requires limits { IsWithinLimits (radio_from places.now reach []) }
     requires per { 0 < reach.per }
-    requires there { sender < length places.now }
+    requires sender { sender < length places.now }
     requires order { first ≤ after }
     requires motes { after ≤ length places.now }
     requires so_far { let radio = radio_from places.now reach [] in
         links.old.items ≡ links_below radio (every_at every.now) sender first }
-    ensures { let radio = radio_from places.now reach [] in
+    ensures links { let radio = radio_from places.now reach [] in
         IfOk result (λ _. links.new.items ≡ links_below radio (every_at every.now) sender after) }
 {
     let from = places[usize::from(sender)];
@@ -191,7 +192,7 @@ fn link_between(
     requires per { 0 < reach.per }
     requires sender { sender < length places.now }
     requires receiver { to < length places.now }
-    ensures { let radio = radio_from places.now reach [] in
+    ensures link { let radio = radio_from places.now reach [] in
         result ≡ if hears radio to sender then Some (link_of radio (every_at every.now) sender to) else None }
 {
     if to == sender {
@@ -210,7 +211,7 @@ fn link_between(
 
 /// The least delay of all links, if there is one.
 pub(crate) fn least_delay(all: &[Vec<Link>]) -> Option<u64>
-    ensures { result
+    ensures value { result
         ≡ reduce min (flat_map (λ links. map (λ link. link.delay) links) (map (λ links. links.items) all.now)) }
 {
     let mut least = None;
@@ -222,7 +223,7 @@ pub(crate) fn least_delay(all: &[Vec<Link>]) -> Option<u64>
 
 /// The least of these delays and of the least so far.
 fn lesser(least: Option<u64>, links: &[Link]) -> Option<u64>
-    ensures { result ≡ fold with_least least (map (λ link. link.delay) links.now) }
+    ensures value { result ≡ fold with_least least (map (λ link. link.delay) links.now) }
 {
     let mut least = least;
     for link in links {

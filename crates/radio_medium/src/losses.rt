@@ -27,7 +27,7 @@ pub(crate) fn gather_losses(
     motes: usize,
     losses: &[Loss],
 ) -> Result<EveryByPair, MediumError>
-    ensures { GathersLosses motes losses.now result }
+    ensures gathers_losses { GathersLosses motes losses.now result }
 {
     let mut every = HashMap::new(alloc);
     for loss in losses {
@@ -38,7 +38,7 @@ pub(crate) fn gather_losses(
 
 /// Adds a loss. A loss that is bad by itself is an error, and so is a second one for the same pair.
 fn add_loss(every: &mut EveryByPair, motes: usize, loss: Loss) -> Result<(), MediumError>
-    ensures { AddsLoss motes loss every.old every.new result }
+    ensures adds_loss { AddsLoss motes loss every.old every.new result }
 {
     if !is_good(motes, loss) {
         return Err(MediumError::BadLoss);
@@ -51,7 +51,7 @@ fn add_loss(every: &mut EveryByPair, motes: usize, loss: Loss) -> Result<(), Med
 
 /// Returns `true` if a loss is between two different motes of the net, and loses the last of some packets.
 fn is_good(motes: usize, loss: Loss) -> bool
-    ensures { result ≡ is_good motes loss }
+    ensures value { result ≡ is_good motes loss }
 {
     let is_there = (loss.sender as usize) < motes && (loss.to as usize) < motes;
     is_there && loss.sender != loss.to && loss.every != 0
@@ -59,8 +59,8 @@ fn is_good(motes: usize, loss: Loss) -> bool
 
 /// Returns `true` if packet `number` is lost, if the last of each `every` packets is; without `every` none is.
 pub(crate) fn is_lost(number: u64, every: Option<u32>) -> bool
-    requires { ForSome every (λ k. 0 < k) }
-    ensures { result ≡ is_lost number every }
+    requires positive { ForSome every (λ k. 0 < k) }
+    ensures value { result ≡ is_lost number every }
 {
     match every {
         None => false,

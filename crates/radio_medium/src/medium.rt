@@ -68,9 +68,9 @@ impl Medium {
         per: u32,
         losses: &[Loss],
     ) -> Result<Medium, MediumError>
-        requires { IsWithinLimits (record
+        requires is_within_limits { IsWithinLimits (record
             { places = places.now; range = range; base = base; per = per; losses = losses.now }) }
-        ensures { MakesMedium (record
+        ensures makes_medium { MakesMedium (record
             { places = places.now; range = range; base = base; per = per; losses = losses.now }) result }
     {
         if base == 0 {
@@ -98,7 +98,7 @@ impl Medium {
     pub fn hears(&self, r: u16, s: u16) -> bool
         requires receiver { r < length self.now.places }
         requires sender { s < length self.now.places }
-        ensures { result ≡ hears self.now r s }
+        ensures value { result ≡ hears self.now r s }
     {
         r != s && self.reach.covers(self.square_distance(s, r))
     }
@@ -108,14 +108,14 @@ impl Medium {
     pub fn delay(&self, s: u16, r: u16) -> u64
         requires sender { s < length self.now.places }
         requires receiver { r < length self.now.places }
-        ensures { result ≡ delay self.now s r }
+        ensures value { result ≡ delay self.now s r }
     {
         self.reach.delay(self.square_distance(s, r))
     }
 
     /// The least delay of all links; without links, the first moment after the end.
     pub fn lookahead(&self, end: u64) -> u64
-        requires { end ≤ 2 ^ 40 }
+        requires end_bounded { end ≤ 2 ^ 40 }
         ensures value { result ≡ lookahead self.now end }
         ensures above_zero { 0 < result }
         ensures no_fault { medium_fault self.now ≡ None }
@@ -130,7 +130,7 @@ impl Medium {
     pub fn fates(&self, sent: &Sent) -> Result<Vec<Fate>, AllocError>
         requires sender { sent.now.sender < length self.now.places }
         requires moment { sent.now.at ≤ 2 ^ 40 }
-        ensures { IfOk result (λ all. all.items ≡ fates self.now sent.now) }
+        ensures value { IfOk result (λ all. all.items ≡ fates self.now sent.now) }
     {
         fates_along(self.alloc, self.links_of(sent.sender), sent)
     }
@@ -142,14 +142,14 @@ impl Medium {
     pub fn copies(&self, sent: &Sent) -> Result<Vec<RadioCopy>, AllocError>
         requires sender { sent.now.sender < length self.now.places }
         requires moment { sent.now.at ≤ 2 ^ 40 }
-        ensures { IfOk result (λ all. all.items ≡ copies self.now sent.now) }
+        ensures value { IfOk result (λ all. all.items ≡ copies self.now sent.now) }
     {
         copies_along(self.alloc, self.links_of(sent.sender), sent)
     }
 
     /// The links from a mote to those that hear it.
     fn links_of(&self, s: u16) -> &[Link]
-        requires { s < length self.now.places }
+        requires sender { s < length self.now.places }
         ensures ways { result.now ≡ links_of self.now (every_of self.now.losses) s }
         ensures fit { All IsFit result.now }
     {

@@ -13,7 +13,7 @@ pub struct Place {
 /// The difference of two numbers: |a - b|.
 #[inline(always)]
 pub(crate) fn gap(a: i32, b: i32) -> u64
-    ensures { result ≡ unsigned_abs (a -ℤ b) }
+    ensures value { result ≡ unsigned_abs (a -ℤ b) }
 {
     (i64::from(a) - i64::from(b)).unsigned_abs()
 }
@@ -42,7 +42,7 @@ impl Place {
         requires y { unsigned_abs self.y ≤ 30000 }
         requires other_x { unsigned_abs other.x ≤ 30000 }
         requires other_y { unsigned_abs other.y ≤ 30000 }
-        ensures { result ≡ nat_le (square_distance self other) square }
+        ensures value { result ≡ nat_le (square_distance self other) square }
     {
         let dx = gap(self.x, other.x);
         if dx * dx > square {

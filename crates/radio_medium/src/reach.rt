@@ -17,7 +17,7 @@ pub(crate) struct Reach {
 impl Reach {
     /// Returns `true` if a packet is heard at a distance with this square.
     pub(crate) fn covers(self, square_distance: u64) -> bool
-        ensures { result ≡ nat_le square_distance (square self.range) }
+        ensures value { result ≡ nat_le square_distance (square self.range) }
     {
         square_distance <= u64::from(self.range) * u64::from(self.range)
     }
@@ -29,7 +29,7 @@ impl Reach {
         requires a_y { unsigned_abs a.y ≤ 30000 }
         requires b_x { unsigned_abs b.x ≤ 30000 }
         requires b_y { unsigned_abs b.y ≤ 30000 }
-        ensures { result ≡ nat_le (square_distance a b) (square self.range) }
+        ensures value { result ≡ nat_le (square_distance a b) (square self.range) }
     {
         a.is_within(u64::from(self.range) * u64::from(self.range), b)
     }

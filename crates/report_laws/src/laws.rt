@@ -19,7 +19,7 @@ pub fn texts_declare()
 /// In the report of a run of a net whose programs declare what they name, however the run was made, each line names
 /// only processes that the mote's program has, and events that it declares, besides those of the system.
 pub fn runs_name_only()
-    ensures { RunsNameOnly }
+    ensures runs_name_only { RunsNameOnly }
 {}
 
 /// Comparing bytes is comparing runs. Let two nets have the same motes, with programs that declare what they name and
@@ -28,7 +28,7 @@ pub fn runs_name_only()
 /// prefix of the other.
 pub fn comparing_bytes_is_comparing_runs()
     ensures same { ComparingBytesIsComparingRuns }
-    ensures whole { NoRunBeginsAnother }
+    ensures no_run_begins_another { NoRunBeginsAnother }
 {
     text_determines_report();
     no_text_begins_another();

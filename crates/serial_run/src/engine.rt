@@ -34,7 +34,7 @@ pub struct Engine {
 
 /// A wake at another moment than this.
 fn wake_but_at(moment: u64, wake: Option<u64>) -> Option<u64>
-    ensures { result ≡ wake_but_at moment wake }
+    ensures value { result ≡ wake_but_at moment wake }
 {
     match wake {
         Some(wake) => {
@@ -57,10 +57,10 @@ fn turn_mote(
     packets: &[Arrival],
     out: &mut Out,
 ) -> Result<Option<u64>, AllocError>
-    requires there { number < length motes.old.items }
-    requires early { moment ≤ 2 ^ 40 }
+    requires mote_exists { number < length motes.old.items }
+    requires moment_bounded { moment ≤ 2 ^ 40 }
     requires ready { CanTurnAt (tree_of program.now) moment motes.old.items number }
-    ensures { IfOk result (λ wake. OneTakesTurn
+    ensures one_takes_turn { IfOk result (λ wake. OneTakesTurn
         (tree_of program.now) moment packets.now number motes.old.items motes.new.items (told_with out.new wake)) }
 {
     match motes[usize::from(number)].turn_into(program, moment, packets, out) {
@@ -72,8 +72,8 @@ fn turn_mote(
 
 /// When one of the motes wakes next.
 fn wake_at(motes: &[Mote], number: u16) -> Option<u64>
-    requires { number < length motes.now }
-    ensures { IsWakeAt motes.now number result }
+    requires mote_exists { number < length motes.now }
+    ensures is_wake_at { IsWakeAt motes.now number result }
 {
     motes[usize::from(number)].wake()
 }
@@ -85,7 +85,7 @@ impl Engine {
     /// `AllocError` if an allocation fails.
     pub fn boot(alloc: Global, net: &Net) -> Result<Engine, AllocError>
         ensures stands { let n = net_of net.now in IfOk result (λ engine. StandsAt n engine (boot (system_of n))) }
-        ensures whole { let n = net_of net.now in IfOk result (λ engine. IsWhole n engine) }
+        ensures is_whole { let n = net_of net.now in IfOk result (λ engine. IsWhole n engine) }
     {
         let mut engine = Engine {
             motes: Vec::new(alloc),
@@ -109,12 +109,12 @@ impl Engine {
     /// # Errors
     /// `AllocError` if an allocation fails. The engine may have changed in part then.
     pub fn turn(&mut self, net: &Net, moment: u64, number: u16) -> Result<(), AllocError>
-        requires there { number < length (net_of net.now).motes }
-        requires early { moment ≤ 2 ^ 40 }
-        requires whole { IsWhole (net_of net.now) self.old }
+        requires mote_exists { number < length (net_of net.now).motes }
+        requires moment_bounded { moment ≤ 2 ^ 40 }
+        requires is_whole { IsWhole (net_of net.now) self.old }
         requires ready { CanTurnAt (tree_at (net_of net.now) number) moment self.old.motes.items number }
         ensures stands { OnOk result (TurnLeads (net_of net.now) moment number self.old self.new) }
-        ensures whole { OnOk result (IsWhole (net_of net.now) self.new) }
+        ensures is_whole { OnOk result (IsWhole (net_of net.now) self.new) }
     {
         self.agenda
             .take_due_into(moment, number, &mut self.arrivals)?;

@@ -11,14 +11,14 @@ use net_agenda::Agenda;
 
 /// A net has at most one report.
 pub fn report_is_one()
-    ensures { ReportIsOne }
+    ensures report_is_one { ReportIsOne }
 {}
 
 /// A net whose medium is without fault and has a place for each mote, as in every `Net`, has a report: its wakes and
 /// copies come later than the turns that make them.
 pub fn report_is_there()
     ensures forward { NetsRunForward }
-    ensures there { ReportIsThere }
+    ensures report_is_there { ReportIsThere }
 {}
 
 /// Windows commute. Cut 0 to end + 1 at any rising bounds whose steps are at most the lookahead, and run each mote
@@ -26,13 +26,13 @@ pub fn report_is_there()
 /// lines of each mote, the medium's log sorted by moment, sender and number, and the copies left are those of the
 /// net's run.
 pub fn windows_commute()
-    ensures { WindowsCommuteInNets }
+    ensures windows_commute_in_nets { WindowsCommuteInNets }
 {}
 
 /// The lines of each mote of a net deliver each accepted event, in order, nothing follows a halt, and only a process
 /// that is not listed starts.
 pub fn traces_hand_on()
-    ensures { TracesHandOn }
+    ensures traces_hand_on { TracesHandOn }
 {}
 
 /// The items in the buckets of an agenda, read back from one bucket after another, are those of the net's one list: the
@@ -40,7 +40,7 @@ pub fn traces_hand_on()
 /// list if no mote has two wakes at one moment. The map is asked for its length since it then says that its keys rise:
 /// no two buckets are of one moment.
 pub fn buckets_hold_items(agenda: &Agenda)
-    ensures { BucketsHoldItems agenda.now.buckets }
+    ensures buckets_hold_items { BucketsHoldItems agenda.now.buckets }
 {
     let _length = agenda.buckets.len();
 }
@@ -55,33 +55,33 @@ pub fn at_most_one_wake()
 /// order of the log. So a copy that the medium didn't lose arrives at or before the end, or is on its way when the run
 /// ends.
 pub fn late_copies_stay()
-    ensures { LateCopiesStay }
+    ensures late_copies_stay { LateCopiesStay }
 {}
 
 /// A report counts the copies, of all packets of its log, that arrive after the end.
 pub fn left_is_counted()
-    ensures { LeftIsCounted }
+    ensures left_is_counted { LeftIsCounted }
 {}
 
 /// A report counts as many copies left as its log has fates with an arrival after the end.
 pub fn fates_tell_left()
-    ensures { FatesTellLeft }
+    ensures fates_tell_left { FatesTellLeft }
 {}
 
 /// The turns of a run are given the copies, of all packets of the log, that arrive at or before the end, each once.
 pub fn copies_are_given()
-    ensures { CopiesAreGiven }
+    ensures copies_are_given { CopiesAreGiven }
 {}
 
 /// A turn is given copies for its mote that arrive at its moment.
 pub fn copies_come_in_time()
-    ensures { CopiesComeInTime }
+    ensures copies_come_in_time { CopiesComeInTime }
 {}
 
 /// If the medium is without fault and has a place for each mote, as in every `Net`, a turn is given all copies of the
 /// log for its mote at its moment, in the order of sender, then number.
 pub fn turns_are_given_all()
-    ensures { TurnsAreGivenAll }
+    ensures turns_are_given_all { TurnsAreGivenAll }
 {}
 
 /// The lines of each mote of a net never go back in moment, and in the medium's log the packets of each mote are
@@ -94,5 +94,5 @@ pub fn moments_and_numbers_rise()
 /// The packets that a mote sends in a turn of a net's run are stamped with the turn's moment and the mote already:
 /// stamping them changes nothing.
 pub fn sends_are_stamped()
-    ensures { SendsAreStamped }
+    ensures sends_are_stamped { SendsAreStamped }
 {}

@@ -17,9 +17,9 @@ use std::alloc::{AllocError, Global};
 
 /// Takes turns until no event is pending at or before the end.
 fn run_to_end(engine: &mut Engine, net: &Net) -> Result<(), AllocError>
-    requires whole { IsWhole (net_of net.now) engine.old }
+    requires is_whole { IsWhole (net_of net.now) engine.old }
     requires boot { let n = net_of net.now in StandsAt n engine.old (boot (system_of n)) }
-    ensures whole { OnOk result (IsWhole (net_of net.now) engine.new) }
+    ensures is_whole { OnOk result (IsWhole (net_of net.now) engine.new) }
     ensures ended { OnOk result (HasEnded (net_of net.now) engine.new) }
 {
     let end = net.end();

@@ -25,7 +25,7 @@ use window_workers::{Gate, NoGate};
 
 /// Writes the line that reports a fault, after the name of the program.
 fn report_fault<E: Write>(fault: &SimError, errors: &mut E) -> io::Result<()>
-    ensures { OnOk result (Appends (E.contents errors.old) (E.contents errors.new) (written_line fault.now)) }
+    ensures appends { OnOk result (Appends (E.contents errors.old) (E.contents errors.new) (written_line fault.now)) }
 {
     writeln!(errors, "motesim: {fault}")
 }
@@ -70,7 +70,7 @@ fn status_of_words<W: Write, E: Write>(error: &clap::Error, output: &mut W, erro
 /// # Errors
 /// `Read` if it can't be opened.
 fn open_file<T: Files>(rt: &T, file: &str) -> Result<T::File, SimError>
-    ensures { IfErr result (λ e. e ≡ fault.Read) }
+    ensures err { IfErr result (λ e. e ≡ fault.Read) }
 {
     match fs::open(rt, file) {
         Ok(input) => Ok(input),
@@ -93,7 +93,7 @@ where
     T: AllocGlobal + Files + Threads + Wait + RandomSource + Sync,
     W: Write,
     G: Gate + Sync,
-    ensures some { SimulatedSome (way_of options.now) (W.contents output.old) (W.contents output.new) result }
+    ensures simulated_some { SimulatedSome (way_of options.now) (W.contents output.old) (W.contents output.new) result }
     ensures unwritten { IfErr result (Unwritten (W.contents output.old) (W.contents output.new)) }
 {
     let mut input = open_file(rt, file)?;
@@ -121,7 +121,7 @@ where
     // With one, `input` isn't read.
     ensures unread { IsSome file.entry → R.remaining input.new ≡ R.remaining input.old }
     // A report is that of some bytes.
-    ensures some { SimulatedSome None (W.contents output.old) (W.contents output.new) result }
+    ensures simulated_some { SimulatedSome None (W.contents output.old) (W.contents output.new) result }
     ensures unwritten { IfErr result (Unwritten (W.contents output.old) (W.contents output.new)) }
 {
     match file {
@@ -156,7 +156,8 @@ where
     // With one, `input` isn't read.
     ensures unread { IsSome asked.now.file → R.remaining input.new ≡ R.remaining input.old }
     // A report is that of some bytes, by the number and kind of workers that are asked for.
-    ensures some { SimulatedSome (way_of asked.now.options) (W.contents output.old) (W.contents output.new) result }
+    ensures simulated_some { SimulatedSome (way_of asked.now.options) (W.contents output.old)
+        (W.contents output.new) result }
     ensures unwritten { IfErr result (Unwritten (W.contents output.old) (W.contents output.new)) }
 {
     match asked.file {
@@ -179,7 +180,7 @@ where
     R: Read,
     W: Write,
     E: Write,
-    ensures { let old = streams (R.remaining input.old) (W.contents output.old) (E.contents errors.old)
+    ensures simulates { let old = streams (R.remaining input.old) (W.contents output.old) (E.contents errors.old)
         in let new = streams (R.remaining input.new) (W.contents output.new) (E.contents errors.new)
         in Simulates asked.now old new result }
 {
@@ -205,7 +206,7 @@ where
     R: Read,
     W: Write,
     E: Write,
-    ensures { let old = streams (R.remaining input.old) (W.contents output.old) (E.contents errors.old)
+    ensures commands { let old = streams (R.remaining input.old) (W.contents output.old) (E.contents errors.old)
         in let new = streams (R.remaining input.new) (W.contents output.new) (E.contents errors.new)
         in Commands (texts_of words.now) old new result }
 {

@@ -24,7 +24,7 @@ static CUTS: [&str; 2] = ["block", "stripe"];
 
 /// The cut of this name.
 fn cut_named(name: &str) -> CutKind
-    ensures { result ≡ cut_of (Some name.now) }
+    ensures value { result ≡ cut_of (Some name.now) }
 {
     match name {
         "stripe" => CutKind::Stripe,
@@ -48,7 +48,7 @@ static SYNCS: [&str; 2] = ["joins", "marks"];
 
 /// The kind of synchronization of this name.
 fn sync_named(name: &str) -> SyncKind
-    ensures { result ≡ sync_of (Some name.now) }
+    ensures value { result ≡ sync_of (Some name.now) }
 {
     match name {
         "marks" => SyncKind::Marks,
@@ -88,7 +88,7 @@ fn options_for(workers: Option<u16>, cut: Option<&str>, sync: Option<&str>) -> O
 
 /// Reads the file and the options from the values of the arguments.
 fn asked_of<'a>(matches: &ArgMatches<'a>) -> Asked<'a>
-    ensures { AskedIn (rows_of (found_of matches.now)) result }
+    ensures asked_in { AskedIn (rows_of (found_of matches.now)) result }
 {
     let workers = matches.get_one::<u16>("workers");
     let options = options_for(workers, matches.get_str("cut"), matches.get_str("sync"));
@@ -150,7 +150,7 @@ fn file_arg<'a>(alloc: Global) -> Arg<'a>
 /// The program's one command. Each argument is made once those before it have been added, so none is owned when
 /// adding one can fail.
 fn command<'a>(alloc: Global) -> Result<Command<'a>, AllocError>
-    ensures { IfOk result (λ c. IsMotesim (app_of c)) }
+    ensures is_motesim { IfOk result (λ c. IsMotesim (app_of c)) }
 {
     Command::new(alloc, "motesim")
         .about(

@@ -18,7 +18,7 @@ use window_workers::{Gate, run_serial};
 
 /// Simulates the scenario of this text on one thread, and writes the report.
 fn simulate_text<W: Write>(alloc: Global, text: &str, writer: &mut W) -> Result<(), SimError>
-    requires { IsText text.now }
+    requires is_text { IsText text.now }
     ensures answer { SimulatedWith None text.now (W.contents writer.old) (W.contents writer.new) result }
     ensures unwritten { IfErr result (Unwritten (W.contents writer.old) (W.contents writer.new)) }
 {
@@ -41,7 +41,7 @@ where
     T: Threads + Wait + RandomSource + AllocGlobal + Sync,
     W: Write,
     G: Gate + Sync,
-    requires { IsText text.now }
+    requires is_text { IsText text.now }
     ensures answer { let way = Some (team.workers, team.sync)
         in SimulatedWith way text.now (W.contents writer.old) (W.contents writer.new) result }
     ensures unwritten { IfErr result (Unwritten (W.contents writer.old) (W.contents writer.new)) }
@@ -71,7 +71,7 @@ pub fn simulate_serial<R: Read, W: Write>(
     ensures answer { IfSome (R.remaining reader.old)
         (λ input. SimulatedWith None input (W.contents writer.old) (W.contents writer.new) result) }
     // Whatever the reader, a report is that of some bytes, and a scenario's fault is that of some bytes.
-    ensures some { SimulatedSome None (W.contents writer.old) (W.contents writer.new) result }
+    ensures simulated_some { SimulatedSome None (W.contents writer.old) (W.contents writer.new) result }
     // Of the errors only `Print` may have written anything.
     ensures unwritten { IfErr result (Unwritten (W.contents writer.old) (W.contents writer.new)) }
 {
@@ -106,7 +106,7 @@ where
     ensures answer { let way = way_of options.now
         in IfSome (R.remaining reader.old)
         (λ input. SimulatedWith way input (W.contents writer.old) (W.contents writer.new) result) }
-    ensures some { SimulatedSome (way_of options.now) (W.contents writer.old) (W.contents writer.new) result }
+    ensures simulated_some { SimulatedSome (way_of options.now) (W.contents writer.old) (W.contents writer.new) result }
     ensures unwritten { IfErr result (Unwritten (W.contents writer.old) (W.contents writer.new)) }
 {
     let Some(workers) = options.workers else {

@@ -8,7 +8,7 @@ use window_workers::laws::{report_is_one, report_is_there};
 /// The same scenario, the same bytes, on one thread or by any number of workers of either kind: a text has at most one
 /// report.
 pub fn at_most_one_report()
-    ensures { OneReport }
+    ensures one_report { OneReport }
 {
     at_most_one_net();
     report_is_one();
@@ -16,7 +16,7 @@ pub fn at_most_one_report()
 
 /// The net of each scenario's text has a report.
 pub fn scenario_has_report()
-    ensures { ScenarioHasReport }
+    ensures scenario_has_report { ScenarioHasReport }
 {
     report_is_there();
 }

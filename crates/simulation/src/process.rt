@@ -35,7 +35,7 @@ where
     R: Read,
     W: Write,
     E: Write,
-    ensures { let old = streams (R.remaining input.old) (W.contents output.old) (E.contents errors.old)
+    ensures runs { let old = streams (R.remaining input.old) (W.contents output.old) (E.contents errors.old)
         in let new = streams (R.remaining input.new) (W.contents output.new) (E.contents errors.new)
         in MatchResult result (RunsSome old new) (λ _. new ≡ old) }
 {
@@ -50,7 +50,7 @@ where
     R: Read,
     W: Write,
     E: Write,
-    ensures { let old = streams (R.remaining input.old) (W.contents output.old) (E.contents errors.old)
+    ensures runs { let old = streams (R.remaining input.old) (W.contents output.old) (E.contents errors.old)
         in let new = streams (R.remaining input.new) (W.contents output.new) (E.contents errors.new)
         in MatchResult result (RunsSome old new) (λ _. new ≡ old) }
 {
@@ -69,7 +69,7 @@ where
     R: Read,
     W: Write,
     E: Write,
-    ensures { let old = streams (R.remaining input.old) (W.contents output.old) (E.contents errors.old)
+    ensures returns_some { let old = streams (R.remaining input.old) (W.contents output.old) (E.contents errors.old)
         in let new = streams (R.remaining input.new) (W.contents output.new) (E.contents errors.new)
         in ReturnsSome old new result }
 {

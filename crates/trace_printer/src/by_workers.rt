@@ -37,10 +37,10 @@ fn write_traces<R: Threads + Wait + Sync, W: Write>(
     lines: usize,
     writer: &mut W,
 ) -> Result<(), PrintError>
-    requires some { 1 ≤ workers }
+    requires positive { 1 ≤ workers }
     requires traces { HasTraces traces.now }
     requires all { length (lines_told traces.now) ≡ lines }
-    ensures { let text = concat (lines_told traces.now)
+    ensures prints { let text = concat (lines_told traces.now)
         in Prints (W.contents writer.old) (W.contents writer.new) [] [] result text }
 {
     let mut skip = 0;
@@ -78,11 +78,11 @@ fn write_by<R: Threads + Wait + Sync, W: Write>(
     lines: usize,
     writer: &mut W,
 ) -> Result<(), PrintError>
-    requires some { 1 ≤ workers }
+    requires positive { 1 ≤ workers }
     requires traces { vec_len report.now.traces ≡ length (net_of net.now).motes }
     requires lines { length (lines_of (net_of net.now) (report_of report.now).traces) ≡ lines }
     requires all { lines + vec_len report.now.medium + 1 < 2 ^ 64 }
-    ensures { let text = report_text (net_of net.now) (report_of report.now)
+    ensures writes { let text = report_text (net_of net.now) (report_of report.now)
         in Writes (W.contents writer.old) (W.contents writer.new) result text }
 {
     let mut page = Page::new(alloc)?;
@@ -114,10 +114,10 @@ pub fn write_report_by<R: Threads + Wait + Sync, W: Write>(
     report: &Report,
     writer: &mut W,
 ) -> Result<(), PrintError>
-    requires some { 1 ≤ workers }
+    requires positive { 1 ≤ workers }
     // There is one trace for each mote.
     requires traces { vec_len report.now.traces ≡ length (net_of net.now).motes }
-    ensures { let text = report_text (net_of net.now) (report_of report.now)
+    ensures writes { let text = report_text (net_of net.now) (report_of report.now)
         in Writes (W.contents writer.old) (W.contents writer.new) result text }
 {
     match many_lines(workers, &report.traces, &report.medium) {

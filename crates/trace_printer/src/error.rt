@@ -19,7 +19,7 @@ impl PrintError {
 
     /// The number that is printed.
     pub fn number(self) -> u8
-        ensures { result ≡ print_fault_number self }
+        ensures number { result ≡ print_fault_number self }
     {
         self as u8
     }

@@ -23,7 +23,7 @@ const LINE: usize = 128;
 /// # Errors
 /// If an allocation failed.
 pub fn put_head(page: &mut Page, mote: u16, name: &str) -> Result<(), AllocError>
-    ensures { OnOk result (page.new ≡ page.old ++ line_of (codes "mote") (decimal mote ∷ name.now ∷ [])) }
+    ensures appended { OnOk result (page.new ≡ page.old ++ line_of (codes "mote") (decimal mote ∷ name.now ∷ [])) }
 {
     make_room(&mut page.bytes, page.len, LINE.saturating_add(name.len()))?;
     let room = page.bytes.as_mut_slice();
@@ -39,7 +39,7 @@ pub fn put_head(page: &mut Page, mote: u16, name: &str) -> Result<(), AllocError
 /// # Errors
 /// If an allocation failed.
 pub fn put_medium(page: &mut Page) -> Result<(), AllocError>
-    ensures { OnOk result (page.new ≡ page.old ++ line_of (codes "medium") []) }
+    ensures appended { OnOk result (page.new ≡ page.old ++ line_of (codes "medium") []) }
 {
     make_room(&mut page.bytes, page.len, LINE)?;
     let room = page.bytes.as_mut_slice();
@@ -53,7 +53,7 @@ pub fn put_medium(page: &mut Page) -> Result<(), AllocError>
 /// # Errors
 /// If an allocation failed.
 pub fn put_left(page: &mut Page, left: u64) -> Result<(), AllocError>
-    ensures { OnOk result (page.new ≡ page.old ++ left_text left) }
+    ensures appended { OnOk result (page.new ≡ page.old ++ left_text left) }
 {
     make_room(&mut page.bytes, page.len, LINE)?;
     let room = page.bytes.as_mut_slice();
@@ -66,7 +66,7 @@ pub fn put_left(page: &mut Page, left: u64) -> Result<(), AllocError>
 /// Appends a line of a keyword and a name.
 #[inline(always)]
 fn put_named(page: &mut Page, at: u64, keyword: &str, name: &str) -> Result<(), AllocError>
-    ensures { OnOk result (page.new ≡ page.old ++ line_of (decimal at) (keyword.now ∷ name.now ∷ [])) }
+    ensures appended { OnOk result (page.new ≡ page.old ++ line_of (decimal at) (keyword.now ∷ name.now ∷ [])) }
 {
     let names = keyword.len().saturating_add(name.len());
     make_room(&mut page.bytes, page.len, LINE.saturating_add(names))?;
@@ -87,7 +87,8 @@ fn put_event(
     serial: u64,
     name: &str,
 ) -> Result<(), AllocError>
-    ensures { OnOk result (page.new ≡ page.old ++ line_of (decimal at) (keyword.now ∷ decimal serial ∷ name.now ∷ [])) }
+    ensures appended { OnOk result (page.new
+        ≡ page.old ++ line_of (decimal at) (keyword.now ∷ decimal serial ∷ name.now ∷ [])) }
 {
     let names = keyword.len().saturating_add(name.len());
     make_room(&mut page.bytes, page.len, LINE.saturating_add(names))?;
@@ -109,7 +110,7 @@ fn put_numbers(
     first: u64,
     second: u64,
 ) -> Result<(), AllocError>
-    ensures { OnOk result (page.new ≡ page.old
+    ensures appended { OnOk result (page.new ≡ page.old
         ++ line_of (decimal at) (keyword.now ∷ decimal first ∷ decimal second ∷ [])) }
 {
     make_room(
@@ -134,7 +135,7 @@ fn put_post(
     event: &str,
     word: u16,
 ) -> Result<(), AllocError>
-    ensures { OnOk result (page.new ≡ page.old
+    ensures appended { OnOk result (page.new ≡ page.old
         ++ line_of (decimal at) (codes "post" ∷ decimal serial ∷ target.now ∷ event.now ∷ decimal word ∷ [])) }
 {
     let names = target.len().saturating_add(event.len());
@@ -157,7 +158,7 @@ fn put_full(
     event: &str,
     word: u16,
 ) -> Result<(), AllocError>
-    ensures { OnOk result (page.new ≡ page.old
+    ensures appended { OnOk result (page.new ≡ page.old
         ++ line_of (decimal at) (codes "full" ∷ target.now ∷ event.now ∷ decimal word ∷ [])) }
 {
     let names = target.len().saturating_add(event.len());
@@ -173,7 +174,7 @@ fn put_full(
 }
 
 fn put_print(page: &mut Page, at: u64, process: &str, value: u16) -> Result<(), AllocError>
-    ensures { OnOk result (page.new ≡ page.old
+    ensures appended { OnOk result (page.new ≡ page.old
         ++ line_of (decimal at) (codes "print" ∷ process.now ∷ decimal value ∷ [])) }
 {
     make_room(
@@ -191,7 +192,7 @@ fn put_print(page: &mut Page, at: u64, process: &str, value: u16) -> Result<(), 
 }
 
 fn put_halt(page: &mut Page, at: u64) -> Result<(), AllocError>
-    ensures { OnOk result (page.new ≡ page.old ++ line_of (decimal at) (codes "halt" ∷ [])) }
+    ensures appended { OnOk result (page.new ≡ page.old ++ line_of (decimal at) (codes "halt" ∷ [])) }
 {
     make_room(&mut page.bytes, page.len, LINE)?;
     let room = page.bytes.as_mut_slice();
@@ -202,7 +203,7 @@ fn put_halt(page: &mut Page, at: u64) -> Result<(), AllocError>
 }
 
 fn put_recv(page: &mut Page, at: u64, from: u16, number: u64, value: u16) -> Result<(), AllocError>
-    ensures { OnOk result (page.new ≡ page.old
+    ensures appended { OnOk result (page.new ≡ page.old
         ++ line_of (decimal at) (codes "recv" ∷ decimal from ∷ decimal number ∷ decimal value ∷ [])) }
 {
     make_room(&mut page.bytes, page.len, LINE)?;
@@ -221,7 +222,7 @@ fn put_recv(page: &mut Page, at: u64, from: u16, number: u64, value: u16) -> Res
 /// # Errors
 /// If an allocation failed.
 pub fn put_trace_line(page: &mut Page, program: &Program, line: &Line) -> Result<(), AllocError>
-    ensures { OnOk result (page.new ≡ page.old ++ line_text (tree_of program.now) line.now) }
+    ensures appended { OnOk result (page.new ≡ page.old ++ line_text (tree_of program.now) line.now) }
 {
     let at = line.at;
     match line.what {
@@ -256,7 +257,7 @@ pub fn put_trace_line(page: &mut Page, program: &Program, line: &Line) -> Result
 
 /// Appends a space, the receiver of a copy, and when the copy arrives.
 fn put_fate(page: &mut Page, fate: Fate) -> Result<(), AllocError>
-    ensures { OnOk result (page.new ≡ page.old ++ 32 ∷ fate_word fate) }
+    ensures appended { OnOk result (page.new ≡ page.old ++ 32 ∷ fate_word fate) }
 {
     make_room(&mut page.bytes, page.len, LINE)?;
     let room = page.bytes.as_mut_slice();
@@ -267,7 +268,7 @@ fn put_fate(page: &mut Page, fate: Fate) -> Result<(), AllocError>
 }
 
 fn put_fates(page: &mut Page, fates: &[Fate]) -> Result<(), AllocError>
-    ensures { OnOk result (page.new ≡ page.old ++ flat_map (λ w. 32 ∷ w) (map fate_word fates.now)) }
+    ensures appended { OnOk result (page.new ≡ page.old ++ flat_map (λ w. 32 ∷ w) (map fate_word fates.now)) }
 {
     for fate in fates {
         put_fate(page, *fate)?;
@@ -277,7 +278,7 @@ fn put_fates(page: &mut Page, fates: &[Fate]) -> Result<(), AllocError>
 
 /// Appends the words of a packet before the fates of its copies: when it was sent, by whom, its number and its value.
 fn put_sent(page: &mut Page, sent: Sent) -> Result<(), AllocError>
-    ensures { OnOk result (page.new ≡ page.old ++ decimal sent.at
+    ensures appended { OnOk result (page.new ≡ page.old ++ decimal sent.at
         ++ flat_map (λ w. 32 ∷ w) (decimal sent.sender ∷ decimal sent.number ∷ decimal sent.value ∷ [])) }
 {
     make_room(&mut page.bytes, page.len, LINE)?;
@@ -290,7 +291,7 @@ fn put_sent(page: &mut Page, sent: Sent) -> Result<(), AllocError>
 }
 
 fn put_line_feed(page: &mut Page) -> Result<(), AllocError>
-    ensures { OnOk result (page.new ≡ page.old ++ 10 ∷ []) }
+    ensures appended { OnOk result (page.new ≡ page.old ++ 10 ∷ []) }
 {
     make_room(&mut page.bytes, page.len, LINE)?;
     page.len = put_byte(page.bytes.as_mut_slice(), page.len, b'\n');
@@ -302,7 +303,7 @@ fn put_line_feed(page: &mut Page) -> Result<(), AllocError>
 /// # Errors
 /// If an allocation failed.
 pub fn put_packet(page: &mut Page, line: &LogLine) -> Result<(), AllocError>
-    ensures { OnOk result (page.new ≡ page.old ++ packet_text (told_line line.now)) }
+    ensures appended { OnOk result (page.new ≡ page.old ++ packet_text (told_line line.now)) }
 {
     put_sent(page, line.sent)?;
     put_fates(page, &line.fates)?;

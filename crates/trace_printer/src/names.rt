@@ -27,7 +27,7 @@ const PACKET: u8 = SystemEvent::Packet as u8;
 
 /// The name of a process of the program, or the empty text if the program has no such process.
 fn own_word(program: &Program, number: u8) -> &str
-    ensures { result.now ≡ unwrap_or (slice_get (tree_of program.now).processes number) [] }
+    ensures value { result.now ≡ unwrap_or (slice_get (tree_of program.now).processes number) [] }
 {
     if number < program.processes() {
         program.name(number)
@@ -38,7 +38,7 @@ fn own_word(program: &Program, number: u8) -> &str
 
 /// The name of a process, or the empty word if the program doesn't have it.
 pub fn process_word(program: &Program, process: Proc) -> &str
-    ensures { result.now ≡ process_word (tree_of program.now) process }
+    ensures value { result.now ≡ process_word (tree_of program.now) process }
 {
     match process {
         Proc::Own(number) => own_word(program, number),
@@ -50,7 +50,7 @@ pub fn process_word(program: &Program, process: Proc) -> &str
 
 /// The name of an event's receiver, or `all`.
 pub fn target_word(program: &Program, target: Target) -> &str
-    ensures { result.now ≡ target_word (tree_of program.now) target }
+    ensures value { result.now ≡ target_word (tree_of program.now) target }
 {
     match target {
         Target::One(process) => process_word(program, process),
@@ -60,7 +60,7 @@ pub fn target_word(program: &Program, target: Target) -> &str
 
 /// The word of an event, or the empty word if the program doesn't declare it.
 pub fn event_word(program: &Program, event: u8) -> &str
-    ensures { result.now ≡ event_word (tree_of program.now) event }
+    ensures value { result.now ≡ event_word (tree_of program.now) event }
 {
     match event {
         INIT => SystemEvent::Init.word(),

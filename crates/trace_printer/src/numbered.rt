@@ -20,7 +20,7 @@ use trace_lines::Line;
 /// The number of lines that the motes with these traces show: those of each trace, and one before them. `None` if the
 /// count overflows.
 pub fn count_lines(traces: &[Vec<Line>]) -> Option<usize>
-    ensures { (net : NetTold) → length traces.now ≡ length net.motes
+    ensures count { (net : NetTold) → length traces.now ≡ length net.motes
         → IfSome result (λ count. length (lines_of net (map lines_in traces.now)) ≡ count) }
 {
     let mut count: usize = 0;
@@ -32,7 +32,7 @@ pub fn count_lines(traces: &[Vec<Line>]) -> Option<usize>
 
 /// At most `count` lines of a trace or of the medium, after the first `skip`.
 fn some_of<T>(lines: &[T], skip: usize, count: usize) -> &[T]
-    ensures { result.now ≡ take count (drop skip lines.now) }
+    ensures part { result.now ≡ take count (drop skip lines.now) }
 {
     let rest = &lines[skip.min(lines.len())..];
     &rest[..count.min(rest.len())]
@@ -40,7 +40,7 @@ fn some_of<T>(lines: &[T], skip: usize, count: usize) -> &[T]
 
 /// Appends lines of the trace of a mote with this program.
 fn put_lines(page: &mut Page, program: &Program, lines: &[Line]) -> Result<(), AllocError>
-    ensures { OnOk result (page.new ≡ page.old ++ flat_map (line_text (tree_of program.now)) lines.now) }
+    ensures appended { OnOk result (page.new ≡ page.old ++ flat_map (line_text (tree_of program.now)) lines.now) }
 {
     for line in lines {
         put_trace_line(page, program, line)?;
@@ -58,7 +58,7 @@ fn put_mote_part(
     skip: usize,
     count: usize,
 ) -> Result<(), AllocError>
-    ensures { let head = line_of (codes "mote") (decimal mote ∷ name.now ∷ [])
+    ensures appended { let head = line_of (codes "mote") (decimal mote ∷ name.now ∷ [])
         in let lines = head ∷ map (line_text (tree_of program.now)) trace.now
         in OnOk result (page.new ≡ page.old ++ part_text lines skip count) }
 {
@@ -83,8 +83,8 @@ pub fn put_part(
     skip: usize,
     count: usize,
 ) -> Result<(), AllocError>
-    requires { length traces.now ≡ length (net_of net.now).motes }
-    ensures { let lines = lines_of (net_of net.now) (map lines_in traces.now)
+    requires traces { length traces.now ≡ length (net_of net.now).motes }
+    ensures appended { let lines = lines_of (net_of net.now) (map lines_in traces.now)
         in OnOk result (page.new ≡ page.old ++ part_text lines skip count) }
 {
     let mut before = skip;
@@ -110,7 +110,7 @@ pub fn put_part(
 
 /// Appends lines of the medium.
 fn put_packets(page: &mut Page, log: &[LogLine]) -> Result<(), AllocError>
-    ensures { OnOk result (page.new ≡ page.old ++ flat_map packet_text (map told_line log.now)) }
+    ensures appended { OnOk result (page.new ≡ page.old ++ flat_map packet_text (map told_line log.now)) }
 {
     for line in log {
         put_packet(page, line)?;
@@ -125,7 +125,8 @@ fn put_medium_part(
     skip: usize,
     count: usize,
 ) -> Result<(), AllocError>
-    ensures { OnOk result (page.new ≡ page.old ++ part_text (medium_lines (map told_line log.now)) skip count) }
+    ensures appended { OnOk result (page.new
+        ≡ page.old ++ part_text (medium_lines (map told_line log.now)) skip count) }
 {
     if skip > 0 {
         return put_packets(page, some_of(log, skip - 1, count));
@@ -148,8 +149,8 @@ pub fn put_all_part(
     skip: usize,
     count: usize,
 ) -> Result<(), AllocError>
-    requires { HasTraces traces.now }
-    ensures { OnOk result (page.new ≡ page.old ++ part_text (lines_told traces.now) skip count) }
+    requires has_traces { HasTraces traces.now }
+    ensures appended { OnOk result (page.new ≡ page.old ++ part_text (lines_told traces.now) skip count) }
 {
     put_part(page, traces.net, traces.traces, skip, count)?;
     let left = count.saturating_sub(traces.lines.saturating_sub(skip));

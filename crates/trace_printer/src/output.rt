@@ -12,7 +12,7 @@ pub struct WriteFault;
 /// # Errors
 /// If the writer failed, or took no byte.
 pub fn write_bytes<W: Write>(writer: &mut W, bytes: &[u8]) -> Result<(), WriteFault>
-    ensures { Writes (W.contents writer.old) (W.contents writer.new) result bytes.now }
+    ensures writes { Writes (W.contents writer.old) (W.contents writer.new) result bytes.now }
 {
     let mut rest = bytes;
     while !rest.is_empty() {

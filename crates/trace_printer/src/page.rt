@@ -38,7 +38,7 @@ impl Model for Page {
 /// If an allocation failed.
 #[inline(always)]
 pub fn make_room(bytes: &mut Vec<u8>, len: usize, room: usize) -> Result<(), AllocError>
-    requires { len ≤ length bytes.old.items }
+    requires room_fits { len ≤ length bytes.old.items }
     ensures room { OnOk result (len + room ≤ length bytes.new.items) }
     ensures kept { take len bytes.new.items ≡ take len bytes.old.items }
     ensures within { len ≤ length bytes.new.items }
@@ -56,7 +56,7 @@ impl Page {
     /// # Errors
     /// If an allocation failed.
     pub fn new(alloc: Global) -> Result<Page, AllocError>
-        ensures { IfOk result (λ page. page ≡ []) }
+        ensures empty { IfOk result (λ page. page ≡ []) }
     {
         let bytes = vec![in alloc; 0u8; ROOM]?;
         Ok(Page { bytes, len: 0 })
@@ -69,7 +69,7 @@ impl Page {
 
     /// An empty page, for which nothing is allocated yet.
     pub fn empty(alloc: Global) -> Page
-        ensures { result ≡ [] }
+        ensures empty { result ≡ [] }
     {
         Page {
             bytes: Vec::new(alloc),
@@ -82,7 +82,7 @@ impl Page {
     /// # Errors
     /// If the writer failed, or took no byte.
     pub fn write<W: Write>(&self, writer: &mut W) -> Result<(), WriteFault>
-        ensures { Writes (W.contents writer.old) (W.contents writer.new) result self.now }
+        ensures writes { Writes (W.contents writer.old) (W.contents writer.new) result self.now }
     {
         write_bytes(writer, &self.bytes[..self.len])
     }

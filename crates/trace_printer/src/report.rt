@@ -22,7 +22,7 @@ use trace_lines::Line;
 
 /// Writes the page if it is full.
 fn write_if_full<W: Write>(writer: &mut W, page: &mut Page) -> Result<(), WriteFault>
-    ensures { Prints (W.contents writer.old) (W.contents writer.new) page.old page.new result [] }
+    ensures prints { Prints (W.contents writer.old) (W.contents writer.new) page.old page.new result [] }
 {
     if page.is_full() {
         return page.write_to(writer);
@@ -36,7 +36,7 @@ fn print_head<W: Write>(
     mote: u16,
     name: &str,
 ) -> Result<(), PrintError>
-    ensures { let text = line_of (codes "mote") (decimal mote ∷ name.now ∷ [])
+    ensures prints { let text = line_of (codes "mote") (decimal mote ∷ name.now ∷ [])
         in Prints (W.contents writer.old) (W.contents writer.new) page.old page.new result text }
 {
     put_head(page, mote, name)?;
@@ -49,7 +49,7 @@ fn print_lines<W: Write>(
     program: &Program,
     trace: &[Line],
 ) -> Result<(), PrintError>
-    ensures { let text = flat_map (line_text (tree_of program.now)) trace.now
+    ensures prints { let text = flat_map (line_text (tree_of program.now)) trace.now
         in Prints (W.contents writer.old) (W.contents writer.new) page.old page.new result text }
 {
     for line in trace {
@@ -67,7 +67,7 @@ fn print_mote<W: Write>(
     program: &Program,
     trace: &[Line],
 ) -> Result<(), PrintError>
-    ensures { let head = line_of (codes "mote") (decimal mote ∷ name.now ∷ [])
+    ensures prints { let head = line_of (codes "mote") (decimal mote ∷ name.now ∷ [])
         in let text = head ++ flat_map (line_text (tree_of program.now)) trace.now
         in Prints (W.contents writer.old) (W.contents writer.new) page.old page.new result text }
 {
@@ -81,8 +81,8 @@ fn print_motes<W: Write>(
     net: &Net,
     traces: &[Vec<Line>],
 ) -> Result<(), PrintError>
-    requires { length traces.now ≡ length (net_of net.now).motes }
-    ensures { let text = motes_text 0 (net_of net.now).motes (map lines_in traces.now)
+    requires traces { length traces.now ≡ length (net_of net.now).motes }
+    ensures prints { let text = motes_text 0 (net_of net.now).motes (map lines_in traces.now)
         in Prints (W.contents writer.old) (W.contents writer.new) page.old page.new result text }
 {
     for mote in 0..net.motes() {
@@ -104,7 +104,7 @@ fn print_packets<W: Write>(
     page: &mut Page,
     log: &[LogLine],
 ) -> Result<(), PrintError>
-    ensures { let text = flat_map packet_text (map told_line log.now)
+    ensures prints { let text = flat_map packet_text (map told_line log.now)
         in Prints (W.contents writer.old) (W.contents writer.new) page.old page.new result text }
 {
     for line in log {
@@ -119,7 +119,7 @@ fn print_medium<W: Write>(
     page: &mut Page,
     log: &[LogLine],
 ) -> Result<(), PrintError>
-    ensures { let text = medium_text (map told_line log.now)
+    ensures prints { let text = medium_text (map told_line log.now)
         in Prints (W.contents writer.old) (W.contents writer.new) page.old page.new result text }
 {
     put_medium(page)?;
@@ -131,7 +131,7 @@ fn print_medium<W: Write>(
 /// # Errors
 /// `Write` if the writer failed or took no byte, `Memory` if an allocation failed.
 pub fn write_end<W: Write>(writer: &mut W, page: &mut Page, left: u64) -> Result<(), PrintError>
-    ensures { Writes (W.contents writer.old) (W.contents writer.new) result (page.old ++ left_text left) }
+    ensures writes { Writes (W.contents writer.old) (W.contents writer.new) result (page.old ++ left_text left) }
 {
     put_left(page, left)?;
     Ok(page.write_to(writer)?)
@@ -147,7 +147,7 @@ pub fn write_medium<W: Write>(
     page: &mut Page,
     report: &Report,
 ) -> Result<(), PrintError>
-    ensures { let told = report_of report.now
+    ensures writes { let told = report_of report.now
         in let text = page.old ++ (medium_text told.log ++ left_text told.left)
         in Writes (W.contents writer.old) (W.contents writer.new) result text }
 {
@@ -168,8 +168,8 @@ pub fn write_report<W: Write>(
     writer: &mut W,
 ) -> Result<(), PrintError>
     // There is one trace for each mote.
-    requires { vec_len report.now.traces ≡ length (net_of net.now).motes }
-    ensures { let text = report_text (net_of net.now) (report_of report.now)
+    requires traces { vec_len report.now.traces ≡ length (net_of net.now).motes }
+    ensures writes { let text = report_text (net_of net.now) (report_of report.now)
         in Writes (W.contents writer.old) (W.contents writer.new) result text }
 {
     let mut page = Page::new(alloc)?;

@@ -20,8 +20,8 @@ use std::thread::Threads;
 /// Divides `count` lines, after the first `skip`, into a part for each worker. The parts' lengths differ by at most
 /// one.
 fn cut(alloc: Global, workers: u16, skip: usize, count: usize) -> Result<Vec<Part>, AllocError>
-    requires some { 1 ≤ workers }
-    requires there { skip + count < 2 ^ 64 }
+    requires positive { 1 ≤ workers }
+    requires end_bounded { skip + count < 2 ^ 64 }
     ensures adjoin { IfOk result (λ parts. Adjoin skip parts.items (skip + count)) }
     ensures even { IfOk result (λ parts. Each (IsShare count workers) parts.items) }
 {
@@ -46,10 +46,10 @@ fn put<R: Threads + Wait + Sync>(
     skip: usize,
     count: usize,
 ) -> Result<Vec<Part>, Refused>
-    requires some { 1 ≤ workers }
+    requires positive { 1 ≤ workers }
     requires traces { HasTraces traces.now }
-    requires there { skip + count < 2 ^ 64 }
-    ensures { IfOk result (λ parts. flat_map page_of parts.items ≡ part_text (lines_told traces.now) skip count) }
+    requires end_bounded { skip + count < 2 ^ 64 }
+    ensures text { IfOk result (λ parts. flat_map page_of parts.items ≡ part_text (lines_told traces.now) skip count) }
 {
     let parts = cut(alloc, workers, skip, count)?;
     fork_join(rt, alloc, parts, traces)
@@ -57,7 +57,7 @@ fn put<R: Threads + Wait + Sync>(
 
 /// Writes each page.
 fn write_pages<W: Write>(writer: &mut W, parts: &[Part]) -> Result<(), WriteFault>
-    ensures { Prints (W.contents writer.old) (W.contents writer.new) [] [] result (flat_map page_of parts.now) }
+    ensures prints { Prints (W.contents writer.old) (W.contents writer.new) [] [] result (flat_map page_of parts.now) }
 {
     for part in parts {
         part.page.write(writer)?;
@@ -73,8 +73,8 @@ fn write_alone<W: Write>(
     count: usize,
     writer: &mut W,
 ) -> Result<(), PrintError>
-    requires { HasTraces traces.now }
-    ensures { let text = part_text (lines_told traces.now) skip count
+    requires has_traces { HasTraces traces.now }
+    ensures prints { let text = part_text (lines_told traces.now) skip count
         in Prints (W.contents writer.old) (W.contents writer.new) [] [] result text }
 {
     let mut page = Page::empty(alloc);
@@ -96,10 +96,10 @@ pub fn write_round<R: Threads + Wait + Sync, W: Write>(
     count: usize,
     writer: &mut W,
 ) -> Result<(), PrintError>
-    requires some { 1 ≤ workers }
+    requires positive { 1 ≤ workers }
     requires traces { HasTraces traces.now }
-    requires there { skip + count < 2 ^ 64 }
-    ensures { let text = part_text (lines_told traces.now) skip count
+    requires end_bounded { skip + count < 2 ^ 64 }
+    ensures prints { let text = part_text (lines_told traces.now) skip count
         in Prints (W.contents writer.old) (W.contents writer.new) [] [] result text }
 {
     match put(rt, alloc, workers, traces, skip, count) {

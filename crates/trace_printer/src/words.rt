@@ -8,7 +8,7 @@ use itoa::write_digits;
 /// Writes a byte.
 #[inline(always)]
 pub fn put_byte(room: &mut [u8], at: usize, byte: u8) -> usize
-    requires { at + 1 ≤ length room.old }
+    requires fits { at + 1 ≤ length room.old }
     ensures put { take result room.new ≡ take at room.old ++ byte ∷ [] }
     ensures end { result ≡ at + 1 }
 {
@@ -33,7 +33,7 @@ fn put_ends<const N: usize>(room: &mut [u8], at: usize, text: &[u8]) -> usize
 /// Writes a text. A short one is copied without a call, which would take longer than the copy.
 #[inline(always)]
 pub fn put_text(room: &mut [u8], at: usize, text: &str) -> usize
-    requires { at + length text.now ≤ length room.old }
+    requires fits { at + length text.now ≤ length room.old }
     ensures put { take result room.new ≡ take at room.old ++ text.now }
     ensures end { result ≡ at + length text.now }
 {
@@ -54,7 +54,7 @@ pub fn put_text(room: &mut [u8], at: usize, text: &str) -> usize
 /// The number of digits of a number.
 fn digits(number: u64) -> usize
     ensures value { result ≡ length (decimal number) }
-    ensures few { result ≤ 20 }
+    ensures bounded { result ≤ 20 }
 {
     let mut left = number;
     let mut count = 1;
@@ -82,10 +82,10 @@ fn put_digits(room: &mut [u8], at: usize, number: u64, count: usize) -> usize
 /// place that is returned.
 #[inline(always)]
 fn put_short_number(room: &mut [u8], at: usize, number: u64) -> usize
-    requires { (number < 1000) × (at + 4 ≤ length room.old) }
+    requires short_fits { (number < 1000) × (at + 4 ≤ length room.old) }
     ensures put { take result room.new ≡ take at room.old ++ decimal number }
     ensures end { result ≡ at + length (decimal number) }
-    ensures few { result ≤ at + 3 }
+    ensures bounded { result ≤ at + 3 }
 {
     let place = number as usize * 4;
     let (first, second, third) = (SHORT[place], SHORT[place + 1], SHORT[place + 2]);
@@ -100,7 +100,7 @@ fn put_short_number(room: &mut [u8], at: usize, number: u64) -> usize
 /// The last digit of a number as a byte of text.
 #[inline(always)]
 fn last_digit(number: u64) -> u8
-    ensures { result ≡ 48 + number % 10 }
+    ensures digit { result ≡ 48 + number % 10 }
 {
     b'0' + (number % 10) as u8
 }
@@ -122,7 +122,7 @@ fn put_four_digits(room: &mut [u8], at: usize, number: u64) -> usize
 /// digits come from the entry of a hundred more, after a 1; the first of the three then replaces the 1.
 #[inline(always)]
 fn put_last_three(room: &mut [u8], at: usize, number: u64) -> usize
-    requires { at + 4 ≤ length room.old }
+    requires fits { at + 4 ≤ length room.old }
     ensures put { take result room.new ≡ take at room.old
         ++ (48 + number / 100 % 10) ∷ (48 + number / 10 % 10) ∷ (48 + number % 10) ∷ [] }
     ensures end { result ≡ at + 3 }
@@ -147,7 +147,7 @@ fn put_thousands(room: &mut [u8], at: usize, number: u64) -> usize
 /// Writes a number from a thousand on.
 #[inline(never)]
 fn put_long_number(room: &mut [u8], at: usize, number: u64) -> usize
-    requires { (1000 ≤ number) × (at + 20 ≤ length room.old) }
+    requires long_fits { (1000 ≤ number) × (at + 20 ≤ length room.old) }
     ensures put { take result room.new ≡ take at room.old ++ decimal number }
     ensures end { result ≤ at + 20 }
 {
@@ -164,7 +164,7 @@ fn put_long_number(room: &mut [u8], at: usize, number: u64) -> usize
 /// a line of a trace would be too large to be inlined itself.)
 #[inline(always)]
 pub fn put_number(room: &mut [u8], at: usize, number: u64) -> usize
-    requires { at + 20 ≤ length room.old }
+    requires fits { at + 20 ≤ length room.old }
     ensures put { take result room.new ≡ take at room.old ++ decimal number }
     ensures end { result ≤ at + 20 }
 {
@@ -177,7 +177,7 @@ pub fn put_number(room: &mut [u8], at: usize, number: u64) -> usize
 
 /// Writes the moment at which a copy arrives, if it does.
 pub fn put_arrival(room: &mut [u8], at: usize, arrival: Option<u64>) -> usize
-    requires { at + 20 ≤ length room.old }
+    requires fits { at + 20 ≤ length room.old }
     ensures put { take result room.new ≡ take at room.old ++ arrival_word arrival }
     ensures end { result ≤ at + 20 }
 {
@@ -190,7 +190,7 @@ pub fn put_arrival(room: &mut [u8], at: usize, arrival: Option<u64>) -> usize
 /// Writes a space and a text.
 #[inline(always)]
 pub fn put_spaced(room: &mut [u8], at: usize, text: &str) -> usize
-    requires { at + 1 + length text.now ≤ length room.old }
+    requires fits { at + 1 + length text.now ≤ length room.old }
     ensures put { take result room.new ≡ take at room.old ++ 32 ∷ text.now }
     ensures end { result ≡ at + 1 + length text.now }
 {
@@ -201,7 +201,7 @@ pub fn put_spaced(room: &mut [u8], at: usize, text: &str) -> usize
 /// Writes a space and a number.
 #[inline(always)]
 pub fn put_spaced_number(room: &mut [u8], at: usize, number: u64) -> usize
-    requires { at + 21 ≤ length room.old }
+    requires fits { at + 21 ≤ length room.old }
     ensures put { take result room.new ≡ take at room.old ++ 32 ∷ decimal number }
     ensures end { result ≤ at + 21 }
 {

@@ -8,37 +8,37 @@ ghost use Rattle.window_laws.specs.Windows.{WindowsAreThere, WindowsCommute, Win
 /// A turn's copies in order are those copies, sorted by sender and number; those with the same of both keep their
 /// order.
 pub fn in_order_sorts()
-    ensures { InOrderSorts }
+    ensures in_order_sorts { InOrderSorts }
 {}
 
 /// A net has at most one run.
 pub fn run_is_one<S, L>()
-    ensures { (system : System S L) → RunIsOne system }
+    ensures run_is_one { (system : System S L) → RunIsOne system }
 {}
 
 /// A net whose wakes and copies come later than the turns that make them has a run.
 pub fn run_is_there<S, L>()
-    ensures { (system : System S L) → RunIsThere system }
+    ensures run_is_there { (system : System S L) → RunIsThere system }
 {}
 
 /// If the numbers of each mote's packets rise, the packets of a run sorted by moment, sender and number are its log.
 pub fn log_is_in_order<S, L>()
-    ensures { (system : System S L) → LogIsInOrder system }
+    ensures log_is_in_order { (system : System S L) → LogIsInOrder system }
 {}
 
 /// Cut 0 to end + 1 at any rising bounds whose steps are at most the lookahead, and run each mote alone through each
 /// window, the motes of a window in any order, on the copies that earlier windows sent to it. The lines of each mote,
 /// the packets of all motes sorted by moment and sender, and the number of copies left are those of the net's run.
 pub fn windows_commute<S, L>()
-    ensures { (system : System S L) → WindowsCommute system }
+    ensures windows_commute { (system : System S L) → WindowsCommute system }
 {}
 
 /// So the windows give the report of the run, however packets and copies of different motes were joined.
 pub fn windows_report<S, L>()
-    ensures { (system : System S L) → WindowsReport system }
+    ensures windows_report { (system : System S L) → WindowsReport system }
 {}
 
 /// A net whose wakes and copies come later than the turns that make them can be run through windows, up to any end.
 pub fn windows_are_there<S, L>()
-    ensures { (system : System S L) → WindowsAreThere system }
+    ensures windows_are_there { (system : System S L) → WindowsAreThere system }
 {}

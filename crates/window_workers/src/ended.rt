@@ -17,7 +17,7 @@ use worker_window::{Ended, Share};
 /// `AllocError` if an allocation fails. It is also the error if a share's number of copies is above `u64::MAX`, for
 /// which no memory has room.
 pub fn end_all(alloc: Global, shares: Vec<Share>) -> Result<Vec<Ended>, AllocError>
-    ensures { IfOk result (λ all. AllZip TellsWhatItKept shares.items all.items) }
+    ensures tells_what_it_kept { IfOk result (λ all. AllZip TellsWhatItKept shares.items all.items) }
 {
     let mut all = Vec::new(alloc);
     for share in shares {
@@ -29,14 +29,14 @@ pub fn end_all(alloc: Global, shares: Vec<Share>) -> Result<Vec<Ended>, AllocErr
 
 /// The sum of two counts of copies. If it overflows, there are more copies than any memory holds.
 fn plus(one: u64, other: u64) -> Result<u64, AllocError>
-    ensures { IfOk result (λ sum. sum ≡ one + other) }
+    ensures sum { IfOk result (λ sum. sum ≡ one + other) }
 {
     one.checked_add(other).ok_or(AllocError)
 }
 
 /// The number of copies that were still on their way to the workers' motes.
 fn left_to_come(ended: &[Ended]) -> Result<u64, AllocError>
-    ensures { IfOk result (λ left. left ≡ sum_by (λ one. one.left) ended.now) }
+    ensures sum { IfOk result (λ left. left ≡ sum_by (λ one. one.left) ended.now) }
 {
     let mut left = 0;
     for one in ended {
@@ -47,8 +47,8 @@ fn left_to_come(ended: &[Ended]) -> Result<u64, AllocError>
 
 /// The number of copies in the inboxes.
 fn left_in_inboxes(pairs: &[(Inbox, Taker)]) -> Result<u64, AllocError>
-    requires { Each (λ pair. IsSettled pair.0 pair.1) pairs.now }
-    ensures { IfOk result (λ left. sum_by (λ pair. length (gathered_by pair.1)) pairs.now
+    requires settled { Each (λ pair. IsSettled pair.0 pair.1) pairs.now }
+    ensures balanced { IfOk result (λ left. sum_by (λ pair. length (gathered_by pair.1)) pairs.now
         ≡ sum_by (λ pair. length (taken_by pair.1)) pairs.now + left) }
 {
     let mut left = 0;
@@ -63,8 +63,8 @@ fn left_in_inboxes(pairs: &[(Inbox, Taker)]) -> Result<u64, AllocError>
 /// # Errors
 /// `AllocError` only for a number above `u64::MAX`, for which no memory has room. Nothing is allocated.
 pub fn left_of_all(ended: &[Ended], pairs: &[(Inbox, Taker)]) -> Result<u64, AllocError>
-    requires { Each (λ pair. IsSettled pair.0 pair.1) pairs.now }
-    ensures { IfOk result (λ left. sum_by (λ one. one.left) ended.now
+    requires settled { Each (λ pair. IsSettled pair.0 pair.1) pairs.now }
+    ensures balanced { IfOk result (λ left. sum_by (λ one. one.left) ended.now
         + sum_by (λ pair. length (gathered_by pair.1)) pairs.now
         ≡ left + sum_by (λ pair. length (taken_by pair.1)) pairs.now) }
 {

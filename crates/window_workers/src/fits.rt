@@ -11,14 +11,14 @@ pub const MOST_WORKERS: u16 = 16;
 
 /// Returns whether each mote's worker is one of this many workers.
 fn are_there(workers: usize, of: &[u16]) -> bool
-    ensures { result ≡ list_all (λ worker. nat_lt worker workers) of.now }
+    ensures value { result ≡ list_all (λ worker. nat_lt worker workers) of.now }
 {
     of.iter().all(|worker| usize::from(*worker) < workers)
 }
 
 /// The first fault of a cut of this many motes among this many workers, if any. `of` is the worker of each mote.
 pub fn fault_of(motes: u16, workers: usize, of: &[u16]) -> Option<RunError>
-    ensures { result ≡ cut_fault motes workers of.now }
+    ensures value { result ≡ cut_fault motes workers of.now }
 {
     if workers == 0 || workers > usize::from(MOST_WORKERS) {
         return Some(RunError::Workers);

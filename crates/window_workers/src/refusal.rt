@@ -9,8 +9,8 @@ use serial_run::RunError;
 
 /// A worker's error as an error of the run. A run that failed names the error of a worker that failed itself.
 pub fn of_refused(refused: Refused) -> RunError
-    requires { is_own refused ≡ true }
-    ensures { result ≡ of_refused refused }
+    requires is_own { is_own refused ≡ true }
+    ensures value { result ≡ of_refused refused }
 {
     match refused {
         Refused::Memory => RunError::Memory,

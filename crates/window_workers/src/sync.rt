@@ -17,7 +17,7 @@ pub enum SyncKind {
 impl SyncKind {
     /// Returns whether the inboxes for it have marks.
     pub fn has_marks(self) -> bool
-        ensures { result ≡ has_marks self }
+        ensures value { result ≡ has_marks self }
     {
         match self {
             SyncKind::Joins => false,

@@ -13,7 +13,7 @@ use worker_window::Ended;
 fn take_trace(alloc: Global, ended: &mut Vec<Ended>, worker: usize, mote: usize) -> Vec<Line>
     requires worker { worker < length ended.old.items }
     requires mote { HasTrace worker mote ended.old.items }
-    ensures { TakesTrace worker mote ended.old.items ended.new.items result }
+    ensures takes_trace { TakesTrace worker mote ended.old.items ended.new.items result }
 {
     let one = &mut ended[worker];
     mem::replace(&mut one.traces[mote], Vec::new(alloc))
@@ -30,7 +30,7 @@ pub fn joined_traces(
 ) -> Result<Vec<Vec<Line>>, AllocError>
     requires workers { Each (λ worker. worker < length ended.items) of.now }
     requires places { Each (λ one. length one.traces.items ≡ length of.now) ended.items }
-    ensures { IfOk result (λ traces. AreTracesOf of.now ended.items traces.items) }
+    ensures are_traces_of { IfOk result (λ traces. AreTracesOf of.now ended.items traces.items) }
 {
     let mut ended = ended;
     let mut traces = Vec::new(alloc);

@@ -43,7 +43,7 @@ fn make_report<R: Threads + Wait + Sync>(
     of: &[u16],
     group: Workers,
 ) -> Result<(Report, Vec<(Inbox, Taker)>), RunError>
-    requires { let n = net_of net.now in IsAt n of.now (suc n.end) group }
+    requires at_end { let n = net_of net.now in IsAt n of.now (suc n.end) group }
     ensures report { IfOk result (λ r. IsReportOf (net_of net.now) (report_of r.0)) }
     ensures inboxes { IfOk result (λ r. map (λ pair. pair.0) r.1.items ≡ group.inboxes.items) }
     ensures pairs { IfOk result (λ r. r.1.items ≡ zip group.inboxes.items group.takers.items) }

@@ -16,8 +16,8 @@ pub struct Cut {
 
 /// Mote i goes to the worker `i * workers / motes`.
 fn in_blocks(mote: u16, motes: u16, workers: u16) -> u16
-    requires { mote < motes }
-    ensures { result ≡ (mote * workers) / motes }
+    requires mote_exists { mote < motes }
+    ensures value { result ≡ (mote * workers) / motes }
 {
     let part = u32::from(mote) * u32::from(workers) / u32::from(motes);
     part as u16

@@ -5,7 +5,7 @@ ghost use Rattle.worker_cut.specs.Crossed.{is_own};
 
 /// Returns whether a mote is one of this worker's; `of` is the worker of each mote.
 pub fn is_own(of: &[u16], worker: u16, mote: u16) -> bool
-    ensures { result ≡ is_own of.now worker mote }
+    ensures value { result ≡ is_own of.now worker mote }
 {
     match of.get(usize::from(mote)) {
         Some(other) => *other == worker,

@@ -25,7 +25,7 @@ pub struct CalledMotes {
 impl CalledMotes {
     /// No mote is called.
     fn new(alloc: Global) -> CalledMotes
-        ensures { (mote : ℕ) → copies_for result.copies.items mote ≡ None }
+        ensures empty { (mote : ℕ) → copies_for result.copies.items mote ≡ None }
     {
         CalledMotes {
             alloc,
@@ -36,7 +36,7 @@ impl CalledMotes {
     /// Extends the list up to the place of a mote.
     fn reach(&mut self, mote: u16) -> Result<(), AllocError>
         ensures same { (k : ℕ) → copies_for self.new.copies.items k ≡ copies_for self.old.copies.items k }
-        ensures there { OnOk result (mote < length self.new.copies.items) }
+        ensures in_range { OnOk result (mote < length self.new.copies.items) }
     {
         while self.copies.len() <= usize::from(mote) {
             self.copies.push(None)?;
@@ -46,7 +46,7 @@ impl CalledMotes {
 
     /// Takes the copies out that have come to a mote so far.
     fn take(&mut self, mote: u16, rooms: &mut Rooms) -> Vec<RadioCopy>
-        requires { mote < length self.old.copies.items }
+        requires in_range { mote < length self.old.copies.items }
         ensures copies { result.items ≡ unwrap_or (copies_for self.old.copies.items mote) [] }
         ensures others { self.new.copies.items ≡ slice_set self.old.copies.items mote None }
     {
@@ -64,7 +64,7 @@ impl CalledMotes {
         arrivals: &[Arrival],
         rooms: &mut Rooms,
     ) -> Result<(), AllocError>
-        ensures { OnOk result ((k : ℕ) → copies_for self.new.copies.items k
+        ensures added { OnOk result ((k : ℕ) → copies_for self.new.copies.items k
             ≡ (if mote == k then Some (unwrap_or (copies_for self.old.copies.items mote) []
             ++ map (copy_at moment mote) arrivals.now) else copies_for self.old.copies.items k)) }
     {
@@ -77,7 +77,7 @@ impl CalledMotes {
 
     /// Takes out the highest mote that is called.
     pub fn pop(&mut self) -> Option<(u16, Vec<RadioCopy>)>
-        ensures { MatchOption result ((k : ℕ) → copies_for self.old.copies.items k ≡ None)
+        ensures takes_call { MatchOption result ((k : ℕ) → copies_for self.old.copies.items k ≡ None)
             (λ p. TakesCall p.0 p.1.items self.old.copies.items self.new.copies.items) }
     {
         while let Some(place) = self.copies.pop() {
@@ -91,7 +91,7 @@ impl CalledMotes {
 
 /// The copy of a packet that arrives.
 fn copy_at(moment: u64, mote: u16, arrival: &Arrival) -> RadioCopy
-    ensures { result ≡ copy_at moment mote arrival.now }
+    ensures value { result ≡ copy_at moment mote arrival.now }
 {
     RadioCopy {
         at: moment,
@@ -109,7 +109,7 @@ fn add_copies(
     mote: u16,
     arrivals: &[Arrival],
 ) -> Result<(), AllocError>
-    ensures { OnOk result (copies.new.items ≡ copies.old.items ++ map (copy_at moment mote) arrivals.now) }
+    ensures appended { OnOk result (copies.new.items ≡ copies.old.items ++ map (copy_at moment mote) arrivals.now) }
 {
     copies.reserve(arrivals.len())?;
     for arrival in arrivals {
@@ -128,7 +128,7 @@ pub fn take_events_before(
     until: u64,
     rooms: &mut Rooms,
 ) -> Result<CalledMotes, AllocError>
-    requires { HasItems agenda.old.buckets }
+    requires has_items { HasItems agenda.old.buckets }
     ensures taken { IfOk result (λ calls. (items : List Item) → Holds agenda.old.buckets items
         → TakesEventsBefore until items calls.copies.items) }
     ensures rest { OnOk result ((items : List Item) → Holds agenda.old.buckets items

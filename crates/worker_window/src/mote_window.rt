@@ -82,7 +82,7 @@ impl<'a, G: Gate> MoteWindow<'a, G> {
 
     /// Swaps the scratch buffers of the window's turns with these.
     pub(crate) fn swap_room(&mut self, room: &mut Option<Box<TurnRoom>>)
-        ensures { self.new.own ≡ self.old.own }
+        ensures same { self.new.own ≡ self.old.own }
     {
         mem::swap(&mut self.room, room);
     }
@@ -92,7 +92,7 @@ impl<'a, G: Gate> MoteWindow<'a, G> {
 /// space for it.
 #[inline(always)]
 fn finish(own: &mut Option<OwnWindow<'_>>, room: &mut Option<Box<TurnRoom>>) -> WindowOut
-    requires { IsSome own.old }
+    requires owned { IsSome own.old }
     ensures made { IfSome own.old (λ own. IfSome (window_in own) (λ w. shown w.program result ≡ Some w.mote)) }
     ensures left { IfSome own.old (λ own. window_in own ≡ None → StaysFailed (course_in own) result) }
     ensures given_up { own.new ≡ None }
@@ -103,7 +103,7 @@ fn finish(own: &mut Option<OwnWindow<'_>>, room: &mut Option<Box<TurnRoom>>) -> 
 /// Drops a window, with its mote; a separate function for the same reason.
 #[inline(always)]
 fn give_up(own: &mut Option<OwnWindow<'_>>)
-    ensures { own.new ≡ None }
+    ensures given_up { own.new ≡ None }
 {
     *own = None;
 }

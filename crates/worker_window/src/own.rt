@@ -97,7 +97,7 @@ impl<'a> OwnWindow<'a> {
     pub fn next_moment(&self) -> Option<u64>
         ensures comes { let c = course_in self.now in MatchOption result (IsSpent c) (λ moment. ComesNext moment c) }
         ensures next { IfSome (window_in self.now) (λ w. MatchOption result (IsOver w) (λ moment. HasTurn moment w)) }
-        ensures early { IfSome result (λ moment. moment ≤ 2 ^ 40) }
+        ensures bounded { IfSome result (λ moment. moment ≤ 2 ^ 40) }
     {
         let moment = least(self.wake, &self.copies[self.next..])?;
         if moment < self.until {
@@ -121,7 +121,7 @@ impl<'a> OwnWindow<'a> {
         gate: &G,
         room: &mut Option<Box<TurnRoom>>,
     ) -> Result<(), MoteError>
-        requires early { moment ≤ 2 ^ 40 }
+        requires moment_bounded { moment ≤ 2 ^ 40 }
         requires left { IfSome (window_in self.old) (HasTurn moment) }
         ensures ok { OnOk result (TurnsTo moment (window_in self.old) (window_in self.new)) }
         ensures err { IfErr result (λ e. IfSome (window_in self.old) (IsErrorAt moment e)) }
@@ -169,8 +169,9 @@ impl<'a> OwnWindow<'a> {
 
 /// The lesser of the wake and the first copy's moment.
 fn least(wake: Option<u64>, copies: &[RadioCopy]) -> Option<u64>
-    requires { is_rising copies.now ≡ true }
-    ensures { MatchOption result ((wake ≡ None) × (copies.now ≡ [])) (λ moment. IsNextOf moment wake copies.now) }
+    requires rising { is_rising copies.now ≡ true }
+    ensures is_next { MatchOption result ((wake ≡ None) × (copies.now ≡ []))
+        (λ moment. IsNextOf moment wake copies.now) }
 {
     let Some(first) = copies.first() else {
         return wake;
@@ -182,7 +183,7 @@ fn least(wake: Option<u64>, copies: &[RadioCopy]) -> Option<u64>
 }
 
 fn arrival(copy: &RadioCopy) -> Arrival
-    ensures { result ≡ arrival_of copy.now }
+    ensures value { result ≡ arrival_of copy.now }
 {
     Arrival {
         sender: copy.sender,
@@ -197,7 +198,7 @@ fn take_arrivals(
     moment: u64,
     arrivals: &mut Vec<Arrival>,
 ) -> Result<(), AllocError>
-    ensures { OnOk result (arrivals.new.items ≡ map arrival_of (take_while (is_at moment) copies.now)) }
+    ensures arrivals { OnOk result (arrivals.new.items ≡ map arrival_of (take_while (is_at moment) copies.now)) }
 {
     arrivals.clear();
     for copy in copies {

@@ -40,7 +40,7 @@ pub(crate) fn room_in(
 
 /// An empty list for the copies of a window: that of an earlier window, if any was kept.
 pub fn copies_in(alloc: Global, room: &mut Option<Box<TurnRoom>>) -> Vec<RadioCopy>
-    ensures { result.items ≡ [] }
+    ensures empty { result.items ≡ [] }
 {
     let Some(room) = room else {
         return Vec::new(alloc);

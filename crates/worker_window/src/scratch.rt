@@ -36,7 +36,7 @@ impl Rooms {
 
     /// An empty list for the copies of a window: that of an earlier window, if any was kept.
     pub(crate) fn copies(&mut self) -> Vec<RadioCopy>
-        ensures { result.items ≡ [] }
+        ensures empty { result.items ≡ [] }
     {
         copies_in(self.alloc, &mut self.turns)
     }

@@ -65,7 +65,7 @@ fn begin(
     own: bool,
     agenda: &mut Agenda,
 ) -> Result<Option<Mote>, AllocError>
-    requires { number < length (net_of net.now).motes }
+    requires mote_exists { number < length (net_of net.now).motes }
     ensures mote { let n = net_of net.now in
         IfOk result (λ mote. own ≡ true → node_at (tree_at n number) mote ≡ Some (first_node_in n number)) }
     ensures wake { OnOk result (Adds agenda.old.buckets agenda.new.buckets (if own then Wake 0 number ∷ [] else [])) }
@@ -83,8 +83,8 @@ impl Share {
     /// # Errors
     /// `AllocError` if an allocation fails.
     pub fn new(alloc: Global, net: &Net, of: &[u16], worker: u16) -> Result<Share, AllocError>
-        requires { length of.now ≡ length (net_of net.now).motes }
-        ensures { let n = net_of net.now in IfOk result
+        requires covers_motes { length of.now ≡ length (net_of net.now).motes }
+        ensures keeps { let n = net_of net.now in IfOk result
             (λ share. Keeps n of.now worker 0 (first_mote (system_of n)) [] share) }
     {
         let mut share = Share {
@@ -107,7 +107,7 @@ impl Share {
 
     /// The moment of the first pending event, if there is one.
     pub fn next(&self) -> Option<u64>
-        ensures { TellsNext self.now result }
+        ensures tells_next { TellsNext self.now result }
     {
         match self.agenda.first() {
             Some((moment, _)) => Some(moment),
@@ -120,7 +120,7 @@ impl Share {
     /// # Errors
     /// `AllocError` only for a number of copies above `u64::MAX`, for which no memory has room. Nothing is allocated.
     pub fn end(self) -> Result<Ended, AllocError>
-        ensures { (n : NetTold) (of : List ℕ) (worker from : ℕ) (motes : Motes) (taken : List RadioCopy)
+        ensures tells_at_end { (n : NetTold) (of : List ℕ) (worker from : ℕ) (motes : Motes) (taken : List RadioCopy)
             → Keeps n of worker from motes taken self
             → IfOk result (TellsAtEnd n of worker from motes taken) }
     {

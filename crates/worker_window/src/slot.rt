@@ -71,7 +71,7 @@ impl<'a, G: Gate> Slot<'a, G> {
     }
 
     pub(crate) fn is_done(&self) -> bool
-        ensures { result ≡ is_done self.now }
+        ensures value { result ≡ is_done self.now }
     {
         match self {
             Slot::Open(_) => false,
@@ -81,8 +81,8 @@ impl<'a, G: Gate> Slot<'a, G> {
 
     /// The result of the window, once it was ready.
     pub fn into_out(self) -> WindowOut
-        requires { is_done self ≡ true }
-        ensures { self.entry ≡ Done result }
+        requires done { is_done self ≡ true }
+        ensures was_done { self.entry ≡ Done result }
     {
         match self {
             Slot::Open(_) => unreachable!(),

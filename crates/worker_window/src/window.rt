@@ -42,7 +42,7 @@ use worker_cut::is_own;
 
 /// The wake, unless it is before a moment.
 fn wake_from(until: u64, wake: Option<u64>) -> Option<u64>
-    ensures { result ≡ wake_from until wake }
+    ensures value { result ≡ wake_from until wake }
 {
     match wake {
         Some(moment) => {
@@ -57,7 +57,7 @@ fn wake_from(until: u64, wake: Option<u64>) -> Option<u64>
 
 /// Takes a mote out of the share, which has it.
 fn take_mote(motes: &mut Vec<Option<Mote>>, number: u16) -> Mote
-    requires { IsSome (mote_here motes.old.items number) }
+    requires mote_is_own { IsSome (mote_here motes.old.items number) }
     ensures mote { mote_here motes.old.items number ≡ Some result }
     ensures others { motes.new.items ≡ slice_set motes.old.items number None }
 {
@@ -66,8 +66,8 @@ fn take_mote(motes: &mut Vec<Option<Mote>>, number: u16) -> Mote
 
 /// Takes the trace of a mote out of the share.
 fn take_trace(alloc: Global, traces: &mut Vec<Vec<Line>>, number: u16) -> Vec<Line>
-    requires { number < length traces.old.items }
-    ensures { TakesTrace number result traces.old.items traces.new.items }
+    requires in_range { number < length traces.old.items }
+    ensures takes_trace { TakesTrace number result traces.old.items traces.new.items }
 {
     mem::replace(&mut traces[usize::from(number)], Vec::new(alloc))
 }
@@ -84,13 +84,13 @@ pub(crate) fn lend<'a, G: Gate>(
     gate: &'a G,
 ) -> Result<Vec<Slot<'a, G>>, AllocError>
     requires until { until ≤ 2 ^ 40 }
-    requires here { (k : ℕ) → IsSome (copies_for calls.copies.items k)
+    requires calls_own_motes { (k : ℕ) → IsSome (copies_for calls.copies.items k)
         → IsSome (mote_here share.old.motes.items k) }
     requires traced { (k : ℕ) → IsSome (copies_for calls.copies.items k) → k < length share.old.traces.items }
     requires in_net { (k : ℕ) → IsSome (copies_for calls.copies.items k) → k < length (net_of net.now).motes }
     requires rising { (k : ℕ) (copies : List RadioCopy) → copies_for calls.copies.items k ≡ Some copies
         → is_rising copies ≡ true }
-    ensures { let n = net_of net.now in IfOk result
+    ensures are_lent { let n = net_of net.now in IfOk result
         (λ slots. AreLent n until calls.copies.items share.old share.new slots.items wakes.new.items) }
 {
     wakes.clear();
@@ -113,8 +113,8 @@ pub(crate) fn lend<'a, G: Gate>(
 }
 
 fn last_wake(wakes: &mut Vec<Option<u64>>) -> Option<u64>
-    requires { 0 < length wakes.old.items }
-    ensures { wakes.old.items ≡ wakes.new.items ++ result ∷ [] }
+    requires not_empty { 0 < length wakes.old.items }
+    ensures popped { wakes.old.items ≡ wakes.new.items ++ result ∷ [] }
 {
     wakes.pop().unwrap()
 }
@@ -169,7 +169,7 @@ fn send_fate(
 
 /// Returns whether all of these fates are of copies for motes of the worker.
 fn are_own(of: &[u16], worker: u16, fates: &[Fate]) -> bool
-    ensures { result ≡ list_all (λ fate. is_own of.now worker fate.to) fates.now }
+    ensures value { result ≡ list_all (λ fate. is_own of.now worker fate.to) fates.now }
 {
     fates.iter().all(|fate| is_own(of, worker, fate.to))
 }
@@ -208,7 +208,8 @@ pub(crate) fn send_all(
     outgoing: &mut Vec<RadioCopy>,
     log: &mut Vec<LogLine>,
 ) -> Result<(), AllocError>
-    requires { AllByRecursion (λ sent. (sent.sender < length medium.now.places) × (sent.at ≤ 2 ^ 40)) sends.now }
+    requires senders_exist { AllByRecursion
+        (λ sent. (sent.sender < length medium.now.places) × (sent.at ≤ 2 ^ 40)) sends.now }
     ensures own { OnOk result (Adds agenda.old.buckets agenda.new.buckets
         (map Packet (filter (λ copy. is_own of.now worker copy.to) (flat_map (copies medium.now) sends.now)))) }
     ensures outgoing { OnOk result (outgoing.new.items ≡ outgoing.old.items
@@ -238,7 +239,7 @@ impl Share {
         requires motes { IsOutOfMote (length self.old.motes.items) out }
         requires traces { IsOutOfMote (length self.old.traces.items) out }
         requires places { IsOutOfMote (length medium.now.places) out }
-        ensures { OnOk result ((number : ℕ) → HasNumber number out.mote
+        ensures mote_returns { OnOk result ((number : ℕ) → HasNumber number out.mote
             → MoteReturns medium.now of.now number pending out self.old self.new
             outgoing.old.items outgoing.new.items) }
     {
@@ -270,7 +271,7 @@ impl Share {
     /// # Errors
     /// Out of memory only.
     pub fn take_in(&mut self, arrived: &[RadioCopy]) -> Result<(), AllocError>
-        ensures { OnOk result (TakesIn arrived.now self.old self.new) }
+        ensures takes_in { OnOk result (TakesIn arrived.now self.old self.new) }
     {
         self.agenda.put_copies(arrived)?;
         Ok(())
@@ -298,7 +299,7 @@ impl Share {
     where
         R: Wait + RandomSource + AllocGlobal,
         G: Gate,
-        requires early { until ≤ 2 ^ 40 }
+        requires until_bounded { until ≤ 2 ^ 40 }
         requires of { length of.now ≡ length (net_of net.now).motes }
         requires ready { CanRun (net_of net.now) of.now until self.old arrived.items }
         requires to_own { AllByRecursion (λ copy. is_own of.now self.old.worker copy.to ≡ true) arrived.items }

@@ -77,7 +77,7 @@ fn advance_each<G: Gate>(
 }
 
 fn all_done<G: Gate>(slots: &[Slot<'_, G>]) -> bool
-    ensures { result ≡ list_all is_done slots.now }
+    ensures value { result ≡ list_all is_done slots.now }
 {
     slots.iter().all(|slot| slot.is_done())
 }

@@ -61,8 +61,8 @@ pub(crate) fn with_two(
 
 // Pushes a copy. If an allocation fails, nothing is pushed.
 pub(crate) fn push<R: Wait>(rt: &R, inbox: &Inbox, sender: &mut Sender, copied: RadioCopy)
-    requires { sender.old.inbox ≡ inbox.now }
-    ensures { (sender.new.inbox ≡ inbox.now) × (sender.new.state.number ≡ sender.old.state.number)
+    requires inbox { sender.old.inbox ≡ inbox.now }
+    ensures sender { (sender.new.inbox ≡ inbox.now) × (sender.new.state.number ≡ sender.old.state.number)
         × (sender.new.state.marked ≡ sender.old.state.marked) }
 {
     let _ = inbox.push_copy(rt, sender, copied);
@@ -76,7 +76,7 @@ fn push_each<R: Wait>(
     mut second: Sender,
     copies: &[(u16, u64)],
 ) -> (Sender, Sender)
-    requires { (first.inbox ≡ inbox.now) × (second.inbox ≡ inbox.now) }
+    requires senders { (first.inbox ≡ inbox.now) × (second.inbox ≡ inbox.now) }
     ensures first { (result.0.inbox ≡ inbox.now) × (result.0.state.number ≡ first.state.number) }
     ensures second { (result.1.inbox ≡ inbox.now) × (result.1.state.number ≡ second.state.number) }
 {
@@ -93,7 +93,7 @@ fn push_each<R: Wait>(
 
 // Writes down how many items are known.
 pub(crate) fn write_known(text: &mut String, inbox: &Inbox, taker: &Taker)
-    requires { taker.now.inbox ≡ inbox.now }
+    requires inbox { taker.now.inbox ≡ inbox.now }
 {
     let known = inbox.known(taker);
     let _ = write!(text, "known {known}|");
@@ -102,8 +102,8 @@ pub(crate) fn write_known(text: &mut String, inbox: &Inbox, taker: &Taker)
 // Takes `most` copies, or all known ones if those are fewer. Writes them down, between the numbers of known copies
 // before and after. If an allocation fails, none is taken.
 fn write_taken<R: Wait>(rt: &R, text: &mut String, inbox: &Inbox, taker: &mut Taker, most: u64)
-    requires { (taker.old.inbox ≡ inbox.now) × (taker.old.state.marked ≡ false) }
-    ensures { (taker.new.inbox ≡ inbox.now) × (taker.new.state.marked ≡ false)
+    requires plain_taker { (taker.old.inbox ≡ inbox.now) × (taker.old.state.marked ≡ false) }
+    ensures taker { (taker.new.inbox ≡ inbox.now) × (taker.new.state.marked ≡ false)
         × (taker.new.state.made ≡ taker.old.state.made) × (taker.new.state.gathered ≡ taker.old.state.gathered) }
 {
     write_known(text, inbox, taker);

@@ -11,7 +11,7 @@ use std::test::Fail;
 /// The first value of the variable that the first statement of a process's body sets. Its place is looked up
 /// without a test.
 fn first_set(program: &Program, process: u8) -> Option<u16>
-    requires { process < length (tree_of program.now).processes }
+    requires process_exists { process < length (tree_of program.now).processes }
 {
     names_are_declared(program);
     let code = program.process(process);

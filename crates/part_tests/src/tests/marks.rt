@@ -16,7 +16,7 @@ use test_helpers::{same_text, write_copies};
 fn push_mark<R: Wait>(rt: &R, inbox: &Inbox, sender: &mut Sender, window: u64)
     requires inbox { sender.old.inbox ≡ inbox.now }
     requires marked { sender.old.state.marked ≡ true }
-    ensures { (sender.new.inbox ≡ inbox.now) × (sender.new.state.number ≡ sender.old.state.number)
+    ensures sender { (sender.new.inbox ≡ inbox.now) × (sender.new.state.number ≡ sender.old.state.number)
         × (sender.new.state.marked ≡ true) }
 {
     let _ = inbox.push_mark(rt, sender, window);
@@ -33,8 +33,8 @@ fn write_item(text: &mut String, item: Item) {
 
 // Takes the next item `count` times, and writes down how many are known before each, and what came.
 fn write_nexts<R: Wait>(rt: &R, text: &mut String, inbox: &Inbox, taker: &mut Taker, count: u8)
-    requires { taker.old.inbox ≡ inbox.now }
-    ensures { (taker.new.inbox ≡ inbox.now) × (taker.new.state.marked ≡ taker.old.state.marked)
+    requires inbox { taker.old.inbox ≡ inbox.now }
+    ensures taker { (taker.new.inbox ≡ inbox.now) × (taker.new.state.marked ≡ taker.old.state.marked)
         × (taker.new.state.made ≡ taker.old.state.made) × (taker.new.state.gathered ≡ taker.old.state.gathered) }
 {
     for _ in 0..count {
@@ -108,7 +108,7 @@ fn is_pushed(item: Item, position: u64) -> bool {
 // Takes what two senders push in so many windows each, and yields the processor while the inbox is empty. Returns
 // whether all came, and each sender's in order.
 fn take_windows<R: Wait>(rt: &R, inbox: &Inbox, mut taker: Taker, windows: u64) -> bool
-    requires { taker.inbox ≡ inbox.now }
+    requires inbox { taker.inbox ≡ inbox.now }
 {
     let all = [windows.wrapping_mul(4); 2];
     let mut next = [0u64; 2];

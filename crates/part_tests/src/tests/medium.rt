@@ -10,7 +10,7 @@ use test_helpers::{same_text, write_copies};
 
 /// Writes down what becomes of a packet that was sent at 1 with value 7, and its copies.
 fn write_packet(text: &mut String, medium: &Medium, sender: u16, number: u64)
-    requires { sender < length medium.now.places }
+    requires sender { sender < length medium.now.places }
 {
     let sent = Sent {
         at: 1,
@@ -28,8 +28,8 @@ fn write_packet(text: &mut String, medium: &Medium, sender: u16, number: u64)
 
 /// Two motes at a distance of 5. A packet takes 2 moments and one more for each 10 of the square of the distance.
 fn two_motes(alloc: Global, range: u32, losses: &[Loss]) -> Result<Medium, MediumError>
-    requires { range ≤ 100000 }
-    ensures { IfOk result (λ medium. length medium.places ≡ 2) }
+    requires range_bounded { range ≤ 100000 }
+    ensures two_places { IfOk result (λ medium. length medium.places ≡ 2) }
 {
     let places = [Place { x: 0, y: 0 }, Place { x: 3, y: 4 }];
     Medium::new(alloc, &places, range, 2, 10, losses)
@@ -38,7 +38,7 @@ fn two_motes(alloc: Global, range: u32, losses: &[Loss]) -> Result<Medium, Mediu
 /// Writes down whether each of two motes hears the other, and one itself, how long a packet takes and at least takes,
 /// and what becomes of some packets.
 fn write_hearing(text: &mut String, medium: &Medium)
-    requires { length medium.now.places ≡ 2 }
+    requires two_places { length medium.now.places ≡ 2 }
 {
     let heard = [medium.hears(0, 1), medium.hears(1, 0), medium.hears(0, 0)];
     let delay = medium.delay(0, 1);
@@ -55,7 +55,7 @@ fn write_two_motes(
     range: u32,
     losses: &[Loss],
 ) -> Result<(), MediumError>
-    requires { range ≤ 100000 }
+    requires range_bounded { range ≤ 100000 }
 {
     let medium = two_motes(alloc, range, losses)?;
     write_hearing(text, &medium);
@@ -65,7 +65,7 @@ fn write_two_motes(
 /// Four motes, of which mote 1 hears and is heard by all others, the nearest being mote 2 and the farthest mote 3.
 /// Mote 2 loses each third packet of mote 1.
 fn four_motes(alloc: Global) -> Result<Medium, MediumError>
-    ensures { IfOk result (λ medium. length medium.places ≡ 4) }
+    ensures four_places { IfOk result (λ medium. length medium.places ≡ 4) }
 {
     let places = [
         Place { x: -2, y: 0 },

@@ -34,7 +34,7 @@ const TO_A: Target = Target::One(A);
 
 /// The report of one mote with this trace.
 pub(crate) fn report_of_trace(alloc: Global, trace: Vec<Line>) -> Result<Report, AllocError>
-    ensures { IfOk result (λ r. vec_len r.traces ≡ 1) }
+    ensures one_trace { IfOk result (λ r. vec_len r.traces ≡ 1) }
 {
     Ok(Report {
         traces: vec![in alloc; trace]?,
@@ -65,7 +65,7 @@ fn lines_of(alloc: Global, happens: &[(u64, What)]) -> Result<Vec<Line>, AllocEr
 
 /// The report of one mote in which this happens.
 pub(crate) fn report_of(alloc: Global, happens: &[(u64, What)]) -> Result<Report, AllocError>
-    ensures { IfOk result (λ r. vec_len r.traces ≡ 1) }
+    ensures one_trace { IfOk result (λ r. vec_len r.traces ≡ 1) }
 {
     let trace = lines_of(alloc, happens)?;
     report_of_trace(alloc, trace)
@@ -78,7 +78,7 @@ fn write_trace(
     happens: &[(u64, What)],
     output: &mut Vec<u8>,
 ) -> Result<(), PrintError>
-    requires { length (net_of net.now).motes ≡ 1 }
+    requires one_mote { length (net_of net.now).motes ≡ 1 }
 {
     let report = report_of(alloc, happens)?;
     write_report(alloc, net, &report, output)
@@ -149,7 +149,7 @@ const SECOND_TRACE: [(u64, What); 3] = [
 
 /// Their traces.
 fn two_traces(alloc: Global) -> Result<Vec<Vec<Line>>, AllocError>
-    ensures { IfOk result (λ traces. vec_len traces ≡ 2) }
+    ensures two_traces { IfOk result (λ traces. vec_len traces ≡ 2) }
 {
     let first = lines_of(alloc, &FIRST_TRACE)?;
     let second = lines_of(alloc, &SECOND_TRACE)?;
@@ -186,7 +186,7 @@ fn two_packets(alloc: Global) -> Result<Vec<LogLine>, AllocError> {
 }
 
 fn report_of_two(alloc: Global) -> Result<Report, AllocError>
-    ensures { IfOk result (λ r. vec_len r.traces ≡ 2) }
+    ensures two_traces { IfOk result (λ r. vec_len r.traces ≡ 2) }
 {
     let traces = two_traces(alloc)?;
     let medium = two_packets(alloc)?;
@@ -199,7 +199,7 @@ fn report_of_two(alloc: Global) -> Result<Report, AllocError>
 
 /// Writes that report, of a net of two motes.
 fn write_two(alloc: Global, net: &Net, output: &mut Vec<u8>) -> Result<(), PrintError>
-    requires { length (net_of net.now).motes ≡ 2 }
+    requires two_motes { length (net_of net.now).motes ≡ 2 }
 {
     let report = report_of_two(alloc)?;
     write_report(alloc, net, &report, output)

@@ -23,8 +23,8 @@ const FIRST: Posted = Posted {
 
 /// Posts the event.
 fn post(queue: &mut EventQueue) -> Result<u64, Full>
-    requires { queue.old.accepted < 10 }
-    ensures { queue.new.accepted ≤ queue.old.accepted + 1 }
+    requires accepted_bounded { queue.old.accepted < 10 }
+    ensures at_most_one_more { queue.new.accepted ≤ queue.old.accepted + 1 }
 {
     queue.post(Target::All, EVENT)
 }
@@ -32,7 +32,7 @@ fn post(queue: &mut EventQueue) -> Result<u64, Full>
 /// Tests whether a queue with room for one event refuses the second of two, and accepts one more once the first is
 /// taken. Serials count what was accepted: a refused event has none.
 fn refuses_the_second(queue: &mut EventQueue) -> bool
-    requires { queue.old.accepted ≡ 0 }
+    requires none_accepted { queue.old.accepted ≡ 0 }
 {
     let first = post(queue);
     let second = post(queue);
@@ -46,7 +46,7 @@ const OWN: Proc = Proc::Own(0);
 /// again once it was restarted and is due, and is gone once it was stopped. A new timer was never set, so it has
 /// expired.
 fn refused_one_stays(timers: &mut Timers) -> bool
-    requires { length timers.old.timers ≡ 2 }
+    requires two_timers { length timers.old.timers ≡ 2 }
 {
     let fresh = timers.expired(0);
     timers.set(0, OWN, 1, 0);
@@ -71,7 +71,7 @@ fn refused_one_stays(timers: &mut Timers) -> bool
 /// Tests whether two new callbacks work: each is looked up, the second is put twice, both are looked up
 /// again, the first is removed, and the second is removed twice and looked up.
 fn come_and_go(callbacks: &mut Callbacks) -> bool
-    requires { callbacks.old.limit ≡ 2 }
+    requires two_callbacks { callbacks.old.limit ≡ 2 }
 {
     let first = callbacks.holds(0);
     let second = callbacks.holds(1);

@@ -64,7 +64,7 @@ fn add_ten<'a, R>(
 
 /// Waits until the flag is set.
 fn is_stopped<R: Wait, L: Ledger>(rt: &R, watch: &mut Watch<'_, L>) -> bool
-    ensures { result ≡ true → watch.new.seen ≡ true }
+    ensures seen { result ≡ true → watch.new.seen ≡ true }
 {
     for _ in 0..u64::MAX {
         if watch.is_set(rt) {

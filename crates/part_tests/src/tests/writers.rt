@@ -66,7 +66,7 @@ fn write_by<R: Threads + Wait + AllocGlobal + Sync>(
     report: &Report,
     writer: &mut Roomy,
 ) -> Result<(), PrintError>
-    requires some { IfSome workers (λ n. 1 ≤ n) }
+    requires positive { IfSome workers (λ n. 1 ≤ n) }
     requires traces { vec_len report.now.traces ≡ length (net_of net.now).motes }
 {
     match workers {
@@ -87,7 +87,7 @@ fn gets<R: Threads + Wait + AllocGlobal + Sync>(
     most: usize,
     room: usize,
 ) -> bool
-    requires some { IfSome workers (λ n. 1 ≤ n) }
+    requires positive { IfSome workers (λ n. 1 ≤ n) }
     requires traces { vec_len report.now.traces ≡ length (net_of net.now).motes }
 {
     let mut writer = Roomy {
@@ -115,7 +115,7 @@ fn gets_each<R: Threads + Wait + AllocGlobal + Sync>(
     most: usize,
     lacks: &[usize],
 ) -> bool
-    requires some { IfSome workers (λ n. 1 ≤ n) }
+    requires positive { IfSome workers (λ n. 1 ≤ n) }
     requires traces { vec_len report.now.traces ≡ length (net_of net.now).motes }
 {
     for lack in lacks {
@@ -136,7 +136,7 @@ fn gets_each<R: Threads + Wait + AllocGlobal + Sync>(
 
 /// Tests whether a writer that takes nothing is reported to have failed.
 fn takes_nothing(alloc: Global, net: &Net, report: &Report) -> bool
-    requires { vec_len report.now.traces ≡ length (net_of net.now).motes }
+    requires traces { vec_len report.now.traces ≡ length (net_of net.now).motes }
 {
     let mut closed = Roomy {
         bytes: Vec::new(alloc),
@@ -152,7 +152,7 @@ fn gets_byte_by_byte<R: Threads + Wait + AllocGlobal + Sync>(
     net: &Net,
     report: &Report,
 ) -> bool
-    requires { vec_len report.now.traces ≡ length (net_of net.now).motes }
+    requires traces { vec_len report.now.traces ≡ length (net_of net.now).motes }
 {
     for room in 0..=OUTPUT.len() {
         if !gets(rt, None, net, report, OUTPUT.as_bytes(), 1, room) {
@@ -170,7 +170,7 @@ const FEW: [(u64, What); 2] = [
 
 /// Tests both for the report of few lines.
 fn few_lines<R: Threads + Wait + AllocGlobal + Sync>(rt: &R, net: &Net) -> Result<bool, AllocError>
-    requires { length (net_of net.now).motes ≡ 1 }
+    requires one_mote { length (net_of net.now).motes ≡ 1 }
 {
     let report = report_of(rt.alloc(), &FEW)?;
     Ok(gets_byte_by_byte(rt, net, &report) && takes_nothing(rt.alloc(), net, &report))
@@ -178,7 +178,7 @@ fn few_lines<R: Threads + Wait + AllocGlobal + Sync>(rt: &R, net: &Net) -> Resul
 
 /// The report of one mote that sends `LINES` packets.
 fn report_of_sends(alloc: Global) -> Result<Report, AllocError>
-    ensures { IfOk result (λ r. vec_len r.traces ≡ 1) }
+    ensures one_trace { IfOk result (λ r. vec_len r.traces ≡ 1) }
 {
     let mut trace = Vec::new(alloc);
     for number in 0..LINES {
@@ -211,7 +211,7 @@ fn gets_many<R: Threads + Wait + AllocGlobal + Sync>(
     report: &Report,
     wanted: &[u8],
 ) -> bool
-    requires { vec_len report.now.traces ≡ length (net_of net.now).motes }
+    requires traces { vec_len report.now.traces ≡ length (net_of net.now).motes }
 {
     gets_each(rt, None, net, report, wanted, 1_000, &LACKS)
         && gets_each(rt, Some(2), net, report, wanted, 1_000, &LACKS)
@@ -220,7 +220,7 @@ fn gets_many<R: Threads + Wait + AllocGlobal + Sync>(
 
 /// Tests that for the report of many lines.
 fn many_lines<R: Threads + Wait + AllocGlobal + Sync>(rt: &R, net: &Net) -> Result<bool, AllocError>
-    requires { length (net_of net.now).motes ≡ 1 }
+    requires one_mote { length (net_of net.now).motes ≡ 1 }
 {
     let report = report_of_sends(rt.alloc())?;
     let mut wanted = String::new(rt.alloc());

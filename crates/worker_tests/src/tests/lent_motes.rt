@@ -27,7 +27,7 @@ fn lent_mote(
     number: u16,
     copies: Vec<RadioCopy>,
 ) -> Result<LentMote, Refused>
-    requires there { number < length (net_of net.now).motes }
+    requires mote_exists { number < length (net_of net.now).motes }
     requires rising { is_rising copies.items ≡ true }
     ensures number { IfOk result (λ lent. lent.number ≡ number) }
     ensures goes_on { IfOk result (λ lent. (until : ℕ) → LentMoteGoesOn (net_of net.now) until lent) }
@@ -52,7 +52,7 @@ fn windows_of_two<'a, G: Gate>(
     until: u64,
     gate: &'a G,
 ) -> Result<Vec<Slot<'a, G>>, Refused>
-    requires there { 2 ≤ length (net_of net.now).motes }
+    requires two_motes { 2 ≤ length (net_of net.now).motes }
     requires rising { is_rising copies.items ≡ true }
     requires until { until ≤ 2 ^ 40 }
     ensures go_on { IfOk result (λ slots. SlotsGoOn slots.items) }
@@ -67,7 +67,7 @@ fn windows_of_two<'a, G: Gate>(
 
 /// The copy that comes to mote 1.
 fn one_copy(alloc: Global) -> Result<Vec<RadioCopy>, AllocError>
-    ensures { IfOk result (λ copies. is_rising copies.items ≡ true) }
+    ensures rising { IfOk result (λ copies. is_rising copies.items ≡ true) }
 {
     let copy = RadioCopy {
         at: 2,
@@ -85,7 +85,7 @@ fn done_with_a_copy<'a, R: Wait + RandomSource + AllocGlobal>(
     net: &'a Net,
     gate: &'a NoGate,
 ) -> Result<Vec<Slot<'a, NoGate>>, Refused>
-    requires { 2 ≤ length (net_of net.now).motes }
+    requires two_motes { 2 ≤ length (net_of net.now).motes }
 {
     let copies = one_copy(rt.alloc())?;
     let slots = windows_of_two(rt.alloc(), net, copies, 5, gate)?;
@@ -139,7 +139,7 @@ fn order_of_turns<R: Wait + RandomSource + AllocGlobal>(
     rt: &R,
     net: &Net,
 ) -> Result<(u64, usize), Refused>
-    requires { 2 ≤ length (net_of net.now).motes }
+    requires two_motes { 2 ≤ length (net_of net.now).motes }
 {
     let diary = Diary {
         motes: AtomicU64::new(0),

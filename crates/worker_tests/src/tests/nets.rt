@@ -50,7 +50,7 @@ fn write_motes(text: &mut String, net: &Net) -> Result<(), AllocError> {
 
 /// Writes down who hears a mote, and how long its packets take.
 fn write_hearers(text: &mut String, net: &Net, sender: u16) -> Result<(), AllocError>
-    requires { sender < length (net_of net.now).motes }
+    requires mote_exists { sender < length (net_of net.now).motes }
 {
     let medium = net.medium();
     for receiver in 0..net.motes() {

@@ -54,7 +54,7 @@ fn write_three_polls(
     mote: Mote,
     copies: Vec<RadioCopy>,
 ) -> Result<(), AllocError>
-    requires { is_rising copies.items ≡ true }
+    requires rising { is_rising copies.items ≡ true }
 {
     let mut window = MoteWindow::new(alloc, mote, program, copies, 6, 0, &NoGate);
     for _ in 0..3u8 {
@@ -65,7 +65,7 @@ fn write_three_polls(
 
 /// A copy that comes at 3.
 fn one_copy(alloc: Global) -> Result<Vec<RadioCopy>, AllocError>
-    ensures { IfOk result (λ copies. is_rising copies.items ≡ true) }
+    ensures rising { IfOk result (λ copies. is_rising copies.items ≡ true) }
 {
     let copy = RadioCopy {
         at: 3,

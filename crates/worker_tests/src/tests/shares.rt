@@ -23,7 +23,7 @@ fn copy_at(at: u64, number: u64) -> RadioCopy {
 
 /// The number of pending copies once a share has taken in two for mote 1, and then one more.
 fn left_of_three(alloc: Global, net: &Net) -> Result<u64, AllocError>
-    requires { length (net_of net.now).motes ≡ 2 }
+    requires two_motes { length (net_of net.now).motes ≡ 2 }
 {
     let mut share = Share::new(alloc, net, &[0, 1], 1)?;
     share.take_in(&[copy_at(7, 1), copy_at(5, 0)])?;

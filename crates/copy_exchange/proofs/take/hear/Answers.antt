@@ -4,7 +4,7 @@ use Rattle.copy_exchange.proofs.take.hear.Goals as goal
 
 pub overflow_add-index_mut : goal.overflow_add-index_mut
 overflow_add-index_mut c =
-    let few = count_fits c.args.marks.now.items c.requires.0 c.args.item c.in-Mark.field-0 c.index_mut.result.now c.requires.1 c.requires.2 c.in-Mark.is c.index_mut.ensures.value in
+    let few = count_fits c.args.marks.now.items c.requires.is_next.0 c.args.item c.in-Mark.field-0 c.index_mut.result.now c.requires.is_next.1 c.requires.is_next.2 c.in-Mark.is c.index_mut.ensures.value in
     record { fits = omega arith }
 
 pub returns-in_ok-push-in-Packet-clause-counts : goal.returns-in_ok-push-in-Packet-clause-counts

@@ -13,7 +13,7 @@ use Rattle.copy_exchange.proofs.window.endpoints.Goals as goal
 use Rattle.copy_exchange.proofs.window.endpoints.Goals.{After-drop-taker-iterator-2}
 
 pub senders_of-requires : goal.senders_of-requires
-senders_of-requires c = c.loop-worker.invariant.opened.takers
+senders_of-requires c = record { are_takers_of = c.loop-worker.invariant.opened.takers }
 
 pub loop-worker-init : goal.loop-worker-init
 loop-worker-init c =
@@ -36,7 +36,7 @@ loop-worker-preserved c =
     let room = i.room in
     let is : vec_len c.loop-worker.rows ≡ length c.loop-worker.rows.items = search rules in
     record {
-      opened = rw p.items (opens_more_rows c.args.inboxes.now c.loop-worker.worker c.args.takers.items c.loop-worker.takers.items c.senders_of.new.takers.items c.loop-worker.rows.items c.in_ok-senders_of.field-0 i.opened c.in_ok-senders_of.ensures (sym is ∙ long));
+      opened = rw p.items (opens_more_rows c.args.inboxes.now c.loop-worker.worker c.args.takers.items c.loop-worker.takers.items c.senders_of.new.takers.items c.loop-worker.rows.items c.in_ok-senders_of.field-0 i.opened c.in_ok-senders_of.ensures.opens (sym is ∙ long));
       long = omega arith;
       room = omega arith;
     }
@@ -57,7 +57,7 @@ overflow_cast-len c =
     let long = i.long in
     let room = i.room in
     let count = c.loop-worker.invariant.opened.takers.count in
-    let few = c.requires.few in
+    let few = c.requires.inboxes_bounded in
     let is = c.len.ensures in
     let low : c.len.result < 2 ^ 16 = omega arith in
     search (rules, arith)

@@ -71,14 +71,16 @@ loop-place-preserved g c =
     }
 
 pub returns : goal.returns
-returns g c =
-    let a = c.into_iter.ensures in
-    let b = c.enumerate-place-items.ensures in
-    let d = c.into_iter-place-iterator.ensures.into_iter_gives in
-    let long : vec_len c.args.senders ≡ length c.args.senders.items = search rules in
-    let t = YieldsList-end (YieldsList-from_enumerate (YieldsList-from_vec c.args.senders.items (ap (λ s. s.iter.rest.items) d ∙ (ap (λ s. s.rest.items) b.source ∙ a.rest)) (ap (λ s. s.iter.rest.len) d ∙ (ap (λ s. s.rest.len) b.source ∙ (a.len ∙ long)))) (ap (λ s. s.count) d ∙ b.count))
-    c.loop-place.yielded c.loop-place.place-iterator c.loop-place.yielded_by c.next.result c.next.new.self c.in-None.is c.next.ensures.steps in
-    let all : length c.loop-place.yielded ≡ length c.args.senders.items = t.1 ∙ length-enumerate_from 0 c.args.senders.items in
-    let takers = c.requires.takers.count in
-    let senders = c.requires.senders.count in
-    gathers_row (length c.loop-place.yielded) c.args.takers.now.items c.loop-place.takers.items c.args.senders.items c.loop-place.invariant.gathered all (omega arith)
+returns g c = record {
+  gathers_row =
+      let a = c.into_iter.ensures in
+      let b = c.enumerate-place-items.ensures in
+      let d = c.into_iter-place-iterator.ensures.into_iter_gives in
+      let long : vec_len c.args.senders ≡ length c.args.senders.items = search rules in
+      let t = YieldsList-end (YieldsList-from_enumerate (YieldsList-from_vec c.args.senders.items (ap (λ s. s.iter.rest.items) d ∙ (ap (λ s. s.rest.items) b.source ∙ a.rest)) (ap (λ s. s.iter.rest.len) d ∙ (ap (λ s. s.rest.len) b.source ∙ (a.len ∙ long)))) (ap (λ s. s.count) d ∙ b.count))
+      c.loop-place.yielded c.loop-place.place-iterator c.loop-place.yielded_by c.next.result c.next.new.self c.in-None.is c.next.ensures.steps in
+      let all : length c.loop-place.yielded ≡ length c.args.senders.items = t.1 ∙ length-enumerate_from 0 c.args.senders.items in
+      let takers = c.requires.takers.count in
+      let senders = c.requires.senders.count in
+      gathers_row (length c.loop-place.yielded) c.args.takers.now.items c.loop-place.takers.items c.args.senders.items c.loop-place.invariant.gathered all (omega arith);
+}

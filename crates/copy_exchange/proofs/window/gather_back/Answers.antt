@@ -28,8 +28,8 @@ pub loop-senders-preserved : goal.loop-senders-preserved
 loop-senders-preserved g c =
     let i = c.loop-senders.invariant in
     record {
-      gathered = more_rows c.in_ok-takers.takers.items c.loop-senders.takers.items c.gather_all.new.takers.items c.loop-senders.yielded c.in-Some.senders i.gathered c.gather_all.ensures;
-      takers = takers_after c.args.inboxes.now c.loop-senders.takers.items c.gather_all.new.takers.items c.in-Some.senders.items i.takers c.gather_all.ensures;
+      gathered = more_rows c.in_ok-takers.takers.items c.loop-senders.takers.items c.gather_all.new.takers.items c.loop-senders.yielded c.in-Some.senders i.gathered c.gather_all.ensures.gathers_row;
+      takers = takers_after c.args.inboxes.now c.loop-senders.takers.items c.gather_all.new.takers.items c.in-Some.senders.items i.takers c.gather_all.ensures.gathers_row;
     }
 
 -- all senders of all endpoints
@@ -43,4 +43,4 @@ all_rows g c =
     subst P (λ i. (c.in_ok-takers.ensures.takers i, all i)) c.loop-senders.invariant.gathered
 
 pub returns : goal.returns
-returns g c = gathers_back c.args.endpoints.items c.loop-senders.takers.items (all_rows g c)
+returns g c = record { gathers_back = gathers_back c.args.endpoints.items c.loop-senders.takers.items (all_rows g c) }

@@ -42,8 +42,8 @@ loop-endpoint-preserved c =
     let rows_capacity = rows.capacity in
     let long : length (c.loop-endpoint.yielded ++ c.in-Some.endpoint ∷ []) ≡ length c.loop-endpoint.yielded + 1 = length-append c.loop-endpoint.yielded (c.in-Some.endpoint ∷ []) in
     record {
-      takers = takers.items ∙ ((λ j. i.takers j ++ c.into_parts-taker.ensures.0 j ∷ []) ∙ sym (map-append (λ (k : Endpoint). k.taker) c.loop-endpoint.yielded (c.in-Some.endpoint ∷ [])));
-      rows = rows.items ∙ ((λ j. i.rows j ++ c.into_parts-taker.ensures.1 j ∷ []) ∙ sym (map-append (λ (k : Endpoint). k.senders) c.loop-endpoint.yielded (c.in-Some.endpoint ∷ [])));
+      takers = takers.items ∙ ((λ j. i.takers j ++ c.into_parts-taker.ensures.parts.0 j ∷ []) ∙ sym (map-append (λ (k : Endpoint). k.taker) c.loop-endpoint.yielded (c.in-Some.endpoint ∷ [])));
+      rows = rows.items ∙ ((λ j. i.rows j ++ c.into_parts-taker.ensures.parts.1 j ∷ []) ∙ sym (map-append (λ (k : Endpoint). k.senders) c.loop-endpoint.yielded (c.in-Some.endpoint ∷ [])));
       takers_long = omega arith;
       rows_long = omega arith;
       takers_room = omega arith;

@@ -3,8 +3,8 @@ use Rattle.delivery_laws.proofs.Broken.{broken}
 use Rattle.delivery_laws.proofs.Whole.{pass, whole}
 use Rattle.delivery_laws.proofs.laws.traces_are_told_apart.Goals as goal
 
-pub returns-clause-whole : goal.returns-clause-whole
-returns-clause-whole c = whole
+pub returns-clause-traces_that_hand_on : goal.returns-clause-traces_that_hand_on
+returns-clause-traces_that_hand_on c = whole
 
 pub returns-clause-broken : goal.returns-clause-broken
 returns-clause-broken c = broken

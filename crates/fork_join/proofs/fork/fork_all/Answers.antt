@@ -113,6 +113,6 @@ pub returns-in-Some-refused-clause-reported : goal.returns-in-Some-refused-claus
 returns-in-Some-refused-clause-reported g c =
     let workers = c.args.workers.items in
     let own = forked g c.before in
-    rw (c.gravest.ensures, c.err.ensures.value)
+    rw (c.gravest.ensures.value, c.err.ensures.value)
     (after_fork g.W.Work.errs c.args.work.now workers c.loop-worker.yielded c.match-next.started.items c.in-Some-refused.refused c.join_all-done.result (started_first g c.before) own.1 own.0
     c.join_all-done.ensures.reported)

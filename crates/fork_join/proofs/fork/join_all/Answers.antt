@@ -62,9 +62,9 @@ loop-handle-preserved g c =
     let told = c.join-result.ensures in
     record {
       kept = λ none. absurd (cc);
-      ended = rw c.gravest.ensures (one_more (ends_of g) c.loop-handle.yielded c.loop-handle.failed c.in-Some.handle (Some c.in-Err.refused) c.loop-handle.invariant.ended (inl (IfErr-at_err _ c.in-Err.is told.1)));
+      ended = rw c.gravest.ensures.value (one_more (ends_of g) c.loop-handle.yielded c.loop-handle.failed c.in-Some.handle (Some c.in-Err.refused) c.loop-handle.invariant.ended (inl (IfErr-at_err _ c.in-Err.is told.1)));
       parts = omega (arith, c.merge.ensures.parts, c.loop-handle.invariant.parts, told.2, length-append c.loop-handle.yielded (c.in-Some.handle ∷ []));
-      tokens = λ none. rw (c.merge.ensures.amount, c.gravest.ensures) (one_with c.loop-handle.failed c.in-Err.refused _ _ (c.loop-handle.invariant.tokens none) (tokens_of_err c.join-result.result.result c.in-Err.refused _ c.in-Err.is told.3));
+      tokens = λ none. rw (c.merge.ensures.amount, c.gravest.ensures.value) (one_with c.loop-handle.failed c.in-Err.refused _ _ (c.loop-handle.invariant.tokens none) (tokens_of_err c.join-result.result.result c.in-Err.refused _ c.in-Err.is told.3));
     }
 
 pub returns-in-None-failed-clause-kept : goal.returns-in-None-failed-clause-kept

@@ -12,4 +12,4 @@ loop-copy-preserved c =
     (first_more (take c.loop-copy.copy-index c.args.copies.now) (get_or c.args.copies.now c.loop-copy.copy-index no_copy) c.loop-copy.first c.sooner-first.result c.loop-copy.invariant c.sooner-first.ensures.one c.sooner-first.ensures.other c.sooner-first.ensures.greatest)
 
 pub returns : goal.returns
-returns c = subst (λ l. IsFirstOf l c.loop-copy.first) (all_taken c.args.copies.now c.loop-copy.copy-index c.loop-copy-test.false c.loop-copy.auto.copy-index-end) c.loop-copy.invariant
+returns c = record { is_first_of = subst (λ l. IsFirstOf l c.loop-copy.first) (all_taken c.args.copies.now c.loop-copy.copy-index c.loop-copy-test.false c.loop-copy.auto.copy-index-end) c.loop-copy.invariant }

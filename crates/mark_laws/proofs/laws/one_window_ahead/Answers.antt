@@ -2,4 +2,4 @@ use Rattle.mark_laws.proofs.Stands.{one_window_ahead}
 use Rattle.mark_laws.proofs.laws.one_window_ahead.Goals as goal
 
 pub returns : goal.returns
-returns c = one_window_ahead
+returns c = record { one_window_ahead = one_window_ahead }

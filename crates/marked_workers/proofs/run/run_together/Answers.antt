@@ -14,8 +14,8 @@ fork_join-requires-sync-W g c κs within =
     record { shared = λ x b o. (runner_sync (record { mir = erased; lft = κs.1.1.1.1.0 }) _ _ c.type_bounds.sync-R c.type_bounds.sync-G).shared x b o }
 
 -- the width is the same for all, and each worker is as it began
-pub fork_join-requires-after_bounds : goal.fork_join-requires-after_bounds
-fork_join-requires-after_bounds g c κs within =
+pub fork_join-requires-clause-ready : goal.fork_join-requires-clause-ready
+fork_join-requires-clause-ready g c κs within =
     let n = net_of c.args.run.net.now in
     every_weaker
     (λ (worker : Worker). IsFirst n c.args.run.of.now c.args.run.inboxes.now worker)

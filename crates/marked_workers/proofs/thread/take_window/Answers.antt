@@ -8,5 +8,5 @@ returns-clause-takes g c = record {
   past = c.in-Ok.ensures.marked.1;
   worker = c.in-Ok.ensures.kept.0;
   senders = c.in-Ok.ensures.kept.1;
-  keeps = rw c.deref.ensures.value at c.in_ok-take_in.ensures;
+  keeps = rw c.deref.ensures.value at c.in_ok-take_in.ensures.takes_in;
 }

@@ -17,11 +17,15 @@ loop-packet-preserved c =
     (heard_next c.args.moment c.args.packets.now _ _ a u _ _ _ _ c.loop-packet.any c.in_ok-heard.heard front (c.loop-packet.invariant t u is) (c.in_ok-heard.ensures.heard t) (c.in_ok-heard.ensures.room t))
 
 pub returns-then-any-2 : goal.returns-then-any-2
-returns-then-any-2 c =
-    let none : drop c.loop-packet.packet-index c.args.packets.now ≡ [] = at_end c.loop-packet.packet-index c.args.packets.now c.loop-packet-test.false in
-    λ t. record { leads = λ u is. heard_some c.args.moment c.args.packets.now _ c.loop-packet.any u _ _ c.loop-packet.out none c.if-any-2.true (c.loop-packet.invariant t u is) (c.poll.ensures.mote t) }
+returns-then-any-2 c = record {
+  goes_on =
+      let none : drop c.loop-packet.packet-index c.args.packets.now ≡ [] = at_end c.loop-packet.packet-index c.args.packets.now c.loop-packet-test.false in
+      λ t. record { leads = λ u is. heard_some c.args.moment c.args.packets.now _ c.loop-packet.any u _ _ c.loop-packet.out none c.if-any-2.true (c.loop-packet.invariant t u is) (c.poll.ensures.mote t) };
+}
 
 pub returns-else-any-2 : goal.returns-else-any-2
-returns-else-any-2 c =
-    let none : drop c.loop-packet.packet-index c.args.packets.now ≡ [] = at_end c.loop-packet.packet-index c.args.packets.now c.loop-packet-test.false in
-    λ t. record { leads = λ u is. heard_lost c.args.moment c.args.packets.now _ c.loop-packet.any u _ c.loop-packet.out none c.if-any-2.false (c.loop-packet.invariant t u is) }
+returns-else-any-2 c = record {
+  goes_on =
+      let none : drop c.loop-packet.packet-index c.args.packets.now ≡ [] = at_end c.loop-packet.packet-index c.args.packets.now c.loop-packet-test.false in
+      λ t. record { leads = λ u is. heard_lost c.args.moment c.args.packets.now _ c.loop-packet.any u _ c.loop-packet.out none c.if-any-2.false (c.loop-packet.invariant t u is) };
+}

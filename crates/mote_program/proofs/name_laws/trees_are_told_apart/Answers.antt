@@ -1,8 +1,8 @@
 use Rattle.mote_program.proofs.Trees.{declares, undeclared, lacking}
 use Rattle.mote_program.proofs.name_laws.trees_are_told_apart.Goals as goal
 
-pub returns-clause-whole : goal.returns-clause-whole
-returns-clause-whole c = declares
+pub returns-clause-trees_that_declare : goal.returns-clause-trees_that_declare
+returns-clause-trees_that_declare c = declares
 
 pub returns-clause-undeclared : goal.returns-clause-undeclared
 returns-clause-undeclared c = undeclared

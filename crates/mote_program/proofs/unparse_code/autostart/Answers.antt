@@ -7,4 +7,4 @@ pub loop-number-preserved : goal.loop-number-preserved
 loop-number-preserved c =
     one_number (λ i. get_or c.args.names.now i []) comma_tokens _ c.loop-number.number-index
     0 _ _ _ c.loop-number-test.true c.loop-number.invariant
-    (cc (c.in_ok-add_all-2.ensures, c.name_at-in-loop-number.ensures, c.from-in-loop-number.ensures))
+    (cc (c.in_ok-add_all-2.ensures.appended, c.name_at-in-loop-number.ensures.name, c.from-in-loop-number.ensures))

@@ -16,18 +16,20 @@ loop-place-preserved c =
     let low : c.loop-place.place < length program.processes = omega (arith, low', each) in
     one_item code_tokens program.processes (code_shape (names_of_tree (tree_of program)))
     (map code_of program.codes.items) c.loop-place.place c.get.result.now (code_of c.index.result.now) _ _ _
-    (length-map program.codes.items code_of ∙ each) low (sym c.get.ensures)
+    (length-map program.codes.items code_of ∙ each) low (sym c.get.ensures.name)
     (mapped_at code_of program.codes.items c.loop-place.place c.index.result.now low' c.index.ensures)
-    c.loop-place.invariant c.in_ok-code.ensures
+    c.loop-place.invariant c.in_ok-code.ensures.appended
 
 pub returns : goal.returns
-returns c =
-    let program = c.args.program.now in
-    let codes = map (code_shape (names_of_tree (tree_of program))) (map code_of program.codes.items) in
-    let each : length program.codes.items ≡ length program.processes = program.each_code in
-    let len : length codes ≡ length program.processes =
-    length-map (map code_of program.codes.items) (code_shape (names_of_tree (tree_of program)))
-    ∙ length-map program.codes.items code_of ∙ each in
-    no_more code_tokens (codes_of_tree (tree_of program)) c.loop-place.place _ _
-    (omega (arith, length-zip program.processes codes, len, each, c.len-place-end.ensures, c.loop-place-test.false))
-    c.loop-place.invariant
+returns c = record {
+  appended =
+      let program = c.args.program.now in
+      let codes = map (code_shape (names_of_tree (tree_of program))) (map code_of program.codes.items) in
+      let each : length program.codes.items ≡ length program.processes = program.each_code in
+      let len : length codes ≡ length program.processes =
+      length-map (map code_of program.codes.items) (code_shape (names_of_tree (tree_of program)))
+      ∙ length-map program.codes.items code_of ∙ each in
+      no_more code_tokens (codes_of_tree (tree_of program)) c.loop-place.place _ _
+      (omega (arith, length-zip program.processes codes, len, each, c.len-place-end.ensures, c.loop-place-test.false))
+      c.loop-place.invariant;
+}

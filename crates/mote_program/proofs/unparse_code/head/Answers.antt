@@ -8,13 +8,15 @@ use Rattle.mote_program.proofs.Adding.{five_added}
 use Rattle.mote_program.proofs.unparse_code.head.Goals as goal
 
 pub returns : goal.returns
-returns c =
-    let program = c.args.program.now in
-    on_ok_weaker c.receiver.result
-    (λ m. five_added _ _ _ _ _ _ _ _ _ _ _ c.in_ok-listed.ensures
-    (c.in_ok-valued.ensures ∙ ap (λ vs. map token_of c.listed.new.out.items ++ flat_map (valued_tokens word.Semaphore)
-    (zip program.semaphores vs)) c.deref.ensures.value)
-    c.in_ok-processes.ensures
-    (c.in_ok-autostart.ensures ∙ ap (λ ns. map token_of c.processes.new.out.items
-    ++ autostart_tokens (map (λ i. get_or program.processes i []) ns)) c.deref-2.ensures.value)
-    m) c.receiver.ensures
+returns c = record {
+  appended =
+      let program = c.args.program.now in
+      on_ok_weaker c.receiver.result
+      (λ m. five_added _ _ _ _ _ _ _ _ _ _ _ c.in_ok-listed.ensures.appended
+      (c.in_ok-valued.ensures.appended ∙ ap (λ vs. map token_of c.listed.new.out.items ++ flat_map (valued_tokens word.Semaphore)
+      (zip program.semaphores vs)) c.deref.ensures.value)
+      c.in_ok-processes.ensures.appended
+      (c.in_ok-autostart.ensures.appended ∙ ap (λ ns. map token_of c.processes.new.out.items
+      ++ autostart_tokens (map (λ i. get_or program.processes i []) ns)) c.deref-2.ensures.value)
+      m) c.receiver.ensures.appended;
+}

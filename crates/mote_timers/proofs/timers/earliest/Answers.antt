@@ -7,4 +7,4 @@ use Rattle.mote_timers.proofs.timers.earliest.Goals as goal
 
 pub loop-id-preserved : goal.loop-id-preserved
 loop-id-preserved c =
-    least_step (λ id. expiration (timer_at c.args.timers.now id)) _ _ _ _ _ (omega arith) c.loop-id.invariant (grind (arith, common_steps)) c.sooner.ensures
+    least_step (λ id. expiration (timer_at c.args.timers.now id)) _ _ _ _ _ (omega arith) c.loop-id.invariant (grind (arith, common_steps)) c.sooner.ensures.value

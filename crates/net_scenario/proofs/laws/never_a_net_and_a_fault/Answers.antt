@@ -2,9 +2,11 @@ use Rattle.net_scenario.proofs.OneAnswer.{never_both}
 use Rattle.net_scenario.proofs.laws.never_a_net_and_a_fault.Goals as goal
 
 pub returns : goal.returns
-returns c =
-    never_both (record {
-      one_tree = c.at_most_one_tree.ensures;
-      one_fault = c.at_most_one_fault.ensures;
-      never_both = λ text t k m h i. (c.tree_or_fault.ensures text).apart t k m h i;
-    })
+returns c = record {
+  never_both =
+      never_both (record {
+        one_tree = c.at_most_one_tree.ensures.at_most_one;
+        one_fault = c.at_most_one_fault.ensures.at_most_one;
+        never_both = λ text t k m h i. (c.tree_or_fault.ensures.has_tree_or_fault text).apart t k m h i;
+      });
+}

@@ -9,12 +9,15 @@ use Rattle.net_scenario.proofs.places.losses_of.Goals as goal
 use Rattle.net_scenario.proofs.places.losses_of.Goals.{in-Some+in_ok-push, in_default}
 
 pub loss_of-requires : goal.loss_of-requires
-loss_of-requires c = none_at (keys_fault loss_rules) _ _ _ _ c.loop-item-test.true c.item-item.is
-    c.loop-item.invariant.ruled c.in-Some.ensures
+loss_of-requires c = record {
+  no_fault =
+      none_at (keys_fault loss_rules) _ _ _ _ c.loop-item-test.true c.item-item.is
+      c.loop-item.invariant.ruled c.in-Some.ensures;
+}
 
 pub loop-item-init : goal.loop-item-init
 loop-item-init c = record {
-  ruled = c.requires;
+  ruled = c.requires.no_fault;
   value = ap (λ (ls : List Loss). ls ++ map loss_of (tables_in (items_view c.args.items.now)))
       (sym c.new-losses.ensures.items);
 }
@@ -25,7 +28,7 @@ loop-item-preserved c = record {
       c.loop-item.invariant.ruled).1;
   value = elim c.match-as_table.branch [
     | in-Some+in_ok-push w ↦ map_table loss_of _ _ _ _ _ _ _ _ c.loop-item-test.true c.item-item.is
-        w.in-Some.ensures w.loss_of.ensures
+        w.in-Some.ensures w.loss_of.ensures.value
         (ap (λ (v : Vec Loss Global). v.items) w.losses-is ∙ w.in_ok-push.ensures.items)
         c.loop-item.invariant.value
     | in_default w ↦ map_no_table loss_of _ _ _ _ _ _ c.loop-item-test.true c.item-item.is
@@ -34,4 +37,4 @@ loop-item-preserved c = record {
 }
 
 pub returns : goal.returns
-returns c = map_all loss_of _ _ _ _ c.loop-item-test.false c.loop-item.invariant.value
+returns c = record { losses = map_all loss_of _ _ _ _ c.loop-item-test.false c.loop-item.invariant.value }

@@ -6,9 +6,15 @@ use Rattle.net_scenario.proofs.Keeps.{keeps_all, signed_kept}
 use Rattle.net_scenario.proofs.places.place_told.Goals as goal
 
 pub integer_at-requires : goal.integer_at-requires
-integer_at-requires c = signed_kept (negsuc 29999) (pos 30000) _ _ (omega (arith, ints)) (omega (arith, ints))
-    (keeps_all First mote_rules _ c.requires 0 (lit< tt) refl)
+integer_at-requires c = record {
+  holds_number =
+      signed_kept (negsuc 29999) (pos 30000) _ _ (omega (arith, ints)) (omega (arith, ints))
+      (keeps_all First mote_rules _ c.requires.no_fault 0 (lit< tt) refl);
+}
 
 pub integer_at-requires-2 : goal.integer_at-requires-2
-integer_at-requires-2 c = signed_kept (negsuc 29999) (pos 30000) _ _ (omega (arith, ints)) (omega (arith, ints))
-    (keeps_all First mote_rules _ c.requires 1 (lit< tt) refl)
+integer_at-requires-2 c = record {
+  holds_number =
+      signed_kept (negsuc 29999) (pos 30000) _ _ (omega (arith, ints)) (omega (arith, ints))
+      (keeps_all First mote_rules _ c.requires.no_fault 1 (lit< tt) refl);
+}

@@ -2,4 +2,4 @@ use Rattle.toml.proofs.Views.{table_get}
 use Rattle.net_scenario.proofs.rules.value_at.Goals as goal
 
 pub returns : goal.returns
-returns c = table_get c.get.result c.args.name.now c.args.table.now.entries c.get.ensures.value
+returns c = record { value = table_get c.get.result c.args.name.now c.args.table.now.entries c.get.ensures.value }

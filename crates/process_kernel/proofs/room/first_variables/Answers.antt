@@ -6,5 +6,5 @@ use Rattle.process_kernel.proofs.room.first_variables.Goals as goal
 pub loop-process-preserved : goal.loop-process-preserved
 loop-process-preserved c =
     one_more (tree_of c.args.program.now).codes c.loop-process.process
-    (code_of c.process.result.now) c.loop-process.variables.items c.push.new.self.items c.process.ensures
+    (code_of c.process.result.now) c.loop-process.variables.items c.push.new.self.items c.process.ensures.code
     (search rules) c.loop-process.invariant

@@ -9,6 +9,8 @@ loop-process-preserved c =
     (search rules, rw c.in_ok-push.ensures.items (AreFresh-push c.loop-process.threads.items None c.loop-process.invariant.1 (λ code. refl)))
 
 pub returns : goal.returns
-returns c =
-    let p = c.args.program.now in
-    fresh_remainders (tree_of p).codes c.loop-process.threads.items c.loop-process.invariant.1 (omega (arith, p.each_code, c.loop-process.invariant.0, length-map p.codes.items code_of))
+returns c = record {
+  fresh =
+      let p = c.args.program.now in
+      fresh_remainders (tree_of p).codes c.loop-process.threads.items c.loop-process.invariant.1 (omega (arith, p.each_code, c.loop-process.invariant.0, length-map p.codes.items code_of));
+}

@@ -2,4 +2,4 @@ use Rattle.program_reader.proofs.Texts.{one_told}
 use Rattle.program_reader.proofs.laws.at_most_one_fault.Goals as goal
 
 pub returns : goal.returns
-returns c = one_told
+returns c = record { at_most_one = one_told }

@@ -2,4 +2,4 @@ use Rattle.program_reader.proofs.Texts.{tree_or_told}
 use Rattle.program_reader.proofs.laws.tree_or_fault.Goals as goal
 
 pub returns : goal.returns
-returns c = tree_or_told
+returns c = record { has_tree_or_fault = tree_or_told }

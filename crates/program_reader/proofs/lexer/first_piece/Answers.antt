@@ -7,14 +7,14 @@ use Rattle.program_reader.proofs.PieceLaws.{blank_front, word_front, comment_fro
 use Rattle.program_reader.proofs.lexer.first_piece.Goals as goal
 
 pub word_token-requires : goal.word_token-requires
-word_token-requires c = rw c.word_len-len.ensures.len (front_passes is_word_byte c.args.rest.now)
+word_token-requires c = record { word_bytes = rw c.word_len-len.ensures.len (front_passes is_word_byte c.args.rest.now) }
 
 pub returns-then-is_blank-clause-piece : goal.returns-then-is_blank-clause-piece
-returns-then-is_blank-clause-piece c = blank_front c.args.rest.now c.requires (sym c.if-is_blank.ensures)
+returns-then-is_blank-clause-piece c = blank_front c.args.rest.now c.requires.not_empty (sym c.if-is_blank.ensures.value)
 
 pub returns-then-is_word_byte-clause-piece : goal.returns-then-is_word_byte-clause-piece
 returns-then-is_word_byte-clause-piece c =
-    rw c.word_token.ensures (word_front c.args.rest.now c.word_len-len.result (sym c.if-is_word_byte.ensures)
+    rw c.word_token.ensures.value (word_front c.args.rest.now c.word_len-len.result (sym c.if-is_word_byte.ensures.value)
     c.word_len-len.ensures.len)
 
 pub returns-then-starts_with-clause-piece : goal.returns-then-starts_with-clause-piece

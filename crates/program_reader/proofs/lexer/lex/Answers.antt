@@ -21,5 +21,8 @@ loop-rest-preserved c =
     )
 
 pub returns : goal.returns
-returns c = rw c.in_ok-push.ensures.items (all_read _ _ _ _ _ c.loop-rest.invariant.0
-    (omega (arith, c.in_default.len_below)))
+returns c = record {
+  is_lexed =
+      rw c.in_ok-push.ensures.items (all_read _ _ _ _ _ c.loop-rest.invariant.0
+      (omega (arith, c.in_default.len_below)));
+}

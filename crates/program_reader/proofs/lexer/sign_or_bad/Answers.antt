@@ -5,16 +5,16 @@ use Rattle.program_reader.proofs.lexer.sign_or_bad.Goals as goal
 
 pub returns-in-Some-clause-piece : goal.returns-in-Some-clause-piece
 unfolding signs
-returns-in-Some-clause-piece c = sign_front c.args.rest.now _ _ c.requires (sym c.in-Some.ensures)
+returns-in-Some-clause-piece c = sign_front c.args.rest.now _ _ c.requires.begins_other (sym c.in-Some.ensures.value)
 
 pub returns-in-Some-clause-moves : goal.returns-in-Some-clause-moves
 unfolding signs
-returns-in-Some-clause-moves c = (found_sign c.args.rest.now _ _ (sym c.in-Some.ensures)).moves
+returns-in-Some-clause-moves c = (found_sign c.args.rest.now _ _ (sym c.in-Some.ensures.value)).moves
 
 pub returns-in-Some-clause-within : goal.returns-in-Some-clause-within
 unfolding signs
-returns-in-Some-clause-within c = (found_sign c.args.rest.now _ _ (sym c.in-Some.ensures)).within
+returns-in-Some-clause-within c = (found_sign c.args.rest.now _ _ (sym c.in-Some.ensures.value)).within
 
 pub returns-in-None-clause-piece : goal.returns-in-None-clause-piece
 unfolding signs
-returns-in-None-clause-piece c = other_front c.args.rest.now c.requires (sym c.in-None.ensures)
+returns-in-None-clause-piece c = other_front c.args.rest.now c.requires.begins_other (sym c.in-None.ensures.value)

@@ -19,10 +19,12 @@ use Rattle.program_reader.proofs.reading.read.Goals as goal
 
 pub program-requires : goal.program-requires
 program-requires c = record {
-  text = c.args.text.now;
-  lines = c.in_ok-lexed.lexed.lines.items;
-  lexed = subst (λ z. IsLexed c.args.text.now (map token_of z) c.in_ok-lexed.lexed.lines.items)
-      (sym c.deref.ensures.value) c.in_ok-lexed.ensures;
+  are_lexed = record {
+    text = c.args.text.now;
+    lines = c.in_ok-lexed.lexed.lines.items;
+    lexed = subst (λ z. IsLexed c.args.text.now (map token_of z) c.in_ok-lexed.lexed.lines.items)
+        (sym c.deref.ensures.value) c.in_ok-lexed.ensures.is_lexed;
+  };
 }
 
 pub returns-in-Ok-clause-only : goal.returns-in-Ok-clause-only
@@ -30,7 +32,7 @@ returns-in-Ok-clause-only c = λ t h.
     let k : IsTreeOfTokens (map token_of c.in_ok-lexed.lexed.tokens.items) (tree_of c.in-Ok.program) =
     subst (λ z. IsTreeOfTokens (map token_of z) (tree_of c.in-Ok.program)) c.deref.ensures.value
     c.in-Ok.ensures.ok in
-    one_tree _ _ _ (tree_read _ _ _ _ c.in_ok-lexed.ensures k) h
+    one_tree _ _ _ (tree_read _ _ _ _ c.in_ok-lexed.ensures.is_lexed k) h
 
 pub overflow_sub-len : goal.overflow_sub-len
 overflow_sub-len c =
@@ -46,7 +48,7 @@ overflow_sub-len c =
 pub index-requires : goal.index-requires
 index-requires c =
     let w : length c.in_ok-lexed.lexed.tokens.items - c.in-Err-Fault.fault.left
-    < length c.in_ok-lexed.lexed.lines.items = line_within _ _ _ c.in-Err-Fault.fault.left c.in_ok-lexed.ensures in
+    < length c.in_ok-lexed.lexed.lines.items = line_within _ _ _ c.in-Err-Fault.fault.left c.in_ok-lexed.ensures.is_lexed in
     omega arith
 
 told_here : (c : goal.After-drop-lexed-3) → IsToldOf c.args.text.now c.in-Err-Fault.fault.kind c.index.result.now
@@ -58,14 +60,14 @@ told_here c =
     subst (λ z. tell nothing_yet (from_events ∷ []) (map token_of z) ≡ fault c.in-Err-Fault.fault.kind
     c.in-Err-Fault.fault.left) c.deref.ensures.value (c.in-Err-Fault.ensures.err c.in-Err-Fault.fault q) in
     let w : length c.in_ok-lexed.lexed.tokens.items - c.in-Err-Fault.fault.left
-    < length c.in_ok-lexed.lexed.lines.items = line_within _ _ _ c.in-Err-Fault.fault.left c.in_ok-lexed.ensures in
+    < length c.in_ok-lexed.lexed.lines.items = line_within _ _ _ c.in-Err-Fault.fault.left c.in_ok-lexed.ensures.is_lexed in
     let at : slice_get c.in_ok-lexed.lexed.lines.items
     (length c.in_ok-lexed.lexed.tokens.items - c.in-Err-Fault.fault.left) ≡ Some c.index.result.now =
     let same : c.len.result - c.in-Err-Fault.fault.left ≡ length c.in_ok-lexed.lexed.tokens.items -
     c.in-Err-Fault.fault.left = omega arith in
     slice_get_read _ _ _ _ refl w (c.index.ensures
     ∙ ap (λ i. get_or c.in_ok-lexed.lexed.lines.items i c.index.result.now) same) in
-    told_read _ _ _ _ c.in-Err-Fault.fault.left _ c.in_ok-lexed.ensures t at
+    told_read _ _ _ _ c.in-Err-Fault.fault.left _ c.in_ok-lexed.ensures.is_lexed t at
 
 pub returns-clause-told : goal.returns-clause-told
 returns-clause-told c = λ e is other.

@@ -3,4 +3,4 @@ use Rattle.program_reader.proofs.words.keyword.Goals as goal
 
 pub returns : goal.returns
 unfolding keywords
-returns c = c.lookup.ensures
+returns c = record { value = c.lookup.ensures.value }

@@ -3,10 +3,10 @@ use Rattle.program_reader.proofs.WordLaws.{number_token, table_token, other_toke
 use Rattle.program_reader.proofs.words.word_token.Goals as goal
 
 pub returns-then-is_number : goal.returns-then-is_number
-returns-then-is_number c = number_token _ _ (sym c.if-is_number.ensures.number) c.number_value.ensures
+returns-then-is_number c = record { value = number_token _ _ (sym c.if-is_number.ensures.number) c.number_value.ensures.value }
 
 pub returns-in-Some : goal.returns-in-Some
-returns-in-Some c = table_token _ _ (sym c.if-is_number.ensures.number) (sym c.in-Some.ensures)
+returns-in-Some c = record { value = table_token _ _ (sym c.if-is_number.ensures.number) (sym c.in-Some.ensures.value) }
 
 pub returns-in-None : goal.returns-in-None
-returns-in-None c = other_token _ _ (sym c.if-is_number.ensures.number) (sym c.in-None.ensures) c.name.ensures
+returns-in-None c = record { value = other_token _ _ (sym c.if-is_number.ensures.number) (sym c.in-None.ensures.value) c.name.ensures.value }

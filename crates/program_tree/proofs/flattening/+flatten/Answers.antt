@@ -13,23 +13,25 @@ pub add_block-loop-i-init : goal.add_block-loop-i-init
 add_block-loop-i-init t c = first_none (block_of c.args.block.now) c.args.after c.args.code.now.items
 
 pub add_block-count_statement-requires : goal.add_block-count_statement-requires
-add_block-count_statement-requires t c =
-    let items = c.args.block.now.statements.items in
-    let within : c.loop-i.i < length items = omega (arith, c.len-statements.ensures, c.args.block.now.statements.ok.0, c.loop-i-test.true) in
-    omega (arith, c.requires, c.loop-i.invariant.counts, size_here items c.loop-i.i c.index-statement.result.now within c.index-statement.ensures)
+add_block-count_statement-requires t c = record {
+  size_bounded =
+      let items = c.args.block.now.statements.items in
+      let within : c.loop-i.i < length items = omega (arith, c.len-statements.ensures, c.args.block.now.statements.ok.0, c.loop-i-test.true) in
+      omega (arith, c.requires.size_bounded, c.loop-i.invariant.counts, size_here items c.loop-i.i c.index-statement.result.now within c.index-statement.ensures);
+}
 
 pub add_block-overflow_add-next : goal.add_block-overflow_add-next
 add_block-overflow_add-next t c =
     let items = c.args.block.now.statements.items in
     let within : c.loop-i.i < length items = omega (arith, c.len-statements.ensures, c.args.block.now.statements.ok.0, c.loop-i-test.true) in
-    omega (arith, c.requires, c.len.ensures, c.count_statement.ensures, c.loop-i.code.ok.0, long_first _ _ _ _ _ c.loop-i.invariant, size_here items c.loop-i.i c.index-statement.result.now within c.index-statement.ensures)
+    omega (arith, c.requires.size_bounded, c.len.ensures, c.count_statement.ensures.size, c.loop-i.code.ok.0, long_first _ _ _ _ _ c.loop-i.invariant, size_here items c.loop-i.i c.index-statement.result.now within c.index-statement.ensures)
 
 pub add_block-add_statement-requires : goal.add_block-add_statement-requires
 add_block-add_statement-requires t c =
     let items = c.args.block.now.statements.items in
     let within : c.loop-i.i < length items = omega (arith, c.len-statements.ensures, c.args.block.now.statements.ok.0, c.loop-i-test.true) in (
       search (rules, stmt_lemmas, block_lemmas),
-      omega (arith, c.requires, long_first _ _ _ _ _ c.loop-i.invariant, size_here items c.loop-i.i c.index-statement.result.now within c.index-statement.ensures),
+      omega (arith, c.requires.size_bounded, long_first _ _ _ _ _ c.loop-i.invariant, size_here items c.loop-i.i c.index-statement.result.now within c.index-statement.ensures),
     )
 
 pub add_block-loop-i-preserved : goal.add_block-loop-i-preserved
@@ -47,65 +49,73 @@ add_block-loop-i-preserved t c =
     elim c.if-i-statements.branch [
       | add_block-then-i-statements w ↦
           let more : i + 1 < length items = omega (arith, c.len-statements.ensures, c.args.block.now.statements.ok.0, w.if-i-statements.true) in
-          let at : c.if-i-statements.next ≡ length mid + statement_size (statement_of s) = omega (arith, w.next-is, w.len.ensures, w.count_statement.ensures, c.loop-i.code.ok.0) in
+          let at : c.if-i-statements.next ≡ length mid + statement_size (statement_of s) = omega (arith, w.next-is, w.len.ensures, w.count_statement.ensures.size, c.loop-i.code.ok.0) in
           at ∙ sym (entry_some items (i + 1) (length mid + statement_size (statement_of s)) c.args.after more)
       | add_block-else-i-statements w ↦
           let past : length items ≤ i + 1 = omega (arith, c.len-statements.ensures, c.args.block.now.statements.ok.0, w.if-i-statements.false) in
           w.next-is ∙ sym (entry_none items (i + 1) (length mid + statement_size (statement_of s)) c.args.after past)
     ] in
     first_more (block_of c.args.block.now) (statement_of s) later c.args.after c.if-i-statements.next old mid c.add_statement.new.code.items
-    (subst P here c.loop-i.invariant) next_is c.in_ok-add_statement.ensures
+    (subst P here c.loop-i.invariant) next_is c.in_ok-add_statement.ensures.emits_statement
 
 pub add_block-returns : goal.add_block-returns
-add_block-returns t c =
-    let items = c.args.block.now.statements.items in
-    let past : length items ≤ c.loop-i.i = omega (arith, c.len-statements.ensures, c.args.block.now.statements.ok.0, c.loop-i-test.false) in
-    let P : Body ℕ → Type 0 = λ later. EmitsFirst (block_of c.args.block.now) later c.args.after c.args.code.now.items c.loop-i.code.items in
-    first_all _ _ _ _ (subst P (drop_end items c.loop-i.i past) c.loop-i.invariant)
+add_block-returns t c = record {
+  emits =
+      let items = c.args.block.now.statements.items in
+      let past : length items ≤ c.loop-i.i = omega (arith, c.len-statements.ensures, c.args.block.now.statements.ok.0, c.loop-i-test.false) in
+      let P : Body ℕ → Type 0 = λ later. EmitsFirst (block_of c.args.block.now) later c.args.after c.args.code.now.items c.loop-i.code.items in
+      first_all _ _ _ _ (subst P (drop_end items c.loop-i.i past) c.loop-i.invariant);
+}
 
 pub add_other-returns-in-None : goal.add_other-returns-in-None
-add_other-returns-in-None t c =
-    let P : Otherwise ℕ → Type 0 = λ o. EmitsOther o c.args.after c.args.code.now.items c.args.code.now.items in
-    subst P (sym (ap (λ o. otherwise_of (option_map block_of o)) c.in-None.is)) (emits_nothing c.args.after c.args.code.now.items)
+add_other-returns-in-None t c = record {
+  emits_other =
+      let P : Otherwise ℕ → Type 0 = λ o. EmitsOther o c.args.after c.args.code.now.items c.args.code.now.items in
+      subst P (sym (ap (λ o. otherwise_of (option_map block_of o)) c.in-None.is)) (emits_nothing c.args.after c.args.code.now.items);
+}
 
 pub add_statement-returns-in_ok-add_block-in-If : goal.add_statement-returns-in_ok-add_block-in-If
-add_statement-returns-in_ok-add_block-in-If t c =
-    let old = c.args.code.now.items in
-    let new = c.add_other.new.code.items in
-    let P : Statement ℕ → Type 0 = λ s. EmitsStatement s c.args.after old new in
-    let is = ap statement_of c.in-If.is ∙ branch_of-If c.in-If.test c.in-If.then c.in-If.other in
-    let long : c.len-place.result ≡ length old = c.len-place.ensures ∙ c.args.code.now.ok.0 in
-    let holds = c.entry-holds.ensures ∙ ap (λ n. entry_of (block_of c.in-If.then) (n + 1) c.args.after) long in
-    let at : c.len-place.result + 1 + c.count.result ≡ length old + 1 + size (block_of c.in-If.then) = omega (arith, long, c.count.ensures) in
-    let fails = c.other_entry-fails.ensures ∙ ap (λ n. other_entry_of (otherwise_of (option_map block_of c.in-If.other)) n c.args.after) at in
-    on_ok c.add_other.result
-    (λ others. subst P (sym is)
-    (emits_branch (expression_of c.in-If.test) c.in_ok-clone_in-in-If.field-0 (block_of c.in-If.then) (otherwise_of (option_map block_of c.in-If.other)) c.args.after c.entry-holds.result c.other_entry-fails.result old c.push-in-If.new.self.items c.add_block.new.code.items new
-    c.in_ok-clone_in-in-If.ensures holds fails c.in_ok-push-in-If.ensures.items c.in_ok-add_block-in-If.ensures others))
-    c.add_other.ensures
+add_statement-returns-in_ok-add_block-in-If t c = record {
+  emits_statement =
+      let old = c.args.code.now.items in
+      let new = c.add_other.new.code.items in
+      let P : Statement ℕ → Type 0 = λ s. EmitsStatement s c.args.after old new in
+      let is = ap statement_of c.in-If.is ∙ branch_of-If c.in-If.test c.in-If.then c.in-If.other in
+      let long : c.len-place.result ≡ length old = c.len-place.ensures ∙ c.args.code.now.ok.0 in
+      let holds = c.entry-holds.ensures.value ∙ ap (λ n. entry_of (block_of c.in-If.then) (n + 1) c.args.after) long in
+      let at : c.len-place.result + 1 + c.count.result ≡ length old + 1 + size (block_of c.in-If.then) = omega (arith, long, c.count.ensures.size) in
+      let fails = c.other_entry-fails.ensures.value ∙ ap (λ n. other_entry_of (otherwise_of (option_map block_of c.in-If.other)) n c.args.after) at in
+      on_ok c.add_other.result
+      (λ others. subst P (sym is)
+      (emits_branch (expression_of c.in-If.test) c.in_ok-clone_in-in-If.field-0 (block_of c.in-If.then) (otherwise_of (option_map block_of c.in-If.other)) c.args.after c.entry-holds.result c.other_entry-fails.result old c.push-in-If.new.self.items c.add_block.new.code.items new
+      c.in_ok-clone_in-in-If.ensures.same_expression holds fails c.in_ok-push-in-If.ensures.items c.in_ok-add_block-in-If.ensures.emits others))
+      c.add_other.ensures.emits_other;
+}
 
 pub add_statement-returns-in_ok-push-in-While : goal.add_statement-returns-in_ok-push-in-While
-add_statement-returns-in_ok-push-in-While t c =
-    let old = c.args.code.now.items in
-    let new = c.add_block-in-While.new.code.items in
-    let P : Statement ℕ → Type 0 = λ s. EmitsStatement s c.args.after old new in
-    let is = ap statement_of c.in-While.is ∙ while_of-While c.in-While.test c.in-While.body in
-    let long : c.len-place.result ≡ length old = c.len-place.ensures ∙ c.args.code.now.ok.0 in
-    let holds = c.entry-holds-in-While.ensures ∙ ap (λ n. entry_of (block_of c.in-While.body) (n + 1) c.len-place.result) long in
-    on_ok c.add_block-in-While.result
-    (λ inner. subst P (sym is)
-    (emits_while (expression_of c.in-While.test) c.in_ok-clone_in-in-While.field-0 (block_of c.in-While.body) c.args.after c.len-place.result c.entry-holds-in-While.result old c.push-in-While.new.self.items new
-    c.in_ok-clone_in-in-While.ensures long holds c.in_ok-push-in-While.ensures.items inner))
-    c.add_block-in-While.ensures
+add_statement-returns-in_ok-push-in-While t c = record {
+  emits_statement =
+      let old = c.args.code.now.items in
+      let new = c.add_block-in-While.new.code.items in
+      let P : Statement ℕ → Type 0 = λ s. EmitsStatement s c.args.after old new in
+      let is = ap statement_of c.in-While.is ∙ while_of-While c.in-While.test c.in-While.body in
+      let long : c.len-place.result ≡ length old = c.len-place.ensures ∙ c.args.code.now.ok.0 in
+      let holds = c.entry-holds-in-While.ensures.value ∙ ap (λ n. entry_of (block_of c.in-While.body) (n + 1) c.len-place.result) long in
+      on_ok c.add_block-in-While.result
+      (λ inner. subst P (sym is)
+      (emits_while (expression_of c.in-While.test) c.in_ok-clone_in-in-While.field-0 (block_of c.in-While.body) c.args.after c.len-place.result c.entry-holds-in-While.result old c.push-in-While.new.self.items new
+      c.in_ok-clone_in-in-While.ensures.same_expression long holds c.in_ok-push-in-While.ensures.items inner))
+      c.add_block-in-While.ensures.emits;
+}
 
 pub add_statement-overflow_cast-place : goal.add_statement-overflow_cast-place
-add_statement-overflow_cast-place t c = omega (arith, c.requires, c.len-place.ensures, c.args.code.now.ok.0)
+add_statement-overflow_cast-place t c = omega (arith, c.requires.size_bounded, c.len-place.ensures, c.args.code.now.ok.0)
 
 pub add_statement-overflow_add-place : goal.add_statement-overflow_add-place
 add_statement-overflow_add-place t c =
     omega (
       arith,
-      c.requires,
+      c.requires.size_bounded,
       c.len-place.ensures,
       c.args.code.now.ok.0,
       size_of-If c.args.statement.now c.in-If.test c.in-If.then c.in-If.other c.in-If.is,
@@ -115,24 +125,26 @@ pub add_statement-overflow_add-place-in-If : goal.add_statement-overflow_add-pla
 add_statement-overflow_add-place-in-If t c =
     omega (
       arith,
-      c.requires,
+      c.requires.size_bounded,
       c.len-place.ensures,
       c.args.code.now.ok.0,
       size_of-If c.args.statement.now c.in-If.test c.in-If.then c.in-If.other c.in-If.is,
     )
 
 pub add_statement-count-requires : goal.add_statement-count-requires
-add_statement-count-requires t c =
-    omega (arith, c.requires, size_of-If c.args.statement.now c.in-If.test c.in-If.then c.in-If.other c.in-If.is)
+add_statement-count-requires t c = record {
+  size_bounded =
+      omega (arith, c.requires.size_bounded, size_of-If c.args.statement.now c.in-If.test c.in-If.then c.in-If.other c.in-If.is);
+}
 
 pub add_statement-overflow_add-place-in-If-2 : goal.add_statement-overflow_add-place-in-If-2
 add_statement-overflow_add-place-in-If-2 t c =
     omega (
       arith,
-      c.requires,
+      c.requires.size_bounded,
       c.len-place.ensures,
       c.args.code.now.ok.0,
-      c.count.ensures,
+      c.count.ensures.size,
       size_of-If c.args.statement.now c.in-If.test c.in-If.then c.in-If.other c.in-If.is,
     )
 
@@ -141,7 +153,7 @@ add_statement-add_block-requires t c = (
   search (rules, stmt_lemmas, block_lemmas),
   omega (
     arith,
-    c.requires,
+    c.requires.size_bounded,
     long_pushed _ _ _ c.in_ok-push-in-If.ensures.items,
     size_of-If c.args.statement.now c.in-If.test c.in-If.then c.in-If.other c.in-If.is,
   ),
@@ -152,9 +164,9 @@ add_statement-add_other-requires t c = (
   search (rules, stmt_lemmas, block_lemmas),
   omega (
     arith,
-    c.requires,
+    c.requires.size_bounded,
     long_pushed _ _ _ c.in_ok-push-in-If.ensures.items,
-    long_emitted _ _ _ _ c.in_ok-add_block-in-If.ensures,
+    long_emitted _ _ _ _ c.in_ok-add_block-in-If.ensures.emits,
     size_of-If c.args.statement.now c.in-If.test c.in-If.then c.in-If.other c.in-If.is,
   ),
 )
@@ -163,7 +175,7 @@ pub add_statement-overflow_add-place-in-While : goal.add_statement-overflow_add-
 add_statement-overflow_add-place-in-While t c =
     omega (
       arith,
-      c.requires,
+      c.requires.size_bounded,
       c.len-place.ensures,
       c.args.code.now.ok.0,
       size_of-While c.args.statement.now c.in-While.test c.in-While.body c.in-While.is,
@@ -174,17 +186,19 @@ add_statement-add_block-requires-in-While t c = (
   search (rules, stmt_lemmas, block_lemmas),
   omega (
     arith,
-    c.requires,
+    c.requires.size_bounded,
     long_pushed _ _ _ c.in_ok-push-in-While.ensures.items,
     size_of-While c.args.statement.now c.in-While.test c.in-While.body c.in-While.is,
   ),
 )
 
 pub add_statement-returns-in_ok-push-in-Do : goal.add_statement-returns-in_ok-push-in-Do
-add_statement-returns-in_ok-push-in-Do t c =
-    let old = c.args.code.now.items in
-    let new = c.push.new.self.items in
-    let P : Statement ℕ → Type 0 = λ s. EmitsStatement s c.args.after old new in
-    subst P (sym (ap statement_of c.in-Do.is ∙ does_of-Do c.in-Do.action))
-    (emits_action c.in-Do.action c.in_ok-clone_in-in-Do.field-0 c.args.after old new c.in_ok-clone_in-in-Do.ensures
-    c.in_ok-push-in-Do.ensures.items)
+add_statement-returns-in_ok-push-in-Do t c = record {
+  emits_statement =
+      let old = c.args.code.now.items in
+      let new = c.push.new.self.items in
+      let P : Statement ℕ → Type 0 = λ s. EmitsStatement s c.args.after old new in
+      subst P (sym (ap statement_of c.in-Do.is ∙ does_of-Do c.in-Do.action))
+      (emits_action c.in-Do.action c.in_ok-clone_in-in-Do.field-0 c.args.after old new c.in_ok-clone_in-in-Do.ensures.same_action
+      c.in_ok-push-in-Do.ensures.items);
+}

@@ -4,6 +4,8 @@ use Rattle.program_tree.proofs.Emitting.{entry_some}
 use Rattle.program_tree.proofs.flattening.entry.Goals as goal
 
 pub returns-else-is_empty : goal.returns-else-is_empty
-returns-else-is_empty c =
-    let some : 0 < length c.args.block.now.statements.items = grind (arith, common_steps) in
-    sym (entry_some c.args.block.now.statements.items 0 c.args.place c.args.after some)
+returns-else-is_empty c = record {
+  value =
+      let some : 0 < length c.args.block.now.statements.items = grind (arith, common_steps) in
+      sym (entry_some c.args.block.now.statements.items 0 c.args.place c.args.after some);
+}

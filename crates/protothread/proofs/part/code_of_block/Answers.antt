@@ -8,6 +8,8 @@ use Rattle.protothread.specs.Places.{body_or_end}
 use Rattle.protothread.proofs.part.code_of_block.Goals as goal
 
 pub returns-in-None : goal.returns-in-None
-returns-in-None c =
-    let P : Option (Bor FlatBlock) → Type 0 = λ o. IsFlat (body_or_end (option_map (λ b. tree_in b.now) o)) [] in
-    subst P (sym c.in-None.is) none_flat
+returns-in-None c = record {
+  is_flat =
+      let P : Option (Bor FlatBlock) → Type 0 = λ o. IsFlat (body_or_end (option_map (λ b. tree_in b.now) o)) [] in
+      subst P (sym c.in-None.is) none_flat;
+}

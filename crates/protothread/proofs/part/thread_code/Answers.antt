@@ -10,8 +10,8 @@ use Rattle.protothread.proofs.part.thread_code.Goals as goal
 pub returns-clause-flat : goal.returns-clause-flat
 returns-clause-flat c =
     let P : Body ℕ → Type 0 = λ b. IsFlat b c.code_of_block.result.now in
-    subst P (ap body_or_end c.thread.ensures.value) c.code_of_block.ensures
+    subst P (ap body_or_end c.thread.ensures.value) c.code_of_block.ensures.is_flat
 
 pub returns-clause-earlier : goal.returns-clause-earlier
 returns-clause-earlier c =
-    found_earlier (λ b. tree_in b.now) c.thread.result c.args.thread (code_of c.args.text.now).thread_bodies c.thread.ensures.value c.thread.ensures.few c.thread.ensures.earlier
+    found_earlier (λ b. tree_in b.now) c.thread.result c.args.thread (code_of c.args.text.now).thread_bodies c.thread.ensures.value c.thread.ensures.number_bounded c.thread.ensures.earlier

@@ -24,8 +24,8 @@ loop-index-init c = record {
   hold = λ i none below. absurd (omega arith);
 }
 
-pub of-requires-clause-some : goal.of-requires-clause-some
-of-requires-clause-some c =
+pub of-requires-clause-not_empty : goal.of-requires-clause-not_empty
+of-requires-clause-not_empty c =
     let less = c.count_of-count.ensures.filled c.loop-index.index c.loop-index-test.true in
     omega arith
 
@@ -38,14 +38,16 @@ loop-index-preserved c =
       hold = each_push (λ i group. HoldsMotes places (i * 32) (min (length places) (i * 32 + 32)) group)
           c.loop-index.groups.items _ c.of.result _ c.loop-index.invariant.count c.in_ok-push.ensures.items
           c.loop-index.invariant.hold
-          (subst (λ n. HoldsMotes places (c.loop-index.index * 32) n c.of.result) c.min-after.ensures c.of.ensures);
+          (subst (λ n. HoldsMotes places (c.loop-index.index * 32) n c.of.result) c.min-after.ensures c.of.ensures.holds_motes);
     }
 
 pub returns : goal.returns
-returns c =
-    let all : length c.loop-index.groups.items ≡ c.count_of-count.result = omega arith in
-    record {
-      enough = subst (λ n. length c.args.places.now ≤ n * 32) (sym all) c.count_of-count.ensures.enough;
-      filled = λ i below. c.count_of-count.ensures.filled i (omega arith);
-      hold = λ i any below. c.loop-index.invariant.hold i any (omega arith);
-    }
+returns c = record {
+  are_groups =
+      let all : length c.loop-index.groups.items ≡ c.count_of-count.result = omega arith in
+      record {
+        enough = subst (λ n. length c.args.places.now ≤ n * 32) (sym all) c.count_of-count.ensures.enough;
+        filled = λ i below. c.count_of-count.ensures.filled i (omega arith);
+        hold = λ i any below. c.loop-index.invariant.hold i any (omega arith);
+      };
+}

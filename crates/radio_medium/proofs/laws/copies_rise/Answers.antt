@@ -2,4 +2,4 @@ use Rattle.radio_medium.proofs.Copies.{copies_rising}
 use Rattle.radio_medium.proofs.laws.copies_rise.Goals as goal
 
 pub returns : goal.returns
-returns c = copies_rising
+returns c = record { copies_rise = copies_rising }

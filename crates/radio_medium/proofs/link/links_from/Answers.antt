@@ -15,9 +15,9 @@ loop-index-preserved c =
     let some : i * 32 < length places = c.requires.groups.filled i (omega arith) in
     let first : min (length places) (i * 32) ≡ i * 32 = omega arith in
     let next : min (length places) (i * 32 + 32) ≡ min (length places) ((i + 1) * 32) = omega arith in
-    let near = rw c.from.ensures at c.is_near.ensures in
+    let near = rw c.from.ensures at c.is_near.ensures.is_beyond in
     elim c.if-is_near.branch [
-      | then-is_near+in_ok-put_links w ↦ rw w.links-is (w.in_ok-put_links.ensures ∙ ap (λ k. links_below radio every s k) (omega arith))
+      | then-is_near+in_ok-put_links w ↦ rw w.links-is (w.in_ok-put_links.ensures.links ∙ ap (λ k. links_below radio every s k) (omega arith))
       | else-is_near w ↦ rw w.links-is
           (links_beyond places c.args.reach every s (i * 32) (min (length places) (i * 32 + 32)) _ _ (omega arith) (c.requires.groups.hold i _ (omega arith)) (near w.if-is_near.false) (rw first at c.loop-index.invariant)
           ∙ ap (λ k. links_below radio every s k) next)
@@ -25,7 +25,9 @@ loop-index-preserved c =
 
 pub returns : goal.returns
 unfolding links_of receivers
-returns c =
-    let enough = c.requires.groups.enough in
-    let all : min (length c.args.places.now) (c.loop-index.index * 32) ≡ length c.args.places.now = omega arith in
-    rw all at c.loop-index.invariant
+returns c = record {
+  links =
+      let enough = c.requires.groups.enough in
+      let all : min (length c.args.places.now) (c.loop-index.index * 32) ≡ length c.args.places.now = omega arith in
+      rw all at c.loop-index.invariant;
+}

@@ -11,9 +11,9 @@ loop-to-preserved c =
     let every = every_at c.args.every.now in
     let s = c.args.sender in
     let n = c.loop-to.to in
-    let joins = rw (c.from.ensures, c.from-in-loop-to.ensures) at c.joins.ensures in
+    let joins = rw (c.from.ensures, c.from-in-loop-to.ensures) at c.joins.ensures.value in
     elim c.if-joins.branch [
-      | then-joins+in-Some+in_ok-push w ↦ rw (w.links-is, w.in_ok-push.ensures.items) (links_step_some radio every s n _ _ c.loop-to.invariant w.in-Some.ensures)
-      | then-joins+in_default w ↦ rw w.links-is (links_step_none radio every s n _ c.loop-to.invariant w.in_default.ensures)
+      | then-joins+in-Some+in_ok-push w ↦ rw (w.links-is, w.in_ok-push.ensures.items) (links_step_some radio every s n _ _ c.loop-to.invariant w.in-Some.ensures.link)
+      | then-joins+in_default w ↦ rw w.links-is (links_step_none radio every s n _ c.loop-to.invariant w.in_default.ensures.link)
       | else-joins w ↦ rw w.links-is (links_step_none radio every s n _ c.loop-to.invariant (rw (far_off radio n s (sym joins ∙ w.if-joins.false)) refl))
     ]

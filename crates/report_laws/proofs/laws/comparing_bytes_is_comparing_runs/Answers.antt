@@ -3,6 +3,6 @@ use Rattle.report_laws.proofs.laws.comparing_bytes_is_comparing_runs.Goals as go
 
 pub returns : goal.returns
 returns c = record {
-  same = comparing_bytes c.text_determines_report.ensures;
-  whole = no_run_begins c.no_text_begins_another.ensures;
+  same = comparing_bytes c.text_determines_report.ensures.text_determines_report;
+  no_run_begins_another = no_run_begins c.no_text_begins_another.ensures.no_text_begins_another;
 }

@@ -2,4 +2,4 @@ use Rattle.serial_run.proofs.Counted.{late_copies_stay}
 use Rattle.serial_run.proofs.laws.late_copies_stay.Goals as goal
 
 pub returns : goal.returns
-returns c = late_copies_stay
+returns c = record { late_copies_stay = late_copies_stay }

@@ -2,4 +2,4 @@ use Rattle.serial_run.proofs.Stamped.{sends_are_stamped}
 use Rattle.serial_run.proofs.laws.sends_are_stamped.Goals as goal
 
 pub returns : goal.returns
-returns c = sends_are_stamped
+returns c = record { sends_are_stamped = sends_are_stamped }

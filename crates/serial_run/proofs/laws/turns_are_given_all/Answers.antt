@@ -2,4 +2,4 @@ use Rattle.serial_run.proofs.GivenAll.{turns_are_given_all}
 use Rattle.serial_run.proofs.laws.turns_are_given_all.Goals as goal
 
 pub returns : goal.returns
-returns c = turns_are_given_all
+returns c = record { turns_are_given_all = turns_are_given_all }

@@ -10,4 +10,4 @@ pub returns-clause-agenda : goal.returns-clause-agenda
 unfolding copies
 returns-clause-agenda c = λ items holds.
     subst (λ (fates : List Fate). Holds c.put_fates.new.self.buckets (items ++ map Packet (filter_map (copy_of c.args.sent.now) fates)))
-    (c.deref.ensures.value ∙ c.in_ok-fates.ensures) (c.in_ok-put_fates.ensures items holds)
+    (c.deref.ensures.value ∙ c.in_ok-fates.ensures.value) (c.in_ok-put_fates.ensures.adds items holds)

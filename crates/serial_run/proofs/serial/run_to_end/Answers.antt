@@ -12,10 +12,10 @@ use Rattle.serial_run.proofs.Reached.{reached_first, reached_next, inside_least,
 use Rattle.serial_run.proofs.serial.run_to_end.Goals as goal
 
 pub turns-init : goal.turns-init
-turns-init c = record { whole = c.requires.whole; reached = reached_first (net_of c.args.net.now) c.args.engine.now c.requires.boot }
+turns-init c = record { whole = c.requires.is_whole; reached = reached_first (net_of c.args.net.now) c.args.engine.now c.requires.boot }
 
-pub turn-requires-clause-there : goal.turn-requires-clause-there
-turn-requires-clause-there c =
+pub turn-requires-clause-mote_exists : goal.turn-requires-clause-mote_exists
+turn-requires-clause-mote_exists c =
     let at = c.turns.invariant.reached in
     inside_least (net_of c.args.net.now) c.in-Some.moment c.in-Some.number at.state at.kept (c.in-Some.ensures.least at.state.agenda at.stands.agenda)
 
@@ -50,7 +50,7 @@ turns-preserved c =
     let fault : medium_fault n.radio ≡ None = ap medium_fault (sym c.medium.ensures.value) ∙ c.lookahead-ahead.ensures.no_fault in
     let placed : length n.radio.places ≡ length n.motes = ap (λ (r : Radio). length r.places) (sym c.medium.ensures.value) ∙ c.medium.ensures.placed in
     record {
-      whole = c.in_ok-turn.ensures.whole;
+      whole = c.in_ok-turn.ensures.is_whole;
       reached = reached_next n (system_is n fault placed) c.turns.engine c.turn.new.self c.in-Some.moment c.in-Some.number c.end-end.result c.end-end.ensures.value at
           (c.in-Some.ensures.least at.state.agenda at.stands.agenda) c.if-moment-end.false c.in_ok-turn.ensures.stands;
     }

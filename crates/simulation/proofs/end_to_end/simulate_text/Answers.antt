@@ -9,12 +9,12 @@ use Rattle.simulation.proofs.end_to_end.simulate_text.Goals as goal
 pub returns-in_err-net-clause-answer : goal.returns-in_err-net-clause-answer
 returns-in_err-net-clause-answer g c =
     let p = err_from_is_err_and c.from_residual.result c.from_residual.ensures.1 in
-    rw (p.1, p.2) (c.requires, refused c.args.text.now c.in_err-net.field-0.0 c.in_err-net.ensures)
+    rw (p.1, p.2) (c.requires.is_text, refused c.args.text.now c.in_err-net.field-0.0 c.in_err-net.ensures.answers)
 
 pub returns-in_err-report-clause-answer : goal.returns-in_err-report-clause-answer
 returns-in_err-report-clause-answer g c =
     let p = err_from_is_err_and c.from_residual-in_err-report.result c.from_residual-in_err-report.ensures.1 in
-    rw (p.1, p.2) (scenario_of c.args.text.now (net_of c.in_ok-net.net) c.requires c.in_ok-net.ensures, rw c.in_err-report.ensures.err tt)
+    rw (p.1, p.2) (scenario_of c.args.text.now (net_of c.in_ok-net.net) c.requires.is_text c.in_ok-net.ensures.answers, rw c.in_err-report.ensures.err tt)
 
 pub returns-in_err-write_report-clause-answer : goal.returns-in_err-write_report-clause-answer
 returns-in_err-write_report-clause-answer g c =
@@ -22,12 +22,12 @@ returns-in_err-write_report-clause-answer g c =
     rw (p.1, p.2) (
       tt,
       reported (AppendsFront (g.W.Write.contents c.args.writer.now) (g.W.Write.contents c.write_report.new.writer)) c.args.text.now (net_of c.in_ok-net.net) (report_of c.in_ok-report.report)
-          c.requires c.in_ok-net.ensures c.in_ok-report.ensures.report c.in_err-write_report.ensures,
+          c.requires.is_text c.in_ok-net.ensures.answers c.in_ok-report.ensures.report c.in_err-write_report.ensures.writes,
     )
 
 pub returns-clause-answer : goal.returns-clause-answer
 returns-clause-answer g c = (
   tt,
   reported (Appends (g.W.Write.contents c.args.writer.now) (g.W.Write.contents c.write_report.new.writer)) c.args.text.now (net_of c.in_ok-net.net) (report_of c.in_ok-report.report)
-      c.requires c.in_ok-net.ensures c.in_ok-report.ensures.report c.in_ok-write_report.ensures,
+      c.requires.is_text c.in_ok-net.ensures.answers c.in_ok-report.ensures.report c.in_ok-write_report.ensures.writes,
 )

@@ -28,18 +28,24 @@ lines_first n r ts log is are =
     ∙ ap (λ (l : List LogLine). concat (all_lines n ts l)) (sym are))
 
 pub returns-in_err-page : goal.returns-in_err-page
-returns-in_err-page g c =
-    let p = err_from_is_err_and c.from_residual.result c.from_residual.ensures.1 in
-    rw p.1 (written_front _ _ _ (motes_text 0 (net_of c.args.net.now).motes (report_of c.args.report.now).traces) 109 _ (written_none _ _))
+returns-in_err-page g c = record {
+  writes =
+      let p = err_from_is_err_and c.from_residual.result c.from_residual.ensures.1 in
+      rw p.1 (written_front _ _ _ (motes_text 0 (net_of c.args.net.now).motes (report_of c.args.report.now).traces) 109 _ (written_none _ _));
+}
 
 pub returns-in_err-write_traces : goal.returns-in_err-write_traces
-returns-in_err-write_traces g c =
-    let p = err_from_is_err_and c.from_residual-in_err-write_traces.result c.from_residual-in_err-write_traces.ensures.1 in
-    rw p.1 (stopped_before _ _ _ _ [] (concat (all_lines (net_of c.args.net.now) c.deref.result.now c.deref-2.result.now)) 108 _ _ (written_none _ _)
-    (lines_first (net_of c.args.net.now) c.args.report.now c.deref.result.now c.deref-2.result.now c.deref.ensures.value c.deref-2.ensures.value) c.in_err-write_traces.ensures)
+returns-in_err-write_traces g c = record {
+  writes =
+      let p = err_from_is_err_and c.from_residual-in_err-write_traces.result c.from_residual-in_err-write_traces.ensures.1 in
+      rw p.1 (stopped_before _ _ _ _ [] (concat (all_lines (net_of c.args.net.now) c.deref.result.now c.deref-2.result.now)) 108 _ _ (written_none _ _)
+      (lines_first (net_of c.args.net.now) c.args.report.now c.deref.result.now c.deref-2.result.now c.deref.ensures.value c.deref-2.ensures.value) c.in_err-write_traces.ensures.prints);
+}
 
 pub returns : goal.returns
-returns g c =
-    written_then _ _ _ c.write_end.result _ _
-    (printed_next _ _ _ _ [] [] _ _ _ (written_none _ _) (lines_first (net_of c.args.net.now) c.args.report.now c.deref.result.now c.deref-2.result.now c.deref.ensures.value c.deref-2.ensures.value) c.in_ok-write_traces.ensures)
-    (subst (λ (l : List ℕ). Writes (g.W.Write.contents c.write_traces.new.writer) (g.W.Write.contents c.write_end.new.writer) c.write_end.result (l ++ left_text c.args.report.now.left)) c.in_ok-page.ensures c.write_end.ensures)
+returns g c = record {
+  writes =
+      written_then _ _ _ c.write_end.result _ _
+      (printed_next _ _ _ _ [] [] _ _ _ (written_none _ _) (lines_first (net_of c.args.net.now) c.args.report.now c.deref.result.now c.deref-2.result.now c.deref.ensures.value c.deref-2.ensures.value) c.in_ok-write_traces.ensures.prints)
+      (subst (λ (l : List ℕ). Writes (g.W.Write.contents c.write_traces.new.writer) (g.W.Write.contents c.write_end.new.writer) c.write_end.result (l ++ left_text c.args.report.now.left)) c.in_ok-page.ensures.empty c.write_end.ensures.writes);
+}

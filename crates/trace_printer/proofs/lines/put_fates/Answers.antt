@@ -9,7 +9,7 @@ abbrev no_fate : Fate
 no_fate = record { to = 0; at = None }
 
 pub loop-fate-preserved : goal.loop-fate-preserved
-loop-fate-preserved c = spaced_more fate_word c.args.fates.now c.loop-fate.fate-index no_fate c.loop-fate.page _ _ (omega arith) c.in_ok-put_fate.ensures c.loop-fate.invariant
+loop-fate-preserved c = spaced_more fate_word c.args.fates.now c.loop-fate.fate-index no_fate c.loop-fate.page _ _ (omega arith) c.in_ok-put_fate.ensures.appended c.loop-fate.invariant
 
 pub returns : goal.returns
-returns c = spaced_end fate_word c.args.fates.now c.loop-fate.fate-index c.loop-fate.page _ (omega arith) c.loop-fate.invariant
+returns c = record { appended = spaced_end fate_word c.args.fates.now c.loop-fate.fate-index c.loop-fate.page _ (omega arith) c.loop-fate.invariant }

@@ -8,22 +8,26 @@ use Rattle.trace_printer.proofs.TraceLines.{packets_some, part_first, part_later
 use Rattle.trace_printer.proofs.numbered.put_medium_part.Goals as goal
 
 pub returns-then-skip-gt0 : goal.returns-then-skip-gt0
-returns-then-skip-gt0 c =
-    let log = c.args.log.now in
-    subst (λ (l : List ℕ). OnOk c.put_packets.result (c.put_packets.new.page ≡ c.args.page.now ++ l))
-    (part_later packet_text (line_of (codes "medium") []) (map told_line log) (map told_line c.some_of.result.now) c.args.skip c.args.count (omega arith)
-    (packets_some log c.some_of.result.now (c.args.skip - 1) c.args.count c.some_of.ensures))
-    c.put_packets.ensures
+returns-then-skip-gt0 c = record {
+  appended =
+      let log = c.args.log.now in
+      subst (λ (l : List ℕ). OnOk c.put_packets.result (c.put_packets.new.page ≡ c.args.page.now ++ l))
+      (part_later packet_text (line_of (codes "medium") []) (map told_line log) (map told_line c.some_of.result.now) c.args.skip c.args.count (omega arith)
+      (packets_some log c.some_of.result.now (c.args.skip - 1) c.args.count c.some_of.ensures.part))
+      c.put_packets.ensures.appended;
+}
 
 pub returns : goal.returns
-returns c =
-    let log = c.args.log.now in
-    let head = line_of (codes "medium") [] in
-    let some = c.some_of-2.result.now in
-    let none : 0 ≡ c.args.skip = omega arith in
-    let text : head ++ flat_map packet_text (map told_line some) ≡ part_text (medium_lines (map told_line log)) c.args.skip c.args.count =
-    part_first packet_text head (map told_line log) (map told_line some) c.args.count (omega arith) (packets_some log some 0 (c.args.count - 1) c.some_of-2.ensures)
-    ∙ ap (λ n. part_text (medium_lines (map told_line log)) n c.args.count) none in
-    subst (λ (l : List ℕ). OnOk c.put_packets-2.result (c.put_packets-2.new.page ≡ l))
-    (ap (λ (l : List ℕ). l ++ flat_map packet_text (map told_line some)) c.in_ok-put_medium.ensures ∙ append_assoc c.args.page.now head (flat_map packet_text (map told_line some)) ∙ ap (λ (l : List ℕ). c.args.page.now ++ l) text)
-    c.put_packets-2.ensures
+returns c = record {
+  appended =
+      let log = c.args.log.now in
+      let head = line_of (codes "medium") [] in
+      let some = c.some_of-2.result.now in
+      let none : 0 ≡ c.args.skip = omega arith in
+      let text : head ++ flat_map packet_text (map told_line some) ≡ part_text (medium_lines (map told_line log)) c.args.skip c.args.count =
+      part_first packet_text head (map told_line log) (map told_line some) c.args.count (omega arith) (packets_some log some 0 (c.args.count - 1) c.some_of-2.ensures.part)
+      ∙ ap (λ n. part_text (medium_lines (map told_line log)) n c.args.count) none in
+      subst (λ (l : List ℕ). OnOk c.put_packets-2.result (c.put_packets-2.new.page ≡ l))
+      (ap (λ (l : List ℕ). l ++ flat_map packet_text (map told_line some)) c.in_ok-put_medium.ensures.appended ∙ append_assoc c.args.page.now head (flat_map packet_text (map told_line some)) ∙ ap (λ (l : List ℕ). c.args.page.now ++ l) text)
+      c.put_packets-2.ensures.appended;
+}

@@ -8,7 +8,7 @@ use Rattle.trace_printer.proofs.numbered.put_packets.Goals as goal
 pub loop-line-preserved : goal.loop-line-preserved
 loop-line-preserved c =
     mapped_more packet_text told_line c.args.log.now c.loop-line.line-index c.line-item.result c.loop-line.page _ _ (omega arith)
-    (c.in_ok-put_packet.ensures ∙ ap (λ (l : LogLine). c.loop-line.page ++ packet_text (told_line l)) c.line-item.is) c.loop-line.invariant
+    (c.in_ok-put_packet.ensures.appended ∙ ap (λ (l : LogLine). c.loop-line.page ++ packet_text (told_line l)) c.line-item.is) c.loop-line.invariant
 
 pub returns : goal.returns
-returns c = mapped_end packet_text told_line c.args.log.now c.loop-line.line-index c.loop-line.page _ (omega arith) c.loop-line.invariant
+returns c = record { appended = mapped_end packet_text told_line c.args.log.now c.loop-line.line-index c.loop-line.page _ (omega arith) c.loop-line.invariant }

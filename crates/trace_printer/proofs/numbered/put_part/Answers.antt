@@ -20,6 +20,6 @@ loop-mote-preserved c =
     let many : length lines ≡ c.len-lines.result + 1 = omega (arith, length-map trace f, c.deref.ensures.len, c.len-lines.ensures) in
     part_next c.loop-mote.page c.put_mote_part.new.page (lines_from i (drop i ms) (map lines_in (drop i ts))) lines (lines_from (i + 1) (drop (i + 1) ms) (map lines_in (drop (i + 1) ts))) _
     c.loop-mote.before c.loop-mote.left c.saturating_sub-before.result c.saturating_sub-left.result
-    (lines_next i ms ts i c.index-traces-from.result c.program_name.result.now (tree_of c.program-program.result.now) trace (omega arith) c.requires c.program_name.ensures c.program-program.ensures
+    (lines_next i ms ts i c.index-traces-from.result c.program_name.result.now (tree_of c.program-program.result.now) trace (omega arith) c.requires.traces c.program_name.ensures.name c.program-program.ensures.tree
     (c.deref.ensures.value ∙ ap (λ t. t.items) c.index-traces-from.is ∙ ap (λ j. (get_or ts j c.index-traces-from.result).items) c.from.ensures))
-    c.in_ok-put_mote_part.ensures (omega (arith, many, c.saturating_sub-before.ensures)) (omega (arith, many, c.saturating_sub.ensures, c.saturating_sub-left.ensures)) c.loop-mote.invariant
+    c.in_ok-put_mote_part.ensures.appended (omega (arith, many, c.saturating_sub-before.ensures)) (omega (arith, many, c.saturating_sub.ensures, c.saturating_sub-left.ensures)) c.loop-mote.invariant

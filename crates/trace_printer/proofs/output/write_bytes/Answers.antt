@@ -10,8 +10,10 @@ pub loop-rest-preserved : goal.loop-rest-preserved
 loop-rest-preserved g c = written_more _ _ _ _ _ _ _ c.loop-rest.invariant c.in-Ok.ensures.bytes (grind (arith, common_steps))
 
 pub returns-in-Ok-eq0 : goal.returns-in-Ok-eq0
-returns-in-Ok-eq0 g c =
-    written_stops _ _ _ _ (written_more _ _ _ _ _ c.loop-rest.rest.now _ c.loop-rest.invariant c.in-Ok-eq0.ensures.bytes (grind (arith, common_steps))) (sym c.is_empty.ensures ∙ c.loop-rest-test.true)
+returns-in-Ok-eq0 g c = record {
+  writes =
+      written_stops _ _ _ _ (written_more _ _ _ _ _ c.loop-rest.rest.now _ c.loop-rest.invariant c.in-Ok-eq0.ensures.bytes (grind (arith, common_steps))) (sym c.is_empty.ensures ∙ c.loop-rest-test.true);
+}
 
 pub returns-in-Err : goal.returns-in-Err
-returns-in-Err g c = written_stops _ _ _ _ (written_kept _ _ _ _ _ c.loop-rest.invariant c.in-Err.ensures.bytes) (sym c.is_empty.ensures ∙ c.loop-rest-test.true)
+returns-in-Err g c = record { writes = written_stops _ _ _ _ (written_kept _ _ _ _ _ c.loop-rest.invariant c.in-Err.ensures.bytes) (sym c.is_empty.ensures ∙ c.loop-rest-test.true) }

@@ -3,6 +3,8 @@ use Rattle.trace_printer.proofs.Written.{written_none}
 use Rattle.trace_printer.proofs.report.print_head.Goals as goal
 
 pub returns-in_err-put_head : goal.returns-in_err-put_head
-returns-in_err-put_head g c =
-    let p = err_from_is_err_and c.from_residual.result c.from_residual.ensures.1 in
-    rw p.1 (_, written_none _ _)
+returns-in_err-put_head g c = record {
+  prints =
+      let p = err_from_is_err_and c.from_residual.result c.from_residual.ensures.1 in
+      rw p.1 (_, written_none _ _);
+}

@@ -14,12 +14,14 @@ abbrev no_line : Line
 no_line = record { at = 0; what = Start (Own 0) }
 
 pub returns-in_err-write_if_full : goal.returns-in_err-write_if_full
-returns-in_err-write_if_full g c =
-    let p = err_from_is_err_and c.from_residual-in_err-write_if_full.result c.from_residual-in_err-write_if_full.ensures.1 in
-    rw p.1 (stopped_next _ _ _ _ c.loop-line.page _ _ _ c.loop-line.invariant (flat_map-drop (line_text (tree_of c.args.program.now)) c.args.trace.now c.loop-line.line-index no_line (omega arith))
-    (put_stopped _ _ c.loop-line.page c.put_trace_line.new.page _ c.in_ok-put_trace_line.ensures c.in_err-write_if_full.ensures))
+returns-in_err-write_if_full g c = record {
+  prints =
+      let p = err_from_is_err_and c.from_residual-in_err-write_if_full.result c.from_residual-in_err-write_if_full.ensures.1 in
+      rw p.1 (stopped_next _ _ _ _ c.loop-line.page _ _ _ c.loop-line.invariant (flat_map-drop (line_text (tree_of c.args.program.now)) c.args.trace.now c.loop-line.line-index no_line (omega arith))
+      (put_stopped _ _ c.loop-line.page c.put_trace_line.new.page _ c.in_ok-put_trace_line.ensures.appended c.in_err-write_if_full.ensures.prints));
+}
 
 pub loop-line-preserved : goal.loop-line-preserved
 loop-line-preserved g c =
     printed_next _ _ _ _ c.loop-line.page _ _ _ _ c.loop-line.invariant (flat_map-drop (line_text (tree_of c.args.program.now)) c.args.trace.now c.loop-line.line-index no_line (omega arith))
-    (put_printed _ _ c.loop-line.page c.put_trace_line.new.page _ _ c.in_ok-put_trace_line.ensures c.in_ok-write_if_full.ensures)
+    (put_printed _ _ c.loop-line.page c.put_trace_line.new.page _ _ c.in_ok-put_trace_line.ensures.appended c.in_ok-write_if_full.ensures.prints)

@@ -12,13 +12,17 @@ medium_next : (r : Report) (log : List LogLine) → log ≡ r.medium.items → m
 medium_next r log is = ap (λ (l : List LogLine). medium_text (map told_line l) ++ left_text r.left) (sym is)
 
 pub returns-in_err-print_medium : goal.returns-in_err-print_medium
-returns-in_err-print_medium g c =
-    let p = err_from_is_err_and c.from_residual.result c.from_residual.ensures.1 in
-    rw p.1 (stopped_before _ _ _ _ c.args.page.now (medium_text (map told_line c.deref.result.now)) 108 _ _ (written_none _ _)
-    (medium_next c.args.report.now c.deref.result.now c.deref.ensures.value) c.in_err-print_medium.ensures)
+returns-in_err-print_medium g c = record {
+  writes =
+      let p = err_from_is_err_and c.from_residual.result c.from_residual.ensures.1 in
+      rw p.1 (stopped_before _ _ _ _ c.args.page.now (medium_text (map told_line c.deref.result.now)) 108 _ _ (written_none _ _)
+      (medium_next c.args.report.now c.deref.result.now c.deref.ensures.value) c.in_err-print_medium.ensures.prints);
+}
 
 pub returns : goal.returns
-returns g c =
-    written_then _ _ _ c.write_end.result _ _
-    (printed_next _ _ _ _ c.args.page.now _ _ _ _ (written_none _ _) (medium_next c.args.report.now c.deref.result.now c.deref.ensures.value) c.in_ok-print_medium.ensures)
-    c.write_end.ensures
+returns g c = record {
+  writes =
+      written_then _ _ _ c.write_end.result _ _
+      (printed_next _ _ _ _ c.args.page.now _ _ _ _ (written_none _ _) (medium_next c.args.report.now c.deref.result.now c.deref.ensures.value) c.in_ok-print_medium.ensures.prints)
+      c.write_end.ensures.writes;
+}

@@ -7,11 +7,11 @@ use Rattle.trace_printer.proofs.round.cut.Goals as goal
 pub loop-others-init : goal.loop-others-init
 loop-others-init c =
     let none : c.args.workers - 0 ≡ c.args.workers = omega arith in
-    let first = shares_at_first c.args.count c.args.workers c.requires.some in
+    let first = shares_at_first c.args.count c.args.workers c.requires.positive in
     record {
       adjoin = rw c.in_ok-parts.ensures.items refl;
       sum = refl;
-      last = λ last. omega (arith, last, c.requires.some);
+      last = λ last. omega (arith, last, c.requires.positive);
       shares = rw c.in_ok-parts.ensures.items tt;
       low = rw none first.0;
       high = rw none first.1;

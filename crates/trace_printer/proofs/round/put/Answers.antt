@@ -13,11 +13,13 @@ pub fork_join-requires-sync-W : goal.fork_join-requires-sync-W
 fork_join-requires-sync-W g c κs within =
     record { shared = λ x b o. (traces_sync (record { mir = erased; lft = κs.1.1.1.1.0 })).shared x b o }
 
-pub fork_join-requires-after_bounds : goal.fork_join-requires-after_bounds
-fork_join-requires-after_bounds g c κs within = adjoin_ready c.args.traces.now c.args.skip (c.args.skip + c.args.count) c.in_ok-parts.parts.items c.requires.traces c.in_ok-parts.ensures.adjoin
+pub fork_join-requires-clause-ready : goal.fork_join-requires-clause-ready
+fork_join-requires-clause-ready g c κs within = adjoin_ready c.args.traces.now c.args.skip (c.args.skip + c.args.count) c.in_ok-parts.parts.items c.requires.traces c.in_ok-parts.ensures.adjoin
 
 pub returns : goal.returns
-returns g c =
-    IfOk-weaker c.fork_join.result (λ done. AllZip (IsPut c.args.traces.now) c.in_ok-parts.parts.items done.items) (λ parts. flat_map page_of parts.items ≡ part_text (lines_told c.args.traces.now) c.args.skip c.args.count)
-    (λ done zipped. put_text c.args.traces.now c.args.skip (c.args.skip + c.args.count) c.args.count c.in_ok-parts.parts.items done.items c.in_ok-parts.ensures.adjoin refl zipped)
-    c.fork_join.ensures.makes
+returns g c = record {
+  text =
+      IfOk-weaker c.fork_join.result (λ done. AllZip (IsPut c.args.traces.now) c.in_ok-parts.parts.items done.items) (λ parts. flat_map page_of parts.items ≡ part_text (lines_told c.args.traces.now) c.args.skip c.args.count)
+      (λ done zipped. put_text c.args.traces.now c.args.skip (c.args.skip + c.args.count) c.args.count c.in_ok-parts.parts.items done.items c.in_ok-parts.ensures.adjoin refl zipped)
+      c.fork_join.ensures.makes;
+}

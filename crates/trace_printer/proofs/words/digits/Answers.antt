@@ -12,5 +12,5 @@ loop-left-preserved c = omega (arith, length_step_wide c.loop-left.left c.loop-l
 pub returns-clause-value : goal.returns-clause-value
 returns-clause-value c = omega (arith, length_one c.loop-left.left c.loop-left-test.false, c.loop-left.invariant)
 
-pub returns-clause-few : goal.returns-clause-few
-returns-clause-few c = omega (arith, length-decimal-le 20 c.args.number (omega arith) (omega arith) c.ranges.number.fits, length_one c.loop-left.left c.loop-left-test.false, c.loop-left.invariant)
+pub returns-clause-bounded : goal.returns-clause-bounded
+returns-clause-bounded c = omega (arith, length-decimal-le 20 c.args.number (omega arith) (omega arith) c.ranges.number.fits, length_one c.loop-left.left c.loop-left-test.false, c.loop-left.invariant)

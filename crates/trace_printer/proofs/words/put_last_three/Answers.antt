@@ -10,4 +10,4 @@ returns-clause-put c =
     let is = decimal_hundred n in
     let three : length (decimal (100 + n % 100)) ≡ 3 = ap length is in
     let end : c.put_short_number.result ≡ at + 3 = omega arith in
-    rw c.last_digit.ensures (put_anew at (at + 3) c.args.room.now c.put_short_number.new.room 49 _ _ (omega arith) (omega arith) (rw (end, is) at c.put_short_number.ensures.put))
+    rw c.last_digit.ensures.digit (put_anew at (at + 3) c.args.room.now c.put_short_number.new.room 49 _ _ (omega arith) (omega arith) (rw (end, is) at c.put_short_number.ensures.put))

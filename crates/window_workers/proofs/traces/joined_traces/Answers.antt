@@ -10,7 +10,7 @@ pub loop-mote-preserved : goal.loop-mote-preserved
 loop-mote-preserved c =
     let inv = c.loop-mote.invariant in
     let mote = c.loop-mote.mote in
-    let t = c.take_trace-trace.ensures in
+    let t = c.take_trace-trace.ensures.takes_trace in
     let grown = ap length c.in_ok-push.ensures.items ∙ length-append c.loop-mote.traces.items _ in
     record {
       count = (let e = inv.count in omega arith);

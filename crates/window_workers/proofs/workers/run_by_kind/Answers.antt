@@ -12,5 +12,5 @@ run_marked-ran-requires-clause-marked g c κs within = subst (λ s. Each (IsFor 
 pub run_marked-ran-requires-clause-ready : goal.run_marked-ran-requires-clause-ready
 run_marked-ran-requires-clause-ready g c κs within = c.requires.ready
 
-pub run_group-ran-requires-clause-few : goal.run_group-ran-requires-clause-few
-run_group-ran-requires-clause-few g c κs within = c.requires.ready.few
+pub run_group-ran-requires-clause-inboxes_bounded : goal.run_group-ran-requires-clause-inboxes_bounded
+run_group-ran-requires-clause-inboxes_bounded g c κs within = c.requires.ready.few

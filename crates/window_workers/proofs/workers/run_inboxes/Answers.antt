@@ -46,7 +46,7 @@ are_fresh pairs inboxes takers e f fresh =
 pub new-requires-clause-cut : goal.new-requires-clause-cut
 new-requires-clause-cut g c =
     (is_cut c.motes.result (length (net_of c.args.net.now).motes) c.len.result c.args.pairs.items c.in-Ok.inboxes.items c.as_slice-of.result.now
-    (sym c.fault_of.ensures ∙ c.in_default.is) c.motes.ensures.value (c.len.ensures ∙ pairs_long c.args.pairs) c.in-Ok.ensures.inboxes).1
+    (sym c.fault_of.ensures.value ∙ c.in_default.is) c.motes.ensures.value (c.len.ensures ∙ pairs_long c.args.pairs) c.in-Ok.ensures.inboxes).1
 
 pub new-requires-clause-fresh : goal.new-requires-clause-fresh
 new-requires-clause-fresh g c = are_fresh c.args.pairs.items c.in-Ok.inboxes.items c.in-Ok.takers.items c.in-Ok.ensures.inboxes c.in-Ok.ensures.takers c.requires.fresh
@@ -60,7 +60,7 @@ run_by_kind-requires-clause-ready g c κs within =
     let takers = c.in-Ok-new.ensures.inboxes.1 ∙ c.in-Ok.ensures.takers in
     let fits : (length group.inboxes.items ≤ 16) × IsCut (length n.motes) (length group.inboxes.items) of =
     is_cut c.motes.result (length n.motes) c.len.result c.args.pairs.items group.inboxes.items of
-    (sym c.fault_of.ensures ∙ c.in_default.is) c.motes.ensures.value (c.len.ensures ∙ pairs_long c.args.pairs) inboxes in
+    (sym c.fault_of.ensures.value ∙ c.in_default.is) c.motes.ensures.value (c.len.ensures ∙ pairs_long c.args.pairs) inboxes in
     record {
       few = fits.0;
       cut = fits.1;

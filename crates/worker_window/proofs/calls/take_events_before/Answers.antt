@@ -5,21 +5,21 @@ use Rattle.worker_window.proofs.calls.take_events_before.Goals as goal
 use Rattle.worker_window.proofs.calls.take_events_before.Goals.{in-Some+then-moment-until, in_default}
 
 pub loop-moment-init : goal.loop-moment-init
-loop-moment-init c = λ items holds. none_yet c.args.until items c.new-calls.result.copies.items c.args.agenda.now.buckets holds c.new-calls.ensures
+loop-moment-init c = λ items holds. none_yet c.args.until items c.new-calls.result.copies.items c.args.agenda.now.buckets holds c.new-calls.ensures.empty
 
 pub loop-moment-smaller : goal.loop-moment-smaller
 loop-moment-smaller c =
-    let part = c.loop-moment.invariant c.requires.items c.requires.holds in
+    let part = c.loop-moment.invariant c.requires.has_items.items c.requires.has_items.holds in
     let fits = rw c.in-Some.is at c.first.type_inv in
     let low : c.in-Some.mote < 65536 = omega (arith, fits.1) in
-    bucket_later c.args.until c.requires.items c.loop-moment.calls.copies.items c.loop-moment.agenda.buckets c.take_due_into.new.self.buckets part c.in-Some.moment c.in-Some.mote
+    bucket_later c.args.until c.requires.has_items.items c.loop-moment.calls.copies.items c.loop-moment.agenda.buckets c.take_due_into.new.self.buckets part c.in-Some.moment c.in-Some.mote
     (c.in-Some.ensures.least part.rest part.holds) c.if-moment-until.false low (sym c.in-Some.ensures.first) (c.take_due_into.ensures.rest part.rest part.holds)
 
 pub loop-moment-preserved : goal.loop-moment-preserved
 loop-moment-preserved c = λ items holds.
     let part = c.loop-moment.invariant items holds in
     one_bucket c.args.until items c.loop-moment.calls.copies.items c.add.new.self.copies.items c.loop-moment.agenda.buckets c.take_due_into.new.self.buckets part c.in-Some.moment c.in-Some.mote
-    (c.in-Some.ensures.least part.rest part.holds) c.if-moment-until.false c.take_due_into.new.arrivals.items (c.in_ok-take_due_into.ensures.copies part.rest part.holds) (c.take_due_into.ensures.rest part.rest part.holds) (rw (sym c.deref.ensures.value) c.in_ok-add.ensures)
+    (c.in-Some.ensures.least part.rest part.holds) c.if-moment-until.false c.take_due_into.new.arrivals.items (c.in_ok-take_due_into.ensures.copies part.rest part.holds) (c.take_due_into.ensures.rest part.rest part.holds) (rw (sym c.deref.ensures.value) c.in_ok-add.ensures.added)
 
 pub returns-clause-taken : goal.returns-clause-taken
 returns-clause-taken c = λ items holds.

@@ -2,4 +2,4 @@ use Rattle.worker_window.proofs.AfterEarlier.{ends_with_its_wake}
 use Rattle.worker_window.proofs.laws.ends_with_its_wake.Goals as goal
 
 pub returns : goal.returns
-returns c = ends_with_its_wake
+returns c = record { ends_with_its_wake = ends_with_its_wake }

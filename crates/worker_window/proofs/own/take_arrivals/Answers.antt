@@ -13,16 +13,20 @@ loop-copy-preserved c =
     record {
       taken = c.push_reserved.ensures.items
           ∙ (ap (λ l. l ++ c.arrival.result ∷ []) (c.reserve.ensures.items ∙ c.loop-copy.invariant.taken)
-          ∙ (ap (λ a. map arrival_of (take i copies) ++ a ∷ []) c.arrival.ensures ∙ sym (ap (map arrival_of) (take_more copies i _ c.loop-copy-test.true) ∙ map-append arrival_of (take i copies) _)));
+          ∙ (ap (λ a. map arrival_of (take i copies) ++ a ∷ []) c.arrival.ensures.value ∙ sym (ap (map arrival_of) (take_more copies i _ c.loop-copy-test.true) ∙ map-append arrival_of (take i copies) _)));
       pass = pass_more (is_at c.args.moment) copies i _ c.loop-copy-test.true c.loop-copy.invariant.pass (eq-eqb _ _ c.if-copy-moment.false);
     }
 
 pub returns-then-copy-moment : goal.returns-then-copy-moment
-returns-then-copy-moment c =
-    c.loop-copy.invariant.taken
-    ∙ ap (map arrival_of) (sym (front_at (is_at c.args.moment) c.loop-copy.copy-index c.args.copies.now _ c.loop-copy-test.true c.loop-copy.invariant.pass (ne_eqb _ _ c.if-copy-moment.true)))
+returns-then-copy-moment c = record {
+  arrivals =
+      c.loop-copy.invariant.taken
+      ∙ ap (map arrival_of) (sym (front_at (is_at c.args.moment) c.loop-copy.copy-index c.args.copies.now _ c.loop-copy-test.true c.loop-copy.invariant.pass (ne_eqb _ _ c.if-copy-moment.true)));
+}
 
 pub returns : goal.returns
-returns c =
-    let all = take_all c.loop-copy.copy-index c.args.copies.now c.loop-copy-test.false in
-    c.loop-copy.invariant.taken ∙ ap (map arrival_of) (all ∙ sym (front_all (is_at c.args.moment) c.args.copies.now (subst (Pass (is_at c.args.moment)) all c.loop-copy.invariant.pass)))
+returns c = record {
+  arrivals =
+      let all = take_all c.loop-copy.copy-index c.args.copies.now c.loop-copy-test.false in
+      c.loop-copy.invariant.taken ∙ ap (map arrival_of) (all ∙ sym (front_all (is_at c.args.moment) c.args.copies.now (subst (Pass (is_at c.args.moment)) all c.loop-copy.invariant.pass)));
+}

@@ -26,7 +26,7 @@ loop-sent-preserved c =
     let i = c.loop-sent.sent-index in
     let sent = get_or sends i none in
     let inv = c.loop-sent.invariant in
-    let told = c.in_ok-fates.ensures in
+    let told = c.in_ok-fates.ensures.value in
     let given : filter_map (copy_of sent) c.deref.result.now ≡ made sent = ap (filter_map (copy_of sent)) (c.deref.ensures.value ∙ told) in
     let before = filter (is_for_others own) (flat_map made (take i sends)) in
     let line : LogLine = record { sent = sent; fates = c.in_ok-fates.fates } in

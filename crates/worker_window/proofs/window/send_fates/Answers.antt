@@ -39,10 +39,10 @@ returns-clause-own c = λ items holds.
 pub returns-then-are_own-clause-own : goal.returns-then-are_own-clause-own
 returns-then-are_own-clause-own c =
     subst (λ l. OnOk c.put_fates.result (Adds c.args.agenda.now.buckets c.put_fates.new.self.buckets (map Packet l)))
-    (sym (all_own (is_own c.args.of.now c.args.worker) c.args.sent.now c.args.fates.now (sym c.are_own.ensures ∙ c.if-are_own.true))) c.put_fates.ensures
+    (sym (all_own (is_own c.args.of.now c.args.worker) c.args.sent.now c.args.fates.now (sym c.are_own.ensures.value ∙ c.if-are_own.true))) c.put_fates.ensures.adds
 
 pub returns-then-are_own-clause-outgoing : goal.returns-then-are_own-clause-outgoing
 returns-then-are_own-clause-outgoing c =
     on_ok c.put_fates.result
-    (sym (ap (λ l. c.args.outgoing.now.items ++ l) (none_away (is_own c.args.of.now c.args.worker) c.args.sent.now c.args.fates.now (sym c.are_own.ensures ∙ c.if-are_own.true))
+    (sym (ap (λ l. c.args.outgoing.now.items ++ l) (none_away (is_own c.args.of.now c.args.worker) c.args.sent.now c.args.fates.now (sym c.are_own.ensures.value ∙ c.if-are_own.true))
     ∙ append-nil c.args.outgoing.now.items))

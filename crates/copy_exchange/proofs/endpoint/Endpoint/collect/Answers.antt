@@ -4,7 +4,7 @@ use Rattle.copy_exchange.proofs.endpoint.Endpoint.collect.Goals as goal
 
 pub returns-clause-collects : goal.returns-clause-collects
 returns-clause-collects g c =
-    let known = c.known-known.ensures in
+    let known = c.known-known.ensures.count in
     let later = c.requires.endpoint.orderly.later in
     let told = c.drain.ensures in
     let after = c.drain.result in
@@ -14,7 +14,7 @@ returns-clause-collects g c =
 
 pub returns-clause-endpoint : goal.returns-clause-endpoint
 returns-clause-endpoint g c =
-    let known = c.known-known.ensures in
+    let known = c.known-known.ensures.count in
     let later = c.requires.endpoint.orderly.later in
     let told = c.drain.ensures in
     let after = c.drain.result in

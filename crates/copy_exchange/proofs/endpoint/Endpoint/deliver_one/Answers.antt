@@ -11,10 +11,12 @@ unreachable-requires g c =
     never_none c.args.inboxes.now c.args.of.now c.args.self.now c.args.copy c.from-to.result c.from.result c.requires.on_inboxes c.requires.leaves c.from.ensures c.from-to.ensures c.index_mut.result.now c.index_mut.ensures.value c.in_default.is
 
 pub push_copy-requires : goal.push_copy-requires
-push_copy-requires g c =
-    let there = sender_there c.args.inboxes.now c.args.of.now c.args.self.now c.args.copy c.from-to.result c.from.result c.requires.on_inboxes c.requires.leaves c.from.ensures c.from-to.ensures c.index-inboxes-to.result c.index_mut.result.now c.index-inboxes-to.is c.index_mut.ensures.value in
-    let P : Option SenderView → Type 0 = λ s. IsSomeAnd s (λ sender. sender.inbox ≡ c.index-inboxes-to.result) in
-    subst P c.in-Some.is there
+push_copy-requires g c = record {
+  inbox =
+      let there = sender_there c.args.inboxes.now c.args.of.now c.args.self.now c.args.copy c.from-to.result c.from.result c.requires.on_inboxes c.requires.leaves c.from.ensures c.from-to.ensures c.index-inboxes-to.result c.index_mut.result.now c.index-inboxes-to.is c.index_mut.ensures.value in
+      let P : Option SenderView → Type 0 = λ s. IsSomeAnd s (λ sender. sender.inbox ≡ c.index-inboxes-to.result) in
+      subst P c.in-Some.is there;
+}
 
 -- the item that was pushed, and its sender
 told : (g : _) (c : In_ok-map_err g) → (c.push_copy.new.sender.state ≡ after_pushing c.in-Some.sender.state (Packet c.args.copy)) × (Some c.in-Some.sender ≡ get_or c.args.self.now.senders.items c.from-to.result (Some c.in-Some.sender))

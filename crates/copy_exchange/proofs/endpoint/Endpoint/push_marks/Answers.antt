@@ -5,8 +5,8 @@ use Rattle.copy_exchange.proofs.endpoint.Endpoint.push_marks.Goals as goal
 pub loop-to-init : goal.loop-to-init
 loop-to-init g c = record { on_inboxes = c.requires.on_inboxes; marks = c.requires.marked; marked = marked_none c.args.window c.args.self.now }
 
-pub push_mark_to-requires-clause-there : goal.push_mark_to-requires-clause-there
-push_mark_to-requires-clause-there g c =
+pub push_mark_to-requires-clause-in_range : goal.push_mark_to-requires-clause-in_range
+push_mark_to-requires-clause-in_range g c =
     let count = c.loop-to.invariant.on_inboxes.count in
     let inside = c.loop-to-test.true in
     omega arith

@@ -25,21 +25,21 @@ count_taken-gathered-requires-clause-made g c =
     let told = c.in_ok-item.ensures.rule in
     next_made c.taker.inside.pass.me.view.client c.taker.inside.first c.taker.inside.counts.items c.taker.inside.known c.in_ok-item.item told.0.1.0 c.taker.invariant.0 told.0.1.1
 
-pub count_taken-gathered-requires-clause-few : goal.count_taken-gathered-requires-clause-few
-count_taken-gathered-requires-clause-few g c =
+pub count_taken-gathered-requires-clause-can_count : goal.count_taken-gathered-requires-clause-can_count
+count_taken-gathered-requires-clause-can_count g c =
     let told = c.in_ok-item.ensures.rule in
     next_few c.taker.inside.pass.me.view.client c.taker.inside.first c.taker.inside.counts.items c.taker.inside.known c.in_ok-item.item told.0.1.0 c.taker.invariant.0 told.0.1.1
 
 pub overflow_sub-taker : goal.overflow_sub-taker
 overflow_sub-taker g c =
     let told = c.in_ok-item.ensures.rule in
-    next_down c.taker.inside.pass.me.view.client c.taker.inside.first _ c.taker.inside.known c.in_ok-item.item told.0.1.0 c.taker.invariant.0 told.0.1.1 _ _ _ c.count_taken-gathered.ensures c.from.ensures
+    next_down c.taker.inside.pass.me.view.client c.taker.inside.first _ c.taker.inside.known c.in_ok-item.item told.0.1.0 c.taker.invariant.0 told.0.1.1 _ _ _ c.count_taken-gathered.ensures.counts_taken c.from.ensures
 
 pub invariant_of-taker-2 : goal.invariant_of-taker-2
 invariant_of-taker-2 g c =
     let told = c.in_ok-item.ensures.rule in
     let queue = c.in_ok-item.ensures.queue in
-    (keeps_taken c.taker.inside.pass.me.view.client c.taker.inside.first _ c.taker.inside.known c.in_ok-item.item told.0.1.0 c.taker.invariant.0 told.0.1.1 _ _ _ c.count_taken-gathered.ensures c.from.ensures _ told.0.0, queue.0.1, queue.0.2)
+    (keeps_taken c.taker.inside.pass.me.view.client c.taker.inside.first _ c.taker.inside.known c.in_ok-item.item told.0.1.0 c.taker.invariant.0 told.0.1.1 _ _ _ c.count_taken-gathered.ensures.counts_taken c.from.ensures _ told.0.0, queue.0.1, queue.0.2)
 
 pub returns-clause-next : goal.returns-clause-next
 returns-clause-next g c =
@@ -51,5 +51,5 @@ returns-clause-next g c =
 pub returns-clause-items : goal.returns-clause-items
 returns-clause-items g c =
     let told = c.in_ok-item.ensures.rule in
-    let taker = (keeps_taken c.taker.inside.pass.me.view.client c.taker.inside.first _ c.taker.inside.known c.in_ok-item.item told.0.1.0 c.taker.invariant.0 told.0.1.1 _ _ _ c.count_taken-gathered.ensures c.from.ensures _ told.0.0).taker in
+    let taker = (keeps_taken c.taker.inside.pass.me.view.client c.taker.inside.first _ c.taker.inside.known c.in_ok-item.item told.0.1.0 c.taker.invariant.0 told.0.1.1 _ _ _ c.count_taken-gathered.ensures.counts_taken c.from.ensures _ told.0.0).taker in
     (taker.begun, taker.of_made)

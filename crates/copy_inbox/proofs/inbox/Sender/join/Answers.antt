@@ -49,7 +49,7 @@ invariant_of-taker g c =
     let held = c.len_as-held.ensures.rule in
     let queue = c.len_as-held.ensures.queue in
     let joined = keeps_joined c.taker.inside.pass.me.view.client c.self.inside.pass.me.view.client _ _ _ _ _ _ held.0 c.taker.invariant.0 c.self.invariant.0 c.self.invariant.1 c.absorb.ensures.rule held.2 _ _ c.index-count.ensures queue.2 in
-    (keeps_forgetting _ _ _ _ _ _ joined c.forget_first.ensures, queue.0.1, queue.0.2)
+    (keeps_forgetting _ _ _ _ _ _ joined c.forget_first.ensures.forgets, queue.0.1, queue.0.2)
 
 pub returns-clause-begun : goal.returns-clause-begun
 returns-clause-begun g c =

@@ -3,6 +3,8 @@ use Rattle.mote_net.proofs.NetMotes.{program_of_mote}
 use Rattle.mote_net.proofs.net.Net.program.Goals as goal
 
 pub returns : goal.returns
-returns c =
-    let mote : c.index.result.now ≡ get_or c.args.self.now.motes.items c.args.mote c.index.result.now = search rules in
-    rw (program_of_mote _ _ _ _ _ c.args.self.now.fit c.requires mote c.index-2.ensures) refl
+returns c = record {
+  tree =
+      let mote : c.index.result.now ≡ get_or c.args.self.now.motes.items c.args.mote c.index.result.now = search rules in
+      rw (program_of_mote _ _ _ _ _ c.args.self.now.fit c.requires.mote_exists mote c.index-2.ensures) refl;
+}

@@ -11,21 +11,23 @@ use Rattle.mote_program.proofs.unparse.Scoped.blocks.Goals as goal
 pub loop-place-preserved : goal.loop-place-preserved
 loop-place-preserved c =
     let low : c.loop-place.place < length c.args.names.now =
-    omega (arith, c.len-place-end.ensures, c.loop-place-test.true) in
-    let low' : c.loop-place.place < length c.args.blocks.now = omega (arith, low, c.requires) in
+    omega (arith, c.len-place-end.ensures.length, c.loop-place-test.true) in
+    let low' : c.loop-place.place < length c.args.blocks.now = omega (arith, low, c.requires.same_length) in
     one_item (named_tokens c.args.keyword) c.args.names.now (block_with (names_in c.args.self.now))
     (map tree_in c.args.blocks.now) c.loop-place.place c.get.result.now (tree_in c.index-blocks-place.result) _ _ _
-    (length-map c.args.blocks.now tree_in ∙ c.requires) low (sym c.get.ensures)
+    (length-map c.args.blocks.now tree_in ∙ c.requires.same_length) low (sym c.get.ensures.name)
     (mapped_at tree_in c.args.blocks.now c.loop-place.place c.index-blocks-place.result low'
     c.index-blocks-place.is)
-    c.loop-place.invariant (two_added _ _ _ _ _ c.in_ok-add_all.ensures c.in_ok-flat_block.ensures)
+    c.loop-place.invariant (two_added _ _ _ _ _ c.in_ok-add_all.ensures.appended c.in_ok-flat_block.ensures.appended)
 
 pub returns : goal.returns
-returns c =
-    let bodies = map (block_with (names_in c.args.self.now)) (map tree_in c.args.blocks.now) in
-    let len : length bodies ≡ length c.args.names.now =
-    length-map (map tree_in c.args.blocks.now) (block_with (names_in c.args.self.now))
-    ∙ length-map c.args.blocks.now tree_in ∙ c.requires in
-    no_more (named_tokens c.args.keyword) (zip c.args.names.now bodies) c.loop-place.place _ _
-    (omega (arith, length-zip c.args.names.now bodies, len, c.len-place-end.ensures, c.loop-place-test.false))
-    c.loop-place.invariant
+returns c = record {
+  appended =
+      let bodies = map (block_with (names_in c.args.self.now)) (map tree_in c.args.blocks.now) in
+      let len : length bodies ≡ length c.args.names.now =
+      length-map (map tree_in c.args.blocks.now) (block_with (names_in c.args.self.now))
+      ∙ length-map c.args.blocks.now tree_in ∙ c.requires.same_length in
+      no_more (named_tokens c.args.keyword) (zip c.args.names.now bodies) c.loop-place.place _ _
+      (omega (arith, length-zip c.args.names.now bodies, len, c.len-place-end.ensures.length, c.loop-place-test.false))
+      c.loop-place.invariant;
+}

@@ -7,8 +7,8 @@ use Rattle.mote_timers.proofs.number_list.NumberList.add.Goals as goal
 -- a number that is missing has room
 pub unwrap-requires : goal.unwrap-requires
 unwrap-requires c =
-    let missing = lacks _ _ _ _ c.self.view_is c.contains.ensures c.if-not-contains.true in
-    let below = takes _ _ _ c.self.view_is c.requires in
+    let missing = lacks _ _ _ _ c.self.view_is c.contains.ensures.value c.if-not-contains.true in
+    let below = takes _ _ _ c.self.view_is c.requires.in_range in
     c.insert.ensures.succeeds (omega (arith, c.self.inside.members.ok.0, length-lt_limit c.args.number c.self.inside.members.items _ c.self.invariant below missing))
 
 -- it is inserted at the front, without reallocation
@@ -17,17 +17,19 @@ items c = rw c.unwrap.ensures at c.insert.ensures.items
 
 capacity : (c : goal.After-unwrap) → vec_capacity c.insert.new.self ≡ vec_capacity c.self.inside.members
 capacity c =
-    let missing = lacks _ _ _ _ c.self.view_is c.contains.ensures c.if-not-contains.true in
-    let below = takes _ _ _ c.self.view_is c.requires in
+    let missing = lacks _ _ _ _ c.self.view_is c.contains.ensures.value c.if-not-contains.true in
+    let below = takes _ _ _ c.self.view_is c.requires.in_range in
     (c.insert.ensures.in_place (omega (arith, c.self.inside.members.ok.0, length-lt_limit c.args.number c.self.inside.members.items _ c.self.invariant below missing))).1.0
 
 pub invariant_of-self : goal.invariant_of-self
 invariant_of-self c =
-    rw (items c, capacity c) (AreNumbers-cons _ _ _ c.self.invariant (takes _ _ _ c.self.view_is c.requires) (lacks _ _ _ _ c.self.view_is c.contains.ensures c.if-not-contains.true))
+    rw (items c, capacity c) (AreNumbers-cons _ _ _ c.self.invariant (takes _ _ _ c.self.view_is c.requires.in_range) (lacks _ _ _ _ c.self.view_is c.contains.ensures.value c.if-not-contains.true))
 
 pub returns-then-not-contains : goal.returns-then-not-contains
-returns-then-not-contains c =
-    let missing = lacks _ _ _ _ c.self.view_is c.contains.ensures c.if-not-contains.true in
-    same_numbers _ _
-    (items c ∙ with_member-new _ _ missing ∙ ap (λ (l : Numbers). with_member c.args.number l.members) c.self.view_is)
-    (capacity c ∙ ap (λ (l : Numbers). l.limit) c.self.view_is)
+returns-then-not-contains c = record {
+  after =
+      let missing = lacks _ _ _ _ c.self.view_is c.contains.ensures.value c.if-not-contains.true in
+      same_numbers _ _
+      (items c ∙ with_member-new _ _ missing ∙ ap (λ (l : Numbers). with_member c.args.number l.members) c.self.view_is)
+      (capacity c ∙ ap (λ (l : Numbers). l.limit) c.self.view_is);
+}

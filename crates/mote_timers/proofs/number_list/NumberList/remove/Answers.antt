@@ -4,4 +4,4 @@ use Rattle.mote_timers.proofs.NumberLists.{same_numbers}
 use Rattle.mote_timers.proofs.number_list.NumberList.remove.Goals as goal
 
 pub returns : goal.returns
-returns c = same_numbers _ _ (filter_same _ (λ x. not (x == c.args.number)) _ (λ x b f h. search rules) _ _ c.retain.ensures.kept) c.retain.ensures.limit
+returns c = record { after = same_numbers _ _ (filter_same _ (λ x. not (x == c.args.number)) _ (λ x b f h. search rules) _ _ c.retain.ensures.kept) c.retain.ensures.limit }

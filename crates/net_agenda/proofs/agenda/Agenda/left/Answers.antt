@@ -11,5 +11,5 @@ pub loop-bucket-preserved : goal.loop-bucket-preserved
 loop-bucket-preserved c = λ items holds.
     let rest = c.pop_first.new.self.entries in
     subst (λ n. n + length (packets (items_among rest)) ≡ length (packets items))
-    (sym (c.in_ok-left.ensures ∙ ap (λ k. c.loop-bucket.left + k) c.copies.ensures))
+    (sym (c.in_ok-left.ensures.sum ∙ ap (λ k. c.loop-bucket.left + k) c.copies.ensures.count))
     (next_left c.loop-bucket.buckets.entries rest c.in-Some.field-0-0 c.in-Some.bucket c.loop-bucket.left (length (packets items)) c.in-Some.ensures.removal (c.loop-bucket.invariant items holds))

@@ -36,7 +36,7 @@ returns-then-is_empty-clause-rest c = λ items holds.
     let found : get nat_cmp old t ≡ Some b = sym c.in-Some.ensures.value in
     let put = ((c.get_mut.follows.holds d).3 (subst IsSome (sym found) refl)).0 in
     taken old c.remove-bucket.new.self t c.args.mote b d items holds found (c.take-taken.ensures.rest (holds.ready t b found).falls)
-    (changed_gone old (c.get_mut.follows.lender d) c.remove-bucket.new.self t d (sym c.is_empty.ensures ∙ c.if-is_empty.true) put c.remove-bucket.ensures.updates.0)
+    (changed_gone old (c.get_mut.follows.lender d) c.remove-bucket.new.self t d (sym c.is_empty.ensures.value ∙ c.if-is_empty.true) put c.remove-bucket.ensures.updates.0)
 
 pub returns-else-is_empty-clause-copies : goal.returns-else-is_empty-clause-copies
 returns-else-is_empty-clause-copies c =
@@ -55,4 +55,4 @@ returns-else-is_empty-clause-rest c = λ items holds.
     let found : get nat_cmp old t ≡ Some b = sym c.in-Some.ensures.value in
     let put = ((c.get_mut.follows.holds d).3 (subst IsSome (sym found) refl)).0 in
     taken old (c.get_mut.follows.lender d) t c.args.mote b d items holds found (c.take-taken.ensures.rest (holds.ready t b found).falls)
-    (changed_left old (c.get_mut.follows.lender d) t d (sym c.is_empty.ensures ∙ c.if-is_empty.false) put)
+    (changed_left old (c.get_mut.follows.lender d) t d (sym c.is_empty.ensures.value ∙ c.if-is_empty.false) put)

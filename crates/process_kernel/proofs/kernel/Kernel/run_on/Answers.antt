@@ -34,16 +34,16 @@ returns-clause-told c =
     ≡ given o = rw c.if-self-2.false (ap (λ (s : State). given (kernel_of (calls_of (most_units + 1)) s)) begins) in
     let machine = c.run_kernel-ran.new.self in
     let kept = machine_kept
-    (record k { machine = machine }) c.close.new.self c.run_kernel-ran.result c.close.result c.close.ensures in
+    (record k { machine = machine }) c.close.new.self c.run_kernel-ran.result c.close.result c.close.ensures.closes in
     subst (λ (told : Out).
     Tells (run_given c.args.now) (mote_in t k) out c.close.result (mote_in t c.close.new.self) told)
     (sym (ap (λ (m : Machine). m.out) kept))
     (finished t (run_given c.args.now) k (record k { machine = machine }) c.close.new.self out machine.out
     (state_of t machine) o c.run_kernel-ran.result c.close.result
     c.if-self.false c.if-self.false c.if-self-2.false gives
-    (c.run_kernel-ran.ensures.exact (most_units + 1) (omega (arith, work))) refl refl refl
-    (begins_with out machine.out (λ ls ss h. c.run_kernel-ran.ensures.grows ls ss (c.begin.ensures.grows ls ss h)))
-    c.close.ensures)
+    (c.run_kernel-ran.ensures.follows.exact (most_units + 1) (omega (arith, work))) refl refl refl
+    (begins_with out machine.out (λ ls ss h. c.run_kernel-ran.ensures.follows.grows ls ss (c.begin.ensures.grows ls ss h)))
+    c.close.ensures.closes)
 
 pub returns-then-self-clause-begins : goal.returns-then-self-clause-begins
 returns-then-self-clause-begins c = begins_same c.args.self.now.machine.out
@@ -56,7 +56,7 @@ returns-clause-begins c =
     let k = c.args.self.now in
     let machine = c.run_kernel-ran.new.self in
     let kept = machine_kept
-    (record k { machine = machine }) c.close.new.self c.run_kernel-ran.result c.close.result c.close.ensures in
+    (record k { machine = machine }) c.close.new.self c.run_kernel-ran.result c.close.result c.close.ensures.closes in
     subst (λ (told : Out). BeginsWith k.machine.out told) (sym (ap (λ (m : Machine). m.out) kept))
     (begins_with k.machine.out machine.out
-    (λ ls ss h. c.run_kernel-ran.ensures.grows ls ss (c.begin.ensures.grows ls ss h)))
+    (λ ls ss h. c.run_kernel-ran.ensures.follows.grows ls ss (c.begin.ensures.grows ls ss h)))

@@ -3,4 +3,4 @@ use Rattle.process_kernel.proofs.Places.{alive_hold}
 use Rattle.process_kernel.proofs.look.ShownLook.running.Goals as goal
 
 pub returns : goal.returns
-returns c = alive_hold c.args.self.now.states.items c.args.process _ (search rules)
+returns c = record { decides = alive_hold c.args.self.now.states.items c.args.process _ (search rules) }

@@ -18,33 +18,41 @@ use Rattle.process_kernel.proofs.machine.Machine.+kernel.Goals as goal
 pub act-returns-in-Poll : goal.act-returns-in-Poll
 unfolding act_of
 act-returns-in-Poll t c = record {
-  exact = λ k enough. search (rules, c.poll.ensures.exact (tree_of c.args.program.now));
-  spends = search rules;
-  grows = search rules;
+  follows = record {
+    exact = λ k enough. search (rules, c.poll.ensures.exact (tree_of c.args.program.now));
+    spends = search rules;
+    grows = search rules;
+  };
 }
 
 pub act-returns-in-Stop : goal.act-returns-in-Stop
 unfolding act_of
 act-returns-in-Stop t c = record {
-  exact = λ k enough. search (rules, c.stop_timer.ensures.exact (tree_of c.args.program.now));
-  spends = search rules;
-  grows = search rules;
+  follows = record {
+    exact = λ k enough. search (rules, c.stop_timer.ensures.exact (tree_of c.args.program.now));
+    spends = search rules;
+    grows = search rules;
+  };
 }
 
 pub act-returns-in-Take : goal.act-returns-in-Take
 unfolding act_of
 act-returns-in-Take t c = record {
-  exact = λ k enough. search (rules, c.take_semaphore.ensures.exact (tree_of c.args.program.now));
-  spends = search rules;
-  grows = search rules;
+  follows = record {
+    exact = λ k enough. search (rules, c.take_semaphore.ensures.exact (tree_of c.args.program.now));
+    spends = search rules;
+    grows = search rules;
+  };
 }
 
 pub act-returns-in-Signal : goal.act-returns-in-Signal
 unfolding act_of
 act-returns-in-Signal t c = record {
-  exact = λ k enough. search (rules, c.signal_semaphore.ensures.exact (tree_of c.args.program.now));
-  spends = search rules;
-  grows = search rules;
+  follows = record {
+    exact = λ k enough. search (rules, c.signal_semaphore.ensures.exact (tree_of c.args.program.now));
+    spends = search rules;
+    grows = search rules;
+  };
 }
 
 pub call-returns-then-not-is_running-clause-follows : goal.call-returns-then-not-is_running-clause-follows
@@ -99,110 +107,132 @@ call-returns-else-is_event-clause-follows t c = record {
 pub exit-returns-in_err-walk : goal.exit-returns-in_err-walk
 unfolding exit_of
 exit-returns-in_err-walk t c = record {
-  exact = λ k enough. search (rules, c.begin_exit.ensures.exact (tree_of c.args.program.now));
-  spends = search rules;
-  grows = search rules;
+  follows = record {
+    exact = λ k enough. search (rules, c.begin_exit.ensures.exact (tree_of c.args.program.now));
+    spends = search rules;
+    grows = search rules;
+  };
 }
 
 pub exit-returns-in_err-run_last : goal.exit-returns-in_err-run_last
 unfolding exit_of
 exit-returns-in_err-run_last t c = record {
-  exact = λ k enough. search (rules, c.begin_exit.ensures.exact (tree_of c.args.program.now));
-  spends = search rules;
-  grows = search rules;
+  follows = record {
+    exact = λ k enough. search (rules, c.begin_exit.ensures.exact (tree_of c.args.program.now));
+    spends = search rules;
+    grows = search rules;
+  };
 }
 
 pub exit-returns : goal.exit-returns
 unfolding exit_of
 exit-returns t c = record {
-  exact = λ k enough. search (
-    rules,
-    c.begin_exit.ensures.exact (tree_of c.args.program.now),
-    c.leave.ensures.exact (tree_of c.args.program.now),
-  );
-  spends = search rules;
-  grows = search rules;
+  follows = record {
+    exact = λ k enough. search (
+      rules,
+      c.begin_exit.ensures.exact (tree_of c.args.program.now),
+      c.leave.ensures.exact (tree_of c.args.program.now),
+    );
+    spends = search rules;
+    grows = search rules;
+  };
 }
 
 pub perform-returns-in_err-is_full-in-Post : goal.perform-returns-in_err-is_full-in-Post
 unfolding perform_of
 perform-returns-in_err-is_full-in-Post t c = record {
-  exact = λ k enough. search (rules, c.in_err-is_full-in-Post.ensures.exact (tree_of c.args.program.now));
-  spends = search rules;
-  grows = search rules;
+  follows = record {
+    exact = λ k enough. search (rules, c.in_err-is_full-in-Post.ensures.exact (tree_of c.args.program.now));
+    spends = search rules;
+    grows = search rules;
+  };
 }
 
 pub perform-returns-in_ok-is_full-in-Post : goal.perform-returns-in_ok-is_full-in-Post
 unfolding perform_of
 perform-returns-in_ok-is_full-in-Post t c = record {
-  exact = λ k enough. search (
-    rules,
-    c.in_ok-is_full-in-Post.ensures.exact (tree_of c.args.program.now),
-    c.answer.ensures.exact (tree_of c.args.program.now) (code_of c.args.text.now),
-  );
-  spends = search rules;
-  grows = search rules;
+  follows = record {
+    exact = λ k enough. search (
+      rules,
+      c.in_ok-is_full-in-Post.ensures.exact (tree_of c.args.program.now),
+      c.answer.ensures.exact (tree_of c.args.program.now) (code_of c.args.text.now),
+    );
+    spends = search rules;
+    grows = search rules;
+  };
 }
 
 pub react-returns-in_err-react_as_etimer-in-Etimer : goal.react-returns-in_err-react_as_etimer-in-Etimer
 unfolding react_of
 react-returns-in_err-react_as_etimer-in-Etimer t c = record {
-  exact = λ k enough. search (rules, c.in_err-react_as_etimer-in-Etimer.ensures.exact (tree_of c.args.program.now));
-  spends = search rules;
-  grows = search rules;
+  follows = record {
+    exact = λ k enough. search (rules, c.in_err-react_as_etimer-in-Etimer.ensures.exact (tree_of c.args.program.now));
+    spends = search rules;
+    grows = search rules;
+  };
 }
 
 pub react-returns-in_ok-react_as_etimer-in-Etimer : goal.react-returns-in_ok-react_as_etimer-in-Etimer
 unfolding react_of
 react-returns-in_ok-react_as_etimer-in-Etimer t c = record {
-  exact = λ k enough. search (rules, c.in_ok-react_as_etimer-in-Etimer.ensures.exact (tree_of c.args.program.now));
-  spends = search rules;
-  grows = search rules;
+  follows = record {
+    exact = λ k enough. search (rules, c.in_ok-react_as_etimer-in-Etimer.ensures.exact (tree_of c.args.program.now));
+    spends = search rules;
+    grows = search rules;
+  };
 }
 
 pub react_as_ctimer-returns-then-not-takes_callback : goal.react_as_ctimer-returns-then-not-takes_callback
 unfolding ctimer_of
 react_as_ctimer-returns-then-not-takes_callback t c = record {
-  exact = let T = tree_of c.args.program.now in
-      λ k enough. search (rules, c.takes_callback.ensures.waited T, c.takes_callback.ensures.after T);
-  spends = search rules;
-  grows = search rules;
+  follows = record {
+    exact = let T = tree_of c.args.program.now in
+        λ k enough. search (rules, c.takes_callback.ensures.waited T, c.takes_callback.ensures.after T);
+    spends = search rules;
+    grows = search rules;
+  };
 }
 
 pub react_as_ctimer-returns : goal.react_as_ctimer-returns
 unfolding ctimer_of
 react_as_ctimer-returns t c = record {
-  exact = let T = tree_of c.args.program.now in
-      λ k enough. search (rules, c.takes_callback.ensures.waited T, c.takes_callback.ensures.after T);
-  spends = search rules;
-  grows = search rules;
+  follows = record {
+    exact = let T = tree_of c.args.program.now in
+        λ k enough. search (rules, c.takes_callback.ensures.waited T, c.takes_callback.ensures.after T);
+    spends = search rules;
+    grows = search rules;
+  };
 }
 
 pub resume-returns-in_err-answer : goal.resume-returns-in_err-answer
 unfolding resume_of
 resume-returns-in_err-answer t c = record {
-  exact = let T = tree_of c.args.program.now in
-      λ k enough. search (
-        rules,
-        c.in_ok-body.ensures.exact T (code_of c.args.text.now) c.requires.text,
-        c.take_thread.ensures.after T,
-      );
-  spends = search rules;
-  grows = search rules;
+  follows = record {
+    exact = let T = tree_of c.args.program.now in
+        λ k enough. search (
+          rules,
+          c.in_ok-body.ensures.exact T (code_of c.args.text.now) c.requires.text,
+          c.take_thread.ensures.after T,
+        );
+    spends = search rules;
+    grows = search rules;
+  };
 }
 
 pub resume-returns : goal.resume-returns
 unfolding resume_of
 resume-returns t c = record {
-  exact = let T = tree_of c.args.program.now in
-      λ k enough. search (
-        rules,
-        c.in_ok-body.ensures.exact T (code_of c.args.text.now) c.requires.text,
-        c.take_thread.ensures.after T,
-        c.put_thread.ensures.exact T (code_of c.args.text.now) c.requires.text,
-      );
-  spends = search rules;
-  grows = search rules;
+  follows = record {
+    exact = let T = tree_of c.args.program.now in
+        λ k enough. search (
+          rules,
+          c.in_ok-body.ensures.exact T (code_of c.args.text.now) c.requires.text,
+          c.take_thread.ensures.after T,
+          c.put_thread.ensures.exact T (code_of c.args.text.now) c.requires.text,
+        );
+    spends = search rules;
+    grows = search rules;
+  };
 }
 
 pub run-loop-op-preserved : goal.run-loop-op-preserved
@@ -210,7 +240,7 @@ unfolding run_of
 run-loop-op-preserved t c =
     let T = tree_of c.args.program.now in
     let pays = c.in-Op.ensures.pays in
-    let spends = c.in_ok-perform-in-Op.ensures.spends in (
+    let spends = c.in_ok-perform-in-Op.ensures.follows.spends in (
       (omega (arith, pays, spends), omega (arith, pays, spends), spends.2 ∙ c.in-Op.ensures.first_list ∙ c.loop-op.invariant.0.2),
       search rules,
       λ k enough.
@@ -221,102 +251,120 @@ run-loop-op-preserved t c =
             rest,
             omega (arith, left, spends),
             now.2 ∙ run_opens _ _ _ _ _ now.0 more
-                ∙ rw (c.in-Op.ensures.exact T, c.in_ok-perform-in-Op.ensures.exact rest left) refl,
+                ∙ rw (c.in-Op.ensures.exact T, c.in_ok-perform-in-Op.ensures.follows.exact rest left) refl,
           ),
     )
 
 pub run-returns-in_err-perform-in-Op : goal.run-returns-in_err-perform-in-Op
 unfolding run_of
 run-returns-in_err-perform-in-Op t c = record {
-  exact = λ k enough.
-      let now = c.loop-op.invariant.2 k enough in
-      rw now.2 (deeper_run _ _ _ _ _ _ _
-      (λ j left. rw (c.in-Op.ensures.exact (tree_of c.args.program.now)) (search rules)) now.0 now.1);
-  spends = search rules;
-  grows = search rules;
+  follows = record {
+    exact = λ k enough.
+        let now = c.loop-op.invariant.2 k enough in
+        rw now.2 (deeper_run _ _ _ _ _ _ _
+        (λ j left. rw (c.in-Op.ensures.exact (tree_of c.args.program.now)) (search rules)) now.0 now.1);
+    spends = search rules;
+    grows = search rules;
+  };
 }
 
 pub run-returns-in-Done : goal.run-returns-in-Done
 unfolding run_of
 run-returns-in-Done t c = record {
-  exact = λ k enough.
-      let now = c.loop-op.invariant.2 k enough in
-      let more : 0 < now.0 = omega (arith, now.1) in
-      now.2 ∙ run_opens _ _ _ _ _ now.0 more ∙ rw (c.in-Done.ensures.exact (tree_of c.args.program.now)) refl;
-  spends = search rules;
-  grows = search rules;
+  follows = record {
+    exact = λ k enough.
+        let now = c.loop-op.invariant.2 k enough in
+        let more : 0 < now.0 = omega (arith, now.1) in
+        now.2 ∙ run_opens _ _ _ _ _ now.0 more ∙ rw (c.in-Done.ensures.exact (tree_of c.args.program.now)) refl;
+    spends = search rules;
+    grows = search rules;
+  };
 }
 
 pub run-returns-in-Runaway : goal.run-returns-in-Runaway
 unfolding run_of
 run-returns-in-Runaway t c = record {
-  exact = λ k enough.
-      let T = tree_of c.args.program.now in
-      let now = c.loop-op.invariant.2 k enough in
-      rw now.2 (deeper_run (Err c.halt.result) (state_of T c.halt.new.self) _ _ _ _ _
-      (λ j left. rw (c.in-Runaway.ensures.exact T)
-      (halt_tells Answer c.halt.result (state_of T c.advance.new.self) (state_of T c.halt.new.self)
-      (c.halt.ensures.exact T))) now.0 now.1);
-  spends = search rules;
-  grows = search rules;
+  follows = record {
+    exact = λ k enough.
+        let T = tree_of c.args.program.now in
+        let now = c.loop-op.invariant.2 k enough in
+        rw now.2 (deeper_run (Err c.halt.result) (state_of T c.halt.new.self) _ _ _ _ _
+        (λ j left. rw (c.in-Runaway.ensures.exact T)
+        (halt_tells Answer c.halt.result (state_of T c.advance.new.self) (state_of T c.halt.new.self)
+        (c.halt.ensures.exact T))) now.0 now.1);
+    spends = search rules;
+    grows = search rules;
+  };
 }
 
 pub run_last-returns-in_err-spend : goal.run_last-returns-in_err-spend
 unfolding last_run_of
 run_last-returns-in_err-spend t c = record {
-  exact = λ k enough. search (rules, c.in_err-spend.ensures.exact (tree_of c.args.program.now));
-  spends = search rules;
-  grows = search rules;
+  follows = record {
+    exact = λ k enough. search (rules, c.in_err-spend.ensures.exact (tree_of c.args.program.now));
+    spends = search rules;
+    grows = search rules;
+  };
 }
 
 pub run_last-returns-in_err-react : goal.run_last-returns-in_err-react
 unfolding last_run_of
 run_last-returns-in_err-react t c = record {
-  exact = λ k enough. search (rules, c.in_ok-spend.ensures.exact (tree_of c.args.program.now));
-  spends = search rules;
-  grows = search rules;
+  follows = record {
+    exact = λ k enough. search (rules, c.in_ok-spend.ensures.exact (tree_of c.args.program.now));
+    spends = search rules;
+    grows = search rules;
+  };
 }
 
 pub run_last-returns : goal.run_last-returns
 unfolding last_run_of
 run_last-returns t c = record {
-  exact = λ k enough. search (rules, c.in_ok-spend.ensures.exact (tree_of c.args.program.now));
-  spends = search rules;
-  grows = search rules;
+  follows = record {
+    exact = λ k enough. search (rules, c.in_ok-spend.ensures.exact (tree_of c.args.program.now));
+    spends = search rules;
+    grows = search rules;
+  };
 }
 
 pub start-returns-in_err-enlist : goal.start-returns-in_err-enlist
 unfolding start_of
 start-returns-in_err-enlist t c = record {
-  exact = λ k enough. search (rules, c.in_err-enlist.ensures.exact (tree_of c.args.program.now));
-  spends = search rules;
-  grows = search rules;
+  follows = record {
+    exact = λ k enough. search (rules, c.in_err-enlist.ensures.exact (tree_of c.args.program.now));
+    spends = search rules;
+    grows = search rules;
+  };
 }
 
 pub start-returns-in_ok-enlist : goal.start-returns-in_ok-enlist
 unfolding start_of
-start-returns-in_ok-enlist t c =
-    let T = tree_of c.args.program.now in
-    let old = state_of T c.args.self.now in
-    let listed = c.in_ok-enlist.ensures.exact T in
-    let within : place_of c.args.process < length c.args.self.now.shown.states.items = search rules in
-    let runs = enlisted_runs old (state_of T c.enlist.new.self) c.args.process within listed in
-    let counts = c.in_ok-enlist.ensures.counts in
-    record {
-      exact = λ k enough. search (rules, listed);
-      spends =
-          on_ok_both c.call.result _ _ _ c.call.ensures.follows.spends c.call.ensures.pays (λ spends pays.
-          let cost = pays runs in (omega (arith, counts, spends), omega (arith, counts, cost), spends.2 ∙ counts.2));
-      grows = search rules;
-    }
+start-returns-in_ok-enlist t c = record {
+  follows =
+      let T = tree_of c.args.program.now in
+      let old = state_of T c.args.self.now in
+      let listed = c.in_ok-enlist.ensures.exact T in
+      let within : place_of c.args.process < length c.args.self.now.shown.states.items = search rules in
+      let runs = enlisted_runs old (state_of T c.enlist.new.self) c.args.process within listed in
+      let counts = c.in_ok-enlist.ensures.counts in
+      record {
+        exact = λ k enough. search (rules, listed);
+        spends =
+            on_ok_both c.call.result _ _ _ c.call.ensures.follows.spends c.call.ensures.pays (λ spends pays.
+            let cost = pays runs in (omega (arith, counts, spends), omega (arith, counts, cost), spends.2 ∙ counts.2));
+        grows = search rules;
+      };
+}
 
 pub run_part-returns-then-is_empty : goal.run_part-returns-then-is_empty
 run_part-returns-then-is_empty t c = record {
-  exact = λ k enough.
-      let none : whole_of (code_of c.args.text.now) c.args.part ≡ [] = search rules in
-      nothing_runs (code_of c.args.text.now) c.args.part none k
-      (state_of (tree_of c.args.program.now) c.args.self.now) c.args.process c.args.event.now
-      (omega (arith, enough));
-  spends = search rules;
-  grows = search rules;
+  follows = record {
+    exact = λ k enough.
+        let none : whole_of (code_of c.args.text.now) c.args.part ≡ [] = search rules in
+        nothing_runs (code_of c.args.text.now) c.args.part none k
+        (state_of (tree_of c.args.program.now) c.args.self.now) c.args.process c.args.event.now
+        (omega (arith, enough));
+    spends = search rules;
+    grows = search rules;
+  };
 }

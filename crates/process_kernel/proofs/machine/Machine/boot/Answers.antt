@@ -5,35 +5,39 @@ use Rattle.process_kernel.proofs.machine.Machine.boot.Goals as goal
 pub returns-in_err-start_each : goal.returns-in_err-start_each
 unfolding boot_of
 returns-in_err-start_each c = record {
-  exact = λ k enough.
-      let first = c.in_ok-start.ensures.spends in
-      let second = c.in_ok-start-2.ensures.spends in
-      let third = c.in_ok-start-3.ensures.spends in
-      search (
-        rules,
-        c.in_ok-start.ensures.exact k enough,
-        c.in_ok-start-2.ensures.exact k (omega (arith, first)),
-        c.in_ok-start-3.ensures.exact k (omega (arith, first, second)),
-        rw c.autostart.ensures.value at (c.in_err-start_each.ensures.exact k (omega (arith, first, second, third))),
-      );
-  spends = search rules;
-  grows = search rules;
+  follows = record {
+    exact = λ k enough.
+        let first = c.in_ok-start.ensures.follows.spends in
+        let second = c.in_ok-start-2.ensures.follows.spends in
+        let third = c.in_ok-start-3.ensures.follows.spends in
+        search (
+          rules,
+          c.in_ok-start.ensures.follows.exact k enough,
+          c.in_ok-start-2.ensures.follows.exact k (omega (arith, first)),
+          c.in_ok-start-3.ensures.follows.exact k (omega (arith, first, second)),
+          rw c.autostart.ensures.value at (c.in_err-start_each.ensures.follows.exact k (omega (arith, first, second, third))),
+        );
+    spends = search rules;
+    grows = search rules;
+  };
 }
 
 pub returns : goal.returns
 unfolding boot_of
 returns c = record {
-  exact = λ k enough.
-      let first = c.in_ok-start.ensures.spends in
-      let second = c.in_ok-start-2.ensures.spends in
-      let third = c.in_ok-start-3.ensures.spends in
-      search (
-        rules,
-        c.in_ok-start.ensures.exact k enough,
-        c.in_ok-start-2.ensures.exact k (omega (arith, first)),
-        c.in_ok-start-3.ensures.exact k (omega (arith, first, second)),
-        rw c.autostart.ensures.value at (c.in_ok-start_each.ensures.exact k (omega (arith, first, second, third))),
-      );
-  spends = search rules;
-  grows = search rules;
+  follows = record {
+    exact = λ k enough.
+        let first = c.in_ok-start.ensures.follows.spends in
+        let second = c.in_ok-start-2.ensures.follows.spends in
+        let third = c.in_ok-start-3.ensures.follows.spends in
+        search (
+          rules,
+          c.in_ok-start.ensures.follows.exact k enough,
+          c.in_ok-start-2.ensures.follows.exact k (omega (arith, first)),
+          c.in_ok-start-3.ensures.follows.exact k (omega (arith, first, second)),
+          rw c.autostart.ensures.value at (c.in_ok-start_each.ensures.follows.exact k (omega (arith, first, second, third))),
+        );
+    spends = search rules;
+    grows = search rules;
+  };
 }

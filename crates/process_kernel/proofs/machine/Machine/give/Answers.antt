@@ -6,15 +6,19 @@ use Rattle.process_kernel.proofs.machine.Machine.give.Goals as goal
 pub returns-in_err-write : goal.returns-in_err-write
 unfolding give_of
 returns-in_err-write c = record {
-  exact = λ k enough. search (rules, c.in_err-write.ensures.exact (tree_of c.args.program.now));
-  spends = search rules;
-  grows = search rules;
+  follows = record {
+    exact = λ k enough. search (rules, c.in_err-write.ensures.exact (tree_of c.args.program.now));
+    spends = search rules;
+    grows = search rules;
+  };
 }
 
 pub returns : goal.returns
 unfolding give_of
 returns c = record {
-  exact = λ k enough. search (rules, c.in_ok-write.ensures.exact (tree_of c.args.program.now));
-  spends = search rules;
-  grows = search rules;
+  follows = record {
+    exact = λ k enough. search (rules, c.in_ok-write.ensures.exact (tree_of c.args.program.now));
+    spends = search rules;
+    grows = search rules;
+  };
 }

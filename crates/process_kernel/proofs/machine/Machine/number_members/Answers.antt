@@ -18,20 +18,20 @@ pub invariant_of-self-clause-numbered : goal.invariant_of-self-clause-numbered
 invariant_of-self-clause-numbered c = λ _.
     let old = c.args.self.now.members.items in
     let is = are old _ c.number.new.members (vec_len c.args.self.now.members)
-    (search rules) c.deref_mut.ensures.value c.number.ensures in
+    (search rules) c.deref_mut.ensures.value c.number.ensures.numbered in
     is ∙ sym (numbered_again 0 old) ∙ sym (ap (numbered_from 0) is)
 
 pub invariant_of-self-clause-are_members : goal.invariant_of-self-clause-are_members
 invariant_of-self-clause-are_members c =
     let is = are c.args.self.now.members.items _ c.number.new.members (vec_len c.args.self.now.members)
-    (search rules) c.deref_mut.ensures.value c.number.ensures in
+    (search rules) c.deref_mut.ensures.value c.number.ensures.numbered in
     subst (λ ms. AreMembers ms (length c.args.self.now.shown.states.items)) (sym is)
     (AreMembers-numbered 0 _ _ c.args.self.now.are_members)
 
 pub invariant_of-self-clause-few_members : goal.invariant_of-self-clause-few_members
 invariant_of-self-clause-few_members c =
     let is = are c.args.self.now.members.items _ c.number.new.members (vec_len c.args.self.now.members)
-    (search rules) c.deref_mut.ensures.value c.number.ensures in
+    (search rules) c.deref_mut.ensures.value c.number.ensures.numbered in
     subst (λ (ms : List Member). length ms ≤ 67) (sym is)
     (let same = length-numbered 0 c.args.self.now.members.items in let few = c.args.self.now.few_members in
     omega arith)

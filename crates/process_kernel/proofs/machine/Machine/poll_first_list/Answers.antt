@@ -9,28 +9,32 @@ use Rattle.process_kernel.proofs.machine.Machine.poll_first_list.Goals as goal
 
 pub returns-in_err-poll_in_turn : goal.returns-in_err-poll_in_turn
 returns-in_err-poll_in_turn c = record {
-  exact = λ k enough.
-      let inv = c.loop-place.invariant in
-      let rest = rest_begins c.args.self.now c.loop-place.self c.loop-place.place c.first_member-member.result
-      c.requires.numbered inv.0.2 c.first_member-member.ensures in
-      rw (inv.2 k enough, rest) (search (rules, c.in_err-poll_in_turn.ensures.exact k (omega (arith, enough, inv.0.0))));
-  spends = search rules;
-  grows = search rules;
+  follows = record {
+    exact = λ k enough.
+        let inv = c.loop-place.invariant in
+        let rest = rest_begins c.args.self.now c.loop-place.self c.loop-place.place c.first_member-member.result
+        c.requires.numbered inv.0.2 c.first_member-member.ensures.member in
+        rw (inv.2 k enough, rest) (search (rules, c.in_err-poll_in_turn.ensures.follows.exact k (omega (arith, enough, inv.0.0))));
+    spends = search rules;
+    grows = search rules;
+  };
 }
 
 pub is_still_on_list-is_there-requires : goal.is_still_on_list-is_there-requires
-is_still_on_list-is_there-requires c =
-    held_at (first_list_of c.loop-place.self) c.loop-place.place c.first_member-member.result c.first_member-member.ensures
+is_still_on_list-is_there-requires c = record {
+  was_listed =
+      held_at (first_list_of c.loop-place.self) c.loop-place.place c.first_member-member.result c.first_member-member.ensures.member;
+}
 
 pub loop-place-preserved : goal.loop-place-preserved
 loop-place-preserved c =
     let T = tree_of c.args.program.now in
     let ms = c.args.self.now.members.items in
     let inv = c.loop-place.invariant in
-    let turn = c.in_ok-poll_in_turn.ensures in
+    let turn = c.in_ok-poll_in_turn.ensures.follows in
     let spends = turn.spends in
     let rest = rest_begins c.args.self.now c.loop-place.self c.loop-place.place c.first_member-member.result
-    c.requires.numbered inv.0.2 c.first_member-member.ensures in (
+    c.requires.numbered inv.0.2 c.first_member-member.ensures.member in (
       (omega (arith, inv.0.0, spends.0), omega (arith, inv.0.1, spends.1), spends.2 ∙ inv.0.2),
       search rules,
       λ k enough.

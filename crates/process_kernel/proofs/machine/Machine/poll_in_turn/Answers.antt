@@ -6,7 +6,9 @@ use Rattle.process_kernel.proofs.machine.Machine.poll_in_turn.Goals as goal
 pub returns : goal.returns
 unfolding poll_turn_of
 returns c = record {
-  exact = λ k enough. search (rules, c.set_needs_poll.ensures.exact (tree_of c.args.program.now));
-  spends = search rules;
-  grows = search rules;
+  follows = record {
+    exact = λ k enough. search (rules, c.set_needs_poll.ensures.exact (tree_of c.args.program.now));
+    spends = search rules;
+    grows = search rules;
+  };
 }

@@ -25,7 +25,7 @@ returns-in_err-is_full-clause-exact c = λ t.
     let halts = halt_step
     (state_of t c.loop-timer.self) c.loop-timer.after c.in-Some.timer c.in-Some.owner now.0
     at c.in_err-is_full.field-0.0 (state_of t c.post.new.self)
-    (rw (← c.system_event.ensures) (c.in_err-is_full.ensures.exact t)) in
+    (rw (← c.system_event.ensures.value) (c.in_err-is_full.ensures.exact t)) in
     rw now.2 (search (rules, halts))
 
 pub loop-timer-preserved-then-is_full : goal.loop-timer-preserved-then-is_full

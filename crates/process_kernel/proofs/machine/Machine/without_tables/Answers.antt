@@ -4,23 +4,25 @@ use Rattle.process_kernel.proofs.machine.Machine.without_tables.Goals as goal
 
 pub returns : goal.returns
 unfolding unbooted
-returns c =
-    let shown = c.in_ok-first_shown.ensures in
-    rw (
-      shown.mote.0,
-      shown.mote.1,
-      shown.timers.1,
-      shown.states,
-      shown.semaphores,
-      c.in_ok-new.ensures,
-      c.in_ok-new-2.ensures,
-      c.in_ok-new-3.ensures,
-      c.new-4.ensures.items,
-      c.new-6.ensures.items,
-      c.new-7.ensures.items,
-      c.new-8.ensures.items,
-      c.new-9.ensures.items,
-      c.new-10.ensures,
-      c.new-11.ensures.lines,
-      c.new-11.ensures.sends,
-    ) refl
+returns c = record {
+  state =
+      let shown = c.in_ok-first_shown.ensures in
+      rw (
+        shown.mote.0,
+        shown.mote.1,
+        shown.timers.1,
+        shown.states,
+        shown.semaphores,
+        c.in_ok-new.ensures.empty,
+        c.in_ok-new-2.ensures.empty,
+        c.in_ok-new-3.ensures.empty,
+        c.new-4.ensures.items,
+        c.new-6.ensures.items,
+        c.new-7.ensures.items,
+        c.new-8.ensures.items,
+        c.new-9.ensures.items,
+        c.new-10.ensures.units,
+        c.new-11.ensures.lines,
+        c.new-11.ensures.sends,
+      ) refl;
+}

@@ -7,7 +7,7 @@ use Rattle.program_reader.proofs.reader.Reader.codes.Goals as goal
 
 pub code-requires-clause-own : goal.code-requires-clause-own
 code-requires-clause-own c =
-    still_none c.args.self.now.scope c.codes.self.scope _ _ _ _ c.requires c.codes.invariant.read
+    still_none c.args.self.now.scope c.codes.self.scope _ _ _ _ c.requires.has_no_own_names c.codes.invariant.read
 
 pub returns-in_err-code-clause-err : goal.returns-in_err-code-clause-err
 returns-in_err-code-clause-err c = λ f e.

@@ -4,16 +4,18 @@ use Rattle.program_reader.proofs.ContentLaws.{content_read, threads_bare}
 use Rattle.program_reader.proofs.reader.Reader.content.Goals as goal
 
 pub threads-requires : goal.threads-requires
-threads-requires c =
-    let no_timers : c.args.self.now.scope.etimers ++ c.args.self.now.scope.ctimers ≡ [] =
-    ap (λ z. z ++ c.args.self.now.scope.ctimers) c.requires.etimers ∙ c.requires.ctimers in
-    threads_bare _ _ _ _ _ _ _ _ _ _ c.requires.variables no_timers c.requires.threads c.in_ok-starts.ensures.ok
-    c.in_ok-etimers.ensures.ok c.in_ok-callbacks.ensures.ok
+threads-requires c = record {
+  none_yet =
+      let no_timers : c.args.self.now.scope.etimers ++ c.args.self.now.scope.ctimers ≡ [] =
+      ap (λ z. z ++ c.args.self.now.scope.ctimers) c.requires.has_no_own_names.etimers ∙ c.requires.has_no_own_names.ctimers in
+      threads_bare _ _ _ _ _ _ _ _ _ _ c.requires.has_no_own_names.variables no_timers c.requires.has_no_own_names.threads c.in_ok-starts.ensures.ok
+      c.in_ok-etimers.ensures.ok c.in_ok-callbacks.ensures.ok;
+}
 
 pub returns-clause-ok : goal.returns-clause-ok
 returns-clause-ok c =
     let no_timers : c.args.self.now.scope.etimers ++ c.args.self.now.scope.ctimers ≡ [] =
-    ap (λ z. z ++ c.args.self.now.scope.ctimers) c.requires.etimers ∙ c.requires.ctimers in
+    ap (λ z. z ++ c.args.self.now.scope.ctimers) c.requires.has_no_own_names.etimers ∙ c.requires.has_no_own_names.ctimers in
     let two : c.etimers.new.self.scope.etimers ++ c.etimers.new.self.scope.ctimers ≡ c.etimers.new.self.scope.etimers =
     ap (λ z. c.etimers.new.self.scope.etimers ++ z) c.in_ok-etimers.ensures.ctimers
     ∙ append-nil c.etimers.new.self.scope.etimers in
@@ -27,7 +29,7 @@ returns-clause-ok c =
     ++ c.body.new.self.scope.ctimers =
     ap (λ z. z ++ c.ctimers.new.self.scope.ctimers) (sym etimers) ∙ ap (λ z. c.body.new.self.scope.etimers ++ z)
     (sym ctimers) in
-    content_read _ _ _ _ _ _ _ _ c.etimers.new.self.scope.etimers _ _ _ _ _ _ _ _ _ _ _ _ _ _ _ _ c.requires.variables
-    no_timers c.requires.threads c.in_ok-starts.ensures.ok c.in_ok-etimers.ensures.ok c.in_ok-callbacks.ensures.ok
+    content_read _ _ _ _ _ _ _ _ c.etimers.new.self.scope.etimers _ _ _ _ _ _ _ _ _ _ _ _ _ _ _ _ c.requires.has_no_own_names.variables
+    no_timers c.requires.has_no_own_names.threads c.in_ok-starts.ensures.ok c.in_ok-etimers.ensures.ok c.in_ok-callbacks.ensures.ok
     c.in_ok-thread_blocks.ensures.ok c.in_ok-on_poll.ensures.ok c.in_ok-on_exit.ensures.ok c.in_ok-body.ensures.ok two
     (etimers ∙ c.in_ok-callbacks.ensures.etimers) three

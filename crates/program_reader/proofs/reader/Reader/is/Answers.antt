@@ -9,13 +9,15 @@ use Rattle.program_reader.proofs.reader.Reader.is.Goals as goal
 
 pub returns : goal.returns
 returns c = record {
-  no_longer = search rules;
-  same = search rules;
-  ok =
-      told_reads _ _ word.Is any (λ n. any_map (name_in n an_event) (any_of c.in_ok-event.event)) _ _ _ _ _
-      c.requires.here refl c.advance.ensures c.in_ok-sign.ensures.ok c.in_ok-event.ensures.ok
-      c.in_ok-sign-2.ensures.ok;
-  numbered = λ n h. ap is (c.in_ok-event.ensures.numbered n h);
-  fits = c.in_ok-event.ensures.fits;
-  err = search rules;
+  answers_expression = record {
+    no_longer = search rules;
+    same = search rules;
+    ok =
+        told_reads _ _ word.Is any (λ n. any_map (name_in n an_event) (any_of c.in_ok-event.event)) _ _ _ _ _
+        c.requires.at_keyword refl c.advance.ensures.after c.in_ok-sign.ensures.ok c.in_ok-event.ensures.ok
+        c.in_ok-sign-2.ensures.ok;
+    numbered = λ n h. ap is (c.in_ok-event.ensures.numbered n h);
+    fits = c.in_ok-event.ensures.fits;
+    err = search rules;
+  };
 }

@@ -4,16 +4,18 @@ use Rattle.program_reader.proofs.ValueLaws.{telling_read}
 use Rattle.program_reader.proofs.reader.Reader.question.Goals as goal
 
 pub returns : goal.returns
-returns c =
-    let r = telling_read c.args.telling c.class-class.ensures.class c.value.ensures
-    (told_reads _ _ _ _ _ _ _ _ _ _ c.requires.here c.class-class.ensures.form c.advance.ensures
-    c.in_ok-sign.ensures.ok c.in_ok-number.ensures.ok c.in_ok-sign-2.ensures.ok) c.in_ok-number.ensures.numbered
-    c.in_ok-number.ensures.fits in
-    record {
-      no_longer = search rules;
-      same = search rules;
-      ok = r.ok;
-      numbered = r.numbered;
-      fits = r.fits;
-      err = search rules;
-    }
+returns c = record {
+  answers_expression =
+      let r = telling_read c.args.telling c.class-class.ensures.class c.value.ensures.expression
+      (told_reads _ _ _ _ _ _ _ _ _ _ c.requires.at_keyword c.class-class.ensures.form c.advance.ensures.after
+      c.in_ok-sign.ensures.ok c.in_ok-number.ensures.ok c.in_ok-sign-2.ensures.ok) c.in_ok-number.ensures.numbered
+      c.in_ok-number.ensures.fits in
+      record {
+        no_longer = search rules;
+        same = search rules;
+        ok = r.ok;
+        numbered = r.numbered;
+        fits = r.fits;
+        err = search rules;
+      };
+}

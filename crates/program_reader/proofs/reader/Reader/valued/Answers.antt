@@ -4,19 +4,21 @@ use Rattle.program_reader.proofs.Runs.{begun, with_part, with_sign, action_read}
 use Rattle.program_reader.proofs.reader.Reader.valued.Goals as goal
 
 pub returns : goal.returns
-returns c =
-    let r = action_read
-    (with_sign (with_part c.in_ok-value.ensures.same (begun c.args.self.now.scope c.begin.new.self.scope
-    c.in_ok-begin.ensures.names c.in_ok-begin.ensures.ok
-    c.keyword.ensures.form)
-    c.in_ok-value.ensures.ok c.in_ok-value.ensures.numbered c.in_ok-value.ensures.fits) c.in_ok-sign.ensures.ok)
-    (valued_made _ c.args.valued _ c.keyword.ensures.keyword c.action.ensures) in
-    record {
-      names = search rules;
-      shorter = search rules;
-      counts = search rules;
-      ok = r.ok;
-      numbered = r.numbered;
-      fits = r.fits;
-      err = search rules;
-    }
+returns c = record {
+  answers_action =
+      let r = action_read
+      (with_sign (with_part c.in_ok-value.ensures.answers_expression.same (begun c.args.self.now.scope c.begin.new.self.scope
+      c.in_ok-begin.ensures.names c.in_ok-begin.ensures.ok
+      c.keyword.ensures.form)
+      c.in_ok-value.ensures.answers_expression.ok c.in_ok-value.ensures.answers_expression.numbered c.in_ok-value.ensures.answers_expression.fits) c.in_ok-sign.ensures.ok)
+      (valued_made _ c.args.valued _ c.keyword.ensures.keyword c.action.ensures.action) in
+      record {
+        names = search rules;
+        shorter = search rules;
+        counts = search rules;
+        ok = r.ok;
+        numbered = r.numbered;
+        fits = r.fits;
+        err = search rules;
+      };
+}

@@ -5,17 +5,19 @@ use Rattle.program_reader.proofs.ValueLaws.{alone_read}
 use Rattle.program_reader.proofs.reader.Reader.word.Goals as goal
 
 pub returns-in-Some-Alone : goal.returns-in-Some-Alone
-returns-in-Some-Alone c =
-    let same : c.args.keyword ≡ alone_keyword c.in-Some-Alone.alone =
-    c.in-Some-Alone.ensures.some ∙ ap value_keyword c.in-Some-Alone.field-0-is in
-    let r = alone_read {own = (context_of c.args.place.now).thread} (scope_of c.args.self.now.scope)
-    (context_of c.args.place.now) c.in-Some-Alone.alone _ _ _ _ same c.value.ensures c.requires.here
-    c.advance.ensures in
-    record {
-      no_longer = search rules;
-      same = search rules;
-      ok = r.ok;
-      numbered = r.numbered;
-      fits = r.fits;
-      err = search rules;
-    }
+returns-in-Some-Alone c = record {
+  answers_expression =
+      let same : c.args.keyword ≡ alone_keyword c.in-Some-Alone.alone =
+      c.in-Some-Alone.ensures.same_keyword ∙ ap value_keyword c.in-Some-Alone.field-0-is in
+      let r = alone_read {own = (context_of c.args.place.now).thread} (scope_of c.args.self.now.scope)
+      (context_of c.args.place.now) c.in-Some-Alone.alone _ _ _ _ same c.value.ensures.expression c.requires.at_keyword
+      c.advance.ensures.after in
+      record {
+        no_longer = search rules;
+        same = search rules;
+        ok = r.ok;
+        numbered = r.numbered;
+        fits = r.fits;
+        err = search rules;
+      };
+}

@@ -8,7 +8,7 @@ returns-in-Some-clause-place c = sym (place_left _ _ _ _ (sym c.place_of.ensures
 pub returns-in_ok-place-in-None-clause-place : goal.returns-in_ok-place-in-None-clause-place
 returns-in_ok-place-in-None-clause-place c = sym
     (place_in_second _ _ _ _ _ (sym c.place_of.ensures.place ∙ c.in-None.is) (sym c.place_of-in-None.ensures.place
-    ∙ c.in_ok-place-in-None.was) c.len.ensures)
+    ∙ c.in_ok-place-in-None.was) c.len.ensures.length)
 
 pub returns-in_err-place-in-None-clause-place : goal.returns-in_err-place-in-None-clause-place
 returns-in_err-place-in-None-clause-place c =

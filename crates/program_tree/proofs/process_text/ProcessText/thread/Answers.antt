@@ -24,8 +24,8 @@ returns-clause-value c =
     let here = found_block (λ b. b.now) tree_in c.deref.result.now c.from.result c.get.result c.get.ensures.lookup in
     subst P c.from.ensures (subst Q c.deref.ensures.value here)
 
-pub returns-clause-few : goal.returns-clause-few
-returns-clause-few c =
+pub returns-clause-number_bounded : goal.returns-clause-number_bounded
+returns-clause-number_bounded c =
     let P : ℕ → Type 0 = λ n. IfSome c.get.result (λ b. n < 7) in
     let few : length c.deref.result.now ≤ 7 = subst (λ (l : List FlatBlock). length l ≤ 7) (sym c.deref.ensures.value)
     (subst (λ (n : ℕ). n ≤ 7) (sym c.args.self.now.each_thread) c.args.self.now.few_threads) in

@@ -22,19 +22,25 @@ name_of t n place i o h e is =
     rw yes (sym is ∙ ap (λ k. slice_get t.events k) (e ∙ h.1))
 
 pub returns-in_err-checked_sub : goal.returns-in_err-checked_sub
-returns-in_err-checked_sub c =
-    rw c.from_residual.ensures (none_below (tree_of c.args.self.now) c.args.number c.in_err-checked_sub.ensures)
+returns-in_err-checked_sub c = record {
+  name =
+      rw c.from_residual.ensures (none_below (tree_of c.args.self.now) c.args.number c.in_err-checked_sub.ensures);
+}
 
 pub returns-then-place-len : goal.returns-then-place-len
-returns-then-place-len c =
-    let t = tree_of c.args.self.now in
-    let within : c.from-place.result < length t.events = omega (arith, c.len.ensures, c.if-place-len.true) in
-    name_of t c.args.number _ c.from-place.result _ c.in_ok-checked_sub.ensures c.from-place.ensures
-    (slice_get-get_or t.events c.from-place.result [] within ∙ ap Some (sym c.get.ensures))
+returns-then-place-len c = record {
+  name =
+      let t = tree_of c.args.self.now in
+      let within : c.from-place.result < length t.events = omega (arith, c.len.ensures.length, c.if-place-len.true) in
+      name_of t c.args.number _ c.from-place.result _ c.in_ok-checked_sub.ensures c.from-place.ensures
+      (slice_get-get_or t.events c.from-place.result [] within ∙ ap Some (sym c.get.ensures.name));
+}
 
 pub returns-else-place-len : goal.returns-else-place-len
-returns-else-place-len c =
-    let t = tree_of c.args.self.now in
-    let past : length t.events ≤ c.from-place.result = omega (arith, c.len.ensures, c.if-place-len.false) in
-    name_of t c.args.number _ c.from-place.result None c.in_ok-checked_sub.ensures c.from-place.ensures
-    (slice_get_past t.events c.from-place.result past)
+returns-else-place-len c = record {
+  name =
+      let t = tree_of c.args.self.now in
+      let past : length t.events ≤ c.from-place.result = omega (arith, c.len.ensures.length, c.if-place-len.false) in
+      name_of t c.args.number _ c.from-place.result None c.in_ok-checked_sub.ensures c.from-place.ensures
+      (slice_get_past t.events c.from-place.result past);
+}

@@ -6,6 +6,8 @@ use Rattle.protothread.proofs.CallLaws.{listed-part}
 use Rattle.protothread.proofs.part.Part.is_empty.Goals as goal
 
 pub returns : goal.returns
-returns c =
-    let code = code_of c.args.text.now in
-    is_empty_so (part_body code c.args.self) c.code.result.now (whole_of code c.args.self) c.is_empty.result c.code.ensures (listed-part code c.args.self) c.is_empty.ensures
+returns c = record {
+  decides =
+      let code = code_of c.args.text.now in
+      is_empty_so (part_body code c.args.self) c.code.result.now (whole_of code c.args.self) c.is_empty.result c.code.ensures.is_flat (listed-part code c.args.self) c.is_empty.ensures;
+}

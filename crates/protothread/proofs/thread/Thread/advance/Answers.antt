@@ -27,7 +27,7 @@ returns-in-None-pop-clause-exact g c =
     c.loop-self.invariant.goes_on
     ∙ ends code c.args.self.now.part c.args.event.now (g.L.Look.looks c.args.look.now) t c.loop-self.vars c.loop-self.fuel past none
     ∙ ap (λ r. record { step = step.Done Ended; remainder = r; variables = c.loop-self.vars; units = c.loop-self.fuel })
-    (sym (c.begin_again.ensures code ∙ ap (λ p. fresh_of code p) c.loop-self.invariant.part))
+    (sym (c.begin_again.ensures.fresh code ∙ ap (λ p. fresh_of code p) c.loop-self.invariant.part))
 
 pub loop-self-preserved-in-Some-pop : goal.loop-self-preserved-in-Some-pop
 loop-self-preserved-in-Some-pop g c =
@@ -35,13 +35,13 @@ loop-self-preserved-in-Some-pop g c =
     let t = c.loop-self.self in
     let past : rest_at (body_of_thread code t) t.position ≡ [] = c.loop-self.invariant.inside.flat_of.outside t.position (omega (arith, c.from.ensures, c.in-None.ensures.lookup.3)) in
     record {
-      part = ap (λ (n : Thread). n.part) c.go_on.ensures ∙ c.loop-self.invariant.part;
-      inside = c.innermost-flat-in-Some-pop.ensures;
+      part = ap (λ (n : Thread). n.part) c.go_on.ensures.after ∙ c.loop-self.invariant.part;
+      inside = c.innermost-flat-in-Some-pop.ensures.stands_in;
       units = c.loop-self.invariant.units;
       kept = c.loop-self.invariant.kept;
       goes_on =
           c.loop-self.invariant.goes_on
-          ∙ leaves code c.args.self.now.part c.args.event.now (g.L.Look.looks c.args.look.now) t c.pop.new.self c.in-Some-pop.call c.go_on.new.self c.loop-self.vars c.loop-self.fuel past c.in-Some-pop.ensures.items c.go_on.ensures;
+          ∙ leaves code c.args.self.now.part c.args.event.now (g.L.Look.looks c.args.look.now) t c.pop.new.self c.in-Some-pop.call c.go_on.new.self c.loop-self.vars c.loop-self.fuel past c.in-Some-pop.ensures.items c.go_on.ensures.after;
     }
 
 pub reach-requires-clause-leads : goal.reach-requires-clause-leads

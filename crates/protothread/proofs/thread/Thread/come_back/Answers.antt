@@ -8,39 +8,45 @@ use Rattle.protothread.proofs.Advance.{resumes_at_rest, cannot_resume, gives_up_
 use Rattle.protothread.proofs.thread.Thread.come_back.Goals as goal
 
 pub returns-then-pay : goal.returns-then-pay
-returns-then-pay c =
-    let t = c.args.self.now in
-    let enough : length t.calls ≤ c.args.fuel.now = omega (arith, c.len.ensures, c.pay.ensures.paid.0 c.if-pay.true) in
-    let left : c.args.fuel.now - length t.calls ≡ c.pay.new.self = omega (arith, c.len.ensures, c.pay.ensures.units) in
-    record {
-      same = refl;
-      none_made = omega (arith, c.pay.ensures.units);
-      goes_on_so =
-          λ code event looks vars.
-          resumes_at_rest code event looks t vars c.args.fuel.now c.in-AtRest.is enough
-          ∙ ap (λ u. continued code t.part event looks (thread_place code t) vars u) left;
-    }
+returns-then-pay c = record {
+  resumes =
+      let t = c.args.self.now in
+      let enough : length t.calls ≤ c.args.fuel.now = omega (arith, c.len.ensures.length, c.pay.ensures.paid.0 c.if-pay.true) in
+      let left : c.args.fuel.now - length t.calls ≡ c.pay.new.self = omega (arith, c.len.ensures.length, c.pay.ensures.units) in
+      record {
+        same = refl;
+        none_made = omega (arith, c.pay.ensures.units);
+        goes_on_so =
+            λ code event looks vars.
+            resumes_at_rest code event looks t vars c.args.fuel.now c.in-AtRest.is enough
+            ∙ ap (λ u. continued code t.part event looks (thread_place code t) vars u) left;
+      };
+}
 
 pub returns-else-pay : goal.returns-else-pay
-returns-else-pay c =
-    let t = c.args.self.now in
-    let short : c.args.fuel.now < length t.calls = grind (arith, common_steps) in
-    let none : 0 ≡ c.pay.new.self = omega (arith, c.len.ensures, c.pay.ensures.units) in
-    record {
-      pays = omega (arith, c.pay.ensures.units);
-      stops_so =
-          λ code event looks vars.
-          cannot_resume code event looks t vars c.args.fuel.now c.in-AtRest.is short
-          ∙ ap (λ u. record { step = step.Runaway; remainder = remainder_of code (record t { mark = RunAway }); variables = vars; units = u }) none;
-    }
+returns-else-pay c = record {
+  resumes =
+      let t = c.args.self.now in
+      let short : c.args.fuel.now < length t.calls = grind (arith, common_steps) in
+      let none : 0 ≡ c.pay.new.self = omega (arith, c.len.ensures.length, c.pay.ensures.units) in
+      record {
+        pays = omega (arith, c.pay.ensures.units);
+        stops_so =
+            λ code event looks vars.
+            cannot_resume code event looks t vars c.args.fuel.now c.in-AtRest.is short
+            ∙ ap (λ u. record { step = step.Runaway; remainder = remainder_of code (record t { mark = RunAway }); variables = vars; units = u }) none;
+      };
+}
 
 pub returns-in-Pausing : goal.returns-in-Pausing
-returns-in-Pausing c =
-    let t = c.args.self.now in
-    record {
-      pays = omega arith;
-      stops_so =
-          λ code event looks vars.
-          gives_up_now code event looks t vars c.args.fuel.now c.in-Pausing.is
-          ∙ ap (λ a. record { step = step.Done a; remainder = remainder_of code (record t { mark = AtRest }); variables = vars; units = c.args.fuel.now }) (sym c.yield_answer.ensures);
-    }
+returns-in-Pausing c = record {
+  resumes =
+      let t = c.args.self.now in
+      record {
+        pays = omega arith;
+        stops_so =
+            λ code event looks vars.
+            gives_up_now code event looks t vars c.args.fuel.now c.in-Pausing.is
+            ∙ ap (λ a. record { step = step.Done a; remainder = remainder_of code (record t { mark = AtRest }); variables = vars; units = c.args.fuel.now }) (sym c.yield_answer.ensures.value);
+      };
+}

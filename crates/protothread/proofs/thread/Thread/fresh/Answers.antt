@@ -2,4 +2,4 @@ use Rattle.protothread.proofs.Begin.{begins}
 use Rattle.protothread.proofs.thread.Thread.fresh.Goals as goal
 
 pub returns : goal.returns
-returns c = λ code. begins code c.args.part c.new.result c.new.ensures
+returns c = record { fresh = λ code. begins code c.args.part c.new.result c.new.ensures.empty }

@@ -23,13 +23,13 @@ returns-in-Passes-clause-reaches c =
     let cs = callers_of code old in
     λ s rest here after.
     record {
-      part = ap (λ t. t.part) c.go_on.ensures;
-      inside = same_code code old s rest here c.args.flat.now old.mark false c.args.next c.go_on.new.self c.requires.inside c.go_on.ensures;
+      part = ap (λ t. t.part) c.go_on.ensures.after;
+      inside = same_code code old s rest here c.args.flat.now old.mark false c.args.next c.go_on.new.self c.requires.inside c.go_on.ensures.after;
       made_so =
           ap (λ d. performed_at code old vars s rest d) c.in-Passes.is
           ∙ made_of-goes_on cs vars vars (before false rest)
           ∙ ap (λ l. goes_on vars (nested cs (before false l))) (sym after)
-          ∙ ap (λ p. goes_on vars p) (sym (moves_so code old s rest here old.mark c.args.next c.go_on.new.self c.go_on.ensures));
+          ∙ ap (λ p. goes_on vars p) (sym (moves_so code old s rest here old.mark c.args.next c.go_on.new.self c.go_on.ensures.after));
     }
 
 pub returns-in-Assigns-clause-reaches : goal.returns-in-Assigns-clause-reaches
@@ -42,14 +42,14 @@ returns-in-Assigns-clause-reaches c =
     λ s rest here after.
     let new = c.go_on-in-Assigns.new.self in
     record {
-      part = ap (λ t. t.part) c.go_on-in-Assigns.ensures;
-      inside = same_code code old s rest here c.args.flat.now old.mark false c.args.next new c.requires.inside c.go_on-in-Assigns.ensures;
+      part = ap (λ t. t.part) c.go_on-in-Assigns.ensures.after;
+      inside = same_code code old s rest here c.args.flat.now old.mark false c.args.next new c.requires.inside c.go_on-in-Assigns.ensures.after;
       made_so =
           ap (λ d. performed_at code old vars s rest d) c.in-Assigns.is
           ∙ made_of-goes_on cs vars _ (before false rest)
-          ∙ ap (λ v. goes_on v (nested cs (before false rest))) (sym c.set.ensures)
+          ∙ ap (λ v. goes_on v (nested cs (before false rest))) (sym c.set.ensures.after)
           ∙ ap (λ l. goes_on c.set.new.self (nested cs (before false l))) (sym after)
-          ∙ ap (λ p. goes_on c.set.new.self p) (sym (moves_so code old s rest here old.mark c.args.next new c.go_on-in-Assigns.ensures));
+          ∙ ap (λ p. goes_on c.set.new.self p) (sym (moves_so code old s rest here old.mark c.args.next new c.go_on-in-Assigns.ensures.after));
     }
 
 pub returns-in-Operates-clause-reaches : goal.returns-in-Operates-clause-reaches
@@ -62,14 +62,14 @@ returns-in-Operates-clause-reaches c =
     λ s rest here after.
     let new = c.go_on-in-Operates.new.self in
     record {
-      part = ap (λ t. t.part) c.go_on-in-Operates.ensures;
+      part = ap (λ t. t.part) c.go_on-in-Operates.ensures.after;
       variables = refl;
       made_so =
           ap (λ d. performed_at code old vars s rest d) c.in-Operates.is
           ∙ made_of-operates cs vars c.in-Operates.op (UnderWay c.in-Operates.into) (before false rest)
           ∙ ap (λ l. operates c.in-Operates.op (UnderWay c.in-Operates.into) (nested cs (before false l))) (sym after)
-          ∙ ap (λ m. operates c.in-Operates.op m (nested cs (before false (rest_at b c.args.next)))) (sym (ap (λ t. t.mark) c.go_on-in-Operates.ensures))
-          ∙ ap (λ p. operates c.in-Operates.op new.mark p) (sym (moves_so code old s rest here (UnderWay c.in-Operates.into) c.args.next new c.go_on-in-Operates.ensures));
+          ∙ ap (λ m. operates c.in-Operates.op m (nested cs (before false (rest_at b c.args.next)))) (sym (ap (λ t. t.mark) c.go_on-in-Operates.ensures.after))
+          ∙ ap (λ p. operates c.in-Operates.op new.mark p) (sym (moves_so code old s rest here (UnderWay c.in-Operates.into) c.args.next new c.go_on-in-Operates.ensures.after));
     }
 
 pub returns-in-Pauses-clause-reaches : goal.returns-in-Pauses-clause-reaches
@@ -96,13 +96,13 @@ returns-in-Waits-clause-reaches c =
     let cs = callers_of code old in
     λ s rest here after.
     record {
-      part = ap (λ t. t.part) c.give_up.ensures;
-      mark = ap (λ t. t.mark) c.give_up.ensures;
+      part = ap (λ t. t.part) c.give_up.ensures.after;
+      mark = ap (λ t. t.mark) c.give_up.ensures.after;
       variables = refl;
       made_so =
           ap (λ d. performed_at code old vars s rest d) c.in-Waits.is
           ∙ made_of-waits cs vars (at false s rest)
-          ∙ ap (λ p. answers Waiting p) (sym (stays_so code old s rest here AtRest false c.give_up.new.self c.give_up.ensures));
+          ∙ ap (λ p. answers Waiting p) (sym (stays_so code old s rest here AtRest false c.give_up.new.self c.give_up.ensures.after));
     }
 
 pub returns-in-Yields-clause-reaches : goal.returns-in-Yields-clause-reaches
@@ -115,15 +115,15 @@ returns-in-Yields-clause-reaches c =
     λ s rest here after.
     let new = c.give_up-in-Yields.new.self in
     record {
-      part = ap (λ t. t.part) c.give_up-in-Yields.ensures;
-      mark = ap (λ t. t.mark) c.give_up-in-Yields.ensures;
+      part = ap (λ t. t.part) c.give_up-in-Yields.ensures.after;
+      mark = ap (λ t. t.mark) c.give_up-in-Yields.ensures.after;
       variables = refl;
       made_so =
           ap (λ d. performed_at code old vars s rest d) c.in-Yields.is
           ∙ made_of-yields cs vars (at true s rest)
-          ∙ ap (λ n. answers (yielding n) (nested cs (at true s rest))) (length-callers_in code (part_body code old.part) old.calls ∙ sym (ap (λ t. length t.calls) c.give_up-in-Yields.ensures))
-          ∙ ap (λ a. answers a (nested cs (at true s rest))) (sym c.yield_answer.ensures)
-          ∙ ap (λ p. answers c.yield_answer.result p) (sym (stays_so code old s rest here AtRest true new c.give_up-in-Yields.ensures));
+          ∙ ap (λ n. answers (yielding n) (nested cs (at true s rest))) (length-callers_in code (part_body code old.part) old.calls ∙ sym (ap (λ t. length t.calls) c.give_up-in-Yields.ensures.after))
+          ∙ ap (λ a. answers a (nested cs (at true s rest))) (sym c.yield_answer.ensures.value)
+          ∙ ap (λ p. answers c.yield_answer.result p) (sym (stays_so code old s rest here AtRest true new c.give_up-in-Yields.ensures.after));
     }
 
 pub returns-in-Spawns-clause-reaches : goal.returns-in-Spawns-clause-reaches
@@ -136,7 +136,7 @@ returns-in-Spawns-clause-reaches c =
     λ s rest here after.
     let new = c.go_on-in-Spawns.new.self in
     let call : Call = record { thread = c.in-Spawns.thread; next = c.args.next } in
-    let moved = c.go_on-in-Spawns.ensures ∙ ap (λ ds. record old { is_yielded = false; position = 0; calls = ds }) c.push.ensures in
+    let moved = c.go_on-in-Spawns.ensures.after ∙ ap (λ ds. record old { is_yielded = false; position = 0; calls = ds }) c.push.ensures.appended in
     record {
       part = ap (λ t. t.part) moved;
       inside = stands_in_last code new c.thread_code.result.now old.calls call (ap (λ t. t.calls) moved) c.thread_code.ensures.flat c.thread_code.ensures.earlier;
@@ -156,13 +156,13 @@ returns-in-Restarts-clause-reaches c =
     λ s rest here after.
     let new = c.go_on-in-Restarts.new.self in
     record {
-      part = ap (λ t. t.part) c.go_on-in-Restarts.ensures;
-      mark = ap (λ t. t.mark) c.go_on-in-Restarts.ensures;
+      part = ap (λ t. t.part) c.go_on-in-Restarts.ensures.after;
+      mark = ap (λ t. t.mark) c.go_on-in-Restarts.ensures.after;
       variables = refl;
       made_so =
           ap (λ d. performed_at code old vars s rest d) c.in-Restarts.is
           ∙ made_of-waits cs vars (before false (listed b))
-          ∙ ap (λ p. answers Waiting p) (sym (restarts_so code old s rest here AtRest new c.go_on-in-Restarts.ensures));
+          ∙ ap (λ p. answers Waiting p) (sym (restarts_so code old s rest here AtRest new c.go_on-in-Restarts.ensures.after));
     }
 
 pub returns-in-Some-clause-reaches : goal.returns-in-Some-clause-reaches
@@ -175,11 +175,11 @@ returns-in-Some-clause-reaches c =
     λ s rest here after.
     let new = c.go_on-in-Some.new.self in
     record {
-      part = ap (λ t. t.part) c.go_on-in-Some.ensures;
-      inside = c.innermost.ensures;
+      part = ap (λ t. t.part) c.go_on-in-Some.ensures.after;
+      inside = c.innermost.ensures.stands_in;
       made_so =
           ap (λ d. performed_at code old vars s rest d) c.in-Exits.is
-          ∙ exits_so code old s rest here c.pop.new.self c.in-Some.call new vars (before false (listed b)) c.in-Some.ensures.items c.go_on-in-Some.ensures;
+          ∙ exits_so code old s rest here c.pop.new.self c.in-Some.call new vars (before false (listed b)) c.in-Some.ensures.items c.go_on-in-Some.ensures.after;
     }
 
 pub returns-in-None-clause-reaches : goal.returns-in-None-clause-reaches
@@ -192,7 +192,7 @@ returns-in-None-clause-reaches c =
     λ s rest here after.
     let new = c.go_on-in-None.new.self in
     let none : old.calls ≡ [] = grind (arith, common_steps) in
-    let moved = c.go_on-in-None.ensures ∙ ap (λ ds. record old { mark = AtRest; is_yielded = false; position = 0; calls = ds }) c.in-None.ensures.empty in
+    let moved = c.go_on-in-None.ensures.after ∙ ap (λ ds. record old { mark = AtRest; is_yielded = false; position = 0; calls = ds }) c.in-None.ensures.empty in
     record {
       part = ap (λ t. t.part) moved;
       mark = ap (λ t. t.mark) moved;

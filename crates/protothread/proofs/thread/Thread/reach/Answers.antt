@@ -24,7 +24,7 @@ perform-requires-clause-earlier g c =
     let P : Instruction → Type 0 = λ i. Leads (rest_at b) i (rest_at b old.position) in
     let leads : rest_at b old.position ≡ does a ∷ rest_at b c.in-Act.next = subst P c.in-Act.is c.requires.leads in
     let deed : c.done_by-deed.result ≡ deed_of code.number old.is_yielded vars event looks a =
-    c.done_by-deed.ensures ∙ ap (λ (n : ℕ). deed_of n old.is_yielded vars event looks a) c.number.ensures in
+    c.done_by-deed.ensures.value ∙ ap (λ (n : ℕ). deed_of n old.is_yielded vars event looks a) c.number.ensures.number in
     let Q : Deed → Type 0 = λ d. DeedCanSpawn old.calls d in
     subst Q (sym deed)
     (deed_can old.calls (does a) (deed_of code.number old.is_yielded vars event looks a) (done_by_action code.number old.is_yielded vars event looks a)
@@ -42,7 +42,7 @@ returns-in-Act-clause-reaches g c =
     let P : Instruction → Type 0 = λ i. Leads (rest_at b) i (rest_at b old.position) in
     let leads : rest_at b old.position ≡ does a ∷ rest_at b c.in-Act.next = subst P c.in-Act.is c.requires.leads in
     let deed : c.done_by-deed.result ≡ deed_of code.number old.is_yielded vars event looks a =
-    c.done_by-deed.ensures ∙ ap (λ (n : ℕ). deed_of n old.is_yielded vars event looks a) c.number.ensures in
+    c.done_by-deed.ensures.value ∙ ap (λ (n : ℕ). deed_of n old.is_yielded vars event looks a) c.number.ensures.number in
     λ s rest here.
     let same : s ∷ rest ≡ does a ∷ rest_at b c.in-Act.next = sym here ∙ leads in
     let is : s ≡ does a = cc in
@@ -67,9 +67,9 @@ returns-in-Branch-clause-reaches g c =
     let P : Instruction → Type 0 = λ i. Leads (rest_at b) i (rest_at b old.position) in
     let Q : List (Statement ℕ) → Type 0 = λ l. Branches (rest_at b) test c.in-Branch.holds c.in-Branch.fails l in
     λ s rest here.
-    goes_by_test code old s rest here c.args.flat.now vars event looks c.chosen.result c.go_on.new.self c.requires.inside c.go_on.ensures
+    goes_by_test code old s rest here c.args.flat.now vars event looks c.chosen.result c.go_on.new.self c.requires.inside c.go_on.ensures.after
     (takes_branch (rest_at b) test c.in-Branch.holds c.in-Branch.fails code (listed b) old.is_yielded vars event looks s rest (subst Q here (subst P c.in-Branch.is c.requires.leads))
-    ∙ ap (λ p. goes_on vars (before false (rest_at b p))) (sym c.chosen.ensures))
+    ∙ ap (λ p. goes_on vars (before false (rest_at b p))) (sym c.chosen.ensures.value))
 
 pub returns-in-Loop-clause-reaches : goal.returns-in-Loop-clause-reaches
 returns-in-Loop-clause-reaches g c =
@@ -83,6 +83,6 @@ returns-in-Loop-clause-reaches g c =
     let P : Instruction → Type 0 = λ i. Leads (rest_at b) i (rest_at b old.position) in
     let Q : List (Statement ℕ) → Type 0 = λ l. Loops (rest_at b) test c.in-Loop.body c.in-Loop.next l in
     λ s rest here.
-    goes_by_test code old s rest here c.args.flat.now vars event looks c.chosen-in-Loop.result c.go_on-in-Loop.new.self c.requires.inside c.go_on-in-Loop.ensures
+    goes_by_test code old s rest here c.args.flat.now vars event looks c.chosen-in-Loop.result c.go_on-in-Loop.new.self c.requires.inside c.go_on-in-Loop.ensures.after
     (takes_loop (rest_at b) test c.in-Loop.body c.in-Loop.next code (listed b) old.is_yielded vars event looks s rest (subst Q here (subst P c.in-Loop.is c.requires.leads))
-    ∙ ap (λ p. goes_on vars (before false (rest_at b p))) (sym c.chosen-in-Loop.ensures))
+    ∙ ap (λ p. goes_on vars (before false (rest_at b p))) (sym c.chosen-in-Loop.ensures.value))

@@ -5,14 +5,14 @@ use Rattle.radio_medium.proofs.medium.Medium.links_of.Goals as goal
 
 pub index-requires : goal.index-requires
 index-requires c =
-    let there = rw (← c.self.view_is) at c.requires in
+    let there = rw (← c.self.view_is) at c.requires.sender in
     let within = (ways_at _ _ c.args.s [] c.self.invariant.links there).0 in
     let inside = rw length-map at within in
     omega (arith, inside, c.self.inside.links.ok)
 
 pub returns : goal.returns
 returns c =
-    let there = rw (← c.self.view_is) at c.requires in
+    let there = rw (← c.self.view_is) at c.requires.sender in
     let ways = ways_at _ _ c.args.s [] c.self.invariant.links there in
     let inside = rw length-map at ways.0 in
     let here = get_or-map (λ links. links.items) c.self.inside.links.items c.args.s c.index.result.now [] inside in

@@ -20,10 +20,10 @@ loop-number-preserved c =
     record {
       motes = (let e = inv.motes in omega arith);
       traced = (let e = inv.traced in omega arith);
-      nodes = pushed (λ k (m : Mote). node_in (tree_at n k) m ≡ Some (first_node_in n k)) c.loop-number.engine.motes.items _ c.in_ok-mote.mote i c.in_ok-push.ensures.items inv.motes inv.nodes c.in_ok-mote.ensures;
+      nodes = pushed (λ k (m : Mote). node_in (tree_at n k) m ≡ Some (first_node_in n k)) c.loop-number.engine.motes.items _ c.in_ok-mote.mote i c.in_ok-push.ensures.items inv.motes inv.nodes c.in_ok-mote.ensures.first_node;
       traces = pushed (λ k (v : Vec Line Global). v.items ≡ []) c.loop-number.engine.traces.items _ c.new-in-loop-number.result i c.in_ok-push-2.ensures.items inv.traced inv.traces c.new-in-loop-number.ensures.items;
       log = inv.log;
-      agenda = subst (λ l. Holds c.put_wake.new.self.buckets l) (wakes_more i) (c.in_ok-put_wake.ensures _ inv.agenda);
+      agenda = subst (λ l. Holds c.put_wake.new.self.buckets l) (wakes_more i) (c.in_ok-put_wake.ensures.adds _ inv.agenda);
     }
 
 pub returns-clause-stands : goal.returns-clause-stands

@@ -21,22 +21,22 @@ pub turn_mote-requires-clause-ready : goal.turn_mote-requires-clause-ready
 turn_mote-requires-clause-ready c = λ d.
     let n = net_of c.args.net.now in
     let P : Tree → Type 0 = λ t. CanTurn c.args.moment (node_in t (get_or c.args.self.now.motes.items c.args.number d)) in
-    subst P (sym (tree_is n.motes c.args.number (tree_of c.program.result.now) c.program.ensures)) (c.requires.ready d)
+    subst P (sym (tree_is n.motes c.args.number (tree_of c.program.result.now) c.program.ensures.tree)) (c.requires.ready d)
 
 pub returns-clause-stands : goal.returns-clause-stands
 returns-clause-stands c = λ state at kept.
     let n = net_of c.args.net.now in
     let t = c.args.moment in
     let m = c.args.number in
-    let takes = c.in_ok-next.ensures in
+    let takes = c.in_ok-next.ensures.one_takes_turn in
     let taken = c.take_due_into.ensures.rest state.agenda at.agenda in
-    let wakes = λ (x : Tree) (d : Mote). c.wake_at.ensures x d ∙ ap (λ l. wake_in (node_in x (get_or l m d))) c.deref.ensures.value in
-    let woken = c.in_ok-move_wake.ensures _ taken (wake_to_drop n t m state c.wake_at.result c.wake_but_at-wake.result c.args.self.now c.requires.there at kept wakes takes.after c.wake_but_at-wake.ensures) in
+    let wakes = λ (x : Tree) (d : Mote). c.wake_at.ensures.is_wake_at x d ∙ ap (λ l. wake_in (node_in x (get_or l m d))) c.deref.ensures.value in
+    let woken = c.in_ok-move_wake.ensures.moves_wake _ taken (wake_to_drop n t m state c.wake_at.result c.wake_but_at-wake.result c.args.self.now c.requires.mote_exists at kept wakes takes.after c.wake_but_at-wake.ensures.value) in
     let next = c.in_ok-next.next in
     let base : List Item = filter (λ item. not (is_wake_of m item)) (filter (λ item. not (comes_at t m item)) state.agenda) ++ wake_items m next in
     let sent = c.in_ok-send_all.ensures.agenda _ woken in
-    stands_turn n t m state c.args.self.now _ (tree_of c.program.result.now) c.deref-2.result.now (told_with c.turn_mote.new.out next) c.requires.there c.requires.whole.motes c.requires.whole.traces at
-    (tree_is n.motes m (tree_of c.program.result.now) c.program.ensures) (c.deref-2.ensures.value ∙ c.in_ok-take_due_into.ensures.copies state.agenda at.agenda)
-    takes c.in_ok-add_lines.ensures
+    stands_turn n t m state c.args.self.now _ (tree_of c.program.result.now) c.deref-2.result.now (told_with c.turn_mote.new.out next) c.requires.mote_exists c.requires.is_whole.motes c.requires.is_whole.traces at
+    (tree_is n.motes m (tree_of c.program.result.now) c.program.ensures.tree) (c.deref-2.ensures.value ∙ c.in_ok-take_due_into.ensures.copies state.agenda at.agenda)
+    takes c.in_ok-add_lines.ensures.adds_lines
     (sent_of (λ (r : Radio) (s : List Sent). Holds c.send_all.new.agenda.buckets (base ++ map Packet (flat_map (copies r) (map (stamped t m) s)))) c.medium.ensures.value c.deref-3.ensures.value sent)
     (sent_of (λ (r : Radio) (s : List Sent). map told_line c.send_all.new.log.items ≡ map told_line c.args.self.now.log.items ++ map (packet_with_fates r) (map (stamped t m) s)) c.medium.ensures.value c.deref-3.ensures.value c.in_ok-send_all.ensures.log)

@@ -8,7 +8,7 @@ loop-mote-init c = c.new-of.ensures.items
 
 pub loop-mote-preserved : goal.loop-mote-preserved
 loop-mote-preserved c = one_more (λ mote. (mote * c.args.workers) / c.args.motes) _ _ _ _ c.loop-mote.invariant
-    c.in_ok-push.ensures.items c.in_blocks.ensures
+    c.in_ok-push.ensures.items c.in_blocks.ensures.value
 
 pub returns-clause-of : goal.returns-clause-of
 returns-clause-of c =

@@ -7,4 +7,4 @@ use Rattle.worker_tests.proofs.tests.lent_motes.lent_mote.Goals as goal
 pub returns-clause-goes_on : goal.returns-clause-goes_on
 returns-clause-goes_on c = λ until.
     new_goes_on (slice_get (net_of c.args.net.now).motes c.args.number) (tree_of c.program.result.now) until c.args.number 32
-    c.args.copies.items _ c.in-Ok.mote c.program.ensures c.in-Ok.ensures.new
+    c.args.copies.items _ c.in-Ok.mote c.program.ensures.tree c.in-Ok.ensures.new

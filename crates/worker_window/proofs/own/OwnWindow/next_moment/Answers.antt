@@ -4,13 +4,15 @@ use Rattle.worker_window.proofs.Takes.{over_after}
 use Rattle.worker_window.proofs.own.OwnWindow.next_moment.Goals as goal
 
 pub least-requires : goal.least-requires
-least-requires c =
-    let s = c.args.self.now in
-    rw (rest_of s.next c.deref.result.now s.copies.items c.deref.ensures.value) (is_rising-drop s.next s.copies.items s.rising)
+least-requires c = record {
+  rising =
+      let s = c.args.self.now in
+      rw (rest_of s.next c.deref.result.now s.copies.items c.deref.ensures.value) (is_rising-drop s.next s.copies.items s.rising);
+}
 
 pub returns-else-moment-self-clause-next : goal.returns-else-moment-self-clause-next
 returns-else-moment-self-clause-next c =
     let s = c.args.self.now in
-    let next = rw (rest_of s.next c.deref.result.now s.copies.items c.deref.ensures.value) at c.in_ok-moment.ensures in
+    let next = rw (rest_of s.next c.deref.result.now s.copies.items c.deref.ensures.value) at c.in_ok-moment.ensures.is_next in
     let late = c.if-moment-self.false in
     over_after s c.in_ok-moment.moment next (omega arith)

@@ -27,16 +27,18 @@ loop-number-preserved c =
       traced = (let e = inv.traced in omega arith);
       nodes =
           pushed (λ k (m : Option Mote). is_own of worker k ≡ true → node_at (tree_at n k) m ≡ Some (first_node_in n k)) c.loop-number.share.motes.items _ c.in_ok-mote.mote i
-          c.in_ok-push.ensures.items inv.motes inv.nodes (λ e. c.in_ok-mote.ensures.mote (c.is_own-own.ensures ∙ e));
+          c.in_ok-push.ensures.items inv.motes inv.nodes (λ e. c.in_ok-mote.ensures.mote (c.is_own-own.ensures.value ∙ e));
       traces = pushed (λ k (v : Vec Line Global). v.items ≡ []) c.loop-number.share.traces.items _ c.new-in-loop-number.result i c.in_ok-push-2.ensures.items inv.traced inv.traces c.new-in-loop-number.ensures.items;
       log = inv.log;
-      agenda = subst (λ l. Holds c.begin.new.agenda.buckets l) (wakes_more (is_own of worker) c.is_own-own.result i c.is_own-own.ensures) (c.in_ok-mote.ensures.wake _ inv.agenda);
+      agenda = subst (λ l. Holds c.begin.new.agenda.buckets l) (wakes_more (is_own of worker) c.is_own-own.result i c.is_own-own.ensures.value) (c.in_ok-mote.ensures.wake _ inv.agenda);
     }
 
 pub returns : goal.returns
-returns c =
-    let n = net_of c.args.net.now in
-    let inv = c.loop-number.invariant in
-    let all : c.loop-number.number ≡ length n.motes = omega (arith, c.motes-number-end.ensures.value, c.loop-number-test.false, c.loop-number.auto.number-end) in
-    begins n c.args.of.now c.args.worker c.requires c.loop-number.share inv.is_worker (inv.motes ∙ all) (inv.traced ∙ all) (λ k h. inv.nodes k None (omega arith)) (λ k d h. inv.traces k d (omega arith)) inv.log
-    (subst (λ j. Holds c.loop-number.share.agenda.buckets (map (λ k. Wake 0 k) (filter (is_own c.args.of.now c.args.worker) (up_to j)))) all inv.agenda)
+returns c = record {
+  keeps =
+      let n = net_of c.args.net.now in
+      let inv = c.loop-number.invariant in
+      let all : c.loop-number.number ≡ length n.motes = omega (arith, c.motes-number-end.ensures.value, c.loop-number-test.false, c.loop-number.auto.number-end) in
+      begins n c.args.of.now c.args.worker c.requires.covers_motes c.loop-number.share inv.is_worker (inv.motes ∙ all) (inv.traced ∙ all) (λ k h. inv.nodes k None (omega arith)) (λ k d h. inv.traces k d (omega arith)) inv.log
+      (subst (λ j. Holds c.loop-number.share.agenda.buckets (map (λ k. Wake 0 k) (filter (is_own c.args.of.now c.args.worker) (up_to j)))) all inv.agenda);
+}

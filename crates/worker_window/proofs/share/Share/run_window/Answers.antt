@@ -25,34 +25,36 @@ use Rattle.worker_window.proofs.Zips.{slots_go_on, zip_zip}
 use Rattle.worker_window.proofs.share.Share.run_window.Goals as goal
 
 pub take_events_before-requires : goal.take_events_before-requires
-take_events_before-requires g c =
-    let kept = c.requires.ready.keeps in record {
-      items = kept.agenda.items ++ map Packet c.args.arrived.items;
-      holds = subst (λ l. Holds c.put_copies.new.self.buckets (kept.agenda.items ++ map Packet l)) c.deref.ensures.value (c.in_ok-put_copies.ensures kept.agenda.items kept.agenda.holds);
-    }
+take_events_before-requires g c = record {
+  has_items =
+      let kept = c.requires.ready.keeps in record {
+        items = kept.agenda.items ++ map Packet c.args.arrived.items;
+        holds = subst (λ l. Holds c.put_copies.new.self.buckets (kept.agenda.items ++ map Packet l)) c.deref.ensures.value (c.in_ok-put_copies.ensures.adds kept.agenda.items kept.agenda.holds);
+      };
+}
 
-pub lend-requires-clause-here : goal.lend-requires-clause-here
-lend-requires-clause-here g c =
+pub lend-requires-clause-calls_own_motes : goal.lend-requires-clause-calls_own_motes
+lend-requires-clause-calls_own_motes g c =
     let kept = c.requires.ready.keeps in
-    let base = subst (λ l. Holds c.put_copies.new.self.buckets (kept.agenda.items ++ map Packet l)) c.deref.ensures.value (c.in_ok-put_copies.ensures kept.agenda.items kept.agenda.holds) in
+    let base = subst (λ l. Holds c.put_copies.new.self.buckets (kept.agenda.items ++ map Packet l)) c.deref.ensures.value (c.in_ok-put_copies.ensures.adds kept.agenda.items kept.agenda.holds) in
     called_here (net_of c.args.net.now) c.args.of.now c.args.self.now (kept_of c.requires.ready) c.args.arrived.items c.requires.to_own c.requires.of c.args.until c.in_ok-calls.calls.copies.items (c.in_ok-calls.ensures.taken _ base)
 
 pub lend-requires-clause-rising : goal.lend-requires-clause-rising
 lend-requires-clause-rising g c = λ k copies e.
     let kept = c.requires.ready.keeps in
-    let base = subst (λ l. Holds c.put_copies.new.self.buckets (kept.agenda.items ++ map Packet l)) c.deref.ensures.value (c.in_ok-put_copies.ensures kept.agenda.items kept.agenda.holds) in
+    let base = subst (λ l. Holds c.put_copies.new.self.buckets (kept.agenda.items ++ map Packet l)) c.deref.ensures.value (c.in_ok-put_copies.ensures.adds kept.agenda.items kept.agenda.holds) in
     ((c.in_ok-calls.ensures.taken _ base).copies k copies e).rising
 
 pub lend-requires-clause-in_net : goal.lend-requires-clause-in_net
 lend-requires-clause-in_net g c =
     let kept = c.requires.ready.keeps in
-    let base = subst (λ l. Holds c.put_copies.new.self.buckets (kept.agenda.items ++ map Packet l)) c.deref.ensures.value (c.in_ok-put_copies.ensures kept.agenda.items kept.agenda.holds) in
+    let base = subst (λ l. Holds c.put_copies.new.self.buckets (kept.agenda.items ++ map Packet l)) c.deref.ensures.value (c.in_ok-put_copies.ensures.adds kept.agenda.items kept.agenda.holds) in
     called_there (net_of c.args.net.now) c.args.of.now c.args.self.now (kept_of c.requires.ready) c.args.arrived.items c.requires.to_own c.requires.of c.args.until c.in_ok-calls.calls.copies.items (c.in_ok-calls.ensures.taken _ base)
 
 pub lend-requires-clause-traced : goal.lend-requires-clause-traced
 lend-requires-clause-traced g c = λ k h.
     let kept = c.requires.ready.keeps in
-    let base = subst (λ l. Holds c.put_copies.new.self.buckets (kept.agenda.items ++ map Packet l)) c.deref.ensures.value (c.in_ok-put_copies.ensures kept.agenda.items kept.agenda.holds) in
+    let base = subst (λ l. Holds c.put_copies.new.self.buckets (kept.agenda.items ++ map Packet l)) c.deref.ensures.value (c.in_ok-put_copies.ensures.adds kept.agenda.items kept.agenda.holds) in
     subst (λ m. k < m) (sym kept.traces_kept)
     (called_there (net_of c.args.net.now) c.args.of.now c.args.self.now (kept_of c.requires.ready) c.args.arrived.items c.requires.to_own c.requires.of c.args.until c.in_ok-calls.calls.copies.items (c.in_ok-calls.ensures.taken _ base) k h)
 
@@ -60,8 +62,8 @@ pub run_slots-requires : goal.run_slots-requires
 run_slots-requires g c =
     let n = net_of c.args.net.now in
     let r = c.requires.ready in
-    let at = subst (λ l. Holds c.put_copies.new.self.buckets (r.keeps.agenda.items ++ map Packet l)) c.deref.ensures.value (c.in_ok-put_copies.ensures r.keeps.agenda.items r.keeps.agenda.holds) in
-    let lends = c.in_ok-slots.ensures in
+    let at = subst (λ l. Holds c.put_copies.new.self.buckets (r.keeps.agenda.items ++ map Packet l)) c.deref.ensures.value (c.in_ok-put_copies.ensures.adds r.keeps.agenda.items r.keeps.agenda.holds) in
+    let lends = c.in_ok-slots.ensures.are_lent in
     record {
       go_on = slots_go_on n c.args.until lends.lent_motes c.in_ok-slots.slots.items lends.opened
           (go_on n c.args.of.now r.worker r.from c.args.until r.motes r.taken c.args.arrived.items c.args.self.now c.lend.new.share r.keeps r.order r.expected c.requires.of c.in_ok-calls.calls.copies.items
@@ -72,8 +74,8 @@ pub loop-slot-init : goal.loop-slot-init
 loop-slot-init g c =
     let n = net_of c.args.net.now in
     let kept = c.requires.ready.keeps in
-    let base = subst (λ l. Holds c.put_copies.new.self.buckets (kept.agenda.items ++ map Packet l)) c.deref.ensures.value (c.in_ok-put_copies.ensures kept.agenda.items kept.agenda.holds) in
-    let lends = c.in_ok-slots.ensures in
+    let base = subst (λ l. Holds c.put_copies.new.self.buckets (kept.agenda.items ++ map Packet l)) c.deref.ensures.value (c.in_ok-put_copies.ensures.adds kept.agenda.items kept.agenda.holds) in
+    let lends = c.in_ok-slots.ensures.are_lent in
     let lent = lends.lent in
     let ends = c.in_ok-done.ensures.ends in
     let outs = outs_of c.in_ok-done.done.items in
@@ -92,7 +94,7 @@ loop-slot-init g c =
           c.lend.new.share.motes.items c.lend.new.share.traces.items lends.lent_motes c.lend.new.wakes.items lent c.requires.ready.order outs gives;
       go_out = subst (AllByRecursion (IsOutgoing n c.args.of.now c.args.self.now.worker)) (sym c.new-outgoing.ensures.items) tt;
       coming = λ worker from motes taken keeps le short come.
-          let at = subst (λ l. Holds c.put_copies.new.self.buckets (keeps.agenda.items ++ map Packet l)) c.deref.ensures.value (c.in_ok-put_copies.ensures keeps.agenda.items keeps.agenda.holds) in
+          let at = subst (λ l. Holds c.put_copies.new.self.buckets (keeps.agenda.items ++ map Packet l)) c.deref.ensures.value (c.in_ok-put_copies.ensures.adds keeps.agenda.items keeps.agenda.holds) in
           subst (λ l. Coming n c.args.of.now worker from c.args.until motes (taken ++ c.args.arrived.items) (window_copies n c.args.of.now worker from c.args.until motes taken c.args.arrived.items c.args.self.now keeps le come) share outs c.lend.new.wakes.items l)
           (sym c.new-outgoing.ensures.items)
           (starts n c.args.of.now worker from c.args.until motes taken c.args.arrived.items c.args.self.now share keeps le come c.requires.of c.in_ok-calls.calls.copies.items lends.lent_motes c.lend.new.wakes.items
@@ -100,13 +102,15 @@ loop-slot-init g c =
     }
 
 pub last_wake-pending-requires : goal.last_wake-pending-requires
-last_wake-pending-requires g c =
-    let e = c.loop-slot.invariant.wakes in
-    let more = ap length c.in-Some.ensures.items ∙ length-append c.pop.new.self.items _ in
-    omega arith
+last_wake-pending-requires g c = record {
+  not_empty =
+      let e = c.loop-slot.invariant.wakes in
+      let more = ap length c.in-Some.ensures.items ∙ length-append c.pop.new.self.items _ in
+      omega arith;
+}
 
 pub into_out-requires : goal.into_out-requires
-into_out-requires g c = (last_done c.pop.new.self.items c.in-Some.slot (subst (λ l. list_all is_done l ≡ true) c.in-Some.ensures.items c.loop-slot.invariant.done)).1
+into_out-requires g c = record { done = (last_done c.pop.new.self.items c.in-Some.slot (subst (λ l. list_all is_done l ≡ true) c.in-Some.ensures.items c.loop-slot.invariant.done)).1 }
 
 pub take_back-requires-clause-motes : goal.take_back-requires-clause-motes
 take_back-requires-clause-motes g c =
@@ -116,9 +120,9 @@ take_back-requires-clause-motes g c =
     let out = c.into_out.result in
     let more = outs_of c.pop.new.self.items in
     let popped : outs_of c.loop-slot.done.items ≡ more ++ out ∷ [] =
-    ap outs_of c.in-Some.ensures.items ∙ (ap (λ s. outs_of (c.pop.new.self.items ++ s ∷ [])) c.into_out.ensures ∙ outs_more c.pop.new.self.items out) in
+    ap outs_of c.in-Some.ensures.items ∙ (ap (λ s. outs_of (c.pop.new.self.items ++ s ∷ [])) c.into_out.ensures.was_done ∙ outs_more c.pop.new.self.items out) in
     let split = every_split P more out (subst (AllByRecursion P) popped inv.fits) in
-    fits n c.args.of.now c.args.self.now.worker c.args.until _ out split.1 inv.motes c.requires.early
+    fits n c.args.of.now c.args.self.now.worker c.args.until _ out split.1 inv.motes c.requires.until_bounded
 
 pub take_back-requires-clause-traces : goal.take_back-requires-clause-traces
 take_back-requires-clause-traces g c =
@@ -128,9 +132,9 @@ take_back-requires-clause-traces g c =
     let out = c.into_out.result in
     let more = outs_of c.pop.new.self.items in
     let popped : outs_of c.loop-slot.done.items ≡ more ++ out ∷ [] =
-    ap outs_of c.in-Some.ensures.items ∙ (ap (λ s. outs_of (c.pop.new.self.items ++ s ∷ [])) c.into_out.ensures ∙ outs_more c.pop.new.self.items out) in
+    ap outs_of c.in-Some.ensures.items ∙ (ap (λ s. outs_of (c.pop.new.self.items ++ s ∷ [])) c.into_out.ensures.was_done ∙ outs_more c.pop.new.self.items out) in
     let split = every_split P more out (subst (AllByRecursion P) popped inv.fits) in
-    fits n c.args.of.now c.args.self.now.worker c.args.until _ out split.1 inv.traces c.requires.early
+    fits n c.args.of.now c.args.self.now.worker c.args.until _ out split.1 inv.traces c.requires.until_bounded
 
 pub take_back-requires-clause-places : goal.take_back-requires-clause-places
 take_back-requires-clause-places g c =
@@ -140,9 +144,9 @@ take_back-requires-clause-places g c =
     let out = c.into_out.result in
     let more = outs_of c.pop.new.self.items in
     let popped : outs_of c.loop-slot.done.items ≡ more ++ out ∷ [] =
-    ap outs_of c.in-Some.ensures.items ∙ (ap (λ s. outs_of (c.pop.new.self.items ++ s ∷ [])) c.into_out.ensures ∙ outs_more c.pop.new.self.items out) in
+    ap outs_of c.in-Some.ensures.items ∙ (ap (λ s. outs_of (c.pop.new.self.items ++ s ∷ [])) c.into_out.ensures.was_done ∙ outs_more c.pop.new.self.items out) in
     let split = every_split P more out (subst (AllByRecursion P) popped inv.fits) in
-    fits n c.args.of.now c.args.self.now.worker c.args.until _ out split.1 c.medium.ensures.placed c.requires.early
+    fits n c.args.of.now c.args.self.now.worker c.args.until _ out split.1 c.medium.ensures.placed c.requires.until_bounded
 
 pub loop-slot-preserved : goal.loop-slot-preserved
 loop-slot-preserved g c =
@@ -153,14 +157,14 @@ loop-slot-preserved g c =
     let out = c.into_out.result in
     let more = outs_of c.pop.new.self.items in
     let popped : outs_of c.loop-slot.done.items ≡ more ++ out ∷ [] =
-    ap outs_of c.in-Some.ensures.items ∙ (ap (λ s. outs_of (c.pop.new.self.items ++ s ∷ [])) c.into_out.ensures ∙ outs_more c.pop.new.self.items out) in
+    ap outs_of c.in-Some.ensures.items ∙ (ap (λ s. outs_of (c.pop.new.self.items ++ s ∷ [])) c.into_out.ensures.was_done ∙ outs_more c.pop.new.self.items out) in
     let P = IsFitOwn n of self.worker c.args.until in
     let split = every_split P more out (subst (AllByRecursion P) popped inv.fits) in
     let rest_done = last_done c.pop.new.self.items c.in-Some.slot (subst (λ l. list_all is_done l ≡ true) c.in-Some.ensures.items inv.done) in
     let fit = split.1 in
     let placed : length n.radio.places ≡ length n.motes = ap (λ (r : Radio). length r.places) (sym c.medium.ensures.value) ∙ c.medium.ensures.placed in
     let returns : (k : ℕ) → HasNumber k out.mote → MoteReturns n.radio of k c.last_wake-pending.result out c.loop-slot.self c.take_back.new.self c.loop-slot.outgoing.items c.take_back.new.outgoing.items = λ k numbered.
-    subst (λ (r : Radio). MoteReturns r of k c.last_wake-pending.result out c.loop-slot.self c.take_back.new.self c.loop-slot.outgoing.items c.take_back.new.outgoing.items) c.medium.ensures.value (c.in_ok-take_back.ensures k numbered) in
+    subst (λ (r : Radio). MoteReturns r of k c.last_wake-pending.result out c.loop-slot.self c.take_back.new.self c.loop-slot.outgoing.items c.take_back.new.outgoing.items) c.medium.ensures.value (c.in_ok-take_back.ensures.mote_returns k numbered) in
     let one = returns fit.number fit.numbered in
     record {
       motes = ap length one.motes ∙ (length-set c.loop-slot.self.motes.items fit.number _ ∙ inv.motes);
@@ -170,7 +174,7 @@ loop-slot-preserved g c =
       wakes = (
           let e = inv.wakes in
           let more = ap length c.in-Some.ensures.items ∙ length-append c.pop.new.self.items _ in
-          let less = ap length c.last_wake-pending.ensures ∙ length-append c.last_wake-pending.new.wakes.items _ in
+          let less = ap length c.last_wake-pending.ensures.popped ∙ length-append c.last_wake-pending.new.wakes.items _ in
           omega arith);
       fits = split.0;
       go_out =
@@ -179,7 +183,7 @@ loop-slot-preserved g c =
       coming = λ worker from motes taken keeps le short come.
           one_back n of worker from c.args.until motes (taken ++ c.args.arrived.items) (window_copies n of worker from c.args.until motes taken c.args.arrived.items self keeps le come) placed short
           c.loop-slot.self c.take_back.new.self (outs_of c.loop-slot.done.items) more out popped
-          c.loop-slot.wakes.items c.last_wake-pending.new.wakes.items c.last_wake-pending.result c.last_wake-pending.ensures c.loop-slot.outgoing.items c.take_back.new.outgoing.items
+          c.loop-slot.wakes.items c.last_wake-pending.new.wakes.items c.last_wake-pending.result c.last_wake-pending.ensures.popped c.loop-slot.outgoing.items c.take_back.new.outgoing.items
           (inv.coming worker from motes taken keeps le short come) returns;
     }
 

@@ -12,26 +12,29 @@ use Rattle.worker_window.proofs.Traces.{trace_put}
 use Rattle.worker_window.proofs.share.Share.take_back.Goals as goal
 
 pub returns : goal.returns
-returns c = λ number numbered.
-    let old = c.args.self.now in
-    let out = c.args.out in
-    let told = rw numbered.is at (c.number-number.ensures.node numbered.tree) in
-    let same : c.number-number.result ≡ number = told ∙ numbered.number_is in
-    let fit = c.requires.traces in
-    let told_too = rw fit.numbered.is at (c.number-number.ensures.node fit.numbered.tree) in
-    let low : c.number-number.result < length old.traces.items = subst (λ k. k < length old.traces.items) (sym (told_too ∙ fit.numbered.number_is)) fit.there in
-    record {
-      worker = refl;
-      motes = ap (λ i. slice_set old.motes.items i (Some out.mote)) (c.from-2.ensures ∙ same);
-      traces_kept = length-set old.traces.items _ out.lines;
-      traces = λ k d. (let low' : number < length old.traces.items = subst (λ k. k < length old.traces.items) same low in
-          ap (λ i. (get_or (slice_set old.traces.items i out.lines) k d).items) (c.from.ensures ∙ same) ∙ trace_put number out.lines old.traces.items low' k d);
-      log = c.in_ok-send_all.ensures.log ∙ ap (λ (l : List Sent). packets_in old.log.items ++ l) c.deref.ensures.value;
-      fates = c.in_ok-send_all.ensures.fates;
-      agenda = λ items holds pending.
-          subst (λ (l : List Sent). Holds c.send_all.new.agenda.buckets ((without_wakes number items ++ wake_items number out.wake) ++ map Packet (filter (λ copy. is_own c.args.of.now old.worker copy.to) (flat_map (copies c.args.medium.now) l)))) c.deref.ensures.value
-          (c.in_ok-send_all.ensures.own _
-          (subst (λ m. Holds c.move_wake.new.self.buckets (without_wakes m items ++ wake_items m out.wake)) same
-          (c.in_ok-move_wake.ensures items holds (subst (λ m. filter (is_wake_of m) items ≡ wake_items m c.args.pending) (sym same) pending))));
-      outgoing = c.in_ok-send_all.ensures.outgoing ∙ ap (λ (l : List Sent). c.args.outgoing.now.items ++ filter (is_for_others (is_own c.args.of.now old.worker)) (flat_map (copies c.args.medium.now) l)) c.deref.ensures.value;
-    }
+returns c = record {
+  mote_returns =
+      λ number numbered.
+      let old = c.args.self.now in
+      let out = c.args.out in
+      let told = rw numbered.is at (c.number-number.ensures.node numbered.tree) in
+      let same : c.number-number.result ≡ number = told ∙ numbered.number_is in
+      let fit = c.requires.traces in
+      let told_too = rw fit.numbered.is at (c.number-number.ensures.node fit.numbered.tree) in
+      let low : c.number-number.result < length old.traces.items = subst (λ k. k < length old.traces.items) (sym (told_too ∙ fit.numbered.number_is)) fit.there in
+      record {
+        worker = refl;
+        motes = ap (λ i. slice_set old.motes.items i (Some out.mote)) (c.from-2.ensures ∙ same);
+        traces_kept = length-set old.traces.items _ out.lines;
+        traces = λ k d. (let low' : number < length old.traces.items = subst (λ k. k < length old.traces.items) same low in
+            ap (λ i. (get_or (slice_set old.traces.items i out.lines) k d).items) (c.from.ensures ∙ same) ∙ trace_put number out.lines old.traces.items low' k d);
+        log = c.in_ok-send_all.ensures.log ∙ ap (λ (l : List Sent). packets_in old.log.items ++ l) c.deref.ensures.value;
+        fates = c.in_ok-send_all.ensures.fates;
+        agenda = λ items holds pending.
+            subst (λ (l : List Sent). Holds c.send_all.new.agenda.buckets ((without_wakes number items ++ wake_items number out.wake) ++ map Packet (filter (λ copy. is_own c.args.of.now old.worker copy.to) (flat_map (copies c.args.medium.now) l)))) c.deref.ensures.value
+            (c.in_ok-send_all.ensures.own _
+            (subst (λ m. Holds c.move_wake.new.self.buckets (without_wakes m items ++ wake_items m out.wake)) same
+            (c.in_ok-move_wake.ensures.moves_wake items holds (subst (λ m. filter (is_wake_of m) items ≡ wake_items m c.args.pending) (sym same) pending))));
+        outgoing = c.in_ok-send_all.ensures.outgoing ∙ ap (λ (l : List Sent). c.args.outgoing.now.items ++ filter (is_for_others (is_own c.args.of.now old.worker)) (flat_map (copies c.args.medium.now) l)) c.deref.ensures.value;
+      };
+}

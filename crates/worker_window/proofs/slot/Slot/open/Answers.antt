@@ -15,7 +15,7 @@ returns-clause-gives g c = λ out h.
     let until = c.args.until in
     let window = subst (λ own. IsSomeAnd own (λ o. window_in o ≡ opened t until r.copies.items r.trace.items (node_in t r.mote))) (sym c.over.ensures.own) c.new-own.ensures.window in
     let course = subst (λ own. IsSomeAnd own (λ o. course_in o ≡ course_of t until r.copies.items r.trace.items (node_in t r.mote))) (sym c.over.ensures.own) c.new-own.ensures.course in
-    lent_gives (slice_get (net_of c.args.net.now).motes r.number) t c.program.ensures until r.copies.items r.trace.items r.mote out
+    lent_gives (slice_get (net_of c.args.net.now).motes r.number) t c.program.ensures.tree until r.copies.items r.trace.items r.mote out
     (opened_gives t until r.copies.items r.trace.items out c.over.result.own (node_in t r.mote) window course h)
 
 pub returns-clause-goes_on : goal.returns-clause-goes_on
@@ -25,4 +25,4 @@ returns-clause-goes_on g c = λ on.
     let until = c.args.until in
     let window = subst (λ own. IsSomeAnd own (λ o. window_in o ≡ opened t until r.copies.items r.trace.items (node_in t r.mote))) (sym c.over.ensures.own) c.new-own.ensures.window in
     opened_goes_on t until r.copies.items r.trace.items c.over.result.own (node_in t r.mote) window
-    (lent_goes_on (slice_get (net_of c.args.net.now).motes r.number) t c.program.ensures until r.copies.items r.trace.items r.mote on)
+    (lent_goes_on (slice_get (net_of c.args.net.now).motes r.number) t c.program.ensures.tree until r.copies.items r.trace.items r.mote on)
