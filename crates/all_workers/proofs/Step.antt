@@ -6,7 +6,7 @@ use Rattle.std.proofs.lemmas.Bool.{cases_Bool, eqb-true, eq-eqb, false≢true, l
 use Rattle.std.proofs.lemmas.List.Elements.{filter-append}
 use Rattle.radio_packet.specs.declared.copy.RadioCopy.{RadioCopy}
 use Rattle.mote_net.specs.Net.{NetTold}
-use Rattle.window_laws.specs.System.{RunsForward}
+use Rattle.window_laws.specs.Forward.{RunsForward}
 use Rattle.window_laws.specs.Windows.{Alone, first_mote, Windows, RunsAlone, copies_by, is_from_sender}
 use Rattle.window_laws.proofs.Lists.{filter_filter, filter_none, every_weaker}
 use Rattle.window_laws.proofs.History.{history, unseen_since}

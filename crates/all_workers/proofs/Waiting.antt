@@ -9,7 +9,7 @@ use Rattle.radio_packet.specs.declared.copy.RadioCopy.{RadioCopy}
 use Rattle.mote_net.specs.Net.{NetTold}
 use Rattle.window_laws.specs.Agenda.{up_to}
 use Rattle.window_laws.specs.Pending.{comes_from}
-use Rattle.window_laws.specs.System.{RunsForward}
+use Rattle.window_laws.specs.Forward.{RunsForward}
 use Rattle.window_laws.specs.Windows.{first_mote, Windows, NoneBefore, copies_by, is_from_sender}
 use Rattle.window_laws.proofs.Alone.{from_pieces}
 use Rattle.window_laws.proofs.Lists.{filter_filter, filter_both, filter_every, every_passes, every_weaker}

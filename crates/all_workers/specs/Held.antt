@@ -5,7 +5,7 @@ use Rattle.trace_lines.specs.declared.line.Line.{Line}
 use Rattle.mote_node.specs.Node.{Node}
 use Rattle.radio_packet.specs.declared.copy.RadioCopy.{RadioCopy}
 use Rattle.mote_net.specs.Net.{NetTold}
-use Rattle.window_laws.specs.System.{RunsForward}
+use Rattle.window_laws.specs.Forward.{RunsForward}
 use Rattle.window_laws.specs.Agenda.{Item, packets, up_to}
 use Rattle.window_laws.specs.NetStep.{NetState, Run, boot}
 use Rattle.net_agenda.specs.Buckets.{Holds}

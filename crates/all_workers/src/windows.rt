@@ -2,9 +2,9 @@
 
 ghost use Rattle.std.specs.Prelude.{◌≡◌, ◌+◌, ◌<◌, ◌≤◌};
 ghost use Rattle.mote_net.specs.Limits.{latest_end};
-ghost use Rattle.mote_net.specs.Net.{net_of};
+ghost use Rattle.mote_net.specs.Meaning.{net_of};
 ghost use Rattle.net_agenda.specs.NetSystem.{system_of};
-ghost use Rattle.window_laws.specs.System.{RunsForward};
+ghost use Rattle.window_laws.specs.Forward.{RunsForward};
 ghost use Rattle.all_workers.specs.WindowLength.{end_of_window, length_of_window};
 
 use mote_net::Net;

@@ -3,7 +3,7 @@
 ghost use Rattle.std.specs.Prelude.{◌≡◌, ◌≤◌, length, IfOk, IfErr};
 ghost use Rattle.std.specs.List.{AllZip};
 ghost use Rattle.fork_join.specs.declared.work.Refused.TheVariants.{Memory};
-ghost use Rattle.mote_net.specs.Net.{net_of};
+ghost use Rattle.mote_net.specs.Meaning.{net_of};
 ghost use Rattle.copy_exchange.specs.Inboxes.{IsFresh};
 ghost use Rattle.all_workers.specs.Start.{AreFirst};
 ghost use Rattle.all_workers.specs.Workers.{IsAt, IsCut};

@@ -2,7 +2,7 @@
 use Rattle.std.proofs.Common.{ℕ, ◌≡◌, ◌+◌, ◌≤◌, List, Option, Some, None, sym, subst, arith}
 use Rattle.std.proofs.Math.Nat.{le-min, min-le_left}
 use Rattle.mote_net.specs.Net.{NetTold}
-use Rattle.window_laws.specs.System.{RunsForward}
+use Rattle.window_laws.specs.Forward.{RunsForward}
 use Rattle.window_laws.specs.Windows.{NoneBefore}
 use Rattle.net_agenda.specs.NetSystem.{system_of}
 use Rattle.all_workers.specs.declared.workers.Workers.{Workers}

@@ -4,9 +4,9 @@ ghost use Rattle.std.specs.Prelude.{◌≡◌, ℕ, ◌+◌, ◌^◌, ◌<◌, �
 ghost use Rattle.std.specs.List.{AllByRecursion as Each, AllZip};
 ghost use Rattle.fork_join.specs.declared.work.Refused.TheVariants.{Memory};
 ghost use Rattle.fork_join.specs.Gravest.{is_own};
-ghost use Rattle.mote_net.specs.Net.{net_of};
+ghost use Rattle.mote_net.specs.Meaning.{net_of};
 ghost use Rattle.net_agenda.specs.NetSystem.{system_of};
-ghost use Rattle.window_laws.specs.System.{RunsForward};
+ghost use Rattle.window_laws.specs.Forward.{RunsForward};
 ghost use Rattle.copy_exchange.specs.Endpoints.{AllReturn, GathersDelivered};
 ghost use Rattle.copy_exchange.specs.Inboxes.{IsPlain, Settled};
 ghost use Rattle.all_workers.specs.Workers.{IsAt};

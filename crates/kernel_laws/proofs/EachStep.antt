@@ -34,7 +34,7 @@ use Rattle.process_kernel.specs.State.{State, Outcome, Went, Ends, Goes, â—Œ>>=â
 use Rattle.process_kernel.specs.Processes.{is_alive, process_state, has_process, is_busy, is_listed, is_running, is_on_list, with_state, with_exiting, with_needs_poll}
 use Rattle.process_kernel.specs.ProcessList.{put_remainder, fresh_at, with_fresh_body, enlist_of, exiting_of, unlisted_of, leave_of}
 use Rattle.process_kernel.specs.Posts.{post_of, poll_of, send_of}
-use Rattle.process_kernel.specs.Semaphores.{take_of, signal_of}
+use Rattle.process_kernel.specs.Operation.{take_of, signal_of}
 use Rattle.process_kernel.specs.TimerOperations.{has_timer, timer_is_set, set_of, reset_of, restart_of, stop_of}
 use Rattle.process_kernel.specs.Writes.{with_line, write_of, halted_of, spend_of}
 use Rattle.process_kernel.specs.Calls.{Calls, Answer, told, is_system_event, walk_of}

@@ -2,7 +2,7 @@
 use Rattle.std.specs.Prelude.{ℕ, ◌≡◌, suc, ◌<◌, ◌≤◌, List, length, slice_index_or, Option, None}
 use Rattle.std.specs.List.{AllByRecursion as Each}
 use Rattle.mote_net.specs.Net.{NetTold}
-use Rattle.window_laws.specs.System.{RunsForward}
+use Rattle.window_laws.specs.Forward.{RunsForward}
 use Rattle.net_agenda.specs.NetSystem.{system_of}
 use Rattle.copy_inbox.specs.Gathered.{Whole}
 use Rattle.copy_inbox.specs.Items.{part, BeginsWith}

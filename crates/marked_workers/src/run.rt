@@ -4,7 +4,7 @@ ghost use Rattle.std.specs.Prelude.{◌≡◌, ◌<◌, ◌≤◌, suc, true, le
 ghost use Rattle.std.specs.List.{AllByRecursion as Each, AllZip, range_with_len};
 ghost use Rattle.fork_join.specs.declared.work.Refused.TheVariants.{Memory};
 ghost use Rattle.fork_join.specs.Gravest.{is_own};
-ghost use Rattle.mote_net.specs.Net.{net_of};
+ghost use Rattle.mote_net.specs.Meaning.{net_of};
 ghost use Rattle.net_agenda.specs.NetSystem.{system_of};
 ghost use Rattle.copy_inbox.specs.Gathered.{Whole};
 ghost use Rattle.copy_exchange.specs.Endpoints.{IsOnInboxes};

@@ -7,10 +7,11 @@ use borrow.Author.Tests.{ltb-true, leb-true}
 use Rattle.program_tree.specs.Program.{tree_of}
 use Rattle.mote_net.specs.declared.net.MoteSetup.{MoteSetup as SetupOfCode}
 use Rattle.mote_net.specs.declared.programs.NamedProgram.{NamedProgram}
-use Rattle.mote_net.specs.Programs.{NamedTree, named_tree}
+use Rattle.mote_net.specs.Programs.{NamedTree}
+use Rattle.mote_net.specs.Meaning.{named_tree}
 use Rattle.mote_net.specs.Motes.{is_mote_of}
 use Rattle.mote_net.specs.Limits.{shortest_queue, longest_queue}
-use Rattle.mote_net.specs.Net.{setup_of, program_at}
+use Rattle.mote_net.specs.Meaning.{setup_of, program_at}
 
 pub slice_get-map : {X Y : Type 0} (f : X → Y) (xs : List X) (i : ℕ) (d : X) → i < length xs → slice_get (map f xs) i ≡ Some (f (get_or xs i d))
 slice_get-map f [] i d h = absurd (omega arith)

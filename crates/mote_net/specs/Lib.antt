@@ -1,5 +1,6 @@
 -- Nets: the subject of a simulation.
 pub mod Limits
+pub mod Meaning
 pub mod Motes
 pub mod Net
 pub mod Programs

@@ -1,11 +1,8 @@
 -- A net: its motes and its medium.
-use Rattle.std.specs.Prelude.{ℕ, Bool, List, [], map, slice_get, None, option_map, unwrap_or}
+use Rattle.std.specs.Prelude.{ℕ, Bool, List, [], None}
 use Rattle.program_tree.specs.Code.{Tree}
 use Rattle.radio_medium.specs.Medium.{Radio}
-use Rattle.mote_net.specs.declared.net.MoteSetup.{MoteSetup as SetupOfCode}
-use Rattle.mote_net.specs.declared.net.Net.{Net}
-use Rattle.mote_net.specs.declared.programs.NamedProgram.{NamedProgram}
-use Rattle.mote_net.specs.Programs.{NamedTree, named_tree}
+use Rattle.mote_net.specs.Programs.{NamedTree}
 
 -- the set-up of a mote: its program's name and tree, and the length of its queue
 pub record MoteSetup : Type 0 where
@@ -34,24 +31,4 @@ no_program = record {
     codes = [];
     timers = [];
   };
-}
-
--- the program at an index
-abbrev pub program_at : List NamedProgram → ℕ → NamedTree
-program_at programs i = unwrap_or (option_map named_tree (slice_get programs i)) no_program
-
-abbrev pub setup_of : List NamedProgram → SetupOfCode → MoteSetup
-setup_of programs m = record {
-  program = (program_at programs m.program).name;
-  tree = (program_at programs m.program).tree;
-  queue = m.queue;
-}
-
--- the meaning of a `Net`
-abbrev pub net_of : Net → NetTold
-net_of n = record {
-  end = n.end;
-  collide = n.collide;
-  radio = n.medium;
-  motes = map (setup_of n.programs.items) n.motes.items;
 }

@@ -46,7 +46,7 @@ impl Drop for Net {
 
 impl Net {
     ghost use Rattle.program_tree.specs.Program.{tree_of};
-    ghost use Rattle.mote_net.specs.Net.{net_of, setup_of};
+    ghost use Rattle.mote_net.specs.Meaning.{net_of, setup_of};
 
     /// The net of these parts: `end` is its last moment, the medium has a place for each mote, and each mote's program
     /// is one of the programs.

@@ -6,9 +6,12 @@ use Rattle.std.proofs.lemmas.Slice.Zip.{length-zip, get_or-zip}
 use Rattle.std.proofs.lemmas.List.{map-append, append-nil, drop_all, length-map, get_or-map}
 use Rattle.std.proofs.Math.Seq.{drop-cons}
 use Rattle.program_tree.specs.Shapes.{Name}
-use Rattle.program_tree.specs.Tokens.{Token, token_of}
-use Rattle.program_tree.specs.Tree.{Class, statement_of, statement_map, body_of, body_map, action_of, action_map}
-use Rattle.program_tree.specs.Tree.{expression_of, expression_map, block_of}
+use Rattle.program_tree.specs.Tokens.{Token}
+use Rattle.program_tree.specs.TokenMeaning.{token_of}
+use Rattle.program_tree.specs.Tree.{Class, statement_map, body_map, action_map}
+use Rattle.program_tree.specs.Meaning.{statement_of, body_of, action_of}
+use Rattle.program_tree.specs.Meaning.{expression_of, block_of}
+use Rattle.program_tree.specs.Tree.{expression_map}
 use Rattle.program_tree.specs.declared.tree.Block.{Block}
 use Rattle.program_tree.specs.declared.tree.Expr.{Expr}
 use Rattle.program_tree.specs.declared.tree.Stmt.{Stmt, Do, If, While}

@@ -1,8 +1,10 @@
 -- For a caller that reads statements.
 use Rattle.std.proofs.Common.{◌≡◌, ℕ, ◌<◌, List, [], ◌∷◌, length, map, slice_get, sym, subst, ap, ◌∙◌, arith, Some}
 use Rattle.program_tree.specs.Code.{Code, Tree}
-use Rattle.program_tree.specs.Tree.{a_variable, Statement, does, assign, Body, end, next, listed, statement_of}
-use Rattle.program_tree.specs.Tree.{expression_of, Expression}
+use Rattle.program_tree.specs.Tree.{a_variable, Statement, does, assign, Body, end, next, listed}
+use Rattle.program_tree.specs.Meaning.{statement_of}
+use Rattle.program_tree.specs.Meaning.{expression_of}
+use Rattle.program_tree.specs.Tree.{Expression}
 use Rattle.program_tree.specs.declared.tree.Action.{Action}
 use Rattle.program_tree.specs.declared.tree.Action.TheVariants as action
 use Rattle.program_tree.specs.declared.tree.Expr.{Expr}

@@ -8,7 +8,7 @@ use Rattle.program_tree.specs.Grammar.{Context, inner, Mark, sign, opening, cast
 use Rattle.program_tree.specs.Grammar.{expression_marks, action_marks, statement_marks, items_marks, else_marks}
 use Rattle.program_tree.specs.Grammar.{block_marks}
 use Rattle.program_tree.specs.InScope.{Names, is_a}
-use Rattle.program_tree.specs.Names.{place_of}
+use Rattle.program_tree.specs.InScope.{place_of}
 use Rattle.program_tree.specs.Shapes.{Name}
 use Rattle.program_reader.specs.Steps.{look, Finds, is_own_thread}
 use Rattle.program_tree.specs.Tree.{Class, an_event, a_semaphore, a_process, a_variable, a_timer, a_thread, Expression}

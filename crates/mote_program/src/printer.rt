@@ -5,7 +5,7 @@ ghost use Rattle.program_tree.specs.Canonical.{gap, canonical_text};
 ghost use Rattle.program_tree.specs.Program.{tree_of};
 ghost use Rattle.program_tree.specs.Reading.{IsTreeOf};
 ghost use Rattle.program_tree.specs.ShapeOf.{text_of_tree};
-ghost use Rattle.program_tree.specs.Tokens.{token_of};
+ghost use Rattle.program_tree.specs.TokenMeaning.{token_of};
 
 use crate::spelling::spell;
 use crate::unparse_code::unparse;

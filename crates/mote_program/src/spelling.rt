@@ -2,7 +2,7 @@
 ghost use Rattle.std.specs.Prelude.{◌≡◌, ◌++◌, OnOk, string_bytes};
 ghost use Rattle.program_tree.specs.Canonical.{keyword_word, operator_sign, spelling};
 ghost use Rattle.program_tree.specs.Tokens as token;
-ghost use Rattle.program_tree.specs.Tokens.{token_of};
+ghost use Rattle.program_tree.specs.TokenMeaning.{token_of};
 
 use program_tree::keyword::Keyword;
 use program_tree::token::Token;

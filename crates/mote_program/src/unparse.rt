@@ -1,16 +1,19 @@
 //! Unreading, the reverse of reading: from a tree back to its tokens, with each number's name put back. Here that of
 //! expressions, statements and blocks.
 ghost use Rattle.std.specs.Prelude.{◌≡◌, ◌-◌, ◌∷◌, ◌++◌, [], map, OnOk, slice_index_or, option_map};
-ghost use Rattle.program_tree.specs.EventNames.{cast_of, sent_of, any_of, cast_map, sent_map, any_map};
+ghost use Rattle.program_tree.specs.Meaning.{cast_of, sent_of, any_of};
+ghost use Rattle.program_tree.specs.EventNames.{cast_map, sent_map, any_map};
 ghost use Rattle.program_tree.specs.InScope.{name_in};
 ghost use Rattle.mote_program.specs.Spelled.{names_in, cast_token, sent_token, any_token, telling};
 ghost use Rattle.mote_program.specs.Spelled.{expression_tokens, into_tokens, bare, about, valued, action_tokens};
 ghost use Rattle.mote_program.specs.Spelled.{statement_tokens, block_tokens};
 ghost use Rattle.program_tree.specs.Classes.{class_of};
 ghost use Rattle.program_tree.specs.Tokens as token;
-ghost use Rattle.program_tree.specs.Tokens.{token_of};
-ghost use Rattle.program_tree.specs.Tree.{an_event, a_variable, expression_of, expression_map, action_of, action_map};
-ghost use Rattle.program_tree.specs.Tree.{statement_of, statement_map, block_of, body_map, assign, post, broadcast};
+ghost use Rattle.program_tree.specs.TokenMeaning.{token_of};
+ghost use Rattle.program_tree.specs.Tree.{an_event, a_variable, expression_map, action_map};
+ghost use Rattle.program_tree.specs.Meaning.{expression_of, action_of};
+ghost use Rattle.program_tree.specs.Meaning.{statement_of, block_of};
+ghost use Rattle.program_tree.specs.Tree.{statement_map, body_map, assign, post, broadcast};
 ghost use Rattle.program_tree.specs.Tree.{synch, set};
 
 use program_tree::class::Class;

@@ -7,7 +7,7 @@ ghost use Rattle.mote_program.specs.Spelled.{names_in, block_tokens, listed_toke
 ghost use Rattle.mote_program.specs.Spelled.{handler_tokens, declared_tokens, runs_tokens, code_tokens};
 ghost use Rattle.mote_program.specs.Spelled.{process_tokens, autostart_tokens, receiver_tokens, head_tokens};
 ghost use Rattle.mote_program.specs.Spelled.{spelled_tokens};
-ghost use Rattle.program_tree.specs.Tokens.{token_of};
+ghost use Rattle.program_tree.specs.TokenMeaning.{token_of};
 ghost use Rattle.program_tree.specs.FlatBlock.{tree_in};
 
 use crate::unparse::{Scoped, add, add_all, name_at};

@@ -8,7 +8,8 @@ use Rattle.std.proofs.lemmas.List.Elements.{All-contains, All-set, All-filter, A
 use Rattle.std.proofs.lemmas.Map.Views.{Contains-from_any}
 use Rattle.mote_timers.specs.declared.timer.Timer.{Timer}
 use Rattle.mote_timers.specs.Numbers.{Numbers, numbers, is_member, without_member}
-use Rattle.mote_timers.specs.TimerLists.{TimerLists, AreTimers, timer_at}
+use Rattle.mote_timers.specs.TimerLists.{TimerLists, timer_at}
+use Rattle.mote_timers.specs.DueTimers.{AreTimers}
 
 -- a timer on the list has an owner
 pub owner_there : (ts : List Timer) (listed : Numbers) (id : ℕ) → AreTimers ts listed → is_member id listed.members ≡ true → IsSome (timer_at ts id).owner

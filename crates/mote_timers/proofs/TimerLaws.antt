@@ -11,7 +11,9 @@ use Rattle.program_tree.specs.declared.event.Proc.TheVariants.{Own, Etimer, Ctim
 use Rattle.mote_timers.specs.Numbers.{is_member}
 use Rattle.mote_timers.specs.Processes.{is_same}
 use Rattle.mote_timers.specs.Timer.{expiration}
-use Rattle.mote_timers.specs.TimerLists.{TimerLists, timer_at, new_timers, set_timer, reset_timer, restart_timer, stop_timer, purge_timers, first_due, next_expiration_of, least}
+use Rattle.mote_timers.specs.TimerLists.{TimerLists, timer_at, new_timers, set_timer, reset_timer, restart_timer}
+use Rattle.mote_timers.specs.TimerLists.{stop_timer, purge_timers, next_expiration_of, least}
+use Rattle.mote_timers.specs.DueTimers.{first_due}
 use Rattle.mote_timers.specs.TimerCalls.{TimerCall, Set, Reset, Restart, Stop, Fire, Purge, after_call, after_calls, TakesOff, Starts, NoneTakesOff, NoneStarts, ListedOnce, KeepsTimers, DueFromExpiration, DueFromSet, DueFromNextExpiration}
 use Rattle.mote_timers.proofs.NumberLists.{IsDistinct-with, IsDistinct-filter, is_member-with, is_member-kept, is_member-filter}
 

@@ -6,7 +6,7 @@ use Rattle.std.specs.Option.{IfSome}
 use Rattle.std.proofs.lemmas.List.Elements.{All-contains}
 use Rattle.std.proofs.lemmas.Map.Views.{Contains-from_any}
 use Rattle.mote_timers.specs.Numbers.{is_member}
-use Rattle.mote_timers.specs.TimerLists.{behind}
+use Rattle.mote_timers.specs.DueTimers.{behind}
 
 -- the member that is found is on the list
 is_member-found : (p : ℕ → Bool) (ks : List ℕ) (x : ℕ) → find p ks ≡ Some x → is_member x ks ≡ true

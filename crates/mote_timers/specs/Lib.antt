@@ -1,3 +1,4 @@
+pub mod DueTimers
 pub mod Numbers
 pub mod Processes
 pub mod Timer

@@ -6,7 +6,8 @@ use Rattle.program_tree.specs.declared.event.Proc.{Proc}
 use Rattle.mote_timers.specs.Numbers.{is_member}
 use Rattle.mote_timers.specs.Timer.{expiration}
 use Rattle.mote_timers.specs.TimerLists.{TimerLists, timer_at, new_timers, set_timer, reset_timer, restart_timer}
-use Rattle.mote_timers.specs.TimerLists.{stop_timer, purge_timers, first_due, next_expiration_of}
+use Rattle.mote_timers.specs.TimerLists.{stop_timer, purge_timers, next_expiration_of}
+use Rattle.mote_timers.specs.DueTimers.{first_due}
 
 -- a call that may change something, with its arguments
 pub data TimerCall : Type 0 where

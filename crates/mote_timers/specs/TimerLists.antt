@@ -1,12 +1,11 @@
 -- The timers of a mote with its timer list, and the effect of each call on them.
-use Rattle.std.specs.Prelude.{◌≡◌, ℕ, ◌≤◌, ◌^◌, ◌==◌, min, not, List, [], ◌∷◌, All, length, map, filter, find}
-use Rattle.std.specs.Prelude.{replicate, slice_index_or, slice_set, Option, Some, None, IsSome}
-use Rattle.std.specs.List.{after_first}
+use Rattle.std.specs.Prelude.{ℕ, ◌^◌, min, not, List, [], ◌∷◌, map, filter, replicate, slice_index_or, slice_set}
+use Rattle.std.specs.Prelude.{Option, Some, None}
 use Rattle.std.specs.Option.{option_map_or}
 use Rattle.program_tree.specs.declared.event.Proc.{Proc}
 use Rattle.mote_timers.specs.declared.timer.Timer.{Timer}
-use Rattle.mote_timers.specs.Numbers.{Numbers, with_member, without_member}
-use Rattle.mote_timers.specs.Timer.{unset, expiration, is_due, is_owned_by}
+use Rattle.mote_timers.specs.Numbers.{with_member, without_member}
+use Rattle.mote_timers.specs.Timer.{unset, expiration, is_owned_by}
 
 -- each timer by its number, and the numbers of those on the timer list, the front first
 pub record TimerLists : Type 0 where
@@ -16,13 +15,6 @@ pub record TimerLists : Type 0 where
 -- the timer with this number; any other number gives a timer that was never set
 abbrev pub timer_at : List Timer → ℕ → Timer
 timer_at ts id = slice_index_or ts id unset
-
--- the properties of every `Timers`: the list has room for each timer, a timer on it has an owner, and no start is past
--- its limit
-pub record AreTimers (ts : List Timer) (listed : Numbers) : Type 0 where
-  pub room : length ts ≡ listed.limit
-  pub owned : All (λ id. IsSome (timer_at ts id).owner) listed.members
-  pub bounded : All (λ (t : Timer). t.start ≤ 2 ^ 62) ts
 
 unfoldable pub new_timers : ℕ → TimerLists
 new_timers n = record { timers = replicate n unset; listed = [] }
@@ -59,15 +51,6 @@ purge_timers s p = record {
   timers = s.timers;
   listed = filter (λ id. not (is_owned_by p (timer_at s.timers id))) s.listed;
 }
-
--- the members after a member, or the whole list
-abbrev pub behind : Option ℕ → List ℕ → List ℕ
-behind None ids = ids
-behind (Some id) ids = after_first (λ other. other == id) ids
-
--- the first timer on the list, after the given one, that is due
-unfoldable pub first_due : TimerLists → ℕ → Option ℕ → Option ℕ
-first_due s now after = find (λ id. is_due now (timer_at s.timers id)) (behind after s.listed)
 
 -- the least number of a list
 abbrev pub least : List ℕ → Option ℕ

@@ -6,7 +6,8 @@ ghost use Rattle.std.specs.List.{IsDistinct};
 ghost use Rattle.std.specs.Option.{ForSome, option_map_or};
 ghost use Rattle.mote_timers.specs.Numbers.{is_member};
 ghost use Rattle.mote_timers.specs.TimerLists.{new_timers, timer_at, set_timer, reset_timer, restart_timer};
-ghost use Rattle.mote_timers.specs.TimerLists.{stop_timer, purge_timers, behind, first_due, next_expiration_of, least};
+ghost use Rattle.mote_timers.specs.TimerLists.{stop_timer, purge_timers, next_expiration_of, least};
+ghost use Rattle.mote_timers.specs.DueTimers.{behind, first_due};
 ghost use Rattle.mote_timers.specs.TimerLists.{with_timer};
 ghost use Rattle.mote_timers.specs.Timer.{expiration, is_due, is_owned_by};
 
@@ -25,7 +26,8 @@ pub struct Timers {
 }
 
 impl Model for Timers {
-    ghost use Rattle.mote_timers.specs.TimerLists.{TimerLists, AreTimers};
+    ghost use Rattle.mote_timers.specs.TimerLists.{TimerLists};
+    ghost use Rattle.mote_timers.specs.DueTimers.{AreTimers};
 
     ghost Value = { TimerLists };
 
@@ -117,7 +119,7 @@ impl Timers {
     }
 
     /// The first timer on the list that is due now, with its owner; if `after` is given, the first after that one.
-    #[tactic(auto, unfolding(crate::specs::TimerLists::first_due))]
+    #[tactic(auto, unfolding(crate::specs::DueTimers::first_due))]
     pub fn next_due(&self, now: u64, after: Option<u16>) -> Option<(u16, Proc)>
         requires moment { now ≤ 2 ^ 40 }
         requires listed { ForSome after (λ id. IsTrue (is_member id self.now.listed)) }

@@ -10,7 +10,7 @@ use Rattle.radio_medium.specs.Medium.{medium_fault}
 use Rattle.radio_medium.proofs.Copies.{copies_later}
 use Rattle.radio_medium.proofs.Delays.{lookahead-above}
 use Rattle.mote_net.specs.Net.{MoteSetup, NetTold}
-use Rattle.window_laws.specs.System.{RunsForward}
+use Rattle.window_laws.specs.Forward.{RunsForward}
 use Rattle.window_laws.proofs.Lists.{every_weaker}
 use Rattle.net_agenda.specs.Buckets.{arrival_of}
 use Rattle.net_agenda.specs.NetSystem.{no_mote, node_turn, system_of}

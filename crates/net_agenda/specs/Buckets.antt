@@ -8,7 +8,7 @@ use Rattle.radio_packet.specs.declared.arrival.Arrival.{Arrival}
 use Rattle.net_agenda.specs.declared.bucket.Bucket.{Bucket}
 use Rattle.net_agenda.specs.declared.bucket.Coming.{Coming}
 use Rattle.net_agenda.specs.declared.bucket.Coming.TheVariants as coming
-pub use Rattle.net_agenda.specs.Arrivals.{arrival_of}
+pub use Rattle.net_agenda.specs.NetSystem.{arrival_of}
 use Rattle.window_laws.specs.Order.{sorted_by, in_order}
 use Rattle.window_laws.specs.Agenda.{Item, Wake, Packet, comes_at, packets}
 

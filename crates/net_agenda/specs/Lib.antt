@@ -1,4 +1,3 @@
-pub mod Arrivals
 pub mod Buckets
 pub mod Changes
 pub mod Items

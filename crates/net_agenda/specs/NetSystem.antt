@@ -2,15 +2,18 @@
 use Rattle.std.specs.Prelude.{ℕ, List, length, map, slice_get, unwrap_or}
 use Rattle.program_tree.specs.Code.{Tree}
 use Rattle.trace_lines.specs.declared.line.Line.{Line}
-use Rattle.mote_node.specs.Node.{Node, new_node}
-use Rattle.mote_node.specs.Node.{with_collide}
+use Rattle.mote_node.specs.Node.{Node, new_node, with_collide}
 use Rattle.mote_node.specs.Turn.{turn_of}
 use Rattle.mote_node.specs.Turn as node
 use Rattle.radio_packet.specs.declared.copy.RadioCopy.{RadioCopy}
 use Rattle.radio_medium.specs.Medium.{copies, lookahead}
 use Rattle.mote_net.specs.Net.{MoteSetup, NetTold, no_program}
 use Rattle.window_laws.specs.System.{System, Turned}
-use Rattle.net_agenda.specs.Arrivals.{arrival_of}
+use Rattle.radio_packet.specs.declared.arrival.Arrival.{Arrival}
+
+-- a copy as its mote receives it
+abbrev pub arrival_of : RadioCopy → Arrival
+arrival_of copy = record { sender = copy.sender; number = copy.number; value = copy.value }
 
 -- the default for a mote past the last one, which never takes a turn
 abbrev pub no_mote : MoteSetup

@@ -20,8 +20,9 @@ use Rattle.toml.specs.View.{members_view, table_view}
 use Rattle.toml.specs.declared.value.Value.{Value}
 use Rattle.toml.proofs.Views.{Entry}
 use Rattle.mote_net.specs.declared.programs.NamedProgram.{NamedProgram}
-use Rattle.mote_net.specs.Programs.{named_tree}
-use Rattle.net_scenario.specs.Programs.{AllRead, AreInOrder, texts_of}
+use Rattle.mote_net.specs.Meaning.{named_tree}
+use Rattle.net_scenario.specs.Programs.{AllRead, texts_of}
+use Rattle.net_scenario.specs.Reads.{AreInOrder}
 
 first_at : {X : Type 0} (test : X → Bool) (xs : List X) (k i : ℕ) (d : X) → i < length xs → test (get_or xs i d) ≡ true
     → ((j : ℕ) → j < i → test (get_or xs j d) ≡ false) → position_from test k xs ≡ Some (k + i)

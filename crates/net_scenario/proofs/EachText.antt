@@ -5,7 +5,8 @@ use Rattle.std.specs.Option.{option_map_or}
 use Rattle.toml.specs.Data.{Members}
 use Rattle.toml.specs.Parse.{parse_document}
 use Rattle.program_tree.specs.Code.{Tree}
-use Rattle.program_tree.specs.Reading.{IsTreeOf, IsToldOf, HasTreeOrFault}
+use Rattle.program_tree.specs.Reading.{IsTreeOf, IsToldOf}
+use Rattle.program_tree.specs.ReadingLaws.{HasTreeOrFault}
 use Rattle.program_tree.specs.declared.error.ReadError.{ReadError}
 use Rattle.program_tree.specs.declared.error.ReadErrorKind.{ReadErrorKind}
 use Rattle.radio_medium.specs.Medium.{medium_fault}

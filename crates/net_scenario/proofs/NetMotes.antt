@@ -9,10 +9,11 @@ use Rattle.std.proofs.lemmas.Slice.Eq.{bytes_eq-Decides}
 use Rattle.toml.specs.Data.{Members}
 use Rattle.net_scenario.specs.Document.{text_at}
 use Rattle.mote_net.specs.declared.programs.NamedProgram.{NamedProgram}
-use Rattle.mote_net.specs.Programs.{NamedTree, named_tree}
+use Rattle.mote_net.specs.Programs.{NamedTree}
+use Rattle.mote_net.specs.Meaning.{named_tree}
 use Rattle.mote_net.specs.Motes.{is_mote_of}
 use Rattle.mote_net.specs.Limits.{shortest_queue, longest_queue}
-use Rattle.mote_net.specs.Net.{setup_of, program_at}
+use Rattle.mote_net.specs.Meaning.{setup_of, program_at}
 use Rattle.net_scenario.specs.Net.{queue_of, mote_of_table, unread_fault, program_named}
 
 none_cond : {Y : Type 0} (b : Bool) (e : Y) → cond b (Some e) None ≡ None → b ≡ false

@@ -7,8 +7,10 @@ use Rattle.net_scenario.specs.declared.error.ScenarioError.{ScenarioError}
 use Rattle.net_scenario.specs.declared.error.ScenarioError.TheVariants.{Toml, MissingKey, UnknownKey, WrongKind}
 use Rattle.net_scenario.specs.declared.error.ScenarioError.TheVariants.{OutOfRange, UnknownProgram, Program, Medium}
 use Rattle.net_scenario.specs.declared.error.ScenarioError.TheVariants.{Memory}
-use Rattle.mote_net.specs.Programs.{NamedTree, named_tree}
-use Rattle.net_scenario.specs.Programs.{ProgramText, AllRead, ReadsProgram, ReadsPrograms}
+use Rattle.mote_net.specs.Programs.{NamedTree}
+use Rattle.mote_net.specs.Meaning.{named_tree}
+use Rattle.net_scenario.specs.Programs.{ProgramText, AllRead}
+use Rattle.net_scenario.specs.Reads.{ReadsProgram, ReadsPrograms}
 
 -- the programs read so far are a prefix of all, and the rest is still to be read
 pub record ReadSoFar (texts : List ProgramText) (trees : List NamedTree) (rest : List ProgramText) : Type 0 where

@@ -5,7 +5,8 @@ use Rattle.std.proofs.lemmas.Bool.Decides.{nat_tests}
 use Rattle.std.proofs.lemmas.List.{length-map}
 use Rattle.toml.specs.Data.{Members}
 use Rattle.toml.specs.Parse.{parse_document}
-use Rattle.radio_medium.specs.Medium.{Radio, MakesMedium}
+use Rattle.radio_medium.specs.Medium.{Radio}
+use Rattle.radio_medium.specs.Makes.{MakesMedium}
 use Rattle.mote_net.specs.declared.net.MoteSetup.{MoteSetup as SetupOfCode}
 use Rattle.mote_net.specs.Limits.{fewest_motes, most_motes}
 use Rattle.net_scenario.specs.Limits.{longest_text}
@@ -21,14 +22,17 @@ use Rattle.net_scenario.specs.declared.error.ScenarioError.TheVariants.{OutOfRan
 use Rattle.net_scenario.specs.declared.error.ScenarioError.TheVariants.{Memory}
 use Rattle.mote_net.specs.declared.net.Net.{Net}
 use Rattle.mote_net.specs.declared.programs.NamedProgram.{NamedProgram}
-use Rattle.net_scenario.specs.Errors.{of_medium}
+use Rattle.net_scenario.specs.FaultNumbers.{of_medium}
 use Rattle.net_scenario.specs.Document.{version_of, natural, integer_at, natural_at, boolean_at, table_at, tables_at}
 use Rattle.net_scenario.specs.Document.{document_fault}
-use Rattle.mote_net.specs.Programs.{named_tree}
-use Rattle.net_scenario.specs.Programs.{texts_of, AllRead, ReadsPrograms}
-use Rattle.mote_net.specs.Net.{MoteSetup, setup_of}
+use Rattle.mote_net.specs.Meaning.{named_tree}
+use Rattle.net_scenario.specs.Programs.{texts_of, AllRead}
+use Rattle.net_scenario.specs.Reads.{ReadsPrograms}
+use Rattle.mote_net.specs.Net.{MoteSetup}
+use Rattle.mote_net.specs.Meaning.{setup_of}
 use Rattle.net_scenario.specs.Net.{mote_of_table, place_told, radio_told}
-use Rattle.net_scenario.specs.Reading.{document_of, HasTrees, IsNetOf, MakesRadio, MakesNet, Answers}
+use Rattle.net_scenario.specs.Reading.{document_of, HasTrees, IsNetOf}
+use Rattle.net_scenario.specs.Reads.{MakesRadio, MakesNet, Answers}
 
 -- the result of a document is the meaning of its text
 pub answered : (text : List ℕ) (top : Members) (r : Result Net ScenarioError) → document_of text ≡ Ok top

@@ -12,7 +12,8 @@ use Rattle.toml.specs.declared.value.Value.{Value}
 use Rattle.toml.proofs.Views.{Entry}
 use Rattle.net_scenario.specs.declared.version.Version.{Version}
 use Rattle.net_scenario.specs.Document.{queue_fault}
-use Rattle.net_scenario.specs.Rules.{Rule, has_come, known_in, has_kind, is_in_range, rule_of, misses}
+use Rattle.net_scenario.specs.Rules.{Rule, has_come, known_in, has_kind, is_in_range, misses}
+use Rattle.net_scenario.specs.Checks.{rule_of}
 use Rattle.net_scenario.specs.Rules.{holds_other_kind, holds_out_of_range, keys_fault, are_tables, items_len}
 use Rattle.net_scenario.specs.Rules.{members_any}
 use Rattle.std.specs.Str.{bytes_eq}

@@ -1,25 +1,19 @@
 -- The meaning of a text: a net, or its first error.
 use Rattle.std.specs.Prelude.{◌≡◌, ℕ, nat_lt, List, length, codes, Option, Some, None, if◌then◌else◌, Result, Ok, Err}
-use Rattle.std.specs.Prelude.{String}
-use Rattle.std.specs.BTreeMap.{BTreeMap}
 use Rattle.std.specs.Option.{option_map_or}
-use Rattle.std.specs.declared.alloc.Global.{Global}
 use Rattle.toml.specs.Data.{Members}
 use Rattle.toml.specs.Parse.{parse_document}
-use Rattle.toml.specs.View.{table_view}
-use Rattle.toml.specs.declared.value.Value.{Value}
 use Rattle.program_tree.specs.declared.error.ReadError.{ReadError}
-use Rattle.radio_medium.specs.Medium.{Radio, medium_fault}
+use Rattle.radio_medium.specs.Medium.{medium_fault}
 use Rattle.radio_medium.specs.declared.error.MediumError.{MediumError}
 use Rattle.net_scenario.specs.declared.error.ScenarioError.{ScenarioError}
 use Rattle.net_scenario.specs.declared.error.ScenarioError.TheVariants.{Toml, OutOfRange, Program, Medium, Memory}
-use Rattle.mote_net.specs.declared.net.Net.{Net}
 use Rattle.net_scenario.specs.Limits.{longest_text}
 use Rattle.net_scenario.specs.Errors.{of_table}
 use Rattle.net_scenario.specs.Document.{table_at, document_fault}
 use Rattle.mote_net.specs.Programs.{NamedTree}
 use Rattle.net_scenario.specs.Programs.{texts_of, AllRead, FirstRefused}
-use Rattle.mote_net.specs.Net.{NetTold, net_of}
+use Rattle.mote_net.specs.Net.{NetTold}
 use Rattle.net_scenario.specs.Net.{net_told, radio_told}
 
 -- a table without fault, or its first fault
@@ -67,31 +61,3 @@ TellsFault text (Program name e) = (d : Document text) × IsRefusedProgramOf d.t
 TellsFault text (Medium e) = (d : Document text) × IsMediumFaultOf d.top e
 TellsFault text Memory = ⊥
 TellsFault text e = document_of text ≡ Err e
-
--- the table of a text, unless memory ran out
-abbrev pub Parses : List ℕ → Result (BTreeMap (String Global) Value) ScenarioError → Type 0
-Parses text (Ok t) = parse_document text ≡ Some (table_view t)
-Parses text (Err Toml) = parse_document text ≡ None
-Parses text (Err Memory) = Unit {0}
-Parses text (Err e) = ⊥
-
--- the medium of these, or its fault, unless memory ran out
-abbrev pub MakesRadio : Radio → Result Radio ScenarioError → Type 0
-MakesRadio radio (Ok medium) = (medium ≡ radio) × (medium_fault radio ≡ None)
-MakesRadio radio (Err (Medium e)) = medium_fault radio ≡ Some e
-MakesRadio radio (Err Memory) = Unit {0}
-MakesRadio radio (Err e) = ⊥
-
--- the net of a document without fault, or the fault of its programs or its medium, unless memory ran out
-abbrev pub MakesNet : Members → Result Net ScenarioError → Type 0
-MakesNet top (Ok net) = IsNetOf top (net_of net)
-MakesNet top (Err (Program name e)) = IsRefusedProgramOf top name e
-MakesNet top (Err (Medium e)) = IsMediumFaultOf top e
-MakesNet top (Err Memory) = Unit {0}
-MakesNet top (Err e) = ⊥
-
--- the possible results for a text: its net, its first error, or out of memory
-abbrev pub Answers : List ℕ → Result Net ScenarioError → Type 0
-Answers text (Ok net) = TellsNet text (net_of net)
-Answers text (Err Memory) = Unit {0}
-Answers text (Err e) = TellsFault text e

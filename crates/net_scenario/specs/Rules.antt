@@ -1,6 +1,6 @@
 -- The keys of each table, and the first fault of a table against them.
-use Rattle.std.specs.Prelude.{◌≡◌, ◌+◌, ℕ, pos, neg_ℤ, Bool, true, false, not, ◌&&◌, ◌||◌, nat_le, List, [], ◌∷◌, codes}
-use Rattle.std.specs.Prelude.{Option, Some, None, is_none, is_some, if◌then◌else◌, Result, Ok, Err}
+use Rattle.std.specs.Prelude.{◌+◌, ℕ, pos, neg_ℤ, Bool, true, false, not, ◌&&◌, ◌||◌, nat_le, List, [], ◌∷◌, codes}
+use Rattle.std.specs.Prelude.{Option, Some, None, is_none, is_some, if◌then◌else◌}
 use Rattle.std.specs.List.{filter, list_any}
 use Rattle.std.specs.Option.{option_map_or}
 use Rattle.std.specs.Int.Signed.{le_z}
@@ -11,7 +11,6 @@ use Rattle.net_scenario.specs.declared.version.Version.{Version}
 use Rattle.net_scenario.specs.declared.version.Version.TheVariants.{First, Second}
 use Rattle.net_scenario.specs.declared.rules.Kind.{Kind}
 use Rattle.net_scenario.specs.declared.rules.Kind.TheVariants.{Number, Boolean, Text, Table, Tables}
-use Rattle.net_scenario.specs.declared.rules.Key.{Key}
 use Rattle.net_scenario.specs.declared.error.TableFault.{TableFault}
 use Rattle.net_scenario.specs.declared.error.TableFault.TheVariants.{MissingKey, UnknownKey, WrongKind, OutOfRange}
 use Rattle.mote_net.specs.Limits.{fewest_motes, most_motes, latest_end}
@@ -23,9 +22,6 @@ pub record Rule : Type 0 where
   pub name : List ℕ
   pub kind : Kind
   pub is_needed : Bool
-
-abbrev pub rule_of : Key → Rule
-rule_of k = record { since = k.since; name = k.name.now; kind = k.kind; is_needed = k.is_needed }
 
 abbrev pub needed : Version → List ℕ → Kind → Rule
 needed since name kind = record { since = since; name = name; kind = kind; is_needed = true }
@@ -130,8 +126,3 @@ keys_fault rules ms =
     else if list_any (holds_other_kind ms) rules then Some WrongKind
     else if list_any (holds_out_of_range ms) rules then Some OutOfRange
     else None
-
--- Ok if there is no fault, and else the fault
-abbrev pub Checks : Result (Unit {0}) TableFault → Option TableFault → Type 0
-Checks (Ok u) fault = fault ≡ None
-Checks (Err e) fault = fault ≡ Some e

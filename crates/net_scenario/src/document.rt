@@ -1,7 +1,8 @@
 //! The check of a whole document, table by table.
 ghost use Rattle.std.specs.Prelude.{◌≡◌, map};
 ghost use Rattle.toml.specs.View.{items_view, table_view};
-ghost use Rattle.net_scenario.specs.Rules.{keys_fault, known_in, rule_of, Checks};
+ghost use Rattle.net_scenario.specs.Rules.{keys_fault, known_in};
+ghost use Rattle.net_scenario.specs.Checks.{rule_of, Checks};
 ghost use Rattle.net_scenario.specs.Document.{version_of, tables_in, first_some, program_fault, document_fault};
 
 use crate::error::TableFault;

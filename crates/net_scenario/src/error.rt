@@ -40,7 +40,7 @@ pub enum ScenarioError {
 }
 
 impl ScenarioError {
-    ghost use Rattle.net_scenario.specs.Errors.{scenario_fault_number};
+    ghost use Rattle.net_scenario.specs.FaultNumbers.{scenario_fault_number};
 
     /// The number that is printed.
     pub fn number(&self) -> u8
@@ -77,7 +77,7 @@ impl From<TableFault> for ScenarioError {
 }
 
 impl From<MediumError> for ScenarioError {
-    ghost use Rattle.net_scenario.specs.Errors.{of_medium};
+    ghost use Rattle.net_scenario.specs.FaultNumbers.{of_medium};
 
     ghost from_gives = { λ m e. e ≡ of_medium m };
 

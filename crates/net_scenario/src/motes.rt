@@ -5,10 +5,10 @@ ghost use Rattle.std.specs.Str.{bytes_eq};
 ghost use Rattle.toml.specs.View.{items_view, table_view};
 ghost use Rattle.net_scenario.specs.Document.{first_some, members_of, tables_in};
 ghost use Rattle.net_scenario.specs.Names.{lengths_fault};
-ghost use Rattle.mote_net.specs.Programs.{named_tree};
-ghost use Rattle.net_scenario.specs.Programs.{AreInOrder};
+ghost use Rattle.mote_net.specs.Meaning.{named_tree};
+ghost use Rattle.net_scenario.specs.Reads.{AreInOrder};
 ghost use Rattle.mote_net.specs.Motes.{is_mote_of};
-ghost use Rattle.mote_net.specs.Net.{setup_of};
+ghost use Rattle.mote_net.specs.Meaning.{setup_of};
 ghost use Rattle.net_scenario.specs.Net.{mote_of_table, unread_fault};
 
 use crate::queues::queue_of;

@@ -4,7 +4,7 @@ ghost use Rattle.std.specs.List.{list_any, list_all};
 ghost use Rattle.std.specs.Map.{keys_of, values_of};
 ghost use Rattle.toml.specs.Data.{as_str};
 ghost use Rattle.toml.specs.View.{view, table_view};
-ghost use Rattle.net_scenario.specs.Rules.{Checks};
+ghost use Rattle.net_scenario.specs.Checks.{Checks};
 ghost use Rattle.net_scenario.specs.Names.{is_name_byte, is_program_name, names_fault};
 
 use crate::error::TableFault;

@@ -1,7 +1,8 @@
 //! The programs of a scenario, in byte order of their names.
 ghost use Rattle.std.specs.Prelude.{◌≡◌, IfOk};
 ghost use Rattle.toml.specs.View.{table_view};
-ghost use Rattle.net_scenario.specs.Programs.{texts_of, AreInOrder, ReadsProgram, ReadsPrograms};
+ghost use Rattle.net_scenario.specs.Programs.{texts_of};
+ghost use Rattle.net_scenario.specs.Reads.{AreInOrder, ReadsProgram, ReadsPrograms};
 
 use crate::error::ScenarioError;
 use crate::values::text_of;

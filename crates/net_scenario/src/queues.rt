@@ -8,7 +8,8 @@ ghost use Rattle.net_scenario.specs.Document.{members_of, queue_fault};
 ghost use Rattle.mote_net.specs.Limits.{shortest_queue, longest_queue};
 ghost use Rattle.net_scenario.specs.Names.{queue_length, lengths_fault};
 ghost use Rattle.net_scenario.specs.Net.{queue_of};
-ghost use Rattle.net_scenario.specs.Rules.{Checks, has_kind, is_in_range};
+ghost use Rattle.net_scenario.specs.Checks.{Checks};
+ghost use Rattle.net_scenario.specs.Rules.{has_kind, is_in_range};
 
 use crate::error::TableFault;
 use crate::limits::{LONGEST_QUEUE, SHORTEST_QUEUE, USUAL_QUEUE};

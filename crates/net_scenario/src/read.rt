@@ -3,7 +3,7 @@ ghost use Rattle.std.specs.Prelude.{◌≡◌, None};
 ghost use Rattle.toml.specs.View.{table_view};
 ghost use Rattle.net_scenario.specs.Document.{document_fault};
 ghost use Rattle.net_scenario.specs.Net.{radio_told};
-ghost use Rattle.net_scenario.specs.Reading.{Parses, MakesRadio, MakesNet, Answers};
+ghost use Rattle.net_scenario.specs.Reads.{Parses, MakesRadio, MakesNet, Answers};
 
 use crate::document::check_document;
 use crate::error::ScenarioError;

@@ -5,8 +5,10 @@ ghost use Rattle.std.specs.Map.{keys_of};
 ghost use Rattle.std.specs.Str.{bytes_eq};
 ghost use Rattle.toml.specs.Data.{get_member, as_table};
 ghost use Rattle.toml.specs.View.{view, table_view};
-ghost use Rattle.net_scenario.specs.Rules.{rule_of, has_come, known_in, has_kind, is_in_range, misses};
-ghost use Rattle.net_scenario.specs.Rules.{holds_other_kind, holds_out_of_range, keys_fault, Checks, top_rules};
+ghost use Rattle.net_scenario.specs.Checks.{rule_of};
+ghost use Rattle.net_scenario.specs.Rules.{has_come, known_in, has_kind, is_in_range, misses};
+ghost use Rattle.net_scenario.specs.Rules.{holds_other_kind, holds_out_of_range, keys_fault, top_rules};
+ghost use Rattle.net_scenario.specs.Checks.{Checks};
 ghost use Rattle.net_scenario.specs.Rules.{medium_rules, loss_rules, mote_rules};
 
 use crate::error::TableFault;

@@ -6,7 +6,8 @@ use Rattle.trace_lines.specs.declared.out.Out.{Out}
 use Rattle.process_kernel.specs.Mote.{Mote}
 use Rattle.process_kernel.specs.Public.{Tells}
 use Rattle.process_kernel.specs.Given.{Given, run_given}
-use Rattle.process_kernel.specs.Underway.{Underway, after, underway_in}
+use Rattle.process_kernel.specs.Underway.{Underway, after}
+use Rattle.process_kernel.specs.GoesOn.{underway_in}
 use Rattle.process_kernel.specs.Runs.{follow, runs_of}
 use Rattle.process_kernel.proofs.Steps.{kernel_step, kernel_ran}
 

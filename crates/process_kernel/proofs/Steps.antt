@@ -7,7 +7,8 @@ use Rattle.radio_packet.specs.declared.sent.Sent.{Sent}
 use Rattle.process_kernel.specs.Mote.{Mote}
 use Rattle.process_kernel.specs.Public.{Tells}
 use Rattle.process_kernel.specs.Given.{Given}
-use Rattle.process_kernel.specs.Underway.{Underway, after, underway_in, GoesOn}
+use Rattle.process_kernel.specs.Underway.{Underway, after}
+use Rattle.process_kernel.specs.GoesOn.{underway_in, GoesOn}
 
 abbrev pub underway : Mote → Out → Underway
 underway m out = record { mote = m; lines = out.lines.items; sends = out.sends.items }

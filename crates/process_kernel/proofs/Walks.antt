@@ -11,7 +11,8 @@ use Rattle.program_tree.specs.declared.event.Target.TheVariants.{One}
 use Rattle.program_tree.specs.declared.event.SystemEvent.TheVariants.{Timer}
 use Rattle.mote_timers.specs.Numbers.{is_member, without_member}
 use Rattle.mote_timers.specs.Timer.{is_due}
-use Rattle.mote_timers.specs.TimerLists.{TimerLists, timer_at, behind, first_due, stop_timer}
+use Rattle.mote_timers.specs.TimerLists.{TimerLists, timer_at, stop_timer}
+use Rattle.mote_timers.specs.DueTimers.{behind, first_due}
 use Rattle.process_kernel.specs.declared.machine.Stop.{Stop}
 use Rattle.process_kernel.specs.declared.machine.Stop.TheVariants.{Halted, Memory}
 use Rattle.process_kernel.specs.State.{State, Outcome, Went, Goes, ◌>>=◌}

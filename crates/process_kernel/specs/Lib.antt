@@ -5,8 +5,9 @@ pub mod Ctimer
 pub mod Delivery
 pub mod Etimer
 pub mod Exit
-pub mod Given
 pub mod Follows
+pub mod Given
+pub mod GoesOn
 pub mod KernelErrors
 pub mod Kill
 pub mod Laws
@@ -23,7 +24,6 @@ pub mod Radio
 pub mod Reaction
 pub mod Run
 pub mod Runs
-pub mod Semaphores
 pub mod Start
 pub mod State
 pub mod Thread

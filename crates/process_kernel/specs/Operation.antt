@@ -1,5 +1,6 @@
 -- The operations of a protothread, and its run up to an answer.
-use Rattle.std.specs.Prelude.{ℕ, Bool, if◌then◌else◌, List, Option, Some, None, slice_get, slice_set}
+use Rattle.std.specs.Prelude.{ℕ, Bool, if◌then◌else◌, List, Option, Some, None, slice_get, slice_set, ◌+◌, ◌-◌, ◌%◌}
+use Rattle.std.specs.Prelude.{◌^◌, slice_index}
 use Rattle.program_tree.specs.declared.event.Proc.TheVariants.{Own}
 use Rattle.program_tree.specs.declared.event.Event.{Event}
 use Rattle.program_tree.specs.Code.{Code}
@@ -12,13 +13,18 @@ use Rattle.protothread.specs.Step.{answered_of}
 use Rattle.trace_lines.specs.declared.line.What.TheVariants as what
 use Rattle.process_kernel.specs.State.{State, Outcome, Went, Ends, Goes, ◌>>=◌}
 use Rattle.process_kernel.specs.Posts.{post_of, poll_of, send_of}
-use Rattle.process_kernel.specs.Semaphores.{take_of, signal_of}
 use Rattle.process_kernel.specs.TimerOperations.{set_of, reset_of, restart_of, stop_of}
 use Rattle.process_kernel.specs.Writes.{write_of, halted_of}
 use Rattle.process_kernel.specs.Thread.{stepped_of}
 use Rattle.process_kernel.specs.Calls.{Calls, Answer}
 use Rattle.process_kernel.specs.Start.{start_of}
 use Rattle.process_kernel.specs.Kill.{kill_of}
+
+unfoldable pub take_of : State → ℕ → State
+take_of s k = record s { semaphores = slice_set s.semaphores k (slice_index s.semaphores k - 1) }
+
+unfoldable pub signal_of : State → ℕ → State
+signal_of s k = record s { semaphores = slice_set s.semaphores k ((slice_index s.semaphores k + 1) % 2 ^ 16) }
 
 -- an event that a program posts has no sender
 abbrev pub posted : ℕ → ℕ → Event

@@ -73,7 +73,7 @@ impl Kernel {
     ghost use Rattle.process_kernel.specs.Public.{mote_in, held_in, Tells, FailsAs, BeginsWith};
     ghost use Rattle.process_kernel.specs.Given.{boot_given, run_given};
     ghost use Rattle.process_kernel.specs.Public.{Closes};
-    ghost use Rattle.process_kernel.specs.Underway.{GoesOn};
+    ghost use Rattle.process_kernel.specs.GoesOn.{GoesOn};
     ghost use Rattle.process_kernel.specs.Runs.{runs_of};
 
     /// Makes the kernel of the mote with this number, not booted yet, whose queue has this capacity, 1 to 128 events.

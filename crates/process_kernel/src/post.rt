@@ -5,7 +5,7 @@ ghost use Rattle.program_tree.specs.Code.{Tree};
 ghost use Rattle.process_kernel.specs.State.{Goes};
 ghost use Rattle.process_kernel.specs.Writes.{write_of, spend_of, halted_of};
 ghost use Rattle.process_kernel.specs.Posts.{post_of, poll_of, send_of};
-ghost use Rattle.process_kernel.specs.Semaphores.{take_of, signal_of};
+ghost use Rattle.process_kernel.specs.Operation.{take_of, signal_of};
 ghost use Rattle.process_kernel.specs.Views.{first_list_of, state_of, Tells, Grows, KeepsCounts, KeepsLists, OnlyAdds};
 
 use crate::machine::{Machine, Stop};
@@ -143,7 +143,7 @@ impl Machine {
     }
 
     /// Subtracts one from a semaphore's count if it is above 0. If the mote has no such semaphore, nothing changes.
-    #[tactic(auto, unfolding(crate::specs::Semaphores::take_of))]
+    #[tactic(auto, unfolding(crate::specs::Operation::take_of))]
     pub fn take_semaphore(&mut self, semaphore: u8)
         ensures exact { (t : Tree) → state_of t self.new ≡ take_of (state_of t self.old) semaphore }
         ensures kept { KeepsCounts self.old self.new }
@@ -156,7 +156,7 @@ impl Machine {
     }
 
     /// Adds one to a semaphore's count, modulo 65,536. If the mote has no such semaphore, nothing changes.
-    #[tactic(auto, unfolding(crate::specs::Semaphores::signal_of))]
+    #[tactic(auto, unfolding(crate::specs::Operation::signal_of))]
     pub fn signal_semaphore(&mut self, semaphore: u8)
         ensures exact { (t : Tree) → state_of t self.new ≡ signal_of (state_of t self.old) semaphore }
         ensures kept { KeepsCounts self.old self.new }

@@ -12,7 +12,7 @@ use Rattle.program_reader.specs.Head.{with_names, with_all, IsNew}
 use Rattle.program_tree.specs.InScope.{Names, with_new}
 use Rattle.program_reader.specs.Machine.{Symbol, Pending, Verdict, tell, fault, fault_or, first, unfit_at, new_name}
 use Rattle.program_reader.specs.Machine.{new_thread, from_on_poll, from_on_exit, from_body}
-use Rattle.program_tree.specs.Names.{place_of}
+use Rattle.program_tree.specs.InScope.{place_of}
 use Rattle.program_tree.specs.Numbers.{named_of}
 use Rattle.program_tree.specs.Scope.{Within, block_fits, threads_fit, earlier_threads}
 use Rattle.program_tree.specs.Shapes.{Name, Named}

@@ -12,7 +12,8 @@ use Rattle.program_tree.specs.Scope.{Within, statement_fits, block_fits}
 use Rattle.program_tree.specs.Shapes.{Name}
 use Rattle.program_reader.specs.Steps.{Extends, Covers, Reads, ReadsStatement, ReadsElse, Numbered, Fits}
 use Rattle.program_tree.specs.Tokens.{Token}
-use Rattle.program_tree.specs.Tree.{Class, Statement, Body, end, next, otherwise, body_of, listed, statement_of}
+use Rattle.program_tree.specs.Tree.{Class, Statement, Body, end, next, otherwise, listed}
+use Rattle.program_tree.specs.Meaning.{body_of, statement_of}
 use Rattle.program_tree.specs.Tree.{statement_map, body_map, height, inner_height, size, inner_size}
 use Rattle.program_tree.specs.declared.error.ReadErrorKind.TheVariants.{TooDeep}
 use Rattle.program_tree.specs.declared.tree.Stmt.{Stmt}

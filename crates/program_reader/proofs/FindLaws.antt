@@ -8,7 +8,7 @@ use Rattle.std.proofs.lemmas.Bool.{ltb-false}
 use Rattle.std.proofs.lemmas.List.Sums.{prefix_len-le-length}
 use Rattle.program_tree.specs.declared.token.Token.{Token as TokenRead}
 use Rattle.program_reader.specs.Front.{entry_of}
-use Rattle.program_tree.specs.Tokens.{token_of}
+use Rattle.program_tree.specs.TokenMeaning.{token_of}
 use Rattle.program_tree.specs.Words.{lookup}
 
 -- the place that was found, or else the end

@@ -10,7 +10,7 @@ use Rattle.program_tree.specs.Faults.{Scope, is_full}
 use Rattle.program_reader.specs.Head.{class_of_kind, with_names, IsNew, IsListed, IsValued}
 use Rattle.program_tree.specs.InScope.{Names, with_new, is_in_scope, is_a}
 use Rattle.program_reader.specs.Machine.{Pending, tell, fault, fault_or, first, new_name}
-use Rattle.program_tree.specs.Names.{place_of}
+use Rattle.program_tree.specs.InScope.{place_of}
 use Rattle.program_tree.specs.Shapes.{Name}
 use Rattle.program_reader.specs.Steps.{ReadsSign}
 use Rattle.program_tree.specs.Tokens.{Token}

@@ -8,7 +8,8 @@ use Rattle.std.proofs.lemmas.List.{append_assoc, append-nil, map-append, length-
 use Rattle.std.specs.List.{list_all, list_any, cons_option}
 use Rattle.program_reader.specs.Front.{BeginsWith}
 use Rattle.program_tree.specs.declared.token.Token.{Token as TokenRead}
-use Rattle.program_tree.specs.Tokens.{Token, token_of}
+use Rattle.program_tree.specs.Tokens.{Token}
+use Rattle.program_tree.specs.TokenMeaning.{token_of}
 use Rattle.program_tree.specs.Words.{is_word_byte}
 use Rattle.program_tree.specs.Text.{is_feed, Piece, Blank, Comment, Word, Sign, Other, bytes_of, token_at, FitsBefore}
 use Rattle.program_tree.specs.Text.{text_of, AllFit, tokens_of, lines_from, IsLexed}

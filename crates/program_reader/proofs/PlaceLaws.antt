@@ -4,7 +4,7 @@ use Rattle.std.proofs.Common.{arith, Bool, true, false, Option, Some, None, opti
 use Rattle.std.proofs.lemmas.Bool.{ltb-true, ltb-false}
 use Rattle.std.specs.List.{position, position_or_len}
 use Rattle.std.specs.Str.{bytes_eq}
-use Rattle.program_tree.specs.Names.{place_of}
+use Rattle.program_tree.specs.InScope.{place_of}
 
 position_step : (b : Bool) (m n : ℕ) (v w : Bool) → nat_lt (cond (not b) (1 + m) 0) (suc n) ≡ v → nat_lt m n ≡ w
     → cond v (Some (cond (not b) (1 + m) 0)) None ≡ cond b (Some 0) (option_map (λ i. 1 + i) (cond w (Some m) None))

@@ -11,7 +11,7 @@ use Rattle.program_reader.specs.Head.{with_starting, CanStart, IsStarting, HasSt
 use Rattle.program_tree.specs.InScope.{Names, is_in_scope, or_zero, number_in, name_in}
 use Rattle.program_reader.specs.Machine.{Pending, Verdict, tell, fault, first, first_broken, starting, more_starting}
 use Rattle.program_reader.specs.Machine.{from_autostart, from_receiver, codes, semicolon, operand}
-use Rattle.program_tree.specs.Names.{place_of}
+use Rattle.program_tree.specs.InScope.{place_of}
 use Rattle.program_tree.specs.Scope.{Within}
 use Rattle.program_tree.specs.Shapes.{Name}
 use Rattle.program_reader.specs.Steps.{ReadsSign, Reads, Numbered, Fits, Finds}

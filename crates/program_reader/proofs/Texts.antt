@@ -6,15 +6,18 @@ use Rattle.std.proofs.lemmas.Bool.{ltb-true, ltb-false}
 use Rattle.std.proofs.lemmas.List.{length-append, length-map}
 use Rattle.std.proofs.lemmas.Option.{slice_get-get_or}
 use Rattle.program_tree.specs.Code.{Tree}
-use Rattle.program_tree.specs.Faults.{nothing_yet, IsProgram, IsTold, IsToldAt}
+use Rattle.program_tree.specs.Faults.{nothing_yet, IsProgram, IsTold}
+use Rattle.program_tree.specs.ReadingLaws.{IsToldAt}
 use Rattle.program_tree.specs.Grammar.{program_marks}
 use Rattle.program_tree.specs.Kinds.{kind_number}
 use Rattle.program_reader.specs.Machine.{Verdict, tell, whole, fault, from_events}
-use Rattle.program_tree.specs.Reading.{IsTreeOfTokens, IsTreeOf, IsToldOf, HasTreeOrFault}
+use Rattle.program_tree.specs.Reading.{IsTreeOfTokens, IsTreeOf, IsToldOf}
+use Rattle.program_tree.specs.ReadingLaws.{HasTreeOrFault}
 use Rattle.program_tree.specs.Numbers.{tree_of_shape}
 use Rattle.program_tree.specs.Shapes.{ProgramShape}
 use Rattle.program_tree.specs.Text.{IsLexed}
-use Rattle.program_tree.specs.Tokens.{Token, token_of}
+use Rattle.program_tree.specs.Tokens.{Token}
+use Rattle.program_tree.specs.TokenMeaning.{token_of}
 use Rattle.program_tree.specs.declared.error.ReadErrorKind.{ReadErrorKind}
 use Rattle.program_tree.specs.declared.error.ReadErrorKind.TheVariants.{BadToken, Unexpected, UnknownName, NameTwice}
 use Rattle.program_tree.specs.declared.error.ReadErrorKind.TheVariants.{NumberTooLarge, WaitInSimpleBlock, TooDeep}

@@ -11,7 +11,8 @@ use Rattle.program_reader.specs.Machine.{rules_on_marks, first_broken, fault_or,
 use Rattle.program_tree.specs.Shapes.{ProgramShape}
 use Rattle.program_tree.specs.Kinds.{kind_number}
 use Rattle.program_tree.specs.Faults.{Scope, nothing_yet, scope_after, scope_from, scope_of, breaks, CanFollow}
-use Rattle.program_tree.specs.Faults.{LacksProcess, Breach, IsFault, IsToldAt, IsProgram}
+use Rattle.program_tree.specs.Faults.{LacksProcess, Breach, IsFault, IsProgram}
+use Rattle.program_tree.specs.ReadingLaws.{IsToldAt}
 use Rattle.program_tree.specs.Tokens.{Token}
 use Rattle.program_tree.specs.declared.error.ReadErrorKind.{ReadErrorKind}
 use Rattle.program_tree.specs.declared.error.ReadErrorKind.TheVariants.{BadToken, Unexpected, UnknownName, NameTwice}

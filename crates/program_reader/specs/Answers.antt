@@ -3,7 +3,8 @@ use Rattle.std.specs.Prelude.{◌≡◌, ◌+◌, ◌<◌, ◌≤◌, length, Re
 use Rattle.program_tree.specs.Grammar.{expression_marks, action_marks, statement_marks}
 use Rattle.program_tree.specs.InScope.{name_in, number_in}
 use Rattle.program_tree.specs.Scope.{expression_fits, action_fits, statement_fits}
-use Rattle.program_tree.specs.Tree.{expression_of, expression_map, action_of, action_map, statement_of, statement_map}
+use Rattle.program_tree.specs.Meaning.{expression_of, action_of, statement_of}
+use Rattle.program_tree.specs.Tree.{expression_map, action_map, statement_map}
 use Rattle.program_tree.specs.Tree.{inner_height, inner_size}
 use Rattle.program_tree.specs.declared.tree.Action.{Action}
 use Rattle.program_tree.specs.declared.tree.Expr.{Expr}

@@ -2,7 +2,8 @@
 use Rattle.std.specs.Prelude.{◌≡◌, ◌<◌, ℕ, ◌++◌, List, length, drop, slice_index, false, Option}
 use Rattle.std.specs.Borrow.{Bor}
 use Rattle.program_tree.specs.declared.token.Token.{Token as TokenRead}
-use Rattle.program_tree.specs.Tokens.{Token, token_of}
+use Rattle.program_tree.specs.Tokens.{Token}
+use Rattle.program_tree.specs.TokenMeaning.{token_of}
 use Rattle.program_tree.specs.Words.{is_word_byte}
 use Rattle.program_tree.specs.Text.{Piece, bytes_of, token_at, FitsBefore, is_blank, begins_comment}
 

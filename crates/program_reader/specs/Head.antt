@@ -8,7 +8,7 @@ use Rattle.program_tree.specs.Grammar.{Mark, tokens, sign, named, starting_marks
 use Rattle.program_tree.specs.InScope.{Names, with_new, is_in_scope, number_in, name_in}
 use Rattle.program_reader.specs.Machine as machine
 use Rattle.program_reader.specs.Machine.{Symbol, Pending, tell, fault, first_broken, new_name}
-use Rattle.program_tree.specs.Names.{place_of}
+use Rattle.program_tree.specs.InScope.{place_of}
 use Rattle.program_tree.specs.Numbers.{values_of}
 use Rattle.program_tree.specs.Shapes.{Name, Valued}
 use Rattle.program_tree.specs.Tokens as token

@@ -9,7 +9,7 @@ use Rattle.program_tree.specs.Grammar.{Context, Mark, tokens}
 use Rattle.program_tree.specs.InScope.{Names, names_of, name_in, is_in_scope}
 use Rattle.program_reader.specs.Machine.{Symbol, Pending, fault, tell, first, semicolon, equals, open_sign, close}
 use Rattle.program_reader.specs.Machine.{open_brace, expression, block, items, items_else, symbols_of}
-use Rattle.program_tree.specs.Names.{place_of}
+use Rattle.program_tree.specs.InScope.{place_of}
 use Rattle.program_tree.specs.Scope.{Within}
 use Rattle.program_tree.specs.Shapes.{Name}
 use Rattle.program_tree.specs.Tokens as token

@@ -7,7 +7,7 @@ ghost use Rattle.program_tree.specs.Faults.{nothing_yet, Scope};
 ghost use Rattle.program_tree.specs.Program.{code_of, tree_of};
 ghost use Rattle.program_tree.specs.Made.{AreLexed, IsMade};
 ghost use Rattle.program_tree.specs.Reading.{IsTreeOfTokens};
-ghost use Rattle.program_tree.specs.Tokens.{token_of};
+ghost use Rattle.program_tree.specs.TokenMeaning.{token_of};
 ghost use Rattle.program_reader.specs.Kept.{HasNoOwnNames};
 ghost use Rattle.program_reader.specs.Steps.{scope_of};
 ghost use Rattle.program_reader.specs.declared.fault.Fault.{Fault};

@@ -2,7 +2,7 @@
 ghost use Rattle.std.specs.Prelude.{◌≡◌, ◌∷◌, ◌≤◌, false, Some, drop, length, map, option_map, OnOk};
 ghost use Rattle.std.specs.Bool.{OnTrue};
 ghost use Rattle.program_tree.specs.Tokens as token;
-ghost use Rattle.program_tree.specs.Tokens.{token_of};
+ghost use Rattle.program_tree.specs.TokenMeaning.{token_of};
 ghost use Rattle.program_reader.specs.Machine.{first, unfit_at};
 ghost use Rattle.program_reader.specs.Steps.{ReadsSign, FailsSign, symbol_of, token_of_sign};
 
@@ -30,7 +30,8 @@ pub(crate) struct Cursor<'a> {
 
 impl<'a> Model for Cursor<'a> {
     ghost use Rattle.std.specs.Prelude.{List, map};
-    ghost use Rattle.program_tree.specs.Tokens.{Token, token_of};
+    ghost use Rattle.program_tree.specs.Tokens.{Token};
+    ghost use Rattle.program_tree.specs.TokenMeaning.{token_of};
 
     ghost Value = { List Token };
 

@@ -7,7 +7,8 @@ ghost use Rattle.program_reader.specs.Machine.{first, expression, operator, clos
 ghost use Rattle.program_tree.specs.Scope.{expression_fits};
 ghost use Rattle.program_reader.specs.Steps.{scope_of, context_of, ReadsSign, FailsSign, Numbered, Fits};
 ghost use Rattle.program_tree.specs.Tokens as token;
-ghost use Rattle.program_tree.specs.Tree.{expression_of, expression_map, binary};
+ghost use Rattle.program_tree.specs.Meaning.{expression_of};
+ghost use Rattle.program_tree.specs.Tree.{expression_map, binary};
 ghost use Rattle.program_reader.specs.Values.{telling_keyword, ReadsSides};
 
 use crate::cursor::{Cursor, Sign};

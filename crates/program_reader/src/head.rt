@@ -5,7 +5,7 @@ ghost use Rattle.program_reader.specs.Head.{FailsIn, ReadsProcesses, CanStart, I
 ghost use Rattle.program_reader.specs.Head.{ReadsReceiver, with_starting};
 ghost use Rattle.program_reader.specs.Machine as machine;
 ghost use Rattle.program_reader.specs.Machine.{first, first_broken};
-ghost use Rattle.program_tree.specs.Names.{place_of};
+ghost use Rattle.program_tree.specs.InScope.{place_of};
 ghost use Rattle.program_tree.specs.Shapes.{Name};
 ghost use Rattle.program_reader.specs.Steps.{scope_of};
 ghost use Rattle.program_tree.specs.Tokens as token;

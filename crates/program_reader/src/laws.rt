@@ -1,7 +1,8 @@
 //! Laws of the notation: theorems, each stated as the contract of an empty function.
 ghost use Rattle.std.specs.Prelude.{◌≡◌, ℕ, List};
 ghost use Rattle.program_tree.specs.Code.{Tree};
-ghost use Rattle.program_tree.specs.Reading.{IsTreeOf, IsToldOf, HasTreeOrFault};
+ghost use Rattle.program_tree.specs.Reading.{IsTreeOf, IsToldOf};
+ghost use Rattle.program_tree.specs.ReadingLaws.{HasTreeOrFault};
 ghost use Rattle.program_tree.specs.declared.error.ReadErrorKind.{ReadErrorKind};
 
 /// A text has at most one tree.

@@ -2,7 +2,7 @@
 ghost use Rattle.std.specs.Prelude.{◌≡◌, ◌<◌, ◌≤◌, ◌++◌, map, length, not, nat_eq, find, option_map, option_to_list};
 ghost use Rattle.std.specs.Prelude.{IfOk, OnOk};
 ghost use Rattle.std.specs.List.{prefix_len, starts_with};
-ghost use Rattle.program_tree.specs.Tokens.{token_of};
+ghost use Rattle.program_tree.specs.TokenMeaning.{token_of};
 ghost use Rattle.program_tree.specs.Words.{is_word_byte};
 ghost use Rattle.program_tree.specs.Text.{IsLexed, is_feed, is_blank};
 ghost use Rattle.program_reader.specs.Front.{BeginsWith, BeginsOther, entry_of};

@@ -5,7 +5,7 @@ ghost use Rattle.program_tree.specs.Forms.{beginning, action, ends, takes, value
 ghost use Rattle.program_reader.specs.Plain.{IsNoAction, bare_keyword, bare_action, valued_keyword, valued_action};
 ghost use Rattle.program_reader.specs.Plain.{about_keyword, about_class, about_action, plain_keyword};
 ghost use Rattle.program_reader.specs.Steps.{class_of};
-ghost use Rattle.program_tree.specs.Tree.{action_of, expression_of};
+ghost use Rattle.program_tree.specs.Meaning.{action_of, expression_of};
 
 use program_tree::class::Class;
 use program_tree::keyword::Keyword;

@@ -1,6 +1,7 @@
 //! The reader of a program: the tokens that are left, and what is in scope before them.
 ghost use Rattle.std.specs.Prelude.{◌≡◌, ◌∷◌, ◌≤◌, ◌<◌, length, IfOk};
-ghost use Rattle.program_tree.specs.EventNames.{cast_of, sent_of, any_of, cast_map, sent_map, any_map};
+ghost use Rattle.program_tree.specs.Meaning.{cast_of, sent_of, any_of};
+ghost use Rattle.program_tree.specs.EventNames.{cast_map, sent_map, any_map};
 ghost use Rattle.program_tree.specs.Forms.{name, cast, sent, any};
 ghost use Rattle.program_tree.specs.Grammar.{operand_mark};
 ghost use Rattle.program_tree.specs.InScope.{name_in, number_in};

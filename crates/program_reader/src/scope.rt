@@ -80,7 +80,7 @@ pub(crate) struct Scope {
 impl Scope {
     ghost use Rattle.program_tree.specs.Faults.{nothing_yet};
     ghost use Rattle.program_tree.specs.InScope.{is_in_scope};
-    ghost use Rattle.program_tree.specs.Names.{place_of};
+    ghost use Rattle.program_tree.specs.InScope.{place_of};
     ghost use Rattle.program_tree.specs.Tree.{a_timer};
     ghost use Rattle.program_reader.specs.Steps.{scope_of, context_of, class_of, look, most_of, IsFound};
 

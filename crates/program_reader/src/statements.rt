@@ -11,7 +11,8 @@ ghost use Rattle.program_tree.specs.Scope.{into_fits, other_fits, block_fits};
 ghost use Rattle.program_reader.specs.Steps.{scope_of, context_of, fixed, IsStatement, IsPlain, IsInside, Begins};
 ghost use Rattle.program_reader.specs.Steps.{Finds, IsTarget, Reads, ReadsElse, Fails, Numbered, Fits};
 ghost use Rattle.program_tree.specs.Tokens as token;
-ghost use Rattle.program_tree.specs.Tree.{a_variable, block_of, body_map, otherwise_of, otherwise_map, height};
+ghost use Rattle.program_tree.specs.Tree.{a_variable, body_map, otherwise_map, height};
+ghost use Rattle.program_tree.specs.Meaning.{block_of, otherwise_of};
 ghost use Rattle.program_tree.specs.Tree.{other_height, size, other_size};
 
 use crate::cursor::Sign;

@@ -2,7 +2,7 @@
 ghost use Rattle.std.specs.Prelude.{◌≡◌, None, IfSome};
 ghost use Rattle.program_tree.specs.Forms.{name, no_value, tells_of, word_of};
 ghost use Rattle.program_reader.specs.Steps.{class_of};
-ghost use Rattle.program_tree.specs.Tree.{expression_of};
+ghost use Rattle.program_tree.specs.Meaning.{expression_of};
 ghost use Rattle.program_reader.specs.Values.{alone_value, telling_class, telling_keyword, telling_value};
 ghost use Rattle.program_reader.specs.Values.{value_keyword};
 

@@ -3,7 +3,8 @@ ghost use Rattle.std.specs.Prelude.{◌≡◌, min, map, option_map, true, if◌
 ghost use Rattle.std.specs.Char.{is_ascii_digit, is_ascii_lowercase};
 ghost use Rattle.std.specs.List.{list_all};
 ghost use Rattle.std.specs.Str.Parse.{digits_value};
-ghost use Rattle.program_tree.specs.Tokens.{token_of, Name, Bad};
+ghost use Rattle.program_tree.specs.TokenMeaning.{token_of};
+ghost use Rattle.program_tree.specs.Tokens.{Name, Bad};
 ghost use Rattle.program_reader.specs.Front.{entry_of};
 ghost use Rattle.program_tree.specs.Words as spec;
 

@@ -7,7 +7,9 @@ use Rattle.program_tree.specs.declared.tree.Expr.{Expr}
 use Rattle.program_tree.specs.declared.tree.Stmt.{Stmt}
 use Rattle.program_tree.specs.declared.instruction.Instruction.{Instruction}
 use Rattle.program_tree.specs.declared.instruction.Instruction.TheVariants.{Act, Branch, Loop}
-use Rattle.program_tree.specs.Tree.{Expression, Statement, Body, Otherwise, does, branch, while, end, next, nothing, otherwise, listed, other_block, size, statement_size, other_size, expression_of, action_of, body_of, statement_of}
+use Rattle.program_tree.specs.Tree.{Expression, Statement, Body, Otherwise, does, branch, while, end, next, nothing}
+use Rattle.program_tree.specs.Tree.{otherwise, listed, other_block, size, statement_size, other_size}
+use Rattle.program_tree.specs.Meaning.{expression_of, action_of, body_of, statement_of}
 use Rattle.program_tree.specs.Flat.{rests, statement_rests, other_rests, rest_in, rest_at, Leads, Branches, Loops, IsFlat}
 use Rattle.program_tree.specs.Emits.{entry_of, other_entry_of, LeadFrom, Emits, EmitsStatement, EmitsOther, EmitsFirst}
 

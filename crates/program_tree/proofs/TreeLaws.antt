@@ -1,7 +1,9 @@
 -- Blocks as lists of statements, and the meaning of the variants of a statement.
 use Rattle.std.proofs.Common.{◌≡◌, ℕ, List, [], ◌∷◌, map, Option, Some, None, refl, ap, sym, ◌∙◌}
 use Rattle.program_tree.specs.Tree.{size, statement_size, other_size}
-use Rattle.program_tree.specs.Tree.{Statement, Body, end, next, nothing, otherwise, does, branch, while, listed, body_of, action_of, expression_of, otherwise_of, statement_layer, block_layer, statement_of, block_of}
+use Rattle.program_tree.specs.Tree.{Statement, Body, end, next, nothing, otherwise, does, branch, while, listed}
+use Rattle.program_tree.specs.Meaning.{body_of, action_of, expression_of, otherwise_of, statement_layer, block_layer}
+use Rattle.program_tree.specs.Meaning.{statement_of, block_of}
 use Rattle.program_tree.specs.declared.tree.Action.{Action}
 use Rattle.program_tree.specs.declared.tree.Expr.{Expr}
 use Rattle.program_tree.specs.declared.tree.Stmt.{Stmt, Do, If, While}

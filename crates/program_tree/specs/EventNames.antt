@@ -3,12 +3,6 @@
 use Rattle.std.specs.Prelude.{ℕ, ◌+◌}
 use Rattle.program_tree.specs.Events.{system_number}
 use Rattle.program_tree.specs.declared.event.SystemEvent.TheVariants as event
-use Rattle.program_tree.specs.declared.event_name.CastEvent.{CastEvent as CastRead}
-use Rattle.program_tree.specs.declared.event_name.CastEvent.TheVariants as cast_read
-use Rattle.program_tree.specs.declared.event_name.SentEvent.{SentEvent as SentRead}
-use Rattle.program_tree.specs.declared.event_name.SentEvent.TheVariants as sent_read
-use Rattle.program_tree.specs.declared.event_name.AnyEvent.{AnyEvent as AnyRead}
-use Rattle.program_tree.specs.declared.event_name.AnyEvent.TheVariants as any_read
 
 -- an event that may be broadcast
 pub data CastEvent (Name : Type 0) : Type 0 where
@@ -49,25 +43,6 @@ any_number init = system_number event.Init
 any_number poll = system_number event.Poll
 any_number exited = system_number event.Exited
 any_number timer = system_number event.Timer
-
--- the meaning of the types of `src/event_name.rt`
-abbrev pub cast_of : CastRead → CastEvent ℕ
-cast_of cast_read.Continue = continue
-cast_of cast_read.Msg = msg
-cast_of cast_read.Com = «com»
-cast_of cast_read.Packet = packet
-cast_of (cast_read.Declared e) = declared e.place
-
-abbrev pub sent_of : SentRead → SentEvent ℕ
-sent_of (sent_read.Cast e) = cast (cast_of e)
-sent_of sent_read.Exit = exit
-
-abbrev pub any_of : AnyRead → AnyEvent ℕ
-any_of (any_read.Sent e) = sent (sent_of e)
-any_of any_read.Init = init
-any_of any_read.Poll = poll
-any_of any_read.Exited = exited
-any_of any_read.Timer = timer
 
 -- the same with each name changed
 abbrev pub cast_map : {A B : Type 0} → (A → B) → CastEvent A → CastEvent B

@@ -129,8 +129,3 @@ pub record IsTold (k : ReadErrorKind) (before rest : List Token) : Type 0 where
 pub record IsProgram (p : ProgramShape) (text : List Token) : Type 0 where
   pub spelled : tokens (program_marks p []) ≡ text
   pub sound : (b r : List Token) (j : ReadErrorKind) → text ≡ b ++ r → IsFault j b r → ⊥
-
--- the reported error, with the number of tokens from its token on
-abbrev pub IsToldAt : ReadErrorKind → (left : ℕ) → List Token → Type 0
-IsToldAt k left text = (before : List Token) × (rest : List Token) × (text ≡ before ++ rest) × (length rest ≡ left)
-    × IsTold k before rest

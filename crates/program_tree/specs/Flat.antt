@@ -3,7 +3,8 @@ use Rattle.std.specs.Prelude.{◌≡◌, ℕ, ◌≤◌, List, [], ◌∷◌, �
 use Rattle.program_tree.specs.declared.instruction.Instruction.{Instruction}
 use Rattle.program_tree.specs.declared.instruction.Instruction.TheVariants.{Act, Branch, Loop}
 use Rattle.program_tree.specs.Tree.{Expression, Statement, Body, Otherwise, does, branch, while, end, next, nothing}
-use Rattle.program_tree.specs.Tree.{otherwise, listed, other_block, expression_of, action_of}
+use Rattle.program_tree.specs.Tree.{otherwise, listed, other_block}
+use Rattle.program_tree.specs.Meaning.{expression_of, action_of}
 
 -- Each statement has a place, in the order of the text: the statements of an inner block come after the one that it
 -- belongs to. The rest at a place is its remainder: its statement, those after it in its block, and those that follow

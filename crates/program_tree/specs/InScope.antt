@@ -1,9 +1,13 @@
 -- The names in scope, with their numbers.
 use Rattle.std.specs.Prelude.{ℕ, ◌+◌, ◌-◌, List, [], ◌∷◌, ◌++◌, length, Bool, ◌||◌, Option, Some, None, is_some}
-use Rattle.std.specs.Prelude.{slice_index_or}
-use Rattle.program_tree.specs.Names.{place_of}
+use Rattle.std.specs.Prelude.{slice_index_or, position}
 use Rattle.program_tree.specs.Shapes.{Name}
 use Rattle.program_tree.specs.Tree.{Class, an_event, a_semaphore, a_process, a_variable, a_timer, a_thread}
+use Rattle.std.specs.Str.{bytes_eq}
+
+-- the place of a name among these, if it is one of them
+unfoldable pub place_of : List (List ℕ) → List ℕ → Option ℕ
+place_of names x = position (λ y. bytes_eq x y) names
 
 -- Each list is in the order of declaration. Variables, timers and threads are those of one code; `first_timer` is how
 -- many timers the program has before them.

@@ -1,5 +1,5 @@
 -- The tree of a text, and the reported error of one that has none.
-use Rattle.std.specs.Prelude.{◌≡◌, ℕ, List, ◌++◌, length, slice_get, Some, ◌⊎◌}
+use Rattle.std.specs.Prelude.{◌≡◌, ℕ, List, ◌++◌, length, slice_get, Some}
 use Rattle.program_tree.specs.Code.{Tree}
 use Rattle.program_tree.specs.Faults.{IsProgram, IsTold}
 use Rattle.program_tree.specs.Numbers.{tree_of_shape}
@@ -31,8 +31,3 @@ pub record IsToldOf (text : List ℕ) (kind : ReadErrorKind) (line : ℕ) : Type
   pub split : tokens ≡ before ++ rest
   pub told : IsTold kind before rest
   pub stands : slice_get lines (length before) ≡ Some line
-
--- a tree or a reported error, and never both
-pub record HasTreeOrFault (text : List ℕ) : Type 0 where
-  pub one : ((tree : Tree) × IsTreeOf text tree) ⊎ ((kind : ReadErrorKind) × (line : ℕ) × IsToldOf text kind line)
-  pub apart : (tree : Tree) (kind : ReadErrorKind) (line : ℕ) → IsTreeOf text tree → IsToldOf text kind line → ⊥

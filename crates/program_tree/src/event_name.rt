@@ -24,7 +24,8 @@ pub enum CastEvent {
 }
 
 impl CastEvent {
-    ghost use Rattle.program_tree.specs.EventNames.{cast_of, cast_number};
+    ghost use Rattle.program_tree.specs.Meaning.{cast_of};
+    ghost use Rattle.program_tree.specs.EventNames.{cast_number};
 
     /// The number of the event.
     pub fn number(self) -> u8
@@ -48,7 +49,8 @@ pub enum SentEvent {
 }
 
 impl SentEvent {
-    ghost use Rattle.program_tree.specs.EventNames.{sent_of, sent_number};
+    ghost use Rattle.program_tree.specs.Meaning.{sent_of};
+    ghost use Rattle.program_tree.specs.EventNames.{sent_number};
 
     /// The number of the event.
     pub fn number(self) -> u8
@@ -72,7 +74,8 @@ pub enum AnyEvent {
 }
 
 impl AnyEvent {
-    ghost use Rattle.program_tree.specs.EventNames.{any_of, any_number};
+    ghost use Rattle.program_tree.specs.Meaning.{any_of};
+    ghost use Rattle.program_tree.specs.EventNames.{any_number};
 
     /// The number of the event.
     pub fn number(self) -> u8

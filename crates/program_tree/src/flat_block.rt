@@ -1,6 +1,7 @@
 //! A block of a process, both as a tree and as flat code.
 ghost use Rattle.std.specs.Prelude.{◌≡◌, ◌<◌, ◌^◌, IfOk};
-ghost use Rattle.program_tree.specs.Tree.{block_of, size};
+ghost use Rattle.program_tree.specs.Meaning.{block_of};
+ghost use Rattle.program_tree.specs.Tree.{size};
 ghost use Rattle.program_tree.specs.Flat.{IsFlat};
 ghost use Rattle.program_tree.specs.Props.{IsFlat-prop};
 

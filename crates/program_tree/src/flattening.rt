@@ -1,6 +1,7 @@
 //! Flat code made of a block's tree.
 ghost use Rattle.std.specs.Prelude.{◌≡◌, ◌+◌, ◌<◌, ◌^◌, length, IfOk, OnOk, option_map};
-ghost use Rattle.program_tree.specs.Tree.{block_of, statement_of, otherwise_of, size, statement_size, other_size};
+ghost use Rattle.program_tree.specs.Meaning.{block_of, statement_of, otherwise_of};
+ghost use Rattle.program_tree.specs.Tree.{size, statement_size, other_size};
 ghost use Rattle.program_tree.specs.Flat.{IsFlat};
 ghost use Rattle.program_tree.specs.Emits.{Emits, EmitsStatement, EmitsOther, entry_of, other_entry_of};
 

@@ -1,7 +1,7 @@
 //! Names in the order of their declaration.
 ghost use Rattle.std.specs.Prelude.{◌≡◌, ◌==◌, ◌<◌, ◌≤◌, ◌++◌, [], ◌∷◌, List, length, None, OnOk, OnErr, IfSome};
 ghost use Rattle.std.specs.Prelude.{slice_index_or, map, string_bytes};
-ghost use Rattle.program_tree.specs.Names.{place_of};
+ghost use Rattle.program_tree.specs.InScope.{place_of};
 
 use indexmap::IndexSet;
 use std::alloc::{AllocError, Global};

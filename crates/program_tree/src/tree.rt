@@ -1,6 +1,7 @@
 //! The trees of a program: its expressions, statements and blocks, with each name resolved to its number.
 ghost use Rattle.std.specs.Prelude.{◌≡◌, map, IfOk};
-ghost use Rattle.program_tree.specs.Tree.{expression_of, action_of, statement_of, block_of, listed};
+ghost use Rattle.program_tree.specs.Meaning.{expression_of, action_of, statement_of, block_of};
+ghost use Rattle.program_tree.specs.Tree.{listed};
 
 use crate::event_name::{AnyEvent, CastEvent, SentEvent};
 use std::alloc::{AllocError, Global};

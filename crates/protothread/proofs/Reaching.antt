@@ -4,7 +4,8 @@ use Rattle.std.proofs.lemmas.Bool.{ltb-true}
 use Rattle.program_tree.specs.declared.event.Event.{Event}
 use Rattle.program_tree.specs.declared.instruction.Instruction.{Instruction}
 use Rattle.program_tree.specs.declared.instruction.Instruction.TheVariants.{Act, Branch, Loop}
-use Rattle.program_tree.specs.Tree.{Expression, Statement, Body, does, branch, while, spawn, listed, other_block, action_of}
+use Rattle.program_tree.specs.Tree.{Expression, Statement, Body, does, branch, while, spawn, listed, other_block}
+use Rattle.program_tree.specs.Meaning.{action_of}
 use Rattle.program_tree.specs.Code.{Code}
 use Rattle.program_tree.specs.Flat.{rest_at, Branches, Loops, Leads}
 use Rattle.program_tree.specs.Scope.{earlier_threads}

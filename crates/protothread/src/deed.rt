@@ -1,6 +1,6 @@
 //! The effect of a statement without blocks.
 ghost use Rattle.std.specs.Prelude.{◌≡◌};
-ghost use Rattle.program_tree.specs.Tree.{action_of};
+ghost use Rattle.program_tree.specs.Meaning.{action_of};
 ghost use Rattle.protothread.specs.Step.{deed_of, passes_where as by_test};
 
 use crate::look::Look;

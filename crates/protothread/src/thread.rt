@@ -1,6 +1,7 @@
 //! Protothreads.
 ghost use Rattle.std.specs.Prelude.{◌≡◌, ℕ, ◌+◌, ◌≤◌, [], ◌∷◌, false, List, length};
-ghost use Rattle.program_tree.specs.Tree.{Statement, expression_of};
+ghost use Rattle.program_tree.specs.Tree.{Statement};
+ghost use Rattle.program_tree.specs.Meaning.{expression_of};
 ghost use Rattle.program_tree.specs.Code.{Code};
 ghost use Rattle.program_tree.specs.Flat.{Leads, rest_at};
 ghost use Rattle.program_tree.specs.Program.{code_of};

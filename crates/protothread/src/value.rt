@@ -2,7 +2,7 @@
 ghost use Rattle.std.specs.Prelude.{◌≡◌, ◌==◌, IfSome};
 ghost use Rattle.std.specs.List.{list_any};
 ghost use Rattle.program_tree.specs.Events.{system_number};
-ghost use Rattle.program_tree.specs.Tree.{expression_of};
+ghost use Rattle.program_tree.specs.Meaning.{expression_of};
 ghost use Rattle.program_tree.specs.declared.event.Event.{Event};
 ghost use Rattle.protothread.specs.Looks.{Looks};
 ghost use Rattle.protothread.specs.Value.{applied, is_event as has_number_and_word, value};

@@ -4,7 +4,8 @@ use Rattle.std.proofs.lemmas.Bool.{cond_both, eqb-false, ne_eqb}
 use Rattle.radio_medium.specs.declared.error.MediumError.{MediumError}
 use Rattle.radio_medium.specs.declared.error.MediumError.TheVariants.{Memory, ZeroBase, ZeroPer, BadLoss}
 use Rattle.radio_medium.specs.Links.{GathersLosses}
-use Rattle.radio_medium.specs.Medium.{Radio, MakesMedium, has_bad_loss, medium_fault}
+use Rattle.radio_medium.specs.Medium.{Radio, has_bad_loss, medium_fault}
+use Rattle.radio_medium.specs.Makes.{MakesMedium}
 
 abbrev behind_per : Bool → Option MediumError
 behind_per bad = cond bad (Some BadLoss) None

@@ -1,13 +1,13 @@
 -- The radio medium: who hears whom, how much later, and which copies are lost, by places and losses alone.
-use Rattle.std.specs.Prelude.{◌≡◌, ℕ, ◌+◌, ◌*◌, ◌/◌, ◌%◌, ◌≤◌, ◌==◌, nat_le, nat_lt, min, pos, ◌-ℤ◌, unsigned_abs}
-use Rattle.std.specs.Prelude.{Bool, false, not, ◌&&◌, ◌||◌, if◌then◌else◌, Option, Some, None, unwrap_or, option_map}
-use Rattle.std.specs.Prelude.{Result, Ok, Err, List, [], ◌∷◌, length, map, filter, find, slice_index_or, All}
+use Rattle.std.specs.Prelude.{ℕ, ◌+◌, ◌*◌, ◌/◌, ◌%◌, ◌≤◌, ◌==◌, nat_le, nat_lt, min, pos, ◌-ℤ◌, unsigned_abs, Bool}
+use Rattle.std.specs.Prelude.{false, not, ◌&&◌, ◌||◌, if◌then◌else◌, Option, Some, None, unwrap_or, option_map, List}
+use Rattle.std.specs.Prelude.{[], ◌∷◌, length, map, filter, find, slice_index_or, All}
 use Rattle.std.specs.List.{filter_map, flat_map, list_any, range_with_len, reduce}
 use Rattle.std.specs.Option.{option_map_or}
 use Rattle.radio_packet.specs.declared.sent.Sent.{Sent}
 use Rattle.radio_packet.specs.declared.copy.RadioCopy.{RadioCopy}
 use Rattle.radio_medium.specs.declared.error.MediumError.{MediumError}
-use Rattle.radio_medium.specs.declared.error.MediumError.TheVariants.{Memory, ZeroBase, ZeroPer, BadLoss}
+use Rattle.radio_medium.specs.declared.error.MediumError.TheVariants.{ZeroBase, ZeroPer, BadLoss}
 use Rattle.radio_packet.specs.declared.fate.Fate.{Fate}
 use Rattle.radio_medium.specs.declared.losses.Loss.{Loss}
 use Rattle.radio_medium.specs.declared.place.Place.{Place}
@@ -123,9 +123,3 @@ medium_fault radio =
     if radio.base == 0 then Some ZeroBase
     else if radio.per == 0 then Some ZeroPer
     else if has_bad_loss (length radio.places) radio.losses then Some BadLoss else None
-
--- the medium of these, or their first fault; if an allocation failed, nothing is claimed
-abbrev pub MakesMedium : Radio → Result Radio MediumError → Type 0
-MakesMedium radio (Ok medium) = (medium ≡ radio) × (medium_fault radio ≡ None)
-MakesMedium radio (Err Memory) = Unit {0}
-MakesMedium radio (Err error) = medium_fault radio ≡ Some error

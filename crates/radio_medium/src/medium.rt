@@ -1,7 +1,8 @@
 //! The medium of a net.
 
 ghost use Rattle.std.specs.Prelude.{◌≡◌, ℕ, ◌+◌, ◌^◌, ◌<◌, ◌≤◌, None, length, All, IfOk};
-ghost use Rattle.radio_medium.specs.Medium.{IsWithinLimits, MakesMedium, medium_fault, square_distance, place_at};
+ghost use Rattle.radio_medium.specs.Medium.{IsWithinLimits, medium_fault, square_distance, place_at};
+ghost use Rattle.radio_medium.specs.Makes.{MakesMedium};
 ghost use Rattle.radio_medium.specs.Medium.{every_of, hears, delay, lookahead, fates, copies};
 ghost use Rattle.radio_medium.specs.Links.{links_of, IsFit};
 

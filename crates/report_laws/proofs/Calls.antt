@@ -28,7 +28,7 @@ use Rattle.process_kernel.specs.declared.process.Member.{Member}
 use Rattle.process_kernel.specs.Members.{is_same}
 use Rattle.process_kernel.specs.State.{State, Outcome, Went, Goes, ◌>>=◌}
 use Rattle.process_kernel.specs.Processes.{has_process, is_busy, is_listed, is_running, is_on_list, process_needs_poll}
-use Rattle.process_kernel.specs.Semaphores.{take_of, signal_of}
+use Rattle.process_kernel.specs.Operation.{take_of, signal_of}
 use Rattle.process_kernel.specs.Calls.{Calls, Answer, told, is_system_event, walk_of}
 use Rattle.process_kernel.specs.Etimer.{post_due, walk_timers, walks_of, pass_of, etimer_of}
 use Rattle.process_kernel.specs.Ctimer.{callback_of, waits_for, ctimer_of}

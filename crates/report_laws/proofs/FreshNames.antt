@@ -8,7 +8,7 @@ use Rattle.program_tree.specs.Code.{Tree}
 use Rattle.program_tree.specs.Faults.{Scope, nothing_yet, scope_after, scope_from, scope_of, role_breaks, begun_breaks, IsProgram}
 use Rattle.program_tree.specs.Grammar.{Mark, tokens, event_marks, semaphore_marks, process_marks, program_marks}
 use Rattle.program_tree.specs.InScope.{Names, with_new, is_a, is_among, is_in_scope}
-use Rattle.program_tree.specs.Names.{place_of}
+use Rattle.program_tree.specs.InScope.{place_of}
 use Rattle.program_tree.specs.Numbers.{named_of, tree_of_shape}
 use Rattle.program_tree.specs.Reading.{IsTreeOf}
 use Rattle.program_tree.specs.Shapes.{Name, Valued, CodeShape, ProgramShape}

@@ -9,7 +9,7 @@ use Rattle.radio_packet.specs.declared.sent.Sent.{Sent}
 use Rattle.kernel_laws.specs.Stamps.{AreNumberedFrom}
 use Rattle.window_laws.specs.Agenda.{up_to}
 use Rattle.window_laws.specs.NetStep.{put}
-use Rattle.window_laws.specs.Order.{NumbersRise}
+use Rattle.window_laws.specs.Sorts.{NumbersRise}
 use Rattle.window_laws.specs.Report.{IsReport}
 use Rattle.window_laws.specs.Windows.{as_log}
 use Rattle.window_laws.proofs.Commute.{log_is_in_order, run_is_there, windows_report}

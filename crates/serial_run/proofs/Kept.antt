@@ -11,7 +11,8 @@ use Rattle.mote_node.specs.Node.{Node}
 use Rattle.mote_node.specs.Turn.{turn_of}
 use Rattle.mote_node.specs.Wake.{wake_of}
 use Rattle.mote_net.specs.Net.{NetTold}
-use Rattle.window_laws.specs.System.{Turned, RunsForward}
+use Rattle.window_laws.specs.System.{Turned}
+use Rattle.window_laws.specs.Forward.{RunsForward}
 use Rattle.window_laws.specs.Agenda.{Item, Packet, mote_of, comes_at, is_wake_of, is_left, wake_items}
 use Rattle.window_laws.proofs.Agenda.{no_wake_in_packets, own_wake, other_wake}
 use Rattle.net_agenda.specs.Buckets.{wake_but_at}

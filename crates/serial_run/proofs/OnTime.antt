@@ -11,7 +11,8 @@ use Rattle.mote_node.specs.Node.{Node, new_node, is_past}
 use Rattle.mote_node.specs.Public.{node_in}
 use Rattle.mote_node.specs.Turn.{turn_of}
 use Rattle.mote_net.specs.Net.{NetTold}
-use Rattle.window_laws.specs.System.{Turned, IsCopyOf, RunsForward}
+use Rattle.window_laws.specs.System.{Turned, IsCopyOf}
+use Rattle.window_laws.specs.Forward.{RunsForward}
 use Rattle.window_laws.specs.Agenda.{Item, Packet, moment_of, mote_of, comes_at, is_left, is_from, wake_items, IsLeast}
 use Rattle.window_laws.specs.NetStep.{NetState, boot, put, stamped, turned_at, turn_at}
 use Rattle.window_laws.proofs.Ahead.{turn_ahead}

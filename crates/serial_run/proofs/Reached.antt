@@ -7,7 +7,7 @@ use Rattle.trace_lines.specs.declared.line.Line.{Line}
 use Rattle.mote_node.specs.Node.{Node}
 use Rattle.mote_net.specs.Net.{NetTold}
 use Rattle.serial_run.specs.declared.engine.Engine.{Engine}
-use Rattle.window_laws.specs.System.{RunsForward}
+use Rattle.window_laws.specs.Forward.{RunsForward}
 use Rattle.window_laws.specs.Agenda.{Wake, moment_of, mote_of, comes_at, wake_items, IsLeast, up_to}
 use Rattle.window_laws.proofs.Agenda.{first_wakes, below_all}
 use Rattle.net_agenda.specs.NetSystem.{system_of}

@@ -16,7 +16,8 @@ use Rattle.mote_node.specs.Node.{Node}
 use Rattle.mote_node.proofs.WakeLaws.{wakes_later}
 use Rattle.radio_medium.proofs.Copies.{copies_later}
 use Rattle.mote_net.specs.Net.{NetTold}
-use Rattle.window_laws.specs.System.{Turned, IsLater}
+use Rattle.window_laws.specs.System.{Turned}
+use Rattle.window_laws.specs.Forward.{IsLater}
 use Rattle.window_laws.specs.Agenda.{Item, Packet, moment_of, mote_of, comes_at, is_left, is_from, wake_items, IsLeast, up_to}
 use Rattle.net_agenda.specs.NetSystem.{system_of, mote_at}
 use Rattle.mote_net.specs.Report.{ReportTold, Packet as OfReport}

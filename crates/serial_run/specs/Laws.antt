@@ -9,8 +9,9 @@ use Rattle.mote_node.specs.Node.{Node}
 use Rattle.radio_packet.specs.declared.copy.RadioCopy.{RadioCopy}
 use Rattle.radio_medium.specs.Medium.{medium_fault}
 use Rattle.mote_net.specs.Net.{NetTold}
-use Rattle.window_laws.specs.System.{System, RunsForward}
-use Rattle.window_laws.specs.Order.{is_sooner}
+use Rattle.window_laws.specs.System.{System}
+use Rattle.window_laws.specs.Forward.{RunsForward}
+use Rattle.window_laws.specs.Sorts.{is_sooner}
 use Rattle.window_laws.specs.Agenda.{Item, is_wake_of, up_to}
 use Rattle.window_laws.specs.NetStep.{NetState, Run, Done, Turn}
 use Rattle.window_laws.specs.Windows.{LoneMote, first_mote, IsJoined, IsLeft, Windows}

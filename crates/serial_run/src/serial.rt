@@ -2,7 +2,7 @@
 
 ghost use Rattle.std.specs.Prelude.{◌≡◌, ◌<◌, length, vec_len, All, IfOk, OnOk, IfErr};
 ghost use Rattle.kernel_laws.specs.Going.{IsInOrder};
-ghost use Rattle.mote_net.specs.Net.{net_of};
+ghost use Rattle.mote_net.specs.Meaning.{net_of};
 ghost use Rattle.net_agenda.specs.NetSystem.{system_of};
 ghost use Rattle.mote_net.specs.Report.{report_of};
 ghost use Rattle.serial_run.specs.NetRun.{IsReportOf};

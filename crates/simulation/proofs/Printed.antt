@@ -2,7 +2,8 @@
 use Rattle.std.proofs.Common.{◌≡◌, ℕ, List, ◌++◌, Option, Result, Ok, Err, ap, sym, ◌∙◌, subst}
 use Rattle.net_scenario.specs.Laws.{OneNet}
 use Rattle.mote_net.specs.Net.{NetTold}
-use Rattle.net_scenario.specs.Reading.{TellsNet, Answers}
+use Rattle.net_scenario.specs.Reading.{TellsNet}
+use Rattle.net_scenario.specs.Reads.{Answers}
 use Rattle.net_scenario.specs.declared.error.ScenarioError.{ScenarioError}
 use Rattle.net_scenario.specs.declared.error.ScenarioError.TheVariants as scenario
 use Rattle.mote_net.specs.Report.{ReportTold}

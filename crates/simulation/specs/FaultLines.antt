@@ -3,7 +3,7 @@ use Rattle.std.specs.Prelude.{ℕ, List, [], ◌∷◌, ◌++◌, codes, decimal
 use Rattle.program_tree.specs.Kinds.{kind_number}
 use Rattle.radio_medium.specs.Errors.{medium_fault_number}
 use Rattle.radio_medium.specs.declared.error.MediumError.TheVariants as medium
-use Rattle.net_scenario.specs.Errors.{scenario_fault_number}
+use Rattle.net_scenario.specs.FaultNumbers.{scenario_fault_number}
 use Rattle.net_scenario.specs.declared.error.ScenarioError.{ScenarioError}
 use Rattle.net_scenario.specs.declared.error.ScenarioError.TheVariants as scenario
 use Rattle.serial_run.specs.RunErrors.{text_of_error}

@@ -1,9 +1,6 @@
 -- The result of reading the whole of an input.
-use Rattle.std.specs.Prelude.{◌≡◌, ℕ, ◌<◌, ◌≤◌, List, length, Result, Ok, Err, Vec, String, string_bytes}
+use Rattle.std.specs.Prelude.{ℕ, ◌<◌, ◌≤◌, List, length}
 use Rattle.std.specs.Str.{IsUtf8}
-use Rattle.std.specs.declared.alloc.Global.{Global}
-use Rattle.simulation.specs.declared.input.InputError.{InputError}
-use Rattle.simulation.specs.declared.input.InputError.TheVariants as fault
 use Rattle.net_scenario.specs.Limits.{longest_text}
 
 -- the bytes are a text that isn't too long
@@ -18,21 +15,3 @@ IsTooLong bytes = longest_text < length bytes
 -- no more bytes than a scenario may have, but they aren't UTF-8
 abbrev pub IsNoText : List ℕ → Type 0
 IsNoText bytes = (length bytes ≤ longest_text) × (¬ IsUtf8 bytes)
-
--- the cause of each fault: the reader or an allocation may fail at any input
-abbrev pub IsRefused : (input : List ℕ) → InputError → Type 0
-IsRefused input fault.Read = Unit {0}
-IsRefused input fault.TooLong = IsTooLong input
-IsRefused input fault.NotText = IsNoText input
-IsRefused input fault.Memory = Unit {0}
-
--- the answer to reading all bytes of an input, be they a text or not
-abbrev pub ReadsBytes : (input : List ℕ) → Result (Vec ℕ Global) InputError → Type 0
-ReadsBytes input (Ok bytes) = (bytes.items ≡ input) × (length input ≤ longest_text)
-ReadsBytes input (Err fault.NotText) = ⊥
-ReadsBytes input (Err e) = IsRefused input e
-
--- the answer to reading an input as a text
-abbrev pub ReadsText : (input : List ℕ) → Result (String Global) InputError → Type 0
-ReadsText input (Ok text) = (string_bytes text ≡ input) × IsText input
-ReadsText input (Err e) = IsRefused input e

@@ -3,5 +3,6 @@ pub mod Cuts
 pub mod FaultLines
 pub mod Input
 pub mod Laws
+pub mod Reads
 pub mod Simulation
 pub mod Words

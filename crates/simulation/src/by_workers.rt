@@ -1,6 +1,6 @@
 //! The run of a net by workers, as the options name them.
 ghost use Rattle.std.specs.Prelude.{◌≡◌, ◌<◌, length, vec_len, IfOk, Some, None};
-ghost use Rattle.mote_net.specs.Net.{net_of};
+ghost use Rattle.mote_net.specs.Meaning.{net_of};
 ghost use Rattle.window_workers.specs.Fits.{cut_fault};
 ghost use Rattle.simulation.specs.Cuts.{of_kind};
 ghost use Rattle.simulation.specs.Simulation.{MayWork, RunsWith};

@@ -1,6 +1,6 @@
 //! Reading the whole of an input as a text.
 ghost use Rattle.std.specs.Prelude.{◌≡◌, ◌≤◌, IfOk, IfSome, string_len, vec_len};
-ghost use Rattle.simulation.specs.Input.{ReadsBytes, ReadsText};
+ghost use Rattle.simulation.specs.Reads.{ReadsBytes, ReadsText};
 ghost use Rattle.net_scenario.specs.Limits.{longest_text};
 ghost use Rattle.simulation.specs.declared.input.InputError.TheVariants.{Memory};
 

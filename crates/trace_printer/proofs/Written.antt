@@ -3,7 +3,8 @@ use Rattle.std.proofs.Common.{◌≡◌, ℕ, List, [], ◌∷◌, ◌++◌, Opt
 use Rattle.std.specs.Prelude.{◌==◌}
 use Rattle.std.specs.Io.KnownBytes.{Appends, Keeps}
 use Rattle.std.proofs.KnownBytes.{Appends-trans, Appends-nil}
-use Rattle.trace_printer.specs.Output.{AppendsFront, Writes}
+use Rattle.trace_printer.specs.Output.{AppendsFront}
+use Rattle.trace_printer.specs.Writes.{Writes}
 use Rattle.trace_printer.specs.Page.{Written, Prints}
 
 appended_kept : (a b c : Option (List ℕ)) (bytes : List ℕ) → Appends a b bytes → Keeps b c → Appends a c bytes

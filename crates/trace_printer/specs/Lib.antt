@@ -8,3 +8,4 @@ pub mod PrintErrors
 pub mod ReportText
 pub mod TraceLines
 pub mod Words
+pub mod Writes

@@ -1,6 +1,6 @@
 -- The text of the traces and the medium in parts.
 use Rattle.std.specs.Prelude.{◌≡◌, ◌≤◌, ℕ, ◌+◌, ◌/◌, List, [], ◌∷◌, ◌++◌, length, map}
-use Rattle.mote_net.specs.Net.{net_of}
+use Rattle.mote_net.specs.Meaning.{net_of}
 use Rattle.mote_net.specs.Report.{lines_in, told_line}
 use Rattle.trace_printer.specs.TraceLines.{lines_of, medium_lines, part_text}
 use Rattle.trace_printer.specs.declared.part.Part.{Part}

@@ -1,9 +1,10 @@
 //! A report, round by round.
 ghost use Rattle.std.specs.Prelude.{◌≡◌, ◌≤◌, ◌<◌, ◌+◌, ◌^◌, [], length, map, vec_len, IfSome};
 ghost use Rattle.std.specs.List.{concat};
-ghost use Rattle.mote_net.specs.Net.{NetTold, net_of};
+ghost use Rattle.mote_net.specs.Net.{NetTold};
+ghost use Rattle.mote_net.specs.Meaning.{net_of};
 ghost use Rattle.mote_net.specs.Report.{lines_in, report_of};
-ghost use Rattle.trace_printer.specs.Output.{Writes};
+ghost use Rattle.trace_printer.specs.Writes.{Writes};
 ghost use Rattle.trace_printer.specs.Page.{Prints};
 ghost use Rattle.trace_printer.specs.ReportText.{report_text};
 ghost use Rattle.trace_printer.specs.TraceLines.{lines_of};

@@ -2,7 +2,8 @@
 ghost use Rattle.std.specs.Prelude.{◌≡◌, [], ◌∷◌, ◌++◌, length, map, take, drop, codes, decimal, IfSome, OnOk};
 ghost use Rattle.std.specs.List.{flat_map};
 ghost use Rattle.program_tree.specs.Program.{tree_of};
-ghost use Rattle.mote_net.specs.Net.{NetTold, net_of};
+ghost use Rattle.mote_net.specs.Net.{NetTold};
+ghost use Rattle.mote_net.specs.Meaning.{net_of};
 ghost use Rattle.mote_net.specs.Report.{lines_in, told_line};
 ghost use Rattle.trace_printer.specs.Parts.{HasTraces, lines_told};
 ghost use Rattle.trace_printer.specs.ReportText.{line_text, packet_text};

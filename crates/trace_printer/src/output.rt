@@ -1,5 +1,5 @@
 //! Writing the whole of a text.
-ghost use Rattle.trace_printer.specs.Output.{Writes};
+ghost use Rattle.trace_printer.specs.Writes.{Writes};
 
 use std::io::Write;
 

@@ -1,6 +1,6 @@
 //! The text that waits to be written.
 ghost use Rattle.std.specs.Prelude.{◌≡◌, ◌≤◌, ◌+◌, [], length, take, IfOk, OnOk};
-ghost use Rattle.trace_printer.specs.Output.{Writes};
+ghost use Rattle.trace_printer.specs.Writes.{Writes};
 
 use crate::output::{WriteFault, write_bytes};
 use std::alloc::{AllocError, Global};

@@ -5,7 +5,8 @@ use Rattle.std.proofs.lemmas.Bool.{false≢true}
 use Rattle.std.proofs.lemmas.Bool.Decides.{nat_tests}
 use Rattle.radio_packet.specs.declared.sent.Sent.{Sent}
 use Rattle.radio_packet.specs.declared.copy.RadioCopy.{RadioCopy}
-use Rattle.window_laws.specs.System.{System, Turned, RunsForward, IsLater}
+use Rattle.window_laws.specs.System.{System, Turned}
+use Rattle.window_laws.specs.Forward.{RunsForward, IsLater}
 use Rattle.window_laws.specs.Agenda.{Item, Packet, moment_of, mote_of, comes_at, is_wake_of, is_left, is_from, wake_items}
 use Rattle.window_laws.specs.NetStep.{NetState, stamped, turned_at, turn_at}
 use Rattle.window_laws.proofs.Lists.{every_append, every_filter, every_map, every_weaker}

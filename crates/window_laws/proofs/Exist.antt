@@ -3,7 +3,8 @@ use Rattle.std.proofs.Common.{◌≡◌, ℕ, suc, zero, ◌+◌, ◌<◌, ◌�
 use Rattle.std.specs.List.{filter, list_any, AllByRecursion}
 use Rattle.std.proofs.lemmas.Bool.{cases_Bool, eq-eqb, or_parts}
 use Rattle.std.proofs.lemmas.Bool.Decides.{nat_tests}
-use Rattle.window_laws.specs.System.{System, RunsForward}
+use Rattle.window_laws.specs.System.{System}
+use Rattle.window_laws.specs.Forward.{RunsForward}
 use Rattle.radio_packet.specs.declared.copy.RadioCopy.{RadioCopy}
 use Rattle.window_laws.specs.Order.{in_order}
 use Rattle.window_laws.specs.Windows.{lone_turn, wakes_at, NoneBefore, is_at, is_within, is_from_sender, IsQuiet, IsGiven, Alone, Rests, Turns, Windows, Last, Window, WindowsAreThere}

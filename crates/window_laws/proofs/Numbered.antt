@@ -8,7 +8,8 @@ use Rattle.std.proofs.lemmas.Bool.Decides.{nat_tests}
 use Rattle.std.proofs.lemmas.List.Sorted.{sorted_far, sum_by-IsPermutation}
 use Rattle.std.proofs.lemmas.List.Sums.{sum_by-cons}
 use Rattle.radio_packet.specs.declared.sent.Sent.{Sent}
-use Rattle.window_laws.specs.Order.{is_before, is_sooner, NumbersRise}
+use Rattle.window_laws.specs.Order.{is_before}
+use Rattle.window_laws.specs.Sorts.{is_sooner, NumbersRise}
 use Rattle.window_laws.proofs.Lists.{every_index}
 use Rattle.window_laws.proofs.Order.{IsRising}
 

@@ -7,7 +7,8 @@ use Rattle.std.proofs.lemmas.List.Elements.{filter-append, filter_agree}
 use Rattle.std.proofs.lemmas.List.Concat.{flat_map-append}
 use Rattle.radio_packet.specs.declared.sent.Sent.{Sent}
 use Rattle.radio_packet.specs.declared.copy.RadioCopy.{RadioCopy}
-use Rattle.window_laws.specs.System.{Turned, System, RunsForward, IsLater}
+use Rattle.window_laws.specs.System.{Turned, System}
+use Rattle.window_laws.specs.Forward.{RunsForward, IsLater}
 use Rattle.window_laws.specs.Agenda.{Item, Wake, Packet, comes_at, is_left, is_wake_of, is_from, moment_of, mote_of, packets, wake_items, up_to}
 use Rattle.window_laws.specs.NetStep.{NetState, Run, Done, Turn, put, after_turn, turn_at, boot, stamped, sends_of}
 use Rattle.window_laws.specs.Order.{in_order}

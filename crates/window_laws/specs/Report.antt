@@ -2,8 +2,9 @@
 use Rattle.std.specs.Prelude.{◌≡◌, ℕ, List, length, map}
 use Rattle.std.specs.List.Sorted.{IsSortedBy, IsPermutation}
 use Rattle.radio_packet.specs.declared.sent.Sent.{Sent}
-use Rattle.window_laws.specs.System.{System, RunsForward}
-use Rattle.window_laws.specs.Order.{is_sooner, NumbersRise}
+use Rattle.window_laws.specs.System.{System}
+use Rattle.window_laws.specs.Forward.{RunsForward}
+use Rattle.window_laws.specs.Sorts.{is_sooner, NumbersRise}
 use Rattle.window_laws.specs.Agenda.{packets, up_to}
 use Rattle.window_laws.specs.NetStep.{NetState, Run, boot}
 

@@ -1,6 +1,5 @@
 -- Motes and the medium between them, whatever a mote is.
-use Rattle.std.specs.Prelude.{ℕ, ◌≡◌, ◌+◌, ◌<◌, ◌≤◌, List, Option, IfSome}
-use Rattle.std.specs.List.{AllByRecursion}
+use Rattle.std.specs.Prelude.{ℕ, ◌≡◌, ◌+◌, ◌<◌, ◌≤◌, List, Option}
 use Rattle.radio_packet.specs.declared.sent.Sent.{Sent}
 use Rattle.radio_packet.specs.declared.copy.RadioCopy.{RadioCopy}
 
@@ -20,19 +19,8 @@ pub record System (S L : Type 0) : Type 0 where
   pub copies : Sent → List RadioCopy
   pub lookahead : ℕ
 
-abbrev pub IsLater : (moment : ℕ) → (wake : Option ℕ) → Type 0
-IsLater moment wake = IfSome wake (λ later. moment < later)
-
 -- a copy of this packet for a mote of the net, which arrives no sooner than the lookahead after the packet's moment
 pub record IsCopyOf {S L : Type 0} (system : System S L) (sent : Sent) (copy : RadioCopy) : Type 0 where
   pub sender : copy.sender ≡ sent.sender
   pub to : copy.to < system.motes
   pub later : sent.at + system.lookahead ≤ copy.at
-
--- A net runs forward: each wake comes later than the turn that makes it, and each copy later by at least the
--- lookahead, which isn't 0.
-pub record RunsForward {S L : Type 0} (system : System S L) : Type 0 where
-  pub some_lookahead : 0 < system.lookahead
-  pub wakes_later : (mote : ℕ) (state : S) (moment : ℕ) (given : List RadioCopy)
-      → IsLater moment (system.turn mote state moment given).wake
-  pub copies_later : (sent : Sent) → AllByRecursion (IsCopyOf system sent) (system.copies sent)

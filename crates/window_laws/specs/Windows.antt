@@ -4,7 +4,8 @@ use Rattle.std.specs.Prelude.{nat_lt, List, [], ◌++◌, length, map, Option, S
 use Rattle.std.specs.List.{filter, flat_map, list_any, AllByRecursion}
 use Rattle.radio_packet.specs.declared.sent.Sent.{Sent}
 use Rattle.radio_packet.specs.declared.copy.RadioCopy.{RadioCopy}
-use Rattle.window_laws.specs.System.{System, Turned, RunsForward}
+use Rattle.window_laws.specs.System.{System, Turned}
+use Rattle.window_laws.specs.Forward.{RunsForward}
 use Rattle.window_laws.specs.Order.{sorted_by, in_order}
 use Rattle.window_laws.specs.Agenda.{packets, up_to}
 use Rattle.window_laws.specs.NetStep.{NetState, Run, boot, sends_of}

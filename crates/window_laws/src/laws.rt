@@ -1,6 +1,6 @@
 //! Laws of nets, whatever a mote is. Each is a theorem, stated as the contract of an empty function.
 
-ghost use Rattle.window_laws.specs.Order.{InOrderSorts};
+ghost use Rattle.window_laws.specs.Sorts.{InOrderSorts};
 ghost use Rattle.window_laws.specs.System.{System};
 ghost use Rattle.window_laws.specs.Report.{LogIsInOrder, RunIsOne, RunIsThere};
 ghost use Rattle.window_laws.specs.Windows.{WindowsAreThere, WindowsCommute, WindowsReport};

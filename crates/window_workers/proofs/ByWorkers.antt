@@ -12,7 +12,7 @@ use Rattle.mote_net.specs.Net.{NetTold}
 use Rattle.net_agenda.specs.NetSystem.{system_of}
 use Rattle.net_agenda.proofs.Systems.{system_is}
 use Rattle.window_laws.specs.Agenda.{up_to}
-use Rattle.window_laws.specs.System.{RunsForward}
+use Rattle.window_laws.specs.Forward.{RunsForward}
 use Rattle.window_laws.specs.Windows.{as_log}
 use Rattle.window_laws.proofs.Agenda.{below_all}
 use Rattle.window_laws.proofs.Lists.{every_map, every_weaker}

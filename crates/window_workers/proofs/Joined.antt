@@ -13,7 +13,8 @@ use Rattle.net_agenda.specs.NetSystem.{system_of}
 use Rattle.window_laws.specs.Agenda.{up_to}
 use Rattle.window_laws.specs.NetStep.{NetState, Run, Done, Turn, stamped, turned_at}
 use Rattle.window_laws.specs.Report.{IsReport}
-use Rattle.window_laws.specs.System.{System, RunsForward}
+use Rattle.window_laws.specs.System.{System}
+use Rattle.window_laws.specs.Forward.{RunsForward}
 use Rattle.window_laws.specs.Windows.{is_sent_by, IsJoined, as_log, sends_by, copies_by}
 use Rattle.window_laws.proofs.Lists.{every_append, every_both, every_filter, every_flat_map, every_passes, every_weaker}
 use Rattle.window_laws.proofs.Order.{sorted_permutes}

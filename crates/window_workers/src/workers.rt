@@ -3,7 +3,7 @@
 ghost use Rattle.std.specs.Prelude.{◌≡◌, suc, length, map, vec_len, All, None, IfOk, IfErr};
 ghost use Rattle.std.specs.List.{AllByRecursion as Each, zip};
 ghost use Rattle.kernel_laws.specs.Going.{IsInOrder};
-ghost use Rattle.mote_net.specs.Net.{net_of};
+ghost use Rattle.mote_net.specs.Meaning.{net_of};
 ghost use Rattle.copy_inbox.specs.Gathered.{Whole, known_of};
 ghost use Rattle.copy_exchange.specs.Inboxes.{IsFresh, IsSettled};
 ghost use Rattle.all_workers.specs.Workers.{IsAt};

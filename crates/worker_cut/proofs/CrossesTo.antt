@@ -8,7 +8,8 @@ use Rattle.std.proofs.lemmas.List.Sorted.{IsPermutation-refl, IsPermutation-sym,
 use Rattle.radio_packet.specs.declared.sent.Sent.{Sent}
 use Rattle.radio_packet.specs.declared.copy.RadioCopy.{RadioCopy}
 use Rattle.window_laws.specs.Order.{is_before, insert_by, sorted_by}
-use Rattle.window_laws.specs.System.{System, RunsForward}
+use Rattle.window_laws.specs.System.{System}
+use Rattle.window_laws.specs.Forward.{RunsForward}
 use Rattle.window_laws.specs.Windows.{LoneMote, copies_by, is_from_sender, is_sent_by, IsJoined, as_log}
 use Rattle.window_laws.proofs.Lists.{filter_filter, filter_every, filter_none, filter_never, every_weaker}
 use Rattle.window_laws.proofs.Order.{in_order_same}

@@ -4,7 +4,8 @@ use Rattle.std.specs.List.{filter, flat_map, AllByRecursion}
 use Rattle.std.proofs.lemmas.Bool.{cases_Bool, ltb-true, ltb-false, not-true}
 use Rattle.radio_packet.specs.declared.copy.RadioCopy.{RadioCopy}
 use Rattle.radio_packet.specs.declared.sent.Sent.{Sent}
-use Rattle.window_laws.specs.System.{System, RunsForward}
+use Rattle.window_laws.specs.System.{System}
+use Rattle.window_laws.specs.Forward.{RunsForward}
 use Rattle.window_laws.specs.Agenda.{up_to}
 use Rattle.window_laws.specs.Pending.{comes_from, IsPending}
 use Rattle.window_laws.specs.Report.{IsReport}

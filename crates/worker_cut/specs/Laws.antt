@@ -3,7 +3,8 @@ use Rattle.std.specs.Prelude.{◌≡◌, ℕ, Bool, true, List}
 use Rattle.std.specs.List.{filter}
 use Rattle.radio_packet.specs.declared.sent.Sent.{Sent}
 use Rattle.radio_packet.specs.declared.copy.RadioCopy.{RadioCopy}
-use Rattle.window_laws.specs.System.{System, RunsForward}
+use Rattle.window_laws.specs.System.{System}
+use Rattle.window_laws.specs.Forward.{RunsForward}
 use Rattle.window_laws.specs.Windows.{LoneMote, first_mote, Windows, is_at, is_from_sender, is_within, IsGiven}
 use Rattle.window_laws.specs.Windows.{IsJoined, as_log}
 use Rattle.worker_cut.specs.Crossed.{is_own, crossed, copies_seen}

@@ -7,7 +7,7 @@ use Rattle.mote_node.specs.Turn.{turn_of}
 use Rattle.mote_node.proofs.WakeLaws.{wakes_later}
 use Rattle.radio_packet.specs.declared.copy.RadioCopy.{RadioCopy}
 use Rattle.window_laws.specs.Order.{in_order}
-use Rattle.window_laws.specs.System.{IsLater}
+use Rattle.window_laws.specs.Forward.{IsLater}
 use Rattle.window_laws.specs.Windows.{is_at, NoneBefore, IsQuiet}
 use Rattle.net_agenda.specs.Buckets.{arrival_of}
 use Rattle.worker_window.specs.Laws.{NoTurnIsPast}

@@ -14,7 +14,7 @@ use Rattle.radio_packet.specs.declared.copy.RadioCopy.{RadioCopy}
 use Rattle.radio_medium.specs.Medium.{copies, lookahead}
 use Rattle.radio_medium.proofs.Copies.{copies_later}
 use Rattle.mote_net.specs.Net.{MoteSetup, NetTold}
-use Rattle.window_laws.specs.System.{IsLater}
+use Rattle.window_laws.specs.Forward.{IsLater}
 use Rattle.window_laws.specs.NetStep.{stamped}
 use Rattle.window_laws.specs.Windows.{LoneMote, NoneBefore, lone_turn, IsQuiet, Alone}
 use Rattle.window_laws.proofs.Lists.{every_append, every_weaker, every_flat_map}

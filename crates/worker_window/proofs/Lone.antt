@@ -5,7 +5,8 @@ use Rattle.std.proofs.lemmas.Bool.{cases_Bool, cases_eq, cases_lt, eq-eqb, ne_eq
 use Rattle.std.proofs.lemmas.Bool.Decides.{nat_tests}
 use Rattle.radio_packet.specs.declared.sent.Sent.{Sent}
 use Rattle.radio_packet.specs.declared.copy.RadioCopy.{RadioCopy}
-use Rattle.window_laws.specs.System.{System, Turned, IsLater}
+use Rattle.window_laws.specs.System.{System, Turned}
+use Rattle.window_laws.specs.Forward.{IsLater}
 use Rattle.window_laws.specs.Order.{in_order}
 use Rattle.window_laws.specs.NetStep.{sends_of}
 use Rattle.window_laws.specs.Windows.{LoneMote, after_lone_turn, lone_turn, is_at, wakes_at, NoneBefore, IsQuiet, Alone, Rests, Turns}

@@ -5,7 +5,8 @@ ghost use Rattle.std.specs.Prelude.{List, Some, IfOk, OnOk, if◌then◌else◌}
 ghost use Rattle.radio_packet.specs.declared.copy.RadioCopy.{RadioCopy};
 ghost use Rattle.window_laws.specs.Agenda.{Wake};
 ghost use Rattle.window_laws.specs.Windows.{first_mote};
-ghost use Rattle.mote_net.specs.Net.{NetTold, net_of};
+ghost use Rattle.mote_net.specs.Net.{NetTold};
+ghost use Rattle.mote_net.specs.Meaning.{net_of};
 ghost use Rattle.net_agenda.specs.NetSystem.{first_node_in, system_of, tree_at};
 ghost use Rattle.net_agenda.specs.Changes.{Adds};
 ghost use Rattle.worker_window.specs.Next.{TellsNext};

@@ -3,7 +3,7 @@
 ghost use Rattle.std.specs.Prelude.{◌≡◌, ◌<◌, ◌≤◌, ◌^◌, true, length, OnOk, IfErr};
 ghost use Rattle.futures.specs.Task.{Keeps};
 ghost use Rattle.mote_node.specs.declared.mote.MoteError.TheVariants.{Memory};
-ghost use Rattle.mote_net.specs.Net.{net_of};
+ghost use Rattle.mote_net.specs.Meaning.{net_of};
 ghost use Rattle.worker_window.specs.declared.out.WindowOut.{WindowOut as OutOfCode};
 ghost use Rattle.worker_window.specs.declared.slot.Slot.TheVariants.{Done};
 ghost use Rattle.worker_window.specs.Shares.{LentMoteGives, LentMoteGoesOn};

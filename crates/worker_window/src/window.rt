@@ -9,7 +9,7 @@ ghost use Rattle.window_laws.specs.Agenda.{Packet};
 ghost use Rattle.worker_window.specs.MoteWindow.{is_rising};
 ghost use Rattle.net_agenda.specs.Changes.{Adds};
 ghost use Rattle.worker_window.specs.Calls.{copies_for};
-ghost use Rattle.mote_net.specs.Net.{net_of};
+ghost use Rattle.mote_net.specs.Meaning.{net_of};
 ghost use Rattle.worker_cut.specs.Crossed.{is_own, is_for_others};
 ghost use Rattle.worker_window.specs.Share.{mote_here, wake_from};
 ghost use Rattle.worker_window.specs.Window.{CanRun, IsOutgoing, RunsThrough, TakesIn};

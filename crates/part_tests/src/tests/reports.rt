@@ -1,7 +1,7 @@
 //! Reports with their texts, worked by hand.
 
 ghost use Rattle.std.specs.Prelude.{◌≡◌, IfOk, length, vec_len};
-ghost use Rattle.mote_net.specs.Net.{net_of};
+ghost use Rattle.mote_net.specs.Meaning.{net_of};
 
 use mote_net::{LogLine, Report};
 use net_scenario::{Net, read_scenario};

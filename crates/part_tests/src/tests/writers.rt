@@ -1,7 +1,7 @@
 //! Writers that fail in the middle of a report, of few lines and of many, on one thread and by workers.
 
 ghost use Rattle.std.specs.Prelude.{◌≡◌, ◌≤◌, IfOk, IfSome, length, vec_len};
-ghost use Rattle.mote_net.specs.Net.{net_of};
+ghost use Rattle.mote_net.specs.Meaning.{net_of};
 
 use super::reports::{report_of, report_of_trace};
 use mote_net::Report;

@@ -1,7 +1,7 @@
 //! The windows of two motes of one worker.
 
 ghost use Rattle.std.specs.Prelude.{◌≡◌, ◌≤◌, ◌<◌, ◌^◌, ℕ, true, length, IfOk};
-ghost use Rattle.mote_net.specs.Net.{net_of};
+ghost use Rattle.mote_net.specs.Meaning.{net_of};
 ghost use Rattle.worker_window.specs.Shares.{LentMoteGoesOn};
 ghost use Rattle.worker_window.specs.Slots.{SlotsGoOn};
 ghost use Rattle.worker_window.specs.MoteWindow.{is_rising};

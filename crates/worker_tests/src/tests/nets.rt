@@ -1,7 +1,7 @@
 //! The values of a net, and a text so long that `simulate` refuses it before a scenario is read.
 
 ghost use Rattle.std.specs.Prelude.{◌<◌, length};
-ghost use Rattle.mote_net.specs.Net.{net_of};
+ghost use Rattle.mote_net.specs.Meaning.{net_of};
 
 use net_scenario::{Net, read_scenario};
 use std::alloc::{AllocError, Global};

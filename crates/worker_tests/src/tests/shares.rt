@@ -1,7 +1,7 @@
 //! A share by itself.
 
 ghost use Rattle.std.specs.Prelude.{◌≡◌, length};
-ghost use Rattle.mote_net.specs.Net.{net_of};
+ghost use Rattle.mote_net.specs.Meaning.{net_of};
 
 use super::COPY_PAST_THE_END;
 use net_scenario::{Net, read_scenario};

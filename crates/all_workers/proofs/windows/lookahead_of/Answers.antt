@@ -1,6 +1,6 @@
 use Rattle.std.proofs.Common.{◌∙◌, length, ap, sym}
 use Rattle.radio_medium.specs.Medium.{Radio, lookahead, medium_fault}
-use Rattle.mote_net.specs.Net.{net_of}
+use Rattle.mote_net.specs.Meaning.{net_of}
 use Rattle.net_agenda.specs.NetSystem.{system_of}
 use Rattle.net_agenda.proofs.Systems.{system_is}
 use Rattle.all_workers.proofs.windows.lookahead_of.Goals as goal

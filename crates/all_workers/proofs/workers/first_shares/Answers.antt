@@ -1,5 +1,5 @@
 use Rattle.std.proofs.Common.{◌≡◌, ◌∙◌, ap, arith, length, length-append, []}
-use Rattle.mote_net.specs.Net.{net_of}
+use Rattle.mote_net.specs.Meaning.{net_of}
 use Rattle.window_laws.specs.Windows.{first_mote}
 use Rattle.net_agenda.specs.NetSystem.{system_of}
 use Rattle.net_agenda.proofs.Boots.{pushed}

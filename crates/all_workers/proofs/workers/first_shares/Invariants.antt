@@ -1,4 +1,4 @@
-use Rattle.mote_net.specs.Net.{net_of}
+use Rattle.mote_net.specs.Meaning.{net_of}
 use Rattle.all_workers.specs.Start.{AreFirst}
 use Rattle.all_workers.proofs.workers.first_shares.Given as goal
 

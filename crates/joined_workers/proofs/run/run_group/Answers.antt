@@ -1,5 +1,5 @@
 use Rattle.std.proofs.Common.{◌≡◌, ◌∙◌, ℕ, suc, ◌<◌, ◌≤◌, ap, sym, refl, subst, arith}
-use Rattle.mote_net.specs.Net.{net_of}
+use Rattle.mote_net.specs.Meaning.{net_of}
 use Rattle.net_agenda.specs.NetSystem.{system_of}
 use Rattle.all_workers.specs.declared.workers.Workers.{Workers}
 use Rattle.joined_workers.specs.Laws.{GroupRunsUntil}

@@ -1,5 +1,5 @@
 use Rattle.std.proofs.Common.{ℕ, ◌≡◌, ◌+◌, ◌-◌, ◌≤◌}
-use Rattle.mote_net.specs.Net.{net_of}
+use Rattle.mote_net.specs.Meaning.{net_of}
 use Rattle.std.specs.List.{AllByRecursion as Each}
 use Rattle.copy_exchange.specs.Inboxes.{IsPlain}
 use Rattle.net_agenda.specs.NetSystem.{system_of}

@@ -1,6 +1,6 @@
 use Rattle.std.proofs.Common.{ℕ, ◌+◌, ◌<◌, ◌≤◌}
 use Rattle.std.proofs.lemmas.Result.{IfOk-weaker}
-use Rattle.mote_net.specs.Net.{net_of}
+use Rattle.mote_net.specs.Meaning.{net_of}
 use Rattle.net_agenda.specs.NetSystem.{system_of}
 use Rattle.all_workers.specs.Workers.{IsAt}
 use Rattle.joined_workers.specs.Laws.{GroupRunsUntil}

@@ -1,4 +1,4 @@
-use Rattle.mote_net.specs.Net.{net_of}
+use Rattle.mote_net.specs.Meaning.{net_of}
 use Rattle.joined_workers.proofs.Ready.{ready}
 use Rattle.joined_workers.proofs.Returned.{returned}
 use Rattle.joined_workers.proofs.window.run_threads.Goals as goal

@@ -1,6 +1,6 @@
 use Rattle.std.proofs.Common.{map, refl}
 use Rattle.std.specs.List.{zip}
-use Rattle.mote_net.specs.Net.{net_of}
+use Rattle.mote_net.specs.Meaning.{net_of}
 use Rattle.all_workers.specs.Worker.{make_worker}
 use Rattle.all_workers.proofs.Starts.{all_settled}
 use Rattle.marked_workers.specs.Bounds.{windows_of}

@@ -1,6 +1,6 @@
 use mir.Syntax.{erased}
 use Rattle.std.proofs.Common.{◌<◌, ◌≤◌}
-use Rattle.mote_net.specs.Net.{net_of}
+use Rattle.mote_net.specs.Meaning.{net_of}
 use Rattle.net_agenda.specs.NetSystem.{system_of}
 use Rattle.window_laws.proofs.Lists.{every_weaker}
 use Rattle.all_workers.specs.declared.worker.Worker.{Worker}

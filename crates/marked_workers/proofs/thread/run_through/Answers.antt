@@ -1,5 +1,5 @@
 use Rattle.std.proofs.lemmas.Result.{IfOk-weaker}
-use Rattle.mote_net.specs.Net.{net_of}
+use Rattle.mote_net.specs.Meaning.{net_of}
 use Rattle.marked_workers.specs.Bounds.{windows_of}
 use Rattle.marked_workers.proofs.Windows.{told_of}
 use Rattle.marked_workers.proofs.thread.run_through.Goals as goal

@@ -1,5 +1,5 @@
 use Rattle.std.proofs.Common.{◌≡◌, ◌+◌, ◌∙◌, ◌<◌, ◌≤◌, sym, ap, subst, suc, arith}
-use Rattle.mote_net.specs.Net.{net_of}
+use Rattle.mote_net.specs.Meaning.{net_of}
 use Rattle.all_workers.specs.WindowLength.{end_of_window}
 use Rattle.marked_workers.specs.Bounds.{bound, windows_of}
 use Rattle.marked_workers.specs.Thread.{HasRun}

@@ -1,5 +1,5 @@
 use Rattle.std.proofs.Common.{◌≡◌, ◌+◌, ◌-◌, ◌≤◌}
-use Rattle.mote_net.specs.Net.{net_of}
+use Rattle.mote_net.specs.Meaning.{net_of}
 use Rattle.marked_workers.specs.Bounds.{bound, windows_of}
 use Rattle.marked_workers.specs.Thread.{HasRun}
 use Rattle.marked_workers.proofs.thread.run_worker.Given as goal

@@ -1,6 +1,6 @@
 use Rattle.std.proofs.Common.{subst, append-nil, List}
 use Rattle.radio_packet.specs.declared.copy.RadioCopy.{RadioCopy}
-use Rattle.mote_net.specs.Net.{net_of}
+use Rattle.mote_net.specs.Meaning.{net_of}
 use Rattle.worker_window.specs.Window.{RunsWindow}
 use Rattle.marked_workers.proofs.thread.send_window.Goals as goal
 

@@ -1,4 +1,4 @@
-use Rattle.mote_net.specs.Net.{net_of}
+use Rattle.mote_net.specs.Meaning.{net_of}
 use Rattle.marked_workers.proofs.Windows.{started}
 use Rattle.marked_workers.proofs.thread.with_marks.Goals as goal
 

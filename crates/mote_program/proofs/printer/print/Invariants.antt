@@ -1,6 +1,6 @@
 use Rattle.std.proofs.Common.{◌≡◌, ◌+◌, ◌≤◌, ◌++◌, string_bytes, map, length}
 use Rattle.program_tree.specs.Canonical.{text_from, canonical_text}
-use Rattle.program_tree.specs.Tokens.{token_of}
+use Rattle.program_tree.specs.TokenMeaning.{token_of}
 use Rattle.mote_program.proofs.printer.print.Given as goal
 
 abbrev pub invariant-loop-tokens : goal.invariant-loop-tokens

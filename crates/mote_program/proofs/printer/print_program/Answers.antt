@@ -3,7 +3,7 @@ use Rattle.program_tree.specs.Canonical.{canonical_text}
 use Rattle.program_tree.specs.Program.{tree_of}
 use Rattle.program_tree.specs.Reading.{IsTreeOf}
 use Rattle.mote_program.specs.Spelled.{spelled_tokens}
-use Rattle.program_tree.specs.Tokens.{token_of}
+use Rattle.program_tree.specs.TokenMeaning.{token_of}
 use Rattle.std.proofs.lemmas.Result.{IfOk-weaker}
 use Rattle.mote_program.proofs.ReadAgain.{read_again}
 use Rattle.mote_program.proofs.SpelledLaws.{text_spelled}

@@ -2,7 +2,7 @@ use Rattle.std.proofs.Common.{◌++◌, ◌∙◌, [], map, ap, get_or}
 use Rattle.std.specs.List.{flat_map, zip}
 use Rattle.std.proofs.lemmas.Result.{on_ok_weaker}
 use Rattle.mote_program.specs.Spelled.{valued_tokens, autostart_tokens}
-use Rattle.program_tree.specs.Tokens.{token_of}
+use Rattle.program_tree.specs.TokenMeaning.{token_of}
 use Rattle.program_tree.specs.declared.keyword.Keyword.TheVariants as word
 use Rattle.mote_program.proofs.Adding.{five_added}
 use Rattle.mote_program.proofs.unparse_code.head.Goals as goal

@@ -1,7 +1,7 @@
 use Rattle.std.proofs.Common.{◌≡◌, ◌++◌, map, drop}
 use Rattle.std.specs.List.{flat_map}
 use Rattle.mote_program.specs.Spelled.{listed_tokens}
-use Rattle.program_tree.specs.Tokens.{token_of}
+use Rattle.program_tree.specs.TokenMeaning.{token_of}
 use Rattle.mote_program.proofs.unparse_code.listed.Given as goal
 
 abbrev pub invariant-loop-place : goal.invariant-loop-place

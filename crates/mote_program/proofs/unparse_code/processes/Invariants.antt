@@ -3,7 +3,7 @@ use Rattle.std.specs.List.{flat_map}
 use Rattle.mote_program.specs.Spelled.{comma_tokens}
 use Rattle.program_tree.specs.declared.keyword.Keyword.TheVariants as word
 use Rattle.program_tree.specs.Tokens as token
-use Rattle.program_tree.specs.Tokens.{token_of}
+use Rattle.program_tree.specs.TokenMeaning.{token_of}
 use Rattle.mote_program.proofs.unparse_code.processes.Given as goal
 
 abbrev pub invariant-loop-place : goal.invariant-loop-place

@@ -2,7 +2,7 @@ use Rattle.std.proofs.lemmas.Slice.Zip.{length-zip}
 use Rattle.std.proofs.Common.{◌≡◌, ◌<◌, ◌++◌, [], length, map, get_or, arith}
 use Rattle.std.specs.List.{zip}
 use Rattle.mote_program.specs.Spelled.{valued_tokens}
-use Rattle.program_tree.specs.Tokens.{token_of}
+use Rattle.program_tree.specs.TokenMeaning.{token_of}
 use Rattle.mote_program.proofs.Adding.{one_pair, no_more}
 use Rattle.mote_program.proofs.unparse_code.valued.Goals as goal
 

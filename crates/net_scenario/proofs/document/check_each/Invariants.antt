@@ -1,7 +1,8 @@
 use Rattle.std.proofs.Common.{◌≡◌, drop, map}
 use Rattle.toml.specs.View.{items_view}
 use Rattle.net_scenario.specs.Document.{first_some, tables_in}
-use Rattle.net_scenario.specs.Rules.{keys_fault, known_in, rule_of}
+use Rattle.net_scenario.specs.Rules.{keys_fault, known_in}
+use Rattle.net_scenario.specs.Checks.{rule_of}
 use Rattle.net_scenario.proofs.document.check_each.Given as goal
 
 -- the first fault is that of the items still to be checked

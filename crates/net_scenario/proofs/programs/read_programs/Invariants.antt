@@ -1,6 +1,6 @@
 use Rattle.std.proofs.Common.{map}
 use Rattle.toml.specs.View.{members_view}
-use Rattle.mote_net.specs.Programs.{named_tree}
+use Rattle.mote_net.specs.Meaning.{named_tree}
 use Rattle.net_scenario.specs.Programs.{texts_of}
 use Rattle.net_scenario.proofs.ReadSoFar.{ReadSoFar}
 use Rattle.net_scenario.proofs.programs.read_programs.Given as goal

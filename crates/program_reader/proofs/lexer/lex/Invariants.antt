@@ -1,5 +1,5 @@
 use Rattle.std.proofs.Common.{◌+◌, ◌≤◌, length, map}
-use Rattle.program_tree.specs.Tokens.{token_of}
+use Rattle.program_tree.specs.TokenMeaning.{token_of}
 use Rattle.program_reader.proofs.LexLaws.{HasRead}
 use Rattle.program_reader.proofs.lexer.lex.Given as goal
 

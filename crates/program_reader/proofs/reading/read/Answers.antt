@@ -8,7 +8,7 @@ use Rattle.program_tree.specs.Program.{tree_of}
 use Rattle.program_tree.specs.Reading.{IsToldOf}
 use Rattle.program_tree.specs.Reading.{IsTreeOfTokens}
 use Rattle.program_tree.specs.Text.{IsLexed}
-use Rattle.program_tree.specs.Tokens.{token_of}
+use Rattle.program_tree.specs.TokenMeaning.{token_of}
 use Rattle.program_tree.specs.declared.error.ReadError.{ReadError}
 use Rattle.program_reader.specs.declared.fault.Refusal.{Refusal}
 use Rattle.program_reader.specs.declared.fault.Refusal.TheVariants as refusal

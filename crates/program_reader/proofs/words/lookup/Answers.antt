@@ -2,7 +2,7 @@ use Rattle.std.proofs.Common.{◌≡◌, rules, tests, bytes_eq, option_map, ap,
 use Rattle.std.specs.Prelude.{find}
 use Rattle.std.proofs.lemmas.Iterator.{YieldsList-from_slice}
 use Rattle.std.proofs.lemmas.Iterator.Search.{find_from_yields_List}
-use Rattle.program_tree.specs.Tokens.{token_of}
+use Rattle.program_tree.specs.TokenMeaning.{token_of}
 use Rattle.program_reader.proofs.FindLaws.{lookup_found, mapped_twice}
 use Rattle.program_reader.proofs.words.lookup.Goals as goal
 

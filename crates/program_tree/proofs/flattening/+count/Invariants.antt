@@ -1,5 +1,6 @@
 use Rattle.std.proofs.Common.{◌≡◌, ◌+◌, map, drop}
-use Rattle.program_tree.specs.Tree.{statement_of, body_of, block_of, size}
+use Rattle.program_tree.specs.Meaning.{statement_of, body_of, block_of}
+use Rattle.program_tree.specs.Tree.{size}
 use Rattle.program_tree.proofs.flattening.+count.Given as goal
 
 abbrev pub invariant-count-loop-i : goal.invariant-count-loop-i

@@ -1,7 +1,8 @@
 use Rattle.std.proofs.Common.{rules, ◌≡◌, ℕ, ◌+◌, ◌<◌, ◌≤◌, length, List, ap, sym, ◌∙◌, subst, arith, option_map, map, drop}
 use Rattle.program_tree.specs.declared.tree.Stmt.{the_lemmas as stmt_lemmas}
 use Rattle.program_tree.specs.declared.tree.Block.{the_lemmas as block_lemmas}
-use Rattle.program_tree.specs.Tree.{Statement, Body, Otherwise, block_of, statement_of, otherwise_of, expression_of, body_of, size, statement_size}
+use Rattle.program_tree.specs.Tree.{Statement, Body, Otherwise, size, statement_size}
+use Rattle.program_tree.specs.Meaning.{block_of, statement_of, otherwise_of, expression_of, body_of}
 use Rattle.program_tree.specs.Emits.{EmitsStatement, EmitsOther, EmitsFirst, entry_of, other_entry_of}
 use Rattle.program_tree.proofs.TreeLaws.{branch_of-If, while_of-While, does_of-Do, size_of-If, size_of-While}
 use Rattle.program_tree.proofs.Emitting.{on_ok, emits_nothing, emits_branch, emits_while, first_none, first_more, first_all, long_first, drop_here, drop_end, size_here, entry_some, entry_none}

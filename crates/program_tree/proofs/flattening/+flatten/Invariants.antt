@@ -1,5 +1,5 @@
 use Rattle.std.proofs.Common.{map, drop}
-use Rattle.program_tree.specs.Tree.{statement_of, body_of, block_of}
+use Rattle.program_tree.specs.Meaning.{statement_of, body_of, block_of}
 use Rattle.program_tree.specs.Emits.{EmitsFirst}
 use Rattle.program_tree.proofs.flattening.+flatten.Given as goal
 

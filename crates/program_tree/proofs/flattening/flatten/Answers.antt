@@ -1,6 +1,6 @@
 use Rattle.std.proofs.Common.{List, subst, arith}
 use Rattle.program_tree.specs.declared.instruction.Instruction.{Instruction}
-use Rattle.program_tree.specs.Tree.{block_of}
+use Rattle.program_tree.specs.Meaning.{block_of}
 use Rattle.program_tree.specs.Emits.{Emits}
 use Rattle.program_tree.proofs.Emitting.{emits_whole}
 use Rattle.program_tree.proofs.flattening.flatten.Goals as goal

@@ -1,5 +1,5 @@
 use Rattle.std.proofs.Common.{refl}
-use Rattle.mote_net.specs.Net.{net_of}
+use Rattle.mote_net.specs.Meaning.{net_of}
 use Rattle.serial_run.proofs.Reports.{report_is, all_in_order}
 use Rattle.serial_run.proofs.serial.run_serial.Goals as goal
 

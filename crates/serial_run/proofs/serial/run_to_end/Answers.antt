@@ -1,5 +1,5 @@
 use Rattle.std.proofs.Common.{◌≡◌, ◌∙◌, ap, refl, sym, length, None}
-use Rattle.mote_net.specs.Net.{net_of}
+use Rattle.mote_net.specs.Meaning.{net_of}
 use Rattle.radio_medium.specs.Medium.{Radio, medium_fault}
 use Rattle.net_agenda.specs.Buckets.{first_key}
 use Rattle.net_agenda.specs.NetSystem.{system_of}

@@ -1,5 +1,5 @@
 use Rattle.std.proofs.Common.{length}
-use Rattle.mote_net.specs.Net.{net_of}
+use Rattle.mote_net.specs.Meaning.{net_of}
 use Rattle.net_agenda.specs.Buckets.{first_key}
 use Rattle.serial_run.specs.Ended.{HasReached}
 use Rattle.serial_run.specs.Stands.{IsWhole}

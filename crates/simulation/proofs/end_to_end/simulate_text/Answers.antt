@@ -1,6 +1,6 @@
 use Rattle.std.proofs.lemmas.Result.{err_from_is_err_and}
 use Rattle.std.specs.Io.KnownBytes.{Appends}
-use Rattle.mote_net.specs.Net.{net_of}
+use Rattle.mote_net.specs.Meaning.{net_of}
 use Rattle.mote_net.specs.Report.{report_of}
 use Rattle.trace_printer.specs.Output.{AppendsFront}
 use Rattle.simulation.proofs.Printed.{scenario_of, reported, refused}

@@ -2,7 +2,7 @@ use Rattle.std.proofs.Common.{◌≡◌, ℕ, List, Option, Some, None, IfSome, 
 use Rattle.std.specs.String.{string_vec}
 use Rattle.std.specs.Str.{IsUtf8}
 use Rattle.std.proofs.lemmas.Str.{IsUtf8-string_bytes}
-use Rattle.simulation.specs.Input.{ReadsBytes, ReadsText}
+use Rattle.simulation.specs.Reads.{ReadsBytes, ReadsText}
 use Rattle.simulation.proofs.input.read_text.Goals as goal
 
 -- a text of the bytes that were read is the result of reading the input as a text

@@ -2,11 +2,12 @@ use Rattle.std.proofs.Common.{◌≡◌, ◌++◌, [], List, ℕ, map, ap, sym, 
 use Rattle.std.specs.List.{concat}
 use Rattle.std.proofs.lemmas.Result.{err_from_is_err_and}
 use Rattle.trace_lines.specs.declared.line.Line.{Line}
-use Rattle.mote_net.specs.Net.{NetTold, net_of}
+use Rattle.mote_net.specs.Net.{NetTold}
+use Rattle.mote_net.specs.Meaning.{net_of}
 use Rattle.mote_net.specs.Report.{lines_in, told_line, report_of}
 use Rattle.mote_net.specs.declared.report.LogLine.{LogLine}
 use Rattle.mote_net.specs.declared.report.Report.{Report}
-use Rattle.trace_printer.specs.Output.{Writes}
+use Rattle.trace_printer.specs.Writes.{Writes}
 use Rattle.trace_printer.specs.ReportText.{left_text, medium_text, motes_text, report_text}
 use Rattle.trace_printer.specs.TraceLines.{lines_of, medium_lines}
 use Rattle.trace_printer.proofs.TraceLines.{all_text}

@@ -1,6 +1,6 @@
 use Rattle.std.proofs.Common.{length, List, map, ap, sym, ◌∙◌, Vec, Global}
 use Rattle.trace_lines.specs.declared.line.Line.{Line}
-use Rattle.mote_net.specs.Net.{net_of}
+use Rattle.mote_net.specs.Meaning.{net_of}
 use Rattle.mote_net.specs.Report.{lines_in}
 use Rattle.trace_printer.specs.TraceLines.{lines_of}
 use Rattle.trace_printer.proofs.by_workers.write_report_by.Goals as goal

@@ -1,7 +1,7 @@
 use Rattle.std.proofs.Common.{◌≡◌, ◌∷◌, [], ◌+◌, List, ℕ, length, map, drop, get_or, codes, decimal, ap, ◌∙◌, arith}
 use Rattle.std.proofs.lemmas.List.{length-map}
 use Rattle.program_tree.specs.Program.{tree_of}
-use Rattle.mote_net.specs.Net.{net_of}
+use Rattle.mote_net.specs.Meaning.{net_of}
 use Rattle.mote_net.specs.Report.{lines_in}
 use Rattle.trace_printer.specs.ReportText.{line_text}
 use Rattle.trace_printer.specs.TraceLines.{lines_from}

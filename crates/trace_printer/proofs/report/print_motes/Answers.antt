@@ -1,7 +1,7 @@
 use Rattle.std.proofs.Common.{map, ◌∙◌, ◌++◌, ap, subst, arith, append-nil, get_or, List, ℕ}
 use Rattle.std.proofs.lemmas.Result.{err_from_is_err_and}
 use Rattle.program_tree.specs.Program.{tree_of}
-use Rattle.mote_net.specs.Net.{net_of}
+use Rattle.mote_net.specs.Meaning.{net_of}
 use Rattle.mote_net.specs.Report.{lines_in}
 use Rattle.trace_printer.specs.Page.{Written}
 use Rattle.trace_printer.specs.ReportText.{motes_text}

@@ -1,6 +1,6 @@
 use Rattle.std.proofs.Common.{◌≡◌, ◌+◌, ◌<◌, length, map, None, sym, ap, ◌∙◌, subst}
 use Rattle.std.specs.List.{sum_by, AllByRecursion as Each}
-use Rattle.mote_net.specs.Net.{net_of}
+use Rattle.mote_net.specs.Meaning.{net_of}
 use Rattle.net_agenda.proofs.Systems.{system_is}
 use Rattle.radio_medium.specs.Medium.{Radio, medium_fault}
 use Rattle.copy_exchange.specs.Takers.{taken_by, gathered_by}

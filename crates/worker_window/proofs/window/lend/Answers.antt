@@ -1,6 +1,6 @@
 use Rattle.std.proofs.Common.{◌∙◌, ◌++◌, ◌∷◌, [], ap, refl, subst, sym}
 use Rattle.std.specs.List.{AllZip}
-use Rattle.mote_net.specs.Net.{net_of}
+use Rattle.mote_net.specs.Meaning.{net_of}
 use Rattle.worker_window.specs.Slots.{IsOf}
 use Rattle.worker_window.specs.declared.lent_mote.LentMote.{LentMote}
 use Rattle.worker_window.specs.Share.{wake_from}

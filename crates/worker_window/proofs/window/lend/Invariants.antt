@@ -1,5 +1,5 @@
 use Rattle.std.proofs.Common.{length}
-use Rattle.mote_net.specs.Net.{net_of}
+use Rattle.mote_net.specs.Meaning.{net_of}
 use Rattle.worker_window.proofs.Lent.{Lends}
 use Rattle.worker_window.proofs.window.lend.Given as goal
 

@@ -1,5 +1,5 @@
 use Rattle.std.proofs.Common.{rules, ◌≡◌, ◌∙◌, refl, subst, vec_len, length}
-use Rattle.mote_net.specs.Net.{net_of}
+use Rattle.mote_net.specs.Meaning.{net_of}
 use Rattle.all_workers.specs.Start.{AreFirst}
 use Rattle.all_workers.proofs.Starts.{starts}
 use Rattle.all_workers.proofs.workers.Workers.new.Goals as goal

@@ -2,8 +2,10 @@ use Rattle.std.proofs.Common.{◌≡◌, ◌++◌, ◌∷◌, map, drop}
 use Rattle.std.specs.List.{flat_map}
 use Rattle.program_tree.specs.InScope.{name_in}
 use Rattle.mote_program.specs.Spelled.{names_in, statement_tokens}
-use Rattle.program_tree.specs.Tokens.{OpenBrace, token_of}
-use Rattle.program_tree.specs.Tree.{statement_of, statement_map}
+use Rattle.program_tree.specs.Tokens.{OpenBrace}
+use Rattle.program_tree.specs.TokenMeaning.{token_of}
+use Rattle.program_tree.specs.Meaning.{statement_of}
+use Rattle.program_tree.specs.Tree.{statement_map}
 use Rattle.mote_program.proofs.unparse.Scoped.+unparse.Given as goal
 
 abbrev pub invariant-block-statements : goal.invariant-block-statements

@@ -3,7 +3,7 @@ use Rattle.std.specs.List.{flat_map, zip}
 use Rattle.mote_program.specs.Spelled.{names_in, named_tokens}
 use Rattle.program_tree.specs.ShapeOf.{block_with}
 use Rattle.program_tree.specs.FlatBlock.{tree_in}
-use Rattle.program_tree.specs.Tokens.{token_of}
+use Rattle.program_tree.specs.TokenMeaning.{token_of}
 use Rattle.mote_program.proofs.unparse.Scoped.blocks.Given as goal
 
 abbrev pub invariant-loop-place : goal.invariant-loop-place

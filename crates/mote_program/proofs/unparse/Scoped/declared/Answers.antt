@@ -3,7 +3,7 @@ use Rattle.std.specs.List.{flat_map, zip}
 use Rattle.program_tree.specs.ShapeOf.{block_with}
 use Rattle.std.proofs.lemmas.Result.{on_ok_weaker}
 use Rattle.mote_program.specs.Spelled.{names_in, valued_tokens, named_tokens}
-use Rattle.program_tree.specs.Tokens.{token_of}
+use Rattle.program_tree.specs.TokenMeaning.{token_of}
 use Rattle.program_tree.specs.FlatBlock.{tree_in}
 use Rattle.program_tree.specs.declared.keyword.Keyword.TheVariants as word
 use Rattle.mote_program.proofs.Adding.{four_added}

@@ -1,6 +1,6 @@
 use Rattle.std.proofs.Common.{◌<◌, ◌∙◌, length, sym, subst}
 use Rattle.program_tree.specs.Program.{tree_of, code_of}
-use Rattle.program_tree.specs.Tree.{block_of}
+use Rattle.program_tree.specs.Meaning.{block_of}
 use Rattle.mote_program.proofs.Callers.{first_set}
 use Rattle.part_tests.proofs.tests.looked_up.first_set.Goals as goal
 

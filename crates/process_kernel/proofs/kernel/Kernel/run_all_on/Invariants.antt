@@ -1,7 +1,8 @@
 use Rattle.std.proofs.Common.{◌≡◌, ◌-◌, Some}
 use Rattle.program_tree.specs.Program.{tree_of}
 use Rattle.process_kernel.specs.Public.{mote_in}
-use Rattle.process_kernel.specs.Underway.{Underway, underway_in}
+use Rattle.process_kernel.specs.Underway.{Underway}
+use Rattle.process_kernel.specs.GoesOn.{underway_in}
 use Rattle.process_kernel.proofs.Given.{GoesOnSoFar}
 use Rattle.process_kernel.proofs.Repeated.{RunSoFar}
 use Rattle.process_kernel.proofs.kernel.Kernel.run_all_on.Given as goal

@@ -1,5 +1,6 @@
 use Rattle.std.proofs.Common.{rules, arith, ◌≡◌, ◌∙◌, ◌<◌, length, sym, ap}
-use Rattle.mote_timers.specs.TimerLists.{TimerLists, first_due, behind}
+use Rattle.mote_timers.specs.TimerLists.{TimerLists}
+use Rattle.mote_timers.specs.DueTimers.{first_due, behind}
 use Rattle.process_kernel.specs.Etimer.{pass_of, fired_of, walks_of}
 use Rattle.process_kernel.specs.Views.{state_of}
 use Rattle.process_kernel.proofs.Walks.{Found, begin, full_step, fired_step, halt_step, walk_none, fired_fewer}

@@ -2,7 +2,7 @@ use Rattle.std.proofs.Common.{◌≡◌, ◌≤◌, ◌+◌, ◌*◌, ℕ, IsTru
 use Rattle.std.specs.Option.{ForSome}
 use Rattle.program_tree.specs.Code.{Tree}
 use Rattle.mote_timers.specs.Numbers.{is_member}
-use Rattle.mote_timers.specs.TimerLists.{behind}
+use Rattle.mote_timers.specs.DueTimers.{behind}
 use Rattle.process_kernel.specs.Etimer.{pass_of, walk_timers, walks_of}
 use Rattle.process_kernel.specs.Views.{state_of, KeepsCounts, Grows}
 use Rattle.process_kernel.proofs.machine.Machine.post_due_timers.Given as goal

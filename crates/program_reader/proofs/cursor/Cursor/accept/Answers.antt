@@ -2,7 +2,7 @@ use Rattle.std.proofs.Common.{◌≡◌, sym, ◌∙◌, ap, Some, option_map}
 use denote.Enum.Bare.{same_true}
 use Rattle.program_tree.specs.contracts.keyword.Keyword.{the_type}
 use Rattle.program_tree.specs.Tokens as token
-use Rattle.program_tree.specs.Tokens.{token_of}
+use Rattle.program_tree.specs.TokenMeaning.{token_of}
 use Rattle.program_reader.proofs.NameSteps.{token_then}
 use Rattle.program_reader.proofs.cursor.Cursor.accept.Goals as goal
 

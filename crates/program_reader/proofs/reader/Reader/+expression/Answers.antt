@@ -1,6 +1,7 @@
 use Rattle.std.proofs.Common.{◌<◌, ap, arith, rules}
 use Rattle.program_reader.specs.Steps.{scope_of}
-use Rattle.program_tree.specs.Tree.{expression_of, negation}
+use Rattle.program_tree.specs.Meaning.{expression_of}
+use Rattle.program_tree.specs.Tree.{negation}
 use Rattle.program_reader.proofs.Runs.{same_names, renumbered, refitted}
 use Rattle.program_reader.proofs.ValueLaws.{negation_reads, negation_numbered, sides_read, binary_reads}
 use Rattle.program_reader.proofs.ValueLaws.{binary_numbered}

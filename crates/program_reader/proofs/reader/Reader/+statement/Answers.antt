@@ -1,7 +1,7 @@
 use Rattle.std.proofs.Common.{◌≡◌, ◌∙◌, ◌+◌, ◌<◌, ◌≤◌, ap, sym, subst, refl, arith, Some, option_map, rules}
 use Rattle.program_reader.specs.Machine.{first}
 use Rattle.program_reader.specs.Steps.{context_of}
-use Rattle.program_tree.specs.Tokens.{token_of}
+use Rattle.program_tree.specs.TokenMeaning.{token_of}
 use Rattle.program_tree.specs.Tree.{does, otherwise, inner_height, inner_size}
 use Rattle.program_tree.specs.Tokens as token
 use Rattle.program_tree.specs.declared.keyword.Keyword.TheVariants as word

@@ -1,6 +1,6 @@
 use Rattle.std.proofs.Common.{◌≡◌, ◌+◌, ◌-◌, ◌*◌, ◌≤◌, length, map}
 use Rattle.program_reader.specs.Steps.{scope_of, context_of, fixed}
-use Rattle.program_tree.specs.Tree.{statement_of}
+use Rattle.program_tree.specs.Meaning.{statement_of}
 use Rattle.program_reader.proofs.Blocks.{HasFront}
 use Rattle.program_reader.proofs.reader.Reader.+statement.Given as goal
 

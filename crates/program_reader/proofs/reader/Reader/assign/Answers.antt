@@ -1,5 +1,6 @@
 use Rattle.std.proofs.Common.{refl, rules}
-use Rattle.program_tree.specs.Tree.{assign, expression_of}
+use Rattle.program_tree.specs.Tree.{assign}
+use Rattle.program_tree.specs.Meaning.{expression_of}
 use Rattle.program_reader.proofs.Runs.{targeted, with_part, with_sign, action_read}
 use Rattle.program_reader.proofs.reader.Reader.assign.Goals as goal
 

@@ -1,6 +1,7 @@
 use Rattle.std.proofs.Common.{refl, rules}
-use Rattle.program_tree.specs.EventNames.{cast_of}
-use Rattle.program_tree.specs.Tree.{broadcast, expression_of}
+use Rattle.program_tree.specs.Meaning.{cast_of}
+use Rattle.program_tree.specs.Tree.{broadcast}
+use Rattle.program_tree.specs.Meaning.{expression_of}
 use Rattle.program_reader.proofs.Runs.{begun, with_part, action_read}
 use Rattle.program_reader.proofs.reader.Reader.broadcast.Goals as goal
 

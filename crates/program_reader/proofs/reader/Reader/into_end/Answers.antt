@@ -1,7 +1,7 @@
 use Rattle.std.proofs.Common.{◌≡◌, ◌∙◌, ap, sym, Some, option_map}
 use Rattle.program_reader.specs.Machine.{first}
 use Rattle.program_tree.specs.Tokens as token
-use Rattle.program_tree.specs.Tokens.{token_of}
+use Rattle.program_tree.specs.TokenMeaning.{token_of}
 use Rattle.program_tree.specs.declared.keyword.Keyword.TheVariants as word
 use Rattle.program_reader.proofs.StatementSteps.{into_reads}
 use Rattle.program_reader.proofs.reader.Reader.into_end.Goals as goal

@@ -1,5 +1,6 @@
 use Rattle.std.proofs.Common.{ap, refl, rules}
-use Rattle.program_tree.specs.EventNames.{any_of, any_map}
+use Rattle.program_tree.specs.Meaning.{any_of}
+use Rattle.program_tree.specs.EventNames.{any_map}
 use Rattle.program_tree.specs.Forms.{any}
 use Rattle.program_tree.specs.InScope.{name_in}
 use Rattle.program_tree.specs.Tree.{an_event, is}

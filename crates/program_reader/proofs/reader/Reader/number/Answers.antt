@@ -1,7 +1,7 @@
 use Rattle.std.proofs.Common.{◌≡◌, ◌∙◌, ap, sym, Some, option_map}
 use Rattle.program_reader.specs.Machine.{first}
 use Rattle.program_tree.specs.Tokens as token
-use Rattle.program_tree.specs.Tokens.{token_of}
+use Rattle.program_tree.specs.TokenMeaning.{token_of}
 use Rattle.program_reader.proofs.NameSteps.{is_named}
 use Rattle.program_reader.proofs.reader.Reader.number.Goals as goal
 

@@ -1,5 +1,6 @@
 use Rattle.std.proofs.Common.{refl, rules}
-use Rattle.program_tree.specs.Tree.{set, expression_of}
+use Rattle.program_tree.specs.Tree.{set}
+use Rattle.program_tree.specs.Meaning.{expression_of}
 use Rattle.program_reader.proofs.Runs.{begun, with_part, with_sign, action_read}
 use Rattle.program_reader.proofs.reader.Reader.set.Goals as goal
 

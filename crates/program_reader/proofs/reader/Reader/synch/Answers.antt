@@ -1,6 +1,7 @@
 use Rattle.std.proofs.Common.{refl, rules}
-use Rattle.program_tree.specs.EventNames.{sent_of}
-use Rattle.program_tree.specs.Tree.{synch, expression_of}
+use Rattle.program_tree.specs.Meaning.{sent_of}
+use Rattle.program_tree.specs.Tree.{synch}
+use Rattle.program_tree.specs.Meaning.{expression_of}
 use Rattle.program_reader.proofs.Runs.{begun, with_part, with_sign, action_read}
 use Rattle.program_reader.proofs.reader.Reader.synch.Goals as goal
 

@@ -1,6 +1,7 @@
 use Rattle.std.proofs.Common.{◌≡◌, ℕ, ◌∷◌, List, false, ap, sym, ◌∙◌, subst}
 use Rattle.program_tree.specs.declared.instruction.Instruction.{Instruction}
-use Rattle.program_tree.specs.Tree.{Statement, does, spawn, listed, expression_of, action_of}
+use Rattle.program_tree.specs.Tree.{Statement, does, spawn, listed}
+use Rattle.program_tree.specs.Meaning.{expression_of, action_of}
 use Rattle.program_tree.specs.Program.{code_of}
 use Rattle.program_tree.specs.Flat.{rest_at, Branches, Loops, Leads}
 use Rattle.protothread.specs.declared.deed.Deed.{Deed}

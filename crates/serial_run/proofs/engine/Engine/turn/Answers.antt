@@ -4,7 +4,7 @@ use Rattle.program_tree.specs.Code.{Tree}
 use Rattle.program_tree.specs.Program.{tree_of}
 use Rattle.mote_node.specs.declared.mote.Mote.{Mote}
 use Rattle.mote_node.specs.Public.{node_in, told_with, wake_in}
-use Rattle.mote_net.specs.Net.{net_of}
+use Rattle.mote_net.specs.Meaning.{net_of}
 use Rattle.radio_medium.specs.Medium.{Radio, copies}
 use Rattle.radio_packet.specs.declared.sent.Sent.{Sent}
 use Rattle.window_laws.specs.Agenda.{Item, Packet, comes_at, is_wake_of, wake_items}

@@ -1,6 +1,6 @@
 use Rattle.std.specs.List.{slice_get}
 use Rattle.program_tree.specs.Program.{tree_of}
-use Rattle.mote_net.specs.Net.{net_of}
+use Rattle.mote_net.specs.Meaning.{net_of}
 use Rattle.worker_tests.proofs.NewMotes.{new_goes_on}
 use Rattle.worker_tests.proofs.tests.lent_motes.lent_mote.Goals as goal
 

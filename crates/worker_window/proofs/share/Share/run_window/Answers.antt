@@ -3,7 +3,7 @@ use Rattle.std.specs.List.{AllByRecursion, filter, flat_map, list_all}
 use Rattle.std.specs.declared.alloc.Global.{Global}
 use Rattle.std.proofs.lemmas.List.{length-append, length-set, nil_from_length}
 use Rattle.radio_medium.specs.Medium.{Radio, copies}
-use Rattle.mote_net.specs.Net.{net_of}
+use Rattle.mote_net.specs.Meaning.{net_of}
 use Rattle.window_laws.specs.Agenda.{Packet}
 use Rattle.window_laws.proofs.Lists.{every_append}
 use Rattle.mote_net.specs.declared.report.LogLine.{LogLine}

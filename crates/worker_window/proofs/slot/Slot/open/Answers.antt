@@ -2,7 +2,7 @@ use Rattle.std.proofs.Common.{◌≡◌, slice_get, subst, sym}
 use Rattle.std.specs.Prelude.{IsSomeAnd}
 use Rattle.program_tree.specs.Program.{tree_of}
 use Rattle.mote_node.specs.Public.{node_in}
-use Rattle.mote_net.specs.Net.{net_of}
+use Rattle.mote_net.specs.Meaning.{net_of}
 use Rattle.worker_window.specs.MoteWindow.{opened}
 use Rattle.worker_window.specs.Own.{window_in, course_in, course_of}
 use Rattle.worker_window.proofs.Failing.{opened_gives, opened_goes_on, lent_gives, lent_goes_on}
