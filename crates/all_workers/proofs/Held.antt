@@ -1,5 +1,7 @@
 -- The copies of the agenda are those that the workers hold together with those in the inboxes.
-use Rattle.std.proofs.Common.{◌≡◌, ℕ, zero, suc, ◌+◌, ◌<◌, Bool, true, false, not, ◌&&◌, ◌||◌, ltb, eqb, List, [], ◌∷◌, ◌++◌, length, get_or, refl, sym, ap, ap₂, ◌∙◌, subst, arith, zero-le, append-nil, Option, Some, None}
+use Rattle.std.proofs.Common.{◌≡◌, ℕ, zero, suc, ◌+◌, ◌<◌, Bool, true, false, not, ◌&&◌, ◌||◌, ltb, eqb, List, [], ◌∷◌}
+use Rattle.std.proofs.Common.{◌++◌, length, get_or, refl, sym, ap, ap₂, ◌∙◌, subst, arith, zero-le, append-nil, Option}
+use Rattle.std.proofs.Common.{Some, None}
 use Rattle.std.specs.Prelude.{IsPermutation}
 use Rattle.std.specs.List.{filter, flat_map, slice_get, AllByRecursion as Each}
 use Rattle.std.specs.Option.{option_map_or}
@@ -7,16 +9,18 @@ use Rattle.std.proofs.lemmas.Bool.{lt-ltb}
 use Rattle.std.proofs.lemmas.Bool.Decides.{nat_tests}
 use Rattle.std.proofs.lemmas.List.Concat.{flat_map-append}
 use Rattle.std.proofs.lemmas.List.Elements.{filter_agree}
-use Rattle.std.proofs.lemmas.List.Sorted.{IsPermutation-refl, IsPermutation-trans, IsPermutation-append_left, IsPermutation-filter_both}
+use Rattle.std.proofs.lemmas.List.Sorted.{IsPermutation-refl, IsPermutation-trans, IsPermutation-append_left}
+use Rattle.std.proofs.lemmas.List.Sorted.{IsPermutation-filter_both}
 use Rattle.radio_packet.specs.declared.copy.RadioCopy.{RadioCopy}
-use Rattle.mote_net.specs.Net.{NetTold}
+use Rattle.mote_net.specs.Net.{NetModel}
 use Rattle.window_laws.specs.System.{System}
 use Rattle.window_laws.specs.Forward.{RunsForward}
 use Rattle.window_laws.specs.Agenda.{packets, up_to}
 use Rattle.window_laws.specs.NetStep.{NetState, Run, boot}
 use Rattle.window_laws.specs.Pending.{comes_from}
 use Rattle.window_laws.specs.Windows.{LoneMote, copies_by, is_from_sender}
-use Rattle.window_laws.proofs.Lists.{filter_both, filter_every, filter_none, filter_stronger, every_filter, every_flat_map, every_weaker}
+use Rattle.window_laws.proofs.Lists.{filter_both, filter_every, filter_none, filter_stronger, every_filter}
+use Rattle.window_laws.proofs.Lists.{every_flat_map, every_weaker}
 use Rattle.window_laws.proofs.Serial.{Meets, is_ahead, meets_first, mix, mix_from, moments, sent_same}
 use Rattle.window_laws.proofs.Unique.{run_is_one}
 use Rattle.net_agenda.specs.NetSystem.{system_of}
@@ -104,7 +108,7 @@ module _ (of : List ℕ) where
       is_first : (copy : RadioCopy) → IsHad of workers copy.to → is_to_first workers copy ≡ true
       is_first copy h = ap (λ o. option_map_or (λ w. ltb w workers) o false) h.1 ∙ lt-ltb h.0 workers h.2
 
-module _ (n : NetTold) (fine : RunsForward (system_of n)) (of : List ℕ) (end : ℕ) (group : Workers) (at : IsAt n of (suc end) group) where
+module _ (n : NetModel) (fine : RunsForward (system_of n)) (of : List ℕ) (end : ℕ) (group : Workers) (at : IsAt n of (suc end) group) where
   abbrev workers : ℕ
   workers = length group.inboxes.items
 

@@ -6,7 +6,7 @@ use Rattle.radio_packet.specs.declared.sent.Sent.{Sent}
 use Rattle.mote_node.specs.Node.{is_past}
 use Rattle.mote_node.specs.Wake.{wake_of}
 use Rattle.radio_packet.specs.declared.copy.RadioCopy.{RadioCopy}
-use Rattle.mote_net.specs.Net.{NetTold}
+use Rattle.mote_net.specs.Net.{NetModel}
 use Rattle.window_laws.specs.Agenda.{Item, wake_items}
 use Rattle.window_laws.specs.Windows.{NoneBefore, copies_by}
 use Rattle.net_agenda.specs.NetSystem.{system_of}
@@ -15,7 +15,7 @@ use Rattle.worker_cut.specs.Crossed.{is_own, copies_seen}
 use Rattle.worker_window.specs.MoteWindow.{number_of}
 use Rattle.worker_window.specs.Share.{Motes, Keeps, is_to_come, wake_from}
 
-module _ (n : NetTold) (of : List ℕ) (worker : ℕ) (a b : Motes) (same : (k : ℕ) → is_own of worker k ≡ true → a k ≡ b k) where
+module _ (n : NetModel) (of : List ℕ) (worker : ℕ) (a b : Motes) (same : (k : ℕ) → is_own of worker k ≡ true → a k ≡ b k) where
   own_sends : (s : ℕ) → cond (is_own of worker s) (a s).sends [] ≡ cond {A = List Sent} (is_own of worker s) (b s).sends []
   own_sends s = elim (cases_Bool (is_own of worker s)) [ inl e ↦ rw e (ap (λ x. x.sends) (same s e)) | inr e ↦ rw e refl ]
 

@@ -1,10 +1,11 @@
 -- Outgoing copies are for motes of other workers; and a property of each sender's copies is one of all copies.
-use Rattle.std.proofs.Common.{◌≡◌, ℕ, zero, suc, ◌<◌, true, eqb, List, [], ◌∷◌, length, refl, sym, subst, arith, inl, inr}
+use Rattle.std.proofs.Common.{◌≡◌, ℕ, zero, suc, ◌<◌, true, eqb, List, [], ◌∷◌, length, refl, sym, subst, arith, inl}
+use Rattle.std.proofs.Common.{inr}
 use Rattle.std.specs.Prelude.{slice_index}
 use Rattle.std.specs.List.{filter, AllByRecursion as Each}
 use Rattle.std.proofs.lemmas.Bool.{cases_Bool, eq-eqb}
 use Rattle.radio_packet.specs.declared.copy.RadioCopy.{RadioCopy}
-use Rattle.mote_net.specs.Net.{NetTold}
+use Rattle.mote_net.specs.Net.{NetModel}
 use Rattle.copy_exchange.specs.Endpoints.{Leaves}
 use Rattle.window_laws.specs.Windows.{is_from_sender}
 use Rattle.worker_window.specs.Window.{IsOutgoing}
@@ -28,7 +29,7 @@ there_at [] k workers h all = absurd (omega arith)
 there_at (x ∷ of) zero workers h all = all.0
 there_at (x ∷ of) (suc k) workers h all = there_at of k workers (omega arith) all.1
 
-pub leaves_sent : (n : NetTold) (of : List ℕ) (workers worker : ℕ) (outgoing : List RadioCopy)
+pub leaves_sent : (n : NetModel) (of : List ℕ) (workers worker : ℕ) (outgoing : List RadioCopy)
     → IsCut (length n.motes) workers of → Each (IsOutgoing n of worker) outgoing → Each (Leaves of workers worker) outgoing
 leaves_sent n of workers worker outgoing cut out = every_weaker _ _ one outgoing out
   where

@@ -1,9 +1,10 @@
 -- The workers before the first window.
-use Rattle.std.proofs.Common.{◌≡◌, Bool, ℕ, zero, suc, ◌<◌, ltb, eqb, List, [], ◌∷◌, length, get_or, refl, sym, ap, subst, arith, inl, inr, None}
+use Rattle.std.proofs.Common.{◌≡◌, Bool, ℕ, zero, suc, ◌<◌, ltb, eqb, List, [], ◌∷◌, length, get_or, refl, sym, ap}
+use Rattle.std.proofs.Common.{subst, arith, inl, inr, None}
 use Rattle.std.specs.List.{filter, AllZip}
 use Rattle.std.proofs.lemmas.Bool.{cases_Bool, eq-eqb}
 use Rattle.radio_packet.specs.declared.copy.RadioCopy.{RadioCopy}
-use Rattle.mote_net.specs.Net.{NetTold}
+use Rattle.mote_net.specs.Net.{NetModel}
 use Rattle.net_agenda.specs.NetSystem.{system_of}
 use Rattle.window_laws.specs.System.{System}
 use Rattle.window_laws.specs.Windows.{first_mote, copies_by, Last}
@@ -64,7 +65,7 @@ pub none_crossed : {S L : Type 0} (system : System S L) (of : List ℕ) (v s : �
 none_crossed system of v s =
     elim (cases_Bool (is_own of v s)) [ inl e ↦ rw e refl | inr e ↦ rw e (ap (filter (is_to of v)) (none_sent system s)) ]
 
-first_worker : (n : NetTold) (of : List ℕ) (v : ℕ) (share : Share) (taker : TakerView) (marked : Bool) → Keeps n of v 0 (first_mote (system_of n)) [] share
+first_worker : (n : NetModel) (of : List ℕ) (v : ℕ) (share : Share) (taker : TakerView) (marked : Bool) → Keeps n of v 0 (first_mote (system_of n)) [] share
     → taker.state ≡ make_taker_state marked 0 [] []
     → IsWorkerAt n of 0 (first_mote (system_of n)) None v share taker
 first_worker n of v share taker marked keeps fresh = record {
@@ -73,7 +74,7 @@ first_worker n of v share taker marked keeps fresh = record {
   waits = λ s. record { rest = []; all = rw fresh refl; later = tt };
 }
 
-pub starts : (n : NetTold) (of : List ℕ) (group : Workers) → IsCut (length n.motes) (length group.inboxes.items) of → AllZip IsFresh group.inboxes.items group.takers.items
+pub starts : (n : NetModel) (of : List ℕ) (group : Workers) → IsCut (length n.motes) (length group.inboxes.items) of → AllZip IsFresh group.inboxes.items group.takers.items
     → AreFirst n of (length group.inboxes.items) group.shares.items → group.first_out ≡ None → IsAt n of 0 group
 starts n of group cut fresh shares none = record {
   motes = first_mote (system_of n);

@@ -1,11 +1,12 @@
 -- A window of all workers is one of the law's windows.
-use Rattle.std.proofs.Common.{◌≡◌, ◌⊎◌, ℕ, zero, suc, ◌+◌, ◌-◌, ◌<◌, ◌≤◌, true, false, cond, ltb, eqb, List, [], ◌∷◌, ◌++◌, length, refl, sym, ap, ◌∙◌, subst, inl, inr, arith, Option, Some, None, append-nil}
+use Rattle.std.proofs.Common.{◌≡◌, ◌⊎◌, ℕ, zero, suc, ◌+◌, ◌-◌, ◌<◌, ◌≤◌, true, false, cond, ltb, eqb, List, [], ◌∷◌}
+use Rattle.std.proofs.Common.{◌++◌, length, refl, sym, ap, ◌∙◌, subst, inl, inr, arith, Option, Some, None, append-nil}
 use Rattle.std.specs.List.{filter, slice_get, AllByRecursion as Each}
 use Rattle.std.specs.Option.{option_map_or}
 use Rattle.std.proofs.lemmas.Bool.{cases_Bool, eqb-true, eq-eqb, false≢true, ltb-false, ltb-true}
 use Rattle.std.proofs.lemmas.List.Elements.{filter-append}
 use Rattle.radio_packet.specs.declared.copy.RadioCopy.{RadioCopy}
-use Rattle.mote_net.specs.Net.{NetTold}
+use Rattle.mote_net.specs.Net.{NetModel}
 use Rattle.window_laws.specs.Forward.{RunsForward}
 use Rattle.window_laws.specs.Windows.{Alone, first_mote, Windows, RunsAlone, copies_by, is_from_sender}
 use Rattle.window_laws.proofs.Lists.{filter_filter, filter_none, every_weaker}
@@ -52,7 +53,7 @@ none_early until (x ∷ xs) e =
       | inr t ↦ (let f = rw t at e in (ltb-false x.at until t, none_early until xs f))
     ]
 
-module _ (n : NetTold) (fine : RunsForward (system_of n)) (of : List ℕ) (workers : ℕ) (cut : IsCut (length n.motes) workers of) (from until : ℕ) (motes : Motes) (up : from < until) (short : until ≤ from + (system_of n).lookahead)
+module _ (n : NetModel) (fine : RunsForward (system_of n)) (of : List ℕ) (workers : ℕ) (cut : IsCut (length n.motes) workers of) (from until : ℕ) (motes : Motes) (up : from < until) (short : until ≤ from + (system_of n).lookahead)
     (taken gathered : ℕ → List RadioCopy) (outgoing : ℕ → List RadioCopy) (nexts : ℕ → Motes)
     (told : (v : ℕ) → v < workers → GatheredCopies (system_of n) of motes v (gathered v))
     (took : (v : ℕ) → v < workers → (s : ℕ) → filter (is_from_sender s) (taken v) ≡ filter (is_from_sender s) (gathered v))

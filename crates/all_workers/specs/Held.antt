@@ -4,7 +4,7 @@ use Rattle.std.specs.List.{flat_map}
 use Rattle.trace_lines.specs.declared.line.Line.{Line}
 use Rattle.mote_node.specs.Node.{Node}
 use Rattle.radio_packet.specs.declared.copy.RadioCopy.{RadioCopy}
-use Rattle.mote_net.specs.Net.{NetTold}
+use Rattle.mote_net.specs.Net.{NetModel}
 use Rattle.window_laws.specs.Forward.{RunsForward}
 use Rattle.window_laws.specs.Agenda.{Item, packets, up_to}
 use Rattle.window_laws.specs.NetStep.{NetState, Run, boot}
@@ -27,7 +27,7 @@ pub record AreWith (share : Share) (taker : TakerView) (copies : List RadioCopy)
 -- If the workers are ready before a moment, the copies of the net's agenda after all turns before it are those that the
 -- workers hold together with those in the inboxes, each once.
 abbrev pub AgendaIsHeld : Type 0
-AgendaIsHeld = (n : NetTold) → RunsForward (system_of n) → (of : List ℕ) (end : ℕ) (group : Workers)
+AgendaIsHeld = (n : NetModel) → RunsForward (system_of n) → (of : List ℕ) (end : ℕ) (group : Workers)
     → IsAt n of (suc end) group
     → (net : NetState Node Line) → Run (system_of n) end (boot (system_of n)) net
     → (parts : ℕ → List RadioCopy)

@@ -1,7 +1,7 @@
 -- The workers before the motes' first turns.
 use Rattle.std.specs.Prelude.{ℕ, ◌≡◌, ◌<◌, ◌≤◌, List, [], length, slice_index_or}
 use Rattle.std.specs.List.{AllZip}
-use Rattle.mote_net.specs.Net.{NetTold}
+use Rattle.mote_net.specs.Net.{NetModel}
 use Rattle.window_laws.specs.Windows.{first_mote}
 use Rattle.net_agenda.specs.NetSystem.{system_of}
 use Rattle.worker_window.specs.declared.share.Share.{Share}
@@ -11,14 +11,14 @@ use Rattle.all_workers.specs.declared.workers.Workers.{Workers}
 use Rattle.all_workers.specs.Workers.{IsCut}
 
 -- the shares of this many workers, in order, in which each mote wakes at 0
-pub record AreFirst (n : NetTold) (of : List ℕ) (workers : ℕ) (shares : List Share) : Type 0 where
+pub record AreFirst (n : NetModel) (of : List ℕ) (workers : ℕ) (shares : List Share) : Type 0 where
   pub count : length shares ≡ workers
   pub each : (worker : ℕ) (share : Share) → worker < workers
       → Keeps n of worker 0 (first_mote (system_of n)) [] (slice_index_or shares worker share)
 
 -- workers that can run: there are at most 16, each with an inbox that was never used, each mote belongs to one of them,
 -- and wakes at 0
-pub record AreReady (n : NetTold) (of : List ℕ) (group : Workers) : Type 0 where
+pub record AreReady (n : NetModel) (of : List ℕ) (group : Workers) : Type 0 where
   pub few : length group.inboxes.items ≤ 16
   pub cut : IsCut (length n.motes) (length group.inboxes.items) of
   pub fresh : AllZip IsFresh group.inboxes.items group.takers.items

@@ -2,7 +2,7 @@
 use Rattle.std.specs.Prelude.{ℕ, ◌≡◌, ◌<◌, ◌≤◌, ◌++◌, List, length, slice_index_or, Option, Some, None}
 use Rattle.std.specs.List.{filter, AllByRecursion as Each}
 use Rattle.radio_packet.specs.declared.copy.RadioCopy.{RadioCopy}
-use Rattle.mote_net.specs.Net.{NetTold}
+use Rattle.mote_net.specs.Net.{NetModel}
 use Rattle.window_laws.specs.Windows.{first_mote, Windows, NoneBefore, is_from_sender}
 use Rattle.net_agenda.specs.NetSystem.{system_of}
 use Rattle.worker_cut.specs.Laws.{GatheredCopies}
@@ -32,7 +32,7 @@ pub record Waits (first : Option ℕ) (sender : ℕ) (taker : TakerView) : Type 
 
 -- One worker, with the motes as they are before a moment: its share keeps its motes, and it gathered, of each mote of
 -- another worker, all copies for its own.
-pub record IsWorkerAt (n : NetTold) (of : List ℕ) (from : ℕ) (motes : Motes) (first : Option ℕ) (worker : ℕ)
+pub record IsWorkerAt (n : NetModel) (of : List ℕ) (from : ℕ) (motes : Motes) (first : Option ℕ) (worker : ℕ)
     (share : Share) (taker : TakerView) : Type 0 where
   pub keeps : Keeps n of worker from motes (taken_by taker) share
   pub gathered : GatheredCopies (system_of n) of motes worker (gathered_by taker)
@@ -40,7 +40,7 @@ pub record IsWorkerAt (n : NetTold) (of : List ℕ) (from : ℕ) (motes : Motes)
 
 -- The workers are ready before the moment `from`: windows from 0 to `from` led to these `motes`, and each worker's
 -- share and taker hold its part of them.
-pub record IsAt (n : NetTold) (of : List ℕ) (from : ℕ) (group : Workers) : Type 0 where
+pub record IsAt (n : NetModel) (of : List ℕ) (from : ℕ) (group : Workers) : Type 0 where
   pub motes : Motes
   pub led : Windows (system_of n) 0 from (first_mote (system_of n)) motes
   pub cut : IsCut (length n.motes) (length group.inboxes.items) of

@@ -1,5 +1,6 @@
 -- The items that the takers have gathered after a window.
-use Rattle.std.proofs.Common.{◌≡◌, ℕ, zero, suc, ◌+◌, ◌<◌, Bool, List, [], ◌∷◌, ◌++◌, length, map, get_or, slice_get, Option, Some, None, Vec, refl, sym, ap, ◌∙◌, subst, arith}
+use Rattle.std.proofs.Common.{◌≡◌, ℕ, zero, suc, ◌+◌, ◌<◌, Bool, List, [], ◌∷◌, ◌++◌, length, map, get_or, slice_get}
+use Rattle.std.proofs.Common.{Option, Some, None, Vec, refl, sym, ap, ◌∙◌, subst, arith}
 use Rattle.std.specs.List.{AllByRecursion as Each, AllZip, cons_option, filter_map, range_with_len}
 use Rattle.std.proofs.lemmas.List.{length-map}
 use Rattle.std.proofs.lemmas.List.Elements.{filter_map-append}
@@ -13,10 +14,13 @@ use Rattle.copy_inbox.specs.Gathered.{is_gathered}
 use Rattle.copy_inbox.specs.Handles.{InboxId, TakerView, SenderView, after_gather, AllGathered, PacketsLeft}
 use Rattle.copy_exchange.specs.declared.endpoint.Endpoint.{Endpoint}
 use Rattle.copy_exchange.specs.Takers.{copies_gathered, IsOrderly}
-use Rattle.copy_exchange.specs.Endpoints.{IsEndpoint, IsOnInboxes, IsCollected, DeliversOwn, Stays, AreOpen, Returns, AllReturn, GathersDelivered, sender_to, senders_to, identity_of}
+use Rattle.copy_exchange.specs.Endpoints.{IsEndpoint, IsOnInboxes, IsCollected, DeliversOwn, Stays, AreOpen, Returns}
+use Rattle.copy_exchange.specs.Endpoints.{AllReturn, GathersDelivered, sender_to, senders_to, identity_of}
 use Rattle.copy_exchange.specs.Inboxes.{IsPlain, IsSettled, Settled}
-use Rattle.copy_exchange.specs.Steps.{AreTakersOf, GathersRow, GathersBack, TellsOf, gather_into, gather_senders, at_place}
-use Rattle.copy_exchange.proofs.Gathers.{gather_is, with_joined, numbers_of, joined_copies, all_gathered, orderly_then, packets_then, OneOf}
+use Rattle.copy_exchange.specs.Steps.{AreTakersOf, GathersRow, GathersBack, TellsOf, gather_into, gather_senders}
+use Rattle.copy_exchange.specs.Steps.{at_place}
+use Rattle.copy_exchange.proofs.Gathers.{gather_is, with_joined, numbers_of, joined_copies, all_gathered, orderly_then}
+use Rattle.copy_exchange.proofs.Gathers.{packets_then, OneOf}
 use Rattle.copy_exchange.proofs.Lists.{each_from, each_join, each_map}
 use Rattle.copy_exchange.proofs.Rows.{into_inbox}
 use Rattle.copy_exchange.proofs.Owns.{workers_of, delivered_is, one_of}
@@ -266,8 +270,8 @@ module _ (inboxes : List InboxId) (cs : List Endpoint) (back : AllReturn inboxes
         let found : slice_get cs v ≡ Some p.0 = slice_get-get_or cs v p.0 lt ∙ ap Some (p.3 p.0) in
         h.taker v p.0 (get_or ts v t) found (slice_get-get_or ts v t (omega arith)) ∙ ap (λ k. gather_senders p.0.taker (senders_to cs k)) same
 
-    told_at : (v : ℕ) (lt : v < length cs) → Each (λ (s : SenderView). TellsOf (picked v lt).0.taker.state s.state) (senders_to cs (picked v lt).0.worker)
-    told_at v lt =
+    report_at : (v : ℕ) (lt : v < length cs) → Each (λ (s : SenderView). TellsOf (picked v lt).0.taker.state s.state) (senders_to cs (picked v lt).0.worker)
+    report_at v lt =
         let p = picked v lt in
         let is = p.1 in
         let same : v ≡ p.0.worker = omega arith in
@@ -280,7 +284,7 @@ module _ (inboxes : List InboxId) (cs : List Endpoint) (back : AllReturn inboxes
         let n = long in
         let inside : v < length cs = omega arith in
         let P : InboxId × TakerView → Type 0 = λ x. IsSettled x.0 x.1 in
-        subst P (λ i. (inbox_of v id inside i, sym (taker_is v t inside) i)) (settled_at inboxes cs back (picked v inside).0 (picked v inside).4 (told_at v inside)))
+        subst P (λ i. (inbox_of v id inside i, sym (taker_is v t inside) i)) (settled_at inboxes cs back (picked v inside).0 (picked v inside).4 (report_at v inside)))
 
     still_marked : (t : TakerView) (ss : List SenderView) → (gather_senders t ss).state.marked ≡ t.state.marked
     still_marked t ss = ap (λ (u : TakerView). u.state.marked) (gather_is t ss)

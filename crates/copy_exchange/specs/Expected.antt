@@ -8,11 +8,11 @@ use Rattle.copy_inbox.specs.declared.items.Item.{Item}
 use Rattle.copy_inbox.specs.Items.{copies_of}
 use Rattle.copy_inbox.specs.Handles.{TakerView, after_taking}
 use Rattle.copy_exchange.specs.declared.take.MarkError.{MarkError}
-use Rattle.copy_exchange.specs.declared.take.Standing.{Standing}
+use Rattle.copy_exchange.specs.declared.take.WindowPosition.{WindowPosition}
 use Rattle.copy_exchange.specs.declared.take.MarkError.TheVariants.{Memory, Stopped, Unexpected}
 
--- a worker's position between two windows (`Standing` in the code): the worker of each mote, its own number, and when
--- its next window begins
+-- a worker's position between two windows (`WindowPosition` in the code): the worker of each mote, its own number, and
+-- when its next window begins
 pub record Position : Type 0 where
   pub of : List ℕ
   pub worker : ℕ
@@ -21,7 +21,7 @@ pub record Position : Type 0 where
 abbrev pub position : (of : List ℕ) → (worker from : ℕ) → Position
 position of worker from = record { of = of; worker = worker; from = from }
 
-abbrev pub position_of : Standing → Position
+abbrev pub position_of : WindowPosition → Position
 position_of s = position s.of.now s.worker s.from
 
 abbrev pub IsExpectedAt : Position → RadioCopy → Type 0

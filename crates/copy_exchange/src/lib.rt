@@ -16,6 +16,6 @@ mod window;
 pub use endpoint::Endpoint;
 pub use inboxes::{known, make_inboxes, pair_inboxes, split_pairs};
 pub use mark_endpoint::MarkEndpoint;
-pub use take::{MarkError, Standing};
+pub use take::{MarkError, WindowPosition};
 pub use wait::Waiting;
 pub use window::{endpoints, gather_back, gather_window};

@@ -10,7 +10,7 @@ ghost use Rattle.copy_exchange.specs.Marks.{Counts, AllPast};
 
 use crate::endpoint::Endpoint;
 use crate::heard::no_marks;
-use crate::take::{MarkError, Standing, take_marks};
+use crate::take::{MarkError, WindowPosition, take_marks};
 use crate::wait::Waiting;
 use copy_inbox::{Inbox, InboxError};
 use fork_join::Watch;
@@ -85,7 +85,7 @@ impl MarkEndpoint {
         alloc: Global,
         inbox: &Inbox,
         watch: &mut Watch<'_, L>,
-        standing: &Standing<'_>,
+        standing: &WindowPosition<'_>,
         window: u64,
     ) -> Result<Vec<RadioCopy>, MarkError>
         requires inbox { self.old.base.taker.inbox ≡ inbox.now }

@@ -51,7 +51,7 @@ impl<T: Drop> From<AllocFailed<T>> for MarkError {
 
 /// The position of a worker between two windows; `Position` in definitions.
 #[derive(Clone, Copy)]
-pub struct Standing<'a> {
+pub struct WindowPosition<'a> {
     pub worker: u16,
     /// The worker of each mote.
     pub of: &'a [u16],
@@ -61,7 +61,7 @@ pub struct Standing<'a> {
 
 /// Returns whether the copy is for a mote of the worker, isn't from one of its motes, and arrives no sooner than the
 /// worker's next window begins.
-fn is_expected(standing: &Standing<'_>, copy: RadioCopy) -> bool
+fn is_expected(standing: &WindowPosition<'_>, copy: RadioCopy) -> bool
     ensures decides { IsTrue result ↔ IsExpectedAt (position_of standing.now) copy }
 {
     if !is_own(standing.of, standing.worker, copy.to) {
@@ -75,7 +75,7 @@ fn is_expected(standing: &Standing<'_>, copy: RadioCopy) -> bool
 
 /// Receives an item that was taken: counts a mark; appends a copy to those that arrived, if it is expected.
 fn hear(
-    standing: &Standing<'_>,
+    standing: &WindowPosition<'_>,
     marks: &mut Vec<u64>,
     arrived: &mut Vec<RadioCopy>,
     item: Item,
@@ -106,7 +106,7 @@ fn take_waiting<R: Wait, L: Ledger>(
     alloc: Global,
     inbox: &Inbox,
     watch: &mut Watch<'_, L>,
-    standing: &Standing<'_>,
+    standing: &WindowPosition<'_>,
     taker: &mut Taker,
     marks: &mut Vec<u64>,
     window: u64,
@@ -146,7 +146,7 @@ pub fn take_marks<R: Wait, L: Ledger>(
     alloc: Global,
     inbox: &Inbox,
     watch: &mut Watch<'_, L>,
-    standing: &Standing<'_>,
+    standing: &WindowPosition<'_>,
     taker: &mut Taker,
     marks: &mut Vec<u64>,
     window: u64,

@@ -21,7 +21,7 @@ pub fn only_the_unlisted_start()
 
 /// The property holds of small correct traces, and fails for small traces that break one thing each. There are faults
 /// that it doesn't detect; the two laws above detect two of them.
-pub fn traces_are_told_apart()
+pub fn traces_are_distinct()
     ensures traces_that_hand_on { TracesThatHandOn }
     ensures broken { TracesThatDoNot }
     ensures unseen { TracesThatPass }

@@ -3,7 +3,7 @@ use Rattle.std.proofs.Common.{◌≡◌, ◌⊎◌, ℕ, Bool, true, false, List
 use Rattle.std.specs.List.{filter, AllByRecursion as Each}
 use Rattle.std.proofs.lemmas.Bool.{cases_Bool, eqb-true}
 use Rattle.radio_packet.specs.declared.copy.RadioCopy.{RadioCopy}
-use Rattle.mote_net.specs.Net.{NetTold}
+use Rattle.mote_net.specs.Net.{NetModel}
 use Rattle.copy_exchange.specs.declared.endpoint.Endpoint.{Endpoint}
 use Rattle.copy_exchange.specs.Endpoints.{Collects}
 use Rattle.window_laws.specs.Windows.{is_from_sender}
@@ -34,7 +34,7 @@ module _ (P : RadioCopy → Type 0) where
       (subst (Each P) collects.adds (every_same (taken_by new.taker) (gathered_by old.taker) collects.in_order h))
 
 -- copies that a worker gathered are for its motes, and no mote of its own sent them
-module _ (n : NetTold) (of : List ℕ) (motes : Motes) (v : ℕ) (gathered : List RadioCopy) (told : GatheredCopies (system_of n) of motes v gathered) where
+module _ (n : NetModel) (of : List ℕ) (motes : Motes) (v : ℕ) (gathered : List RadioCopy) (told : GatheredCopies (system_of n) of motes v gathered) where
   foreign_of : (s : ℕ) → Each (λ (c : RadioCopy). (is_own of v c.to ≡ true) × (is_own of v c.sender ≡ false)) (filter (is_from_sender s) gathered)
   foreign_of s = of_case (cases_Bool (is_own of v s))
     where

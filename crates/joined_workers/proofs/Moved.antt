@@ -1,11 +1,12 @@
 -- The state in which a window of all workers leaves them.
-use Rattle.std.proofs.Common.{◌≡◌, ℕ, ◌+◌, ◌<◌, ◌≤◌, true, false, eqb, List, [], ◌∷◌, ◌++◌, length, map, get_or, refl, sym, ap, ◌∙◌, subst, arith, Option, Some, None}
+use Rattle.std.proofs.Common.{◌≡◌, ℕ, ◌+◌, ◌<◌, ◌≤◌, true, false, eqb, List, [], ◌∷◌, ◌++◌, length, map, get_or, refl}
+use Rattle.std.proofs.Common.{sym, ap, ◌∙◌, subst, arith, Option, Some, None}
 use Rattle.std.specs.List.{filter, flat_map, zip, slice_get, AllByRecursion as Each}
 use Rattle.std.specs.Option.{option_map_or}
 use Rattle.std.proofs.lemmas.Bool.{ne_eqb}
 use Rattle.std.proofs.lemmas.List.Elements.{filter-append}
 use Rattle.radio_packet.specs.declared.copy.RadioCopy.{RadioCopy}
-use Rattle.mote_net.specs.Net.{NetTold}
+use Rattle.mote_net.specs.Net.{NetModel}
 use Rattle.window_laws.specs.Forward.{RunsForward}
 use Rattle.window_laws.specs.Windows.{is_from_sender}
 use Rattle.window_laws.proofs.Lists.{filter_filter, every_weaker}
@@ -27,7 +28,8 @@ use Rattle.joined_workers.specs.Laws.{GroupRunsUntil}
 use Rattle.all_workers.specs.Workers.{IsCut, IsNotBefore}
 use Rattle.joined_workers.specs.Worker.{IsFirstOf}
 use Rattle.all_workers.proofs.Choose.{choose}
-use Rattle.all_workers.proofs.Lookups.{there, read, mapped, as_long, inside, each_from, each_at, zip_long, map_long, none_of, one_of, same_found}
+use Rattle.all_workers.proofs.Lookups.{there, read, mapped, as_long, inside, each_from, each_at, zip_long, map_long}
+use Rattle.all_workers.proofs.Lookups.{none_of, one_of, same_found}
 use Rattle.joined_workers.proofs.Moves.{Piece, piece, window}
 use Rattle.all_workers.proofs.Same.{keeps_same}
 use Rattle.all_workers.proofs.Step.{next, next_is, led_next, out_of, told_next, sent_late}
@@ -40,7 +42,7 @@ record Told : Type 0 where
   gathered : List RadioCopy
   outgoing : List RadioCopy
 
-module _ (n : NetTold) (fine : RunsForward (system_of n)) (of : List ℕ) (from until : ℕ) (old new : Workers) (at : IsAt n of from old) (up : from < until) (short : until ≤ from + (system_of n).lookahead) (all : GroupRunsUntil n of until old new) where
+module _ (n : NetModel) (fine : RunsForward (system_of n)) (of : List ℕ) (from until : ℕ) (old new : Workers) (at : IsAt n of from old) (up : from < until) (short : until ≤ from + (system_of n).lookahead) (all : GroupRunsUntil n of until old new) where
   abbrev workers : ℕ
   workers = length old.inboxes.items
 

@@ -1,7 +1,7 @@
 -- A window of all workers moves all of them on.
 use Rattle.std.proofs.Common.{◌≡◌, ℕ, ◌+◌, ◌<◌, ◌≤◌, List, length, map, get_or, sym, ap, subst, Some}
 use Rattle.std.specs.List.{zip, slice_get, AllByRecursion as Each}
-use Rattle.mote_net.specs.Net.{NetTold}
+use Rattle.mote_net.specs.Net.{NetModel}
 use Rattle.net_agenda.specs.NetSystem.{system_of}
 use Rattle.copy_inbox.specs.Handles.{TakerView}
 use Rattle.copy_exchange.specs.declared.endpoint.Endpoint.{Endpoint}
@@ -22,7 +22,7 @@ use Rattle.all_workers.proofs.Lookups.{there, read, mapped, paired, beside, as_l
 use Rattle.all_workers.proofs.Numbered.{numbered}
 use Rattle.joined_workers.proofs.Ready.{arrived_come}
 
-module _ (n : NetTold) (of : List ℕ) (from until : ℕ) (old new : Workers) (at : IsAt n of from old) (all : GroupRunsUntil n of until old new) where
+module _ (n : NetModel) (of : List ℕ) (from until : ℕ) (old new : Workers) (at : IsAt n of from old) (all : GroupRunsUntil n of until old new) where
   -- one worker of the window: its old state, and its new one
   pub record Piece (v : ℕ) : Type 0 where
     pub share : Share

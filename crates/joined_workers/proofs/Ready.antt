@@ -1,10 +1,11 @@
 -- Workers between two windows are ready to run once their endpoints are made.
-use Rattle.std.proofs.Common.{◌≡◌, ℕ, suc, ◌<◌, ◌≤◌, ◌^◌, true, false, List, [], ◌∷◌, ◌++◌, length, map, get_or, refl, sym, ap, ◌∙◌, subst, arith, Option, Some, None}
+use Rattle.std.proofs.Common.{◌≡◌, ℕ, suc, ◌<◌, ◌≤◌, ◌^◌, true, false, List, [], ◌∷◌, ◌++◌, length, map, get_or, refl}
+use Rattle.std.proofs.Common.{sym, ap, ◌∙◌, subst, arith, Option, Some, None}
 use Rattle.std.specs.List.{filter, zip, slice_get, range_with_len, AllZip, AllByRecursion as Each}
 use Rattle.std.proofs.lemmas.List.Elements.{filter-append}
 use Rattle.std.proofs.lemmas.List.FromFn.{get_or-range_with_len}
 use Rattle.radio_packet.specs.declared.copy.RadioCopy.{RadioCopy}
-use Rattle.mote_net.specs.Net.{NetTold}
+use Rattle.mote_net.specs.Net.{NetModel}
 use Rattle.window_laws.specs.Windows.{NoneBefore, is_from_sender}
 use Rattle.window_laws.proofs.Lists.{every_weaker, every_both}
 use Rattle.copy_inbox.specs.Items.{copies_of}
@@ -36,7 +37,7 @@ not_before from None c w h = absurd h
 not_before from (Some m) c w h = omega arith
 
 -- the copies that a worker takes in at the start of a window are those that were in its inbox
-module _ (n : NetTold) (of : List ℕ) (from : ℕ) (motes : Motes) (first : Option ℕ) (v : ℕ) (share : Share) (taker : TakerView) (here : IsWorkerAt n of from motes first v share taker) (first_from : NoneBefore from first)
+module _ (n : NetModel) (of : List ℕ) (from : ℕ) (motes : Motes) (first : Option ℕ) (v : ℕ) (share : Share) (taker : TakerView) (here : IsWorkerAt n of from motes first v share taker) (first_from : NoneBefore from first)
     (endpoint : Endpoint) (starts : StartsAs taker endpoint) (between : Endpoint) (arrived : List RadioCopy) (collects : Collects endpoint between arrived) where
   gathered_same : gathered_by endpoint.taker ≡ gathered_by taker
   gathered_same = ap copies_gathered starts.same_gathered
@@ -61,7 +62,7 @@ module _ (n : NetTold) (of : List ℕ) (from : ℕ) (motes : Motes) (first : Opt
   pub arrived_come : Each (IsExpected of v from) arrived
   arrived_come = every_weaker _ _ (λ c g. record { to = g.0.0; sender = g.0.1; later = g.1 }) _ (every_both (λ (c : RadioCopy). (is_own of v c.to ≡ true) × (is_own of v c.sender ≡ false)) (λ (c : RadioCopy). from ≤ c.at) arrived all_foreign all_later)
 
-module _ (n : NetTold) (of : List ℕ) (from until : ℕ) (old : Workers) (at : IsAt n of from old) (up : from ≤ until) (early : until ≤ 2 ^ 40) (plain : Each IsPlain old.takers.items)
+module _ (n : NetModel) (of : List ℕ) (from until : ℕ) (old : Workers) (at : IsAt n of from old) (up : from ≤ until) (early : until ≤ 2 ^ 40) (plain : Each IsPlain old.takers.items)
     (endpoints : List Endpoint) (together : Together old.inboxes.items endpoints) (starts : AllZip StartsAs old.takers.items endpoints) where
   one_ready : (v : ℕ) (s : Share) (c : Endpoint) → slice_get old.shares.items v ≡ Some s → slice_get endpoints v ≡ Some c → IsReady n of old.inboxes.items until (make_worker (s, c))
   one_ready v s c e f =

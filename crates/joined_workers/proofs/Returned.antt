@@ -1,10 +1,11 @@
 -- The endpoints of workers that ran, at the end of a window.
-use Rattle.std.proofs.Common.{◌≡◌, ◌⊎◌, ℕ, ◌==◌, true, false, List, [], ◌∷◌, length, map, sym, ap, ◌∙◌, arith, inl, inr}
+use Rattle.std.proofs.Common.{◌≡◌, ◌⊎◌, ℕ, ◌==◌, true, false, List, [], ◌∷◌, length, map, sym, ap, ◌∙◌, arith, inl}
+use Rattle.std.proofs.Common.{inr}
 use Rattle.std.specs.Prelude.{slice_index}
 use Rattle.std.specs.List.{filter, zip, AllZip, AllByRecursion as Each}
 use Rattle.std.proofs.lemmas.Bool.{cases_Bool, eqb-true, eq-eqb, false≢true}
 use Rattle.radio_packet.specs.declared.copy.RadioCopy.{RadioCopy}
-use Rattle.mote_net.specs.Net.{NetTold}
+use Rattle.mote_net.specs.Net.{NetModel}
 use Rattle.window_laws.proofs.Lists.{filter_none, every_weaker}
 use Rattle.copy_inbox.specs.Handles.{InboxId, TakerView}
 use Rattle.copy_exchange.specs.declared.endpoint.Endpoint.{Endpoint}
@@ -23,7 +24,7 @@ use Rattle.all_workers.proofs.Lookups.{read, as_long}
 use Rattle.all_workers.proofs.Step.{own_of}
 
 -- no outgoing copy is from a mote of another worker
-none_from : (n : NetTold) (of : List ℕ) (w s : ℕ) → (slice_index of s == w) ≡ false → (outgoing : List RadioCopy) → Each (IsOutgoing n of w) outgoing → filter (is_from_sender s) outgoing ≡ []
+none_from : (n : NetModel) (of : List ℕ) (w s : ℕ) → (slice_index of s == w) ≡ false → (outgoing : List RadioCopy) → Each (IsOutgoing n of w) outgoing → filter (is_from_sender s) outgoing ≡ []
 none_from n of w s other outgoing out = filter_none (is_from_sender s) outgoing (every_weaker (IsOutgoing n of w) (λ (c : RadioCopy). is_from_sender s c ≡ false) one outgoing out)
   where
     one : (c : RadioCopy) → IsOutgoing n of w c → is_from_sender s c ≡ false
@@ -36,7 +37,7 @@ none_from n of w s other outgoing out = filter_none (is_from_sender s) outgoing 
             let its : slice_index of s ≡ w = read of s w 0 (own_of of w s own) in
             absurd (false≢true (sym other ∙ eq-eqb (slice_index of s) w its))
 
-module _ (n : NetTold) (of : List ℕ) (until : ℕ) (inboxes : List InboxId) where
+module _ (n : NetModel) (of : List ℕ) (until : ℕ) (inboxes : List InboxId) where
   one_back : (t : TakerView) (s : Share) (c : Endpoint) (d : Worker) → StartsAs t c → RunsWorker n of inboxes until (make_worker (s, c)) d → Returns inboxes (slice_index of) c d.endpoint
   one_back t s c d starts ran =
       returns_from inboxes of (slice_index of) t c ran.between d.endpoint ran.arrived ran.outgoing starts ran.collects ran.delivers ran.endpoint
@@ -53,7 +54,7 @@ module _ (n : NetTold) (of : List ℕ) (until : ℕ) (inboxes : List InboxId) wh
   all_back (t ∷ ts) (s ∷ ss) (c ∷ cs) [] starts long ran = absurd ran
   all_back (t ∷ ts) (s ∷ ss) (c ∷ cs) (d ∷ ds) starts long ran = (one_back t s c d starts.0 ran.0, all_back ts ss cs ds starts.1 (omega arith) ran.1)
 
-module _ (n : NetTold) (of : List ℕ) (from until : ℕ) (old : Workers) (at : IsAt n of from old) (endpoints : List Endpoint) (done : List Worker)
+module _ (n : NetModel) (of : List ℕ) (from until : ℕ) (old : Workers) (at : IsAt n of from old) (endpoints : List Endpoint) (done : List Worker)
     (together : Together old.inboxes.items endpoints) (starts : AllZip StartsAs old.takers.items endpoints)
     (ran : AllZip (RunsWorker n of old.inboxes.items until) (map make_worker (zip old.shares.items endpoints)) done) where
   endpoints_long : length endpoints ≡ length old.shares.items

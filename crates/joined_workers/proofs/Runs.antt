@@ -1,7 +1,7 @@
 -- The workers stay in their state until the next window begins, and no window is longer than the lookahead.
 use Rattle.std.proofs.Common.{ℕ, ◌≡◌, ◌+◌, ◌≤◌, List, Option, Some, None, sym, subst, arith}
 use Rattle.std.proofs.Math.Nat.{le-min, min-le_left}
-use Rattle.mote_net.specs.Net.{NetTold}
+use Rattle.mote_net.specs.Net.{NetModel}
 use Rattle.window_laws.specs.Forward.{RunsForward}
 use Rattle.window_laws.specs.Windows.{NoneBefore}
 use Rattle.net_agenda.specs.NetSystem.{system_of}
@@ -18,7 +18,7 @@ quiet : (end : ℕ) (next : Option ℕ) → NoneBefore (start_of_window end next
 quiet end None = tt
 quiet end (Some moment) = min-le_left moment (end + 1)
 
-module _ (n : NetTold) (of : List ℕ) (reached end : ℕ) (group : Workers) (from : ℕ) (at : IsAt n of reached group) (low : reached ≤ end + 1) (begins : BeginsAt end group from) where
+module _ (n : NetModel) (of : List ℕ) (reached end : ℕ) (group : Workers) (from : ℕ) (at : IsAt n of reached group) (low : reached ≤ end + 1) (begins : BeginsAt end group from) where
   pub begins_later : reached ≤ from
   begins_later = subst (λ m. reached ≤ m) (sym begins.start) (no_sooner reached end begins.next (comes_no_sooner n of reached group begins.next at begins.is) low)
 

@@ -1,9 +1,10 @@
 -- The workers are at each moment up to the first pending event.
-use Rattle.std.proofs.Common.{◌≡◌, ◌⊎◌, ℕ, ◌<◌, ◌≤◌, Bool, true, false, not, ◌&&◌, ltb, List, [], ◌∷◌, length, get_or, refl, sym, ◌∙◌, subst, inl, inr, arith, Option, Some, None}
+use Rattle.std.proofs.Common.{◌≡◌, ◌⊎◌, ℕ, ◌<◌, ◌≤◌, Bool, true, false, not, ◌&&◌, ltb, List, [], ◌∷◌, length, get_or}
+use Rattle.std.proofs.Common.{refl, sym, ◌∙◌, subst, inl, inr, arith, Option, Some, None}
 use Rattle.std.specs.List.{filter, slice_get, AllByRecursion as Each}
 use Rattle.std.proofs.lemmas.Bool.{cases_Bool, le-ltb}
 use Rattle.radio_packet.specs.declared.copy.RadioCopy.{RadioCopy}
-use Rattle.mote_net.specs.Net.{NetTold}
+use Rattle.mote_net.specs.Net.{NetModel}
 use Rattle.window_laws.specs.Forward.{RunsForward}
 use Rattle.window_laws.specs.Windows.{NoneBefore, copies_by}
 use Rattle.window_laws.proofs.Lists.{every_append, every_weaker}
@@ -55,7 +56,7 @@ by_some : (workers : ℕ) (A : ℕ → RadioCopy → Type 0) (Q : RadioCopy → 
 by_some workers A Q [] h k = tt
 by_some workers A Q (x ∷ xs) h k = ((h k.0.0 k.0.1).0 k.0.2, by_some workers A Q xs (λ v l. (h v l).1) k.1)
 
-module _ (n : NetTold) (fine : RunsForward (system_of n)) (of : List ℕ) (from moment : ℕ) (group : Workers) (next : Option ℕ) (at : IsAt n of from group) (is : IsNextOfAll group.first_out group.shares.items next) (le : from ≤ moment) (wakes : NoneBefore moment next) where
+module _ (n : NetModel) (fine : RunsForward (system_of n)) (of : List ℕ) (from moment : ℕ) (group : Workers) (next : Option ℕ) (at : IsAt n of from group) (is : IsNextOfAll group.first_out group.shares.items next) (le : from ≤ moment) (wakes : NoneBefore moment next) where
   abbrev workers : ℕ
   workers = length group.inboxes.items
 
@@ -142,7 +143,7 @@ module _ (n : NetTold) (fine : RunsForward (system_of n)) (of : List ℕ) (from 
           subst (λ x. IsWorkerAt n of moment at.motes group.first_out v x (get_or group.takers.items v taker)) (sym (read group.shares.items v p.share share p.share_at))
           (subst (λ x. IsWorkerAt n of moment at.motes group.first_out v p.share x) (sym (read group.takers.items v p.taker taker p.taker_at)) (record { keeps = keeps_on v p; gathered = p.here.gathered; waits = p.here.waits }))
 
-module _ (n : NetTold) (of : List ℕ) (from : ℕ) (group : Workers) (next : Option ℕ) (at : IsAt n of from group) (is : IsNextOfAll group.first_out group.shares.items next) where
+module _ (n : NetModel) (of : List ℕ) (from : ℕ) (group : Workers) (next : Option ℕ) (at : IsAt n of from group) (is : IsNextOfAll group.first_out group.shares.items next) where
   takers_here : length group.takers.items ≡ length group.inboxes.items
   takers_here = as_long _ group.inboxes.items group.takers.items at.settled
 

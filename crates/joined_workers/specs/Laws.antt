@@ -1,7 +1,7 @@
 -- Laws of a window of all workers.
 use Rattle.std.specs.Prelude.{ℕ, ◌≡◌, ◌+◌, ◌<◌, ◌≤◌, List, map, Option}
 use Rattle.std.specs.List.{zip, AllZip}
-use Rattle.mote_net.specs.Net.{NetTold}
+use Rattle.mote_net.specs.Net.{NetModel}
 use Rattle.window_laws.specs.Forward.{RunsForward}
 use Rattle.window_laws.specs.Windows.{NoneBefore}
 use Rattle.net_agenda.specs.NetSystem.{system_of}
@@ -17,7 +17,7 @@ use Rattle.joined_workers.specs.Worker.{RunsWorker}
 
 -- The senders of all workers were made together, each worker ran through the window with its own, and then all senders
 -- were gathered.
-pub record GroupRunsUntil (n : NetTold) (of : List ℕ) (until : ℕ) (old new : Workers) : Type 0 where
+pub record GroupRunsUntil (n : NetModel) (of : List ℕ) (until : ℕ) (old new : Workers) : Type 0 where
   pub endpoints : List Endpoint
   pub done : List Worker
   pub together : Together old.inboxes.items endpoints
@@ -32,12 +32,12 @@ pub record GroupRunsUntil (n : NetTold) (of : List ℕ) (until : ℕ) (old new :
 
 -- a window that begins at the moment of the workers, and is no longer than the lookahead, leads to its end
 abbrev pub WindowMovesOn : Type 0
-WindowMovesOn = (n : NetTold) → RunsForward (system_of n) → (of : List ℕ) (from until : ℕ) (old new : Workers)
+WindowMovesOn = (n : NetModel) → RunsForward (system_of n) → (of : List ℕ) (from until : ℕ) (old new : Workers)
     → IsAt n of from old → from < until → until ≤ from + (system_of n).lookahead
     → GroupRunsUntil n of until old new → IsAt n of until new
 
 -- the first pending event isn't before the moment of the workers, and they are at each moment up to it
 abbrev pub StandsUntilNext : Type 0
-StandsUntilNext = (n : NetTold) → RunsForward (system_of n) → (of : List ℕ) (from : ℕ) (group : Workers)
+StandsUntilNext = (n : NetModel) → RunsForward (system_of n) → (of : List ℕ) (from : ℕ) (group : Workers)
     → (next : Option ℕ) → IsAt n of from group → IsNextOfAll group.first_out group.shares.items next
     → NoneBefore from next × ((moment : ℕ) → from ≤ moment → NoneBefore moment next → IsAt n of moment group)

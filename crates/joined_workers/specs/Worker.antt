@@ -2,7 +2,7 @@
 use Rattle.std.specs.Prelude.{ℕ, ◌≡◌, ◌+◌, ◌≤◌, ◌^◌, true, List, length, Option}
 use Rattle.std.specs.List.{AllByRecursion as Each}
 use Rattle.radio_packet.specs.declared.copy.RadioCopy.{RadioCopy}
-use Rattle.mote_net.specs.Net.{NetTold}
+use Rattle.mote_net.specs.Net.{NetModel}
 use Rattle.window_laws.specs.Windows.{NoneBefore}
 use Rattle.net_agenda.specs.NetSystem.{system_of}
 use Rattle.copy_inbox.specs.Handles.{InboxId}
@@ -19,7 +19,7 @@ use Rattle.all_workers.specs.declared.worker.Worker.{Worker}
 -- A worker that can run through a window that ends at 2^40 or sooner: the cut fits, its share and its endpoint are
 -- those of one worker, its inbox has no marks, all that was gathered is for its motes, and each copy that it takes in
 -- is expected.
-pub record IsReady (n : NetTold) (of : List ℕ) (inboxes : List InboxId) (until : ℕ) (worker : Worker) : Type 0 where
+pub record IsReady (n : NetModel) (of : List ℕ) (inboxes : List InboxId) (until : ℕ) (worker : Worker) : Type 0 where
   pub early : until ≤ 2 ^ 40
   pub cut : IsCut (length n.motes) (length inboxes) of
   pub takes_in : (between : Endpoint) (arrived : List RadioCopy) → Collects worker.endpoint between arrived
@@ -38,7 +38,7 @@ pub record IsFirstOf (copies : List RadioCopy) (first : Option ℕ) : Type 0 whe
 -- If the share was at a moment that isn't after the window's end: if the window is no longer than the lookahead and
 -- each copy that arrived is expected, the new share is the result of the window, on everything that the worker has then
 -- taken, and these are the outgoing copies.
-abbrev pub RunsItsMotes : NetTold → (of : List ℕ) → (until : ℕ) → (arrived outgoing : List RadioCopy)
+abbrev pub RunsItsMotes : NetModel → (of : List ℕ) → (until : ℕ) → (arrived outgoing : List RadioCopy)
     → (old new : Worker) → Type 0
 RunsItsMotes n of until arrived outgoing old new = (from : ℕ) (motes : Motes)
     → Keeps n of old.endpoint.worker from motes (taken_by old.endpoint.taker) old.share
@@ -47,7 +47,8 @@ RunsItsMotes n of until arrived outgoing old new = (from : ℕ) (motes : Motes)
     → RunsWindow n of old.endpoint.worker from until motes (taken_by new.endpoint.taker) new.share outgoing
 
 -- The worker took in all that it had gathered and not yet taken, ran its motes, and delivered the outgoing copies.
-pub record RunsWorker (n : NetTold) (of : List ℕ) (inboxes : List InboxId) (until : ℕ) (old new : Worker) : Type 0 where
+pub record RunsWorker (n : NetModel) (of : List ℕ) (inboxes : List InboxId) (until : ℕ) (old new : Worker)
+    : Type 0 where
   pub arrived : List RadioCopy
   pub outgoing : List RadioCopy
   pub between : Endpoint

@@ -7,5 +7,5 @@ mod run;
 mod window;
 mod worker;
 
-pub use run::run_group;
+pub use run::run_by_joins;
 pub use worker::{Runner, WorkersWindow};

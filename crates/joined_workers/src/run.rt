@@ -43,7 +43,7 @@ fn window_start(group: &Workers, end: u64) -> u64
 /// # Errors
 /// `Memory`, or `Thread` if a thread couldn't be started, the gate refused a start, or the executor returned an error:
 /// that of the lowest worker that has one. It is never `Stopped`.
-pub fn run_group<R, G>(
+pub fn run_by_joins<R, G>(
     rt: &R,
     alloc: Global,
     net: &Net,

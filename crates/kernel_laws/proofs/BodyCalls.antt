@@ -1,5 +1,7 @@
 -- Each call keeps that the lines about a process are those of its lives, however deep calls nest.
-use Rattle.std.proofs.Common.{ℕ, zero, suc, ◌≡◌, ◌⊎◌, inl, inr, not, ◌&&◌, ◌||◌, ◌==◌, Bool, true, false, if◌then◌else◌, List, [], ◌∷◌, ◌++◌, ◌+◌, Option, Some, None, slice_get, unwrap_or, refl, sym, ap, ◌∙◌, subst, append_assoc}
+use Rattle.std.proofs.Common.{ℕ, zero, suc, ◌≡◌, ◌⊎◌, inl, inr, not, ◌&&◌, ◌||◌, ◌==◌, Bool, true, false}
+use Rattle.std.proofs.Common.{if◌then◌else◌, List, [], ◌∷◌, ◌++◌, ◌+◌, Option, Some, None, slice_get, unwrap_or, refl}
+use Rattle.std.proofs.Common.{sym, ap, ◌∙◌, subst, append_assoc}
 use Rattle.program_tree.specs.declared.event.Proc.{Proc}
 use Rattle.program_tree.specs.declared.event.Proc.TheVariants.{Own, Etimer, Ctimer, Radio}
 use Rattle.program_tree.specs.declared.event.Target.TheVariants.{One}
@@ -41,13 +43,21 @@ use Rattle.kernel_laws.specs.Printed.{IsQuietApart, LivesSoFar, Told, HasStarted
 use Rattle.kernel_laws.specs.Telling as telling
 use Rattle.kernel_laws.specs.Telling.{Standing, standing_of, IsOut, Next, AtStart, AtCall, CanCome}
 use Rattle.kernel_laws.proofs.EachStep as each
-use Rattle.kernel_laws.proofs.EachStep.{Whoever, Lead, AreJoined, AreRingSteps, lead_from, lead_bind, lead_if, lead_goes, lead_still, bind_twice}
+use Rattle.kernel_laws.proofs.EachStep.{Whoever, Lead, AreJoined, AreRingSteps, lead_from, lead_bind, lead_if}
+use Rattle.kernel_laws.proofs.EachStep.{lead_goes, lead_still, bind_twice}
 use Rattle.kernel_laws.proofs.Tables.{is_equal}
 use Rattle.kernel_laws.proofs.Lives.{at_first}
-use Rattle.kernel_laws.proofs.QuietThreads.{IsQuietRest, fresh_quiet, poll_quiet as on_poll_quiet, exit_quiet as on_exit_quiet, callback_quiet, IsNoPrintStep, advances_quietly, answered_quietly}
-use Rattle.kernel_laws.proofs.Standing.{Always, etimer_other, ctimer_other, radio_other, own_other, always_if, halted_quiet, get_set, IsOther, IsQuiet, which, other_own, line_quiet, print_quiet, state_quiet, exiting_quiet, poll_quiet, variables_quiet, remainder_quiet, body_quiet, enlist_quiet, leave_quiet, post_quiet}
-use Rattle.kernel_laws.proofs.OwnSteps.{alike, state_stands, exiting_stands, leave_stands, body_stands, put_stands, enlist_stands}
-use Rattle.kernel_laws.proofs.BodyRuns.{IfGives, gives_bind, from_always, IsAway, ComesHere, HasLived, SoFar, RanFrom, BodyRuns, IsNoPrint, runs_on}
+use Rattle.kernel_laws.proofs.QuietThreads.{IsQuietRest, fresh_quiet, poll_quiet as on_poll_quiet}
+use Rattle.kernel_laws.proofs.QuietThreads.{exit_quiet as on_exit_quiet, callback_quiet, IsNoPrintStep}
+use Rattle.kernel_laws.proofs.QuietThreads.{advances_quietly, answered_quietly}
+use Rattle.kernel_laws.proofs.Standing.{Always, etimer_other, ctimer_other, radio_other, own_other, always_if}
+use Rattle.kernel_laws.proofs.Standing.{halted_quiet, get_set, IsOther, IsQuiet, which, other_own, line_quiet}
+use Rattle.kernel_laws.proofs.Standing.{print_quiet, state_quiet, exiting_quiet, poll_quiet, variables_quiet}
+use Rattle.kernel_laws.proofs.Standing.{remainder_quiet, body_quiet, enlist_quiet, leave_quiet, post_quiet}
+use Rattle.kernel_laws.proofs.OwnSteps.{alike, state_stands, exiting_stands, leave_stands, body_stands, put_stands}
+use Rattle.kernel_laws.proofs.OwnSteps.{enlist_stands}
+use Rattle.kernel_laws.proofs.BodyRuns.{IfGives, gives_bind, from_always, IsAway, ComesHere, HasLived, SoFar, RanFrom}
+use Rattle.kernel_laws.proofs.BodyRuns.{BodyRuns, IsNoPrint, runs_on}
 
 -- after the earlier lines about the process
 module _ (program : Tree) (mote p : ℕ) (code : Code) (earlier : List Line) where
@@ -57,7 +67,7 @@ module _ (program : Tree) (mote p : ℕ) (code : Code) (earlier : List Line) whe
 
   -- The process is at rest, and the lines about it are those of its lives.
   abbrev pub Stands : Standing → Type 0
-  Stands v = telling.RestsAsTold program mote p code (earlier ++ v.told) v
+  Stands v = telling.RestsAsTraced program mote p code (earlier ++ v.told) v
 
   -- It can be called with this event: it is at rest, or has just started.
   pub record IsReady (v : Standing) (e : Event) : Type 0 where

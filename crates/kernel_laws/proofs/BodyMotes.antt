@@ -1,5 +1,6 @@
 -- Boots and kernel runs keep that the lines about a process are those of its lives, and so do all calls of a kernel.
-use Rattle.std.proofs.Common.{ℕ, ◌≡◌, ◌+◌, Bool, true, false, nat_lt, if◌then◌else◌, List, [], ◌∷◌, ◌++◌, inl, inr, Some, length, slice_get, refl, sym, ap, ◌∙◌, subst, append-nil}
+use Rattle.std.proofs.Common.{ℕ, ◌≡◌, ◌+◌, Bool, true, false, nat_lt, if◌then◌else◌, List, [], ◌∷◌, ◌++◌, inl, inr}
+use Rattle.std.proofs.Common.{Some, length, slice_get, refl, sym, ap, ◌∙◌, subst, append-nil}
 use Rattle.std.specs.Prelude.{option_map}
 use Rattle.std.proofs.lemmas.List.{length-replicate}
 use Rattle.std.proofs.lemmas.List.Elements.{filter-append}
@@ -24,9 +25,13 @@ use Rattle.process_kernel.specs.Mote.{Mote, unbooted, with_poll, with_packet}
 use Rattle.process_kernel.specs.Given.{given, begun, boot_given, run_given}
 use Rattle.kernel_laws.specs.Going.{IsNote}
 use Rattle.kernel_laws.specs.InStep.{AreInStep, state_at_place, exiting_at, listed_in}
-use Rattle.kernel_laws.specs.Traces.{KernelCall, RunAt, PollOf, Accepts, Notes, Traced, after_call, after_calls, booted_at}
-use Rattle.kernel_laws.specs.Printed.{IsQuietApart, is_told_of, starts_and_prints, Unborn, LivesSoFar, Told, PrintsAreTheReading, PrintsSoFarAreTheReading}
-use Rattle.kernel_laws.specs.Telling.{Standing, standing_of, RestsAsTold, TellsSoFar, IsProcess, TellingIsOfLives, TellingIsOfLivesSoFar, NoLinesTellFirst, BootTells, RunTells, PollTells, PacketTells, NoteTells}
+use Rattle.kernel_laws.specs.Traces.{KernelCall, RunAt, PollOf, Accepts, Notes, Traced, after_call, after_calls}
+use Rattle.kernel_laws.specs.Traces.{booted_at}
+use Rattle.kernel_laws.specs.Printed.{IsQuietApart, starts_or_prints, starts_and_prints, Unborn, LivesSoFar, Told}
+use Rattle.kernel_laws.specs.Printed.{PrintsAreTheReading, PrintsSoFarAreTheReading}
+use Rattle.kernel_laws.specs.Telling.{Standing, standing_of, RestsAsTraced, TellsSoFar, IsProcess, TellingIsOfLives}
+use Rattle.kernel_laws.specs.Telling.{TellingIsOfLivesSoFar, NoLinesTellFirst, BootTells, RunTells, PollTells}
+use Rattle.kernel_laws.specs.Telling.{PacketTells, NoteTells}
 use Rattle.kernel_laws.proofs.Resting.{numbered_listed, first_rests}
 use Rattle.kernel_laws.proofs.Standing.{IsQuiet, told_more, line_quiet, needs_poll_quiet, poll_quiet}
 use Rattle.kernel_laws.proofs.EachStep.{Lead, AreRunSteps, kernel_led, boot_led, unless_halts}
@@ -63,10 +68,10 @@ module _ (program : Tree) (mote p : ℕ) (code : Code) (is_code : slice_get prog
 
 module _ (program : Tree) (mote p : ℕ) (code : Code) where
   told_twice : (xs ys : List Line) → starts_and_prints (Own p) (xs ++ ys) ≡ starts_and_prints (Own p) xs ++ starts_and_prints (Own p) ys
-  told_twice xs ys = filter-append (λ l. is_told_of (Own p) l.what) xs ys
+  told_twice xs ys = filter-append (λ l. starts_or_prints (Own p) l.what) xs ys
 
   -- whatever the lines of the run under way tell
-  retold : (told : List Line) (v : Standing) (moment : ℕ) (now : List Line) → RestsAsTold program mote p code told v → RestsAsTold program mote p code told (record v { moment = moment; told = now })
+  retold : (told : List Line) (v : Standing) (moment : ℕ) (now : List Line) → RestsAsTraced program mote p code told v → RestsAsTraced program mote p code told (record v { moment = moment; told = now })
   retold told v moment now h = record {
     of_program = h.of_program;
     of_mote = h.of_mote;
@@ -84,21 +89,21 @@ module _ (program : Tree) (mote p : ℕ) (code : Code) where
   unfolding begun_of
   begun_stands m moment before sends = ap (λ b. record (standing_of p m.state) { moment = moment; listed = b; told = starts_and_prints (Own p) before }) (numbered_listed 0 m.state.members (place_of (Own p)))
 
-  begins : (earlier : List Line) (m : Mote) (moment : ℕ) (before : List Line) (sends : List Sent) → RestsAsTold program mote p code (starts_and_prints (Own p) (earlier ++ before)) (standing_of p m.state)
-      → let s = begun m moment before sends in RestsAsTold program mote p code (starts_and_prints (Own p) earlier ++ (standing_of p s).told) (standing_of p s)
+  begins : (earlier : List Line) (m : Mote) (moment : ℕ) (before : List Line) (sends : List Sent) → RestsAsTraced program mote p code (starts_and_prints (Own p) (earlier ++ before)) (standing_of p m.state)
+      → let s = begun m moment before sends in RestsAsTraced program mote p code (starts_and_prints (Own p) earlier ++ (standing_of p s).told) (standing_of p s)
   begins earlier m moment before sends h =
-      subst (λ v. RestsAsTold program mote p code (starts_and_prints (Own p) earlier ++ v.told) v) (sym (begun_stands m moment before sends))
-      (subst (λ l. RestsAsTold program mote p code l (record (standing_of p m.state) { moment = moment; told = starts_and_prints (Own p) before })) (told_twice earlier before) (retold _ (standing_of p m.state) moment _ h))
+      subst (λ v. RestsAsTraced program mote p code (starts_and_prints (Own p) earlier ++ v.told) v) (sym (begun_stands m moment before sends))
+      (subst (λ l. RestsAsTraced program mote p code l (record (standing_of p m.state) { moment = moment; told = starts_and_prints (Own p) before })) (told_twice earlier before) (retold _ (standing_of p m.state) moment _ h))
 
   -- the lines that a boot or a run that continues adds
-  given_told : (earlier : List Line) (m : Mote) (moment : ℕ) (before : List Line) (sends : List Sent) (o : Outcome ℕ) → RestsAsTold program mote p code (starts_and_prints (Own p) (earlier ++ before)) (standing_of p m.state)
+  given_told : (earlier : List Line) (m : Mote) (moment : ℕ) (before : List Line) (sends : List Sent) (o : Outcome ℕ) → RestsAsTraced program mote p code (starts_and_prints (Own p) (earlier ++ before)) (standing_of p m.state)
       → Leads program mote p code (starts_and_prints (Own p) earlier) ℕ (begun m moment before sends) o → TellsSoFar program mote p code (earlier ++ (given o).lines) (given o).mote
   given_told earlier m moment before sends (Ends t) h leads = record {
     going = λ on. absurd (cc);
     halted = λ off. subst (λ l. LivesSoFar code (Own p) mote code.starts l) (sym (told_twice earlier t.lines)) (leads.leads.stands (begins earlier m moment before sends h));
   }
   given_told earlier m moment before sends (Goes a t) h leads = record {
-    going = λ on. subst (λ l. RestsAsTold program mote p code l (record (standing_of p t) { told = [] })) (sym (told_twice earlier t.lines)) (retold _ (standing_of p t) t.moment [] (leads.leads.stands (begins earlier m moment before sends h)));
+    going = λ on. subst (λ l. RestsAsTraced program mote p code l (record (standing_of p t) { told = [] })) (sym (told_twice earlier t.lines)) (retold _ (standing_of p t) t.moment [] (leads.leads.stands (begins earlier m moment before sends h)));
     halted = λ off. absurd (cc);
   }
 
@@ -117,7 +122,7 @@ boot_tells program mote p code earlier m moment before sends is h =
 pub poll_tells : PollTells
 unfolding with_poll
 poll_tells program mote p code lines m q h = record {
-  going = λ on. subst (λ v. RestsAsTold program mote p code (starts_and_prints (Own p) lines) v) (sym (poll_quiet p m.state q)) (h.going on);
+  going = λ on. subst (λ v. RestsAsTraced program mote p code (starts_and_prints (Own p) lines) v) (sym (poll_quiet p m.state q)) (h.going on);
   halted = h.halted;
 }
 
@@ -125,7 +130,7 @@ pub packet_tells : PacketTells
 unfolding with_packet
 packet_tells program mote p code lines m a h = record { going = h.going; halted = h.halted }
 
-note_apart : (p : ℕ) (w : What) → IsNote w → is_told_of (Own p) w ≡ false
+note_apart : (p : ℕ) (w : What) → IsNote w → starts_or_prints (Own p) w ≡ false
 note_apart p (what.Recv f n v) h = refl
 note_apart p (what.Lost f n) h = refl
 note_apart p (what.Collide f n) h = refl
@@ -146,7 +151,7 @@ note_silent p lines l n = told_more (Own p) lines l ∙ ap (λ b. starts_and_pri
 
 pub note_tells : NoteTells
 note_tells program mote p code lines m l n h = record {
-  going = λ on. subst (λ told. RestsAsTold program mote p code told (standing_of p m.state)) (sym (note_silent p lines l n)) (h.going on);
+  going = λ on. subst (λ told. RestsAsTraced program mote p code told (standing_of p m.state)) (sym (note_silent p lines l n)) (h.going on);
   halted = λ off. subst (λ told. LivesSoFar code (Own p) mote code.starts told) (sym (note_silent p lines l n)) (h.halted off);
 }
 
@@ -157,7 +162,7 @@ is_off Off e l h q = refl
 is_off Running e l h q = absurd (let f : true ≡ false = sym h.1 ∙ q in cc)
 is_off Called e l h q = absurd (let f : true ≡ false = sym h.1 ∙ q in cc)
 
-first_stands : (program : Tree) (mote p : ℕ) (code : Code) (queue : ℕ) → IsProcess program p code → RestsAsTold program mote p code [] (standing_of p (unbooted program mote queue).state)
+first_stands : (program : Tree) (mote p : ℕ) (code : Code) (queue : ℕ) → IsProcess program p code → RestsAsTraced program mote p code [] (standing_of p (unbooted program mote queue).state)
 unfolding unbooted
 first_stands program mote p code queue is =
     let s = (unbooted program mote queue).state in

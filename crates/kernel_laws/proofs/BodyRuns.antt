@@ -1,6 +1,7 @@
 -- A run of the body of a process continues the run of its fresh thread, if the processes that it calls leave the
 -- process alone.
-use Rattle.std.proofs.Common.{ℕ, zero, ◌≡◌, ◌<◌, ◌||◌, Bool, true, false, if◌then◌else◌, List, [], ◌∷◌, ◌++◌, Some, None, slice_get, slice_set, refl, sym, ap, ◌∙◌, subst, arith, append_assoc, append-nil}
+use Rattle.std.proofs.Common.{ℕ, zero, ◌≡◌, ◌<◌, ◌||◌, Bool, true, false, if◌then◌else◌, List, [], ◌∷◌, ◌++◌, Some}
+use Rattle.std.proofs.Common.{None, slice_get, slice_set, refl, sym, ap, ◌∙◌, subst, arith, append_assoc, append-nil}
 use Rattle.std.proofs.lemmas.Bool.Decides.{nat_tests}
 use Rattle.program_tree.specs.declared.event.Proc.TheVariants.{Own}
 use Rattle.program_tree.specs.declared.event.Target.{Target}
@@ -29,9 +30,11 @@ use Rattle.process_kernel.specs.Calls.{Calls, Answer}
 use Rattle.process_kernel.specs.Call.{has_ended}
 use Rattle.process_kernel.specs.Thread.{stepped_with, stepped_of}
 use Rattle.process_kernel.specs.Operation.{posted, act_of, answered_with, answer_of, perform_of, after_step, run_of}
-use Rattle.kernel_laws.specs.Printed.{printed, left_by, starts_and_prints, is_told_of, lines_of, Lives, LivesAgain, LivesSoFar, Told}
+use Rattle.kernel_laws.specs.Printed.{printed, left_by, starts_and_prints, starts_or_prints, lines_of, Lives}
+use Rattle.kernel_laws.specs.Printed.{LivesAgain, LivesSoFar, Told}
 use Rattle.kernel_laws.specs.Telling as telling
-use Rattle.kernel_laws.specs.Telling.{Standing, standing_of, Next, AtStart, InCall, AtCall, CanCome, IsAnswered, HasLife}
+use Rattle.kernel_laws.specs.Telling.{Standing, standing_of, Next, AtStart, InCall, AtCall, CanCome, IsAnswered}
+use Rattle.kernel_laws.specs.Telling.{HasLife}
 use Rattle.kernel_laws.proofs.Lives.{operates_on, performs_there, gives_up_on, stands_there, exits_there, ends_there}
 use Rattle.kernel_laws.proofs.Untold.{IsUntold, StepUntold, step_untold, answer_untold}
 use Rattle.kernel_laws.proofs.Standing.{Always, get_set, told_more, halted_quiet, post_quiet}
@@ -219,32 +222,32 @@ module _ (program : Tree) (mote p : ℕ) (code : Code) (earlier : List Line) whe
       stepped_so_far changed left t same = subst (λ v. SoFar v.told) (sym (same ∙ stepped_stands changed left)) so_far
 
       -- it learned whether the queue was full
-      abbrev IsTold : Remainder → List ℕ → Remainder → State → Type 0
-      IsTold after changed r1 t =
+      abbrev IsFirstFault : Remainder → List ℕ → Remainder → State → Type 0
+      IsFirstFault after changed r1 t =
           (told : ℕ) × (told < 2) × (r1 ≡ (answered_of after changed told).remainder) × (standing_of p t ≡ record (standing_of p s) { vars = Some (answered_of after changed told).variables })
 
       is_small : (full : Bool) → (if full then 1 else 0) < 2
       is_small true = omega arith
       is_small false = omega arith
 
-      answer_told : (after : Remainder) (changed : List ℕ) (u : State) (full : Bool) → standing_of p u ≡ record (standing_of p s) { vars = Some changed } → IfGives Stopped (IsTold after changed) (answer_of u after p full)
+      answer_told : (after : Remainder) (changed : List ℕ) (u : State) (full : Bool) → standing_of p u ≡ record (standing_of p s) { vars = Some changed } → IfGives Stopped (IsFirstFault after changed) (answer_of u after p full)
       unfolding answer_of
       answer_told after changed u full same =
           let there : slice_get u.variables p ≡ Some changed = ap (λ v. v.vars) same in
           let n = if full then 1 else 0 in
-          subst (λ o. IfGives Stopped (IsTold after changed) (answered_with o u after p n)) (sym there)
+          subst (λ o. IfGives Stopped (IsFirstFault after changed) (answered_with o u after p n)) (sym there)
           (n, is_small full, refl, ap (λ o. record (standing_of p u) { vars = o }) (get_set u.variables p (answered_of after changed n).variables changed there) ∙ ap {A = Standing} (λ v. record v { vars = Some (answered_of after changed n).variables }) same)
 
       posted_on : (after : Remainder) (changed : List ℕ) (left : ℕ) (t : Target) (number word : ℕ) → Takes (step.Op (op.Post t number word)) after changed
           → IfGives Stopped (RanFrom (standing_of p s)) (perform_of calls (stepped changed left) after p (op.Post t number word) >>= λ r1 s1. calls.run s1 code r1 p e)
       unfolding perform_of
       posted_on after changed left t number word takes =
-          gives_bind _ _ Stopped (IsTold after changed) _ (perform_of calls (stepped changed left) after p (op.Post t number word)) _
+          gives_bind _ _ Stopped (IsFirstFault after changed) _ (perform_of calls (stepped changed left) after p (op.Post t number word)) _
           (gives_bind _ _ Stopped (λ full u. standing_of p u ≡ standing_of p (stepped changed left)) _ (post_of (stepped changed left) t (posted number word)) _ (from_always Bool Stopped (λ u. standing_of p u ≡ standing_of p (stepped changed left)) (λ u. standing_of p u ≡ standing_of p (stepped changed left)) (post_of (stepped changed left) t (posted number word)) (post_quiet p (stepped changed left) t (posted number word)) (λ u same. stepped_so_far changed left u same) (λ u same. same))
           (λ full u same. answer_told after changed u full (same ∙ stepped_stands changed left)))
           (λ r1 u h. subst (λ x. IfGives Stopped (RanFrom (standing_of p s)) (calls.run u code x p e)) (sym h.2) (goes_on (op.Post t number word) after changed h.0 h.1 takes u (h.3 ∙ ap (λ l. record (standing_of p s) { vars = Some (answered_of after changed h.0).variables; told = l }) (sym (append-nil (standing_of p s).told)))))
 
-      same_own : is_told_of (Own p) (what.Print (Own p) zero) ≡ true
+      same_own : starts_or_prints (Own p) (what.Print (Own p) zero) ≡ true
       same_own = grind (arith, nat_tests)
 
       printed_on : (after : Remainder) (changed : List ℕ) (left v : ℕ) → Takes (step.Op (op.Print v)) after changed → after.mark ≡ UnderWay None

@@ -1,5 +1,7 @@
 -- The position of a process of the program, and the small steps that don't change it: all those of others.
-use Rattle.std.proofs.Common.{ℕ, zero, suc, ◌≡◌, ◌+◌, ◌^◌, ◌⊎◌, inl, inr, Bool, true, false, nat_lt, nat_le, if◌then◌else◌, List, [], ◌∷◌, ◌++◌, Some, None, length, slice_get, slice_set, refl, sym, ap, ◌∙◌, arith, append-nil}
+use Rattle.std.proofs.Common.{ℕ, zero, suc, ◌≡◌, ◌+◌, ◌^◌, ◌⊎◌, inl, inr, Bool, true, false, nat_lt, nat_le}
+use Rattle.std.proofs.Common.{if◌then◌else◌, List, [], ◌∷◌, ◌++◌, Some, None, length, slice_get, slice_set, refl, sym}
+use Rattle.std.proofs.Common.{ap, ◌∙◌, arith, append-nil}
 use Rattle.std.proofs.lemmas.List.{length-set}
 use Rattle.std.proofs.lemmas.List.Elements.{filter-append}
 use Rattle.std.proofs.lemmas.Bool.Decides.{nat_tests}
@@ -19,10 +21,11 @@ use Rattle.process_kernel.specs.declared.process.ProcessState.TheVariants.{Off, 
 use Rattle.process_kernel.specs.Members.{place_of, is_same}
 use Rattle.process_kernel.specs.State.{State, Outcome, Ends, Goes}
 use Rattle.process_kernel.specs.Processes.{process_state, at_process, with_state, with_exiting, with_needs_poll}
-use Rattle.process_kernel.specs.ProcessList.{put_remainder, fresh_at, with_fresh_body, with_fresh_process, enlist_of, exiting_of, unlisted_of, leave_of}
+use Rattle.process_kernel.specs.ProcessList.{put_remainder, fresh_at, with_fresh_body, with_fresh_process, enlist_of}
+use Rattle.process_kernel.specs.ProcessList.{exiting_of, unlisted_of, leave_of}
 use Rattle.process_kernel.specs.Posts.{post_of, poll_of}
 use Rattle.process_kernel.specs.Writes.{with_line, write_of, halted_of}
-use Rattle.kernel_laws.specs.Printed.{is_told_of, starts_and_prints}
+use Rattle.kernel_laws.specs.Printed.{starts_or_prints, starts_and_prints}
 use Rattle.kernel_laws.specs.Telling.{standing_of}
 use Rattle.kernel_laws.proofs.Steps.{others_stay}
 use Rattle.kernel_laws.proofs.Tables.{set_other, is_equal}
@@ -58,10 +61,10 @@ fresh_there (d ∷ cs) (x ∷ rs) (suc p) c r e f = fresh_there cs rs p c r e f
 
 -- lines that are added
 
-pub told_more : (p : Proc) (lines : List Line) (l : Line) → starts_and_prints p (lines ++ l ∷ []) ≡ starts_and_prints p lines ++ (if is_told_of p l.what then l ∷ [] else [])
-told_more p lines l = filter-append (λ k. is_told_of p k.what) lines (l ∷ [])
+pub told_more : (p : Proc) (lines : List Line) (l : Line) → starts_and_prints p (lines ++ l ∷ []) ≡ starts_and_prints p lines ++ (if starts_or_prints p l.what then l ∷ [] else [])
+told_more p lines l = filter-append (λ k. starts_or_prints p k.what) lines (l ∷ [])
 
-told_nothing : (p : Proc) (l : Line) → is_told_of p l.what ≡ false → (if is_told_of p l.what then l ∷ [] else []) ≡ []
+told_nothing : (p : Proc) (l : Line) → starts_or_prints p l.what ≡ false → (if starts_or_prints p l.what then l ∷ [] else []) ≡ []
 told_nothing p l e = rw e refl
 
 -- all processes other than the program's of this number
@@ -106,7 +109,7 @@ module _ (p : ℕ) where
   abbrev pub IsQuiet : State → State → Type 0
   IsQuiet s t = standing_of p t ≡ standing_of p s
 
-  pub line_quiet : (s : State) (w : What) → is_told_of (Own p) w ≡ false → IsQuiet s (with_line s w)
+  pub line_quiet : (s : State) (w : What) → starts_or_prints (Own p) w ≡ false → IsQuiet s (with_line s w)
   line_quiet s w e =
       ap (λ l. record (standing_of p s) { told = l }) (told_more (Own p) s.lines (record { at = s.moment; what = w }) ∙ ap (λ l. starts_and_prints (Own p) s.lines ++ l) (told_nothing (Own p) (record { at = s.moment; what = w }) e) ∙ append-nil _)
 

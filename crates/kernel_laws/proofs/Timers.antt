@@ -1,5 +1,6 @@
 -- Etimer's poll: each timer that is due gets its line.
-use Rattle.std.proofs.Common.{ℕ, zero, suc, ◌≡◌, ◌<◌, ◌≤◌, ◌==◌, not, length, Bool, true, false, if◌then◌else◌, List, [], ◌∷◌, ◌++◌, Option, Some, None, refl, sym, ap, subst, ◌∙◌, append_assoc, arith}
+use Rattle.std.proofs.Common.{ℕ, zero, suc, ◌≡◌, ◌<◌, ◌≤◌, ◌==◌, not, length, Bool, true, false, if◌then◌else◌, List}
+use Rattle.std.proofs.Common.{[], ◌∷◌, ◌++◌, Option, Some, None, refl, sym, ap, subst, ◌∙◌, append_assoc, arith}
 use Rattle.std.proofs.lemmas.Bool.{eqb-true, eqb-false, cond_both}
 use Rattle.std.proofs.lemmas.Bool.Decides.{nat_tests}
 use Rattle.std.proofs.lemmas.List.{get_or-set_other}
@@ -19,7 +20,7 @@ use Rattle.process_kernel.specs.Calls.{told, is_system_event}
 use Rattle.process_kernel.specs.Etimer.{fired_of, post_due, walk_timers, walks_of, pass_of, etimer_of}
 use Rattle.process_kernel.specs.Posts.{post_of, poll_of}
 use Rattle.process_kernel.specs.Processes.{is_alive, process_state, with_needs_poll}
-use Rattle.kernel_laws.specs.Polled.{TellsPost, TellsOfPost, TimersAreTold}
+use Rattle.kernel_laws.specs.Polled.{TellsPost, TellsOfPost, DueTimersArePosted}
 use Rattle.kernel_laws.proofs.Packets.{IfGoes, Offered, WritesOne, post_offers, goes_bind}
 use Rattle.kernel_laws.specs.Own.{IsOwn}
 use Rattle.kernel_laws.proofs.EachStep.{Every, walk_timers_led, walks_led}
@@ -216,6 +217,6 @@ passed : (s t : State) (e : Event) → is_system_event Poll e ≡ true → etime
 unfolding etimer_of pass_of
 passed s t e poll goes = sym (rw poll refl) ∙ goes
 
-pub timers_are_told : TimersAreTold
+pub timers_are_told : DueTimersArePosted
 timers_are_told s t e timer owner poll goes listed due owned =
     subst (IfGoes (λ u. TellsOfPost s u (One owner) (system_number Timer) timer)) (passed s t e poll goes) (walks_tell timer owner (length s.timers.listed) s (record { listed = listed; due = due; owned = owned; within = omega arith }))

@@ -59,8 +59,8 @@ pub record TellsOfPost (s t : State) (target : Target) (number word : ℕ) : Typ
   pub wrote : t.lines ≡ s.lines ++ (before ++ record { at = s.moment; what = telling } ∷ after)
 
 -- a timer that is due is posted to its owner, whose queue may be full
-abbrev pub TimersAreTold : Type 0
-TimersAreTold =
+abbrev pub DueTimersArePosted : Type 0
+DueTimersArePosted =
     (s t : State) (e : Event) (timer : ℕ) (owner : Proc) → is_system_event Poll e ≡ true → etimer_of s e ≡ Goes tt t
     → is_member timer s.timers.listed ≡ true → is_due s.moment (timer_at s.timers.timers timer) ≡ true
     → (timer_at s.timers.timers timer).owner ≡ Some owner

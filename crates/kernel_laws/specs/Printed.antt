@@ -4,7 +4,8 @@ use Rattle.std.specs.List.{filter}
 use Rattle.program_tree.specs.declared.event.Proc.{Proc}
 use Rattle.program_tree.specs.declared.event.Proc.TheVariants.{Own}
 use Rattle.program_tree.specs.declared.event.SystemEvent.TheVariants.{Init}
-use Rattle.program_tree.specs.Tree.{Action, assign, print, spawn, post, broadcast, Statement, does, branch, while, Body}
+use Rattle.program_tree.specs.Tree.{Action, assign, print, spawn, post, broadcast, Statement, does, branch, while}
+use Rattle.program_tree.specs.Tree.{Body}
 use Rattle.program_tree.specs.Tree.{end, next, Otherwise, nothing, otherwise, listed}
 use Rattle.program_tree.specs.Code.{Code, Tree}
 use Rattle.protothread.specs.declared.answer.PtState.TheVariants.{Yielded}
@@ -58,14 +59,14 @@ pub record IsQuietApart (code : Code) : Type 0 where
   pub in_callbacks : are_quiet code.callbacks ≡ true
 
 -- a line for the start of this process, or one that it prints
-abbrev pub is_told_of : Proc → What → Bool
-is_told_of p (what.Start q) = is_same q p
-is_told_of p (what.Print q v) = is_same q p
-is_told_of p w = false
+abbrev pub starts_or_prints : Proc → What → Bool
+starts_or_prints p (what.Start q) = is_same q p
+starts_or_prints p (what.Print q v) = is_same q p
+starts_or_prints p w = false
 
 -- the lines of the starts and the prints of a process
 abbrev pub starts_and_prints : Proc → List Line → List Line
-starts_and_prints p lines = filter (λ l. is_told_of p l.what) lines
+starts_and_prints p lines = filter (λ l. starts_or_prints p l.what) lines
 
 -- the lines that a process prints when it is shown these sights and does these actions: one for each print, at the
 -- moment of its sight

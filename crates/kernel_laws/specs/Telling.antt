@@ -108,7 +108,7 @@ pub record IsIn (p : ℕ) (code : Code) (mote : ℕ) (told : List Line) (next : 
   pub comes : ComesHere p code mote told next r vars
 
 -- The process is at rest, and the lines about it are those of its lives, up to the variables that it has.
-pub record RestsAsTold (program : Tree) (mote p : ℕ) (code : Code) (told : List Line) (v : Standing) : Type 0 where
+pub record RestsAsTraced (program : Tree) (mote p : ℕ) (code : Code) (told : List Line) (v : Standing) : Type 0 where
   pub of_program : v.program ≡ program
   pub of_mote : v.mote ≡ mote
   pub tables : v.room ≡ v.has
@@ -122,7 +122,7 @@ pub record RestsAsTold (program : Tree) (mote p : ℕ) (code : Code) (told : Lis
 
 -- The lines so far of a mote are about the lives of the process up to its state; or up to the halt of the mote.
 pub record TellsSoFar (program : Tree) (mote p : ℕ) (code : Code) (lines : List Line) (m : Mote) : Type 0 where
-  pub going : m.halted ≡ false → RestsAsTold program mote p code (starts_and_prints (Own p) lines)
+  pub going : m.halted ≡ false → RestsAsTraced program mote p code (starts_and_prints (Own p) lines)
       (standing_of p m.state)
   pub halted : m.halted ≡ true → LivesSoFar code (Own p) mote code.starts (starts_and_prints (Own p) lines)
 

@@ -1,8 +1,9 @@
 //! Laws of the traces of a kernel. Each is a theorem, stated as the contract of an empty function.
 
-ghost use Rattle.kernel_laws.specs.Polled.{PacketsAreHanded, TimersAreTold};
+ghost use Rattle.kernel_laws.specs.Polled.{PacketsAreHanded, DueTimersArePosted};
 ghost use Rattle.kernel_laws.specs.Depth.{CallsAreAnyDepth, ThreadsAreAnyDepth, BootsAreAnyDepth, RunsAreAnyDepth};
-ghost use Rattle.kernel_laws.specs.Due.{CallsForgetNone, BootForgetsNone, RunForgetsNone, RunTellsDue, BootKeepsOwners};
+ghost use Rattle.kernel_laws.specs.Due.{CallsForgetNone, BootForgetsNone, RunForgetsNone, RunTellsDue};
+ghost use Rattle.kernel_laws.specs.Due.{BootKeepsOwners};
 ghost use Rattle.kernel_laws.specs.Due.{RunKeepsOwners};
 ghost use Rattle.kernel_laws.specs.Printed.{PrintsAreTheReading, PrintsSoFarAreTheReading};
 ghost use Rattle.kernel_laws.specs.Telling.{TellingIsOfLives, TellingIsOfLivesSoFar, NoLinesTellFirst, BootTells};
@@ -41,9 +42,9 @@ pub fn the_listed_are_running()
 /// Packets and timers that wait when the system processes are polled are accounted for: each packet that was accepted
 /// into the receive ring is posted to the receiver once, in order, or nobody hears it; and a timer that is due by now
 /// gives its owner TIMER. If the queue was full, a line says so.
-pub fn what_waits_is_told()
+pub fn what_waits_is_traced()
     ensures packets { PacketsAreHanded }
-    ensures timers { TimersAreTold }
+    ensures timers { DueTimersArePosted }
 {}
 
 /// Each line that is written in a boot or a kernel run is stamped with its moment, whatever calls nest, and even if
@@ -59,7 +60,7 @@ pub fn what_is_written_bears_its_moment()
 /// calls, however they nest, and over boots and kernel runs, none of which writes a line of a packet that arrives. A
 /// kernel run in which a poll of the radio process waits leaves the ring empty. If the mote halts, the packets that
 /// are left have no line.
-pub fn the_ring_is_told_of()
+pub fn the_ring_is_traced()
     ensures within { CallsTellPackets }
     ensures boot { BootTellsPackets }
     ensures run { RunTellsPackets }

@@ -1,11 +1,12 @@
 -- No two senders on an inbox have the same number: there are as many as other workers, and each number is that of one.
-use Rattle.std.proofs.Common.{◌≡◌, ◌≢◌, ◌⊎◌, ℕ, zero, suc, ◌<◌, ◌≤◌, true, false, eqb, List, [], ◌∷◌, length, refl, sym, ap, ◌∙◌, inl, inr, arith, ne_eqb}
+use Rattle.std.proofs.Common.{◌≡◌, ◌≢◌, ◌⊎◌, ℕ, zero, suc, ◌<◌, ◌≤◌, true, false, eqb, List, [], ◌∷◌, length, refl}
+use Rattle.std.proofs.Common.{sym, ap, ◌∙◌, inl, inr, arith, ne_eqb}
 use Rattle.std.specs.List.{AllByRecursion as Each, IsDistinct, list_any}
 use Rattle.std.proofs.lemmas.Bool.{cases_eq, cases_lt}
 use Rattle.std.proofs.lemmas.Option.{slice_get_within}
 use Rattle.std.proofs.lemmas.Bool.Decides.{eqb_tells}
 use Rattle.std.proofs.lemmas.Map.Steps.{length-le_from_distinct_below}
-use Rattle.mote_net.specs.Net.{NetTold}
+use Rattle.mote_net.specs.Net.{NetModel}
 use Rattle.all_workers.proofs.Lookups.{there}
 use Rattle.marked_workers.specs.All.{AllRan}
 use Rattle.marked_workers.proofs.Pairs.{numbered_at}
@@ -79,7 +80,7 @@ module _ (x y : ℕ) (g : ℕ → ℕ) (k n : ℕ) (one : (i j : ℕ) → i < k 
   two_more = few (with_two x y g) (suc (suc k)) n one_two low_two
 
 -- ---- the senders on one inbox
-module _ (n : NetTold) (of : List ℕ) (width windows workers : ℕ) (all : AllRan n of width windows workers) (u : ℕ) (lu : u < workers) where
+module _ (n : NetModel) (of : List ℕ) (width windows workers : ℕ) (all : AllRan n of width windows workers) (u : ℕ) (lu : u < workers) where
   abbrev k : ℕ
   k = length (all.senders u)
 

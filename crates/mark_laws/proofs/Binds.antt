@@ -1,6 +1,6 @@
 -- The actions of all threads end at the end of the protocol.
 use Rattle.std.proofs.Common.{◌≡◌, ℕ, suc, ◌<◌, List, length, refl, sym, ap, ◌∙◌, subst, arith}
-use Rattle.mote_net.specs.Net.{NetTold}
+use Rattle.mote_net.specs.Net.{NetModel}
 use Rattle.copy_inbox.specs.Items.{part}
 use Rattle.copy_inbox.specs.Handles.{InboxId}
 use Rattle.copy_exchange.specs.Pushes.{marks_in}
@@ -19,7 +19,7 @@ each_run_has_all n of width old new cut ran =
     let cut_now : IsCut (length n.motes) (length new.inboxes.items) of = subst (λ (l : List InboxId). IsCut (length n.motes) (length l) of) (sym ran.inboxes) cut in
     all_ran n of width (windows_of width n.end) new (ends_marked n of width old new cut_now ran)
 
-module _ (n : NetTold) (of : List ℕ) (width windows workers : ℕ) (all : AllRan n of width windows workers) (v u : ℕ) (lv : v < workers) (lu : u < workers) (ne : v ≡ u → ⊥) where
+module _ (n : NetModel) (of : List ℕ) (width windows workers : ℕ) (all : AllRan n of width windows workers) (v u : ℕ) (lv : v < workers) (lu : u < workers) (ne : v ≡ u → ⊥) where
   -- the number of a worker's sender is the one by which the other knows it
   pub number_is : number_of (all.sender u v) ≡ (pair n of width windows workers all u v lu lv ne).number
   number_is =

@@ -1,7 +1,7 @@
 -- Each copy that may be taken is expected.
 use Rattle.std.proofs.Common.{◌≡◌, ℕ, suc, ◌<◌, ◌≤◌, Bool, true, false, not, List, refl, ap, arith, suc-mul}
 use Rattle.radio_packet.specs.declared.copy.RadioCopy.{RadioCopy}
-use Rattle.mote_net.specs.Net.{NetTold}
+use Rattle.mote_net.specs.Net.{NetModel}
 use Rattle.window_laws.proofs.Lists.{every_filter, every_passes}
 use Rattle.worker_cut.specs.Crossed.{is_own, is_to}
 use Rattle.copy_inbox.specs.declared.items.Carried.TheVariants.{Packet}
@@ -20,7 +20,7 @@ use Rattle.mark_laws.specs.RunLaws.{NoCopyIsUnexpected}
 bounds_rise : (width end k : ℕ) → bound width end k ≤ bound width end (suc k)
 bounds_rise width end k = let m = suc-mul k width in omega arith
 
-module _ (n : NetTold) (of : List ℕ) (width windows workers : ℕ) (histories : ℕ → WorkerHistory) (w : State) (reached : IsReached (plan_of of windows workers histories) w) (worker other : ℕ)
+module _ (n : NetModel) (of : List ℕ) (width windows workers : ℕ) (histories : ℕ → WorkerHistory) (w : State) (reached : IsReached (plan_of of windows workers histories) w) (worker other : ℕ)
     (ran : (k : ℕ) → k ≤ w.finished other → k < windows → RanWindow n of width other (histories other) k)
     (copy : RadioCopy) (may : MayTake (plan_of of windows workers histories) w worker other (Packet copy)) where
   later : bound width n.end (suc (w.finished worker)) ≤ copy.at

@@ -1,7 +1,7 @@
 -- The threads of a run with marks, as a run of the protocol.
 use Rattle.std.specs.Prelude.{ℕ, suc, List, Option, Some, None}
 use Rattle.std.specs.List.{filter}
-use Rattle.mote_net.specs.Net.{NetTold}
+use Rattle.mote_net.specs.Net.{NetModel}
 use Rattle.worker_cut.specs.Crossed.{is_to}
 use Rattle.copy_inbox.specs.Items.{copies_of, part}
 use Rattle.copy_inbox.specs.Handles.{SenderView}
@@ -24,7 +24,7 @@ number_of None = 0
 number_of (Some s) = s.state.number
 
 -- the items that each has pushed to each other, and those that the other has taken, when all have run all windows
-abbrev pub state_of : (n : NetTold) (of : List ℕ) (width windows workers : ℕ) → AllRan n of width windows workers
+abbrev pub state_of : (n : NetModel) (of : List ℕ) (width windows workers : ℕ) → AllRan n of width windows workers
     → State
 state_of n of width windows workers all = record {
   finished = λ v. windows;
@@ -33,7 +33,7 @@ state_of n of width windows workers all = record {
 }
 
 -- in this window the motes of the worker ran as its history says
-abbrev pub RanWindow : NetTold → (of : List ℕ) → (width worker : ℕ) → WorkerHistory → (window : ℕ) → Type 0
+abbrev pub RanWindow : NetModel → (of : List ℕ) → (width worker : ℕ) → WorkerHistory → (window : ℕ) → Type 0
 RanWindow n of width worker history k =
     RunsMotes n of worker (bound width n.end k) (bound width n.end (suc k)) (history.motes k) (history.motes (suc k))
     (copies_of (history.taken k)) (history.outgoing k)

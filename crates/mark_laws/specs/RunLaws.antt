@@ -1,7 +1,7 @@
 -- The laws that bind the threads of a run with marks to the protocol.
 use Rattle.std.specs.Prelude.{◌≡◌, ℕ, suc, ◌<◌, ◌≤◌, List, length}
 use Rattle.radio_packet.specs.declared.copy.RadioCopy.{RadioCopy}
-use Rattle.mote_net.specs.Net.{NetTold}
+use Rattle.mote_net.specs.Net.{NetModel}
 use Rattle.copy_inbox.specs.declared.items.Carried.TheVariants.{Packet}
 use Rattle.copy_inbox.specs.Items.{part}
 use Rattle.worker_cut.specs.Crossed.{IsExpected}
@@ -17,35 +17,35 @@ use Rattle.marked_workers.specs.Run.{GroupRunsMarked}
 use Rattle.marked_workers.specs.WorkerHistory.{WorkerHistory}
 use Rattle.mark_laws.specs.Plan.{plan_of, number_of, state_of, RanWindow}
 
--- by the contract of `run_marked`, the takers of a run are those of all threads' actions
+-- by the contract of `run_by_marks`, the takers of a run are those of all threads' actions
 abbrev pub EachRunHasAll : Type 0
-EachRunHasAll = (n : NetTold) (of : List ℕ) (width : ℕ) (old new : Workers)
+EachRunHasAll = (n : NetModel) (of : List ℕ) (width : ℕ) (old new : Workers)
     → IsCut (length n.motes) (length old.inboxes.items) of → GroupRunsMarked n of width old new
     → (all : AllRan n of width (windows_of width n.end) (length new.inboxes.items))
     × IsOfTakers all new.takers.items
 
 -- the threads end at the end of the protocol
 abbrev pub RunsEndAtEnd : Type 0
-RunsEndAtEnd = (n : NetTold) (of : List ℕ) (width windows workers : ℕ) (all : AllRan n of width windows workers)
+RunsEndAtEnd = (n : NetModel) (of : List ℕ) (width windows workers : ℕ) (all : AllRan n of width windows workers)
     → IsAtEnd (plan_of of windows workers all.histories) (state_of n of width windows workers all)
 
 -- when a worker began the window after this one, it had taken the marks of this one from each other
 abbrev pub MarksLeadOn : Type 0
-MarksLeadOn = (n : NetTold) (of : List ℕ) (width windows workers : ℕ) (all : AllRan n of width windows workers)
+MarksLeadOn = (n : NetModel) (of : List ℕ) (width windows workers : ℕ) (all : AllRan n of width windows workers)
     → (window other worker : ℕ) → window < windows → IsPair (plan_of of windows workers all.histories) other worker
     → window < marks_in (part (number_of (all.sender worker other)) ((all.histories worker).taken (suc window)))
 
 -- no two senders on an inbox have the same number
 abbrev pub SendersAreApart : Type 0
-SendersAreApart = (n : NetTold) (of : List ℕ) (width windows workers : ℕ) (all : AllRan n of width windows workers)
+SendersAreApart = (n : NetModel) (of : List ℕ) (width windows workers : ℕ) (all : AllRan n of width windows workers)
     → (v w u : ℕ)
     → IsPair (plan_of of windows workers all.histories) v u → IsPair (plan_of of windows workers all.histories) w u
     → number_of (all.sender u v) ≡ number_of (all.sender u w) → v ≡ w
 
 -- each copy that a worker may take of another is expected, if that ran its motes in each window that it has begun
 abbrev pub NoCopyIsUnexpected : Type 0
-NoCopyIsUnexpected = (n : NetTold) (of : List ℕ) (width windows workers : ℕ) (histories : ℕ → WorkerHistory) (w : State)
-    → IsReached (plan_of of windows workers histories) w → (worker other : ℕ)
+NoCopyIsUnexpected = (n : NetModel) (of : List ℕ) (width windows workers : ℕ) (histories : ℕ → WorkerHistory)
+    → (w : State) → IsReached (plan_of of windows workers histories) w → (worker other : ℕ)
     → ((k : ℕ) → k ≤ w.finished other → k < windows → RanWindow n of width other (histories other) k)
     → (copy : RadioCopy) → MayTake (plan_of of windows workers histories) w worker other (Packet copy)
     → IsExpected of worker (bound width n.end (suc (w.finished worker))) copy

@@ -4,8 +4,8 @@
 ghost use Rattle.mark_laws.specs.RunLaws.{EachRunHasAll, RunsEndAtEnd, MarksLeadOn, SendersAreApart};
 ghost use Rattle.mark_laws.specs.RunLaws.{NoCopyIsUnexpected};
 
-/// If `run_marked` returns Ok, the actions of all threads together are those that [`ends_at_the_end`] compares with the
-/// protocol.
+/// If `run_by_marks` returns Ok, the actions of all threads together are those that [`ends_at_the_end`] compares with
+/// the protocol.
 pub fn each_run_has_all()
     ensures each_run_has_all { EachRunHasAll }
 {}

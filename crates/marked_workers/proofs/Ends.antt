@@ -1,8 +1,9 @@
 -- The promises of all threads, put together: all workers are at the end.
-use Rattle.std.proofs.Common.{◌≡◌, ◌≢◌, ℕ, suc, ◌<◌, ◌≤◌, false, List, [], length, get_or, refl, sym, ap, ◌∙◌, subst, inl, inr, arith, append-nil, Option, Some, None}
+use Rattle.std.proofs.Common.{◌≡◌, ◌≢◌, ℕ, suc, ◌<◌, ◌≤◌, false, List, [], length, get_or, refl, sym, ap, ◌∙◌, subst}
+use Rattle.std.proofs.Common.{inl, inr, arith, append-nil, Option, Some, None}
 use Rattle.std.specs.List.{slice_get, AllByRecursion as Each}
 use Rattle.std.proofs.lemmas.Bool.{cases_Bool, false≢true}
-use Rattle.mote_net.specs.Net.{NetTold}
+use Rattle.mote_net.specs.Net.{NetModel}
 use Rattle.window_laws.specs.Forward.{RunsForward}
 use Rattle.window_laws.specs.Windows.{first_mote, Windows, NoneBefore}
 use Rattle.net_agenda.specs.NetSystem.{system_of}
@@ -35,10 +36,11 @@ use Rattle.marked_workers.specs.All.{AllRan, GatheredSenders, IsOfTakers}
 use Rattle.marked_workers.proofs.Bounds.{at_the_end}
 use Rattle.marked_workers.proofs.Pairs.{not_other, pair, copies_from, copies_none}
 use Rattle.marked_workers.proofs.Seen.{nobodys, sent_so_far, of_worker, of_nobody}
-use Rattle.marked_workers.proofs.Settles.{pair_taken, all_taken, one, gathered_all, whole_then, no_mark, orderly, same_of_each}
+use Rattle.marked_workers.proofs.Settles.{pair_taken, all_taken, one, gathered_all, whole_then, no_mark, orderly}
+use Rattle.marked_workers.proofs.Settles.{same_of_each}
 use Rattle.marked_workers.proofs.Stages.{stage, own_stage, Reached, reached}
 
-module _ (n : NetTold) (of : List ℕ) (width windows : ℕ) (group : Workers) (h : EndAllMarked n of width windows group) where
+module _ (n : NetModel) (of : List ℕ) (width windows : ℕ) (group : Workers) (h : EndAllMarked n of width windows group) where
   abbrev workers : ℕ
   workers = length group.inboxes.items
 
@@ -219,6 +221,6 @@ module _ (n : NetTold) (of : List ℕ) (width windows : ℕ) (group : Workers) (
         let p : IsPart v (parts.0 v) = parts.1 v low in
         subst (λ (x : TakerView). Whole x.state.gathered x.state.taken) (same_found (slice_get group.takers.items v) p.taker t p.taker_at e) (whole_at v low))
 
-pub ends : (n : NetTold) → RunsForward (system_of n) → (of : List ℕ) (width windows : ℕ) → width ≤ (system_of n).lookahead → AreWindows width n.end windows
+pub ends : (n : NetModel) → RunsForward (system_of n) → (of : List ℕ) (width windows : ℕ) → width ≤ (system_of n).lookahead → AreWindows width n.end windows
     → (group : Workers) → EndAllMarked n of width windows group → IsAt n of (suc n.end) group × Each (λ (t : TakerView). Whole t.state.gathered t.state.taken) group.takers.items
 ends n fine of width windows short are group all = (all_at_end n of width windows group all fine short are, all_whole n of width windows group all fine short are)

@@ -1,9 +1,10 @@
 -- One more window of a worker's thread.
-use Rattle.std.proofs.Common.{◌≡◌, ◌≢◌, ℕ, zero, suc, ◌<◌, ◌≤◌, cond, eqb, List, [], ◌∷◌, ◌++◌, map, refl, sym, ap, ◌∙◌, subst, inl, inr, arith, eq-eqb}
+use Rattle.std.proofs.Common.{◌≡◌, ◌≢◌, ℕ, zero, suc, ◌<◌, ◌≤◌, cond, eqb, List, [], ◌∷◌, ◌++◌, map, refl, sym, ap}
+use Rattle.std.proofs.Common.{◌∙◌, subst, inl, inr, arith, eq-eqb}
 use Rattle.std.specs.List.{filter}
 use Rattle.std.proofs.lemmas.Bool.{cases_eq, ne_eqb}
 use Rattle.radio_packet.specs.declared.copy.RadioCopy.{RadioCopy}
-use Rattle.mote_net.specs.Net.{NetTold}
+use Rattle.mote_net.specs.Net.{NetModel}
 use Rattle.window_laws.specs.Windows.{first_mote}
 use Rattle.net_agenda.specs.NetSystem.{system_of}
 use Rattle.worker_cut.specs.Crossed.{is_to}
@@ -33,7 +34,7 @@ pushes_same (suc k) f g h =
     ∙ ap (λ l. pushes k g ++ (map Packet l ++ Mark k ∷ [])) (h k (omega arith))
 
 -- no window yet
-pub runs_none : (n : NetTold) (of : List ℕ) (width workers worker made : ℕ) → WorkerRunsWindows n of width 0 workers worker made [] (λ v. []) (record { motes = λ k. first_mote (system_of n); taken = λ k. []; outgoing = λ k. [] })
+pub runs_none : (n : NetModel) (of : List ℕ) (width workers worker made : ℕ) → WorkerRunsWindows n of width 0 workers worker made [] (λ v. []) (record { motes = λ k. first_mote (system_of n); taken = λ k. []; outgoing = λ k. [] })
 runs_none n of width workers worker made = record {
   first = refl;
   nothing = refl;
@@ -45,7 +46,7 @@ runs_none n of width workers worker made = record {
   pushes_then = λ v low ne. refl;
 }
 
-module _ (n : NetTold) (of : List ℕ) (width workers worker made k : ℕ) (taken more : List Item) (pushed pushes_now : ℕ → List Carried) (history : WorkerHistory) (next : Motes) (outgoing : List RadioCopy) where
+module _ (n : NetModel) (of : List ℕ) (width workers worker made k : ℕ) (taken more : List Item) (pushed pushes_now : ℕ → List Carried) (history : WorkerHistory) (next : Motes) (outgoing : List RadioCopy) where
   abbrev pub longer : WorkerHistory
   longer = record { motes = edit history.motes (suc k) next; taken = edit history.taken (suc k) (taken ++ more); outgoing = edit history.outgoing k outgoing }
 

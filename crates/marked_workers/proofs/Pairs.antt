@@ -1,12 +1,13 @@
 -- Who pushed which items into whose inbox, and the copies of a mote among those that a worker had taken before a
 -- window.
-use Rattle.std.proofs.Common.{◌≡◌, ◌≢◌, ◌⊎◌, ℕ, ◌<◌, ◌≤◌, false, eqb, List, [], ◌++◌, length, map, get_or, sym, ap, ◌∙◌, subst, inl, inr, arith, append_assoc, Some}
+use Rattle.std.proofs.Common.{◌≡◌, ◌≢◌, ◌⊎◌, ℕ, ◌<◌, ◌≤◌, false, eqb, List, [], ◌++◌, length, map, get_or, sym, ap}
+use Rattle.std.proofs.Common.{◌∙◌, subst, inl, inr, arith, append_assoc, Some}
 use Rattle.std.specs.List.{filter, slice_get, range_with_len, AllByRecursion as Each}
 use Rattle.std.specs.Option.{option_map_or}
 use Rattle.std.proofs.lemmas.Bool.{cases_lt, ne_eqb, false≢true}
 use Rattle.std.proofs.lemmas.List.FromFn.{get_or-range_with_len}
 use Rattle.radio_packet.specs.declared.copy.RadioCopy.{RadioCopy}
-use Rattle.mote_net.specs.Net.{NetTold}
+use Rattle.mote_net.specs.Net.{NetModel}
 use Rattle.window_laws.specs.Windows.{is_from_sender}
 use Rattle.window_laws.proofs.Lists.{filter_filter, filter_none, every_weaker}
 use Rattle.worker_cut.specs.Crossed.{is_own, is_to}
@@ -34,12 +35,12 @@ pub not_other : (of : List ℕ) (v w s : ℕ) → slice_get of s ≡ Some v → 
 not_other of v w s e ne = ap (λ o. option_map_or (λ x. eqb x w) o false) e ∙ ne_eqb v w ne
 
 -- outgoing copies are from the worker's own motes
-foreign_none : (n : NetTold) (of : List ℕ) (v s : ℕ) → is_own of v s ≡ false → (outgoing : List RadioCopy) → Each (IsOutgoing n of v) outgoing → filter (is_from_sender s) outgoing ≡ []
+foreign_none : (n : NetModel) (of : List ℕ) (v s : ℕ) → is_own of v s ≡ false → (outgoing : List RadioCopy) → Each (IsOutgoing n of v) outgoing → filter (is_from_sender s) outgoing ≡ []
 foreign_none n of v s other outgoing goes =
     filter_none (is_from_sender s) outgoing
     (every_weaker (IsOutgoing n of v) (λ (c : RadioCopy). is_from_sender s c ≡ false) (λ c g. ne_eqb c.sender s (λ e. false≢true (sym other ∙ (ap (is_own of v) (sym e) ∙ g.sender)))) outgoing goes)
 
-module _ (n : NetTold) (of : List ℕ) (width windows workers : ℕ) (all : AllRan n of width windows workers) where
+module _ (n : NetModel) (of : List ℕ) (width windows workers : ℕ) (all : AllRan n of width windows workers) where
   -- the copies that worker v sent to the motes of worker u, in each window
   abbrev pub sent_to : (v u : ℕ) → ℕ → List RadioCopy
   sent_to v u k = filter (is_to of u) ((all.histories v).outgoing k)

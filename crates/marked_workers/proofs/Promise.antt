@@ -2,7 +2,7 @@
 use Rattle.std.proofs.Common.{◌≡◌, ◌≢◌, ℕ, suc, ◌<◌, ◌≤◌, List, [], ◌∷◌, ◌++◌, map, sym, subst}
 use Rattle.std.specs.List.{filter, AllByRecursion as Each}
 use Rattle.radio_packet.specs.declared.copy.RadioCopy.{RadioCopy}
-use Rattle.mote_net.specs.Net.{NetTold}
+use Rattle.mote_net.specs.Net.{NetModel}
 use Rattle.window_laws.specs.Windows.{first_mote}
 use Rattle.net_agenda.specs.NetSystem.{system_of}
 use Rattle.worker_cut.specs.Crossed.{is_to}
@@ -23,7 +23,7 @@ use Rattle.marked_workers.proofs.Bounds.{at_first}
 use Rattle.marked_workers.proofs.Longer.{edit_same, runs_none, longer, runs_longer}
 
 -- with a new share, and a taker that has taken nothing
-pub promise_first : (n : NetTold) (of : List ℕ) (width workers worker : ℕ) (share : Share) (state : TakerState) → state.taken ≡ [] → state.gathered ≡ []
+pub promise_first : (n : NetModel) (of : List ℕ) (width workers worker : ℕ) (share : Share) (state : TakerState) → state.taken ≡ [] → state.gathered ≡ []
     → Keeps n of worker 0 (first_mote (system_of n)) [] share → WorkerRunsMarked n of width 0 workers worker share state (λ v. [])
 promise_first n of width workers worker share state taken nobody keeps = record {
   history = record { motes = λ k. first_mote (system_of n); taken = λ k. []; outgoing = λ k. [] };
@@ -34,7 +34,7 @@ promise_first n of width workers worker share state taken nobody keeps = record 
   nobody = nobody;
 }
 
-module _ (n : NetTold) (of : List ℕ) (width workers worker k : ℕ) (share ran_share last_share : Share) (state : TakerState) (pushed pushes_now : ℕ → List Carried) (more : List Item) (outgoing : List RadioCopy)
+module _ (n : NetModel) (of : List ℕ) (width workers worker k : ℕ) (share ran_share last_share : Share) (state : TakerState) (pushed pushes_now : ℕ → List Carried) (more : List Item) (outgoing : List RadioCopy)
     (promise : WorkerRunsMarked n of width k workers worker share state pushed)
     (window : RunsWindow n of worker (bound width n.end k) (bound width n.end (suc k)) (promise.history.motes k) (copies_of state.taken) ran_share outgoing)
     (goes : Each (IsOutgoing n of worker) outgoing)

@@ -1,7 +1,7 @@
 -- The workers of a run with marks before their first windows, once their endpoints are made.
 use Rattle.std.proofs.Common.{◌≡◌, ℕ, suc, ◌<◌, List, [], ◌∷◌, length, map, refl, sym, ap, ◌∙◌, subst, arith, Some}
 use Rattle.std.specs.List.{slice_get, zip, AllZip, AllByRecursion as Each}
-use Rattle.mote_net.specs.Net.{NetTold}
+use Rattle.mote_net.specs.Net.{NetModel}
 use Rattle.window_laws.specs.Windows.{first_mote}
 use Rattle.net_agenda.specs.NetSystem.{system_of}
 use Rattle.copy_inbox.specs.declared.rule.TakerState.{TakerState}
@@ -16,7 +16,8 @@ use Rattle.worker_window.specs.Share.{Keeps}
 use Rattle.all_workers.specs.Start.{AreFirst}
 use Rattle.all_workers.specs.Workers.{IsCut}
 use Rattle.all_workers.specs.Worker.{make_worker}
-use Rattle.all_workers.proofs.Lookups.{there, inside, read, beside, as_long, each_at, each_from, each_zipped, same_found}
+use Rattle.all_workers.proofs.Lookups.{there, inside, read, beside, as_long, each_at, each_from, each_zipped}
+use Rattle.all_workers.proofs.Lookups.{same_found}
 use Rattle.all_workers.proofs.Numbered.{numbered}
 use Rattle.all_workers.proofs.Starts.{fresh_at}
 use Rattle.marked_workers.specs.Run.{endpoints_of}
@@ -61,7 +62,7 @@ module _ (inboxes : List InboxId) (takers : List TakerView) (fresh : AllZip IsFr
   all_none_gathered : Each (λ (c : Endpoint). c.taker.state.gathered ≡ []) endpoints
   all_none_gathered = each_from (λ (c : Endpoint). c.taker.state.gathered ≡ []) endpoints none_gathered
 
-  module _ (n : NetTold) (of : List ℕ) (cut : IsCut (length n.motes) (length inboxes) of) (shares : List Share) (first : AreFirst n of (length inboxes) shares)
+  module _ (n : NetModel) (of : List ℕ) (cut : IsCut (length n.motes) (length inboxes) of) (shares : List Share) (first : AreFirst n of (length inboxes) shares)
       (nothing : Each HasPushedNothing endpoints) (marked : Each HasMarks endpoints) where
     one_ready : (v : ℕ) (s : Share) (c : Endpoint) → slice_get shares v ≡ Some s → slice_get endpoints v ≡ Some c → IsFirst n of inboxes (make_worker (s, c))
     one_ready v s c at_share at_endpoint =

@@ -1,9 +1,10 @@
 -- All workers at the end of their threads, put together.
-use Rattle.std.proofs.Common.{◌≡◌, ℕ, suc, ◌<◌, ◌≤◌, List, [], ◌∷◌, length, map, get_or, refl, sym, ap, ◌∙◌, subst, Option, Some}
+use Rattle.std.proofs.Common.{◌≡◌, ℕ, suc, ◌<◌, ◌≤◌, List, [], ◌∷◌, length, map, get_or, refl, sym, ap, ◌∙◌, subst}
+use Rattle.std.proofs.Common.{Option, Some}
 use Rattle.std.specs.List.{slice_get, range_with_len, AllZip, AllByRecursion as Each}
 use Rattle.std.proofs.lemmas.List.{length-map}
 use Rattle.std.proofs.lemmas.List.FromFn.{length-range_with_len}
-use Rattle.mote_net.specs.Net.{NetTold}
+use Rattle.mote_net.specs.Net.{NetModel}
 use Rattle.window_laws.specs.Forward.{RunsForward}
 use Rattle.window_laws.proofs.Lists.{every_weaker}
 use Rattle.net_agenda.specs.NetSystem.{system_of}
@@ -36,7 +37,7 @@ use Rattle.marked_workers.proofs.Ends.{ends}
 of_others : (workers worker : ℕ) (sender : ℕ → Option SenderView) (made : ℕ) (senders : List SenderView) → SendersOfOthers workers worker sender made senders → AreSenders workers worker sender made senders
 of_others workers worker sender made senders h = record { numbered = h.numbered; made_is = h.made_is; others = h.others; of_worker = h.of_worker; worker_of = h.worker_of }
 
-module _ (n : NetTold) (of : List ℕ) (width windows : ℕ) (inboxes : List InboxId) where
+module _ (n : NetModel) (of : List ℕ) (width windows : ℕ) (inboxes : List InboxId) where
   all_stay : (xs ys : List Worker) → AllZip (WorkerRunsAllWindows n of width windows inboxes) xs ys → AllZip Stays (endpoints_of xs) (endpoints_of ys)
   all_stay [] [] h = tt
   all_stay [] (y ∷ ys) h = h
@@ -54,7 +55,7 @@ module _ (n : NetTold) (of : List ℕ) (width windows : ℕ) (inboxes : List Inb
       → map (λ (c : Endpoint). c.worker) (endpoints_of ys) ≡ range_with_len 0 (length inboxes)
   all_back xs ys together ran = same_workers (endpoints_of xs) (endpoints_of ys) (all_stay xs ys ran) ∙ together.workers
 
-module _ (n : NetTold) (of : List ℕ) (width : ℕ) (old new : Workers) (cut : IsCut (length n.motes) (length new.inboxes.items) of) (ran : GroupRunsMarked n of width old new) where
+module _ (n : NetModel) (of : List ℕ) (width : ℕ) (old new : Workers) (cut : IsCut (length n.motes) (length new.inboxes.items) of) (ran : GroupRunsMarked n of width old new) where
   abbrev ids : List InboxId
   ids = new.inboxes.items
 
@@ -158,7 +159,7 @@ module _ (n : NetTold) (of : List ℕ) (width : ℕ) (old new : Workers) (cut : 
   }
 
 -- all workers are at the end, if no window was longer than the lookahead
-pub ended : (n : NetTold) → RunsForward (system_of n) → (of : List ℕ) (width : ℕ) → 0 < width → width ≤ (system_of n).lookahead
+pub ended : (n : NetModel) → RunsForward (system_of n) → (of : List ℕ) (width : ℕ) → 0 < width → width ≤ (system_of n).lookahead
     → (old new : Workers) → IsCut (length n.motes) (length old.inboxes.items) of → GroupRunsMarked n of width old new → IsAt n of (suc n.end) new × Each (λ (t : TakerView). Whole t.state.gathered t.state.taken) new.takers.items
 ended n fine of width wide short old new cut ran =
     let cut_now : IsCut (length n.motes) (length new.inboxes.items) of = subst (λ (l : List InboxId). IsCut (length n.motes) (length l) of) (sym ran.inboxes) cut in

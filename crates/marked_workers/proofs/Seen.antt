@@ -1,11 +1,12 @@
 -- The copies that a window sees of those that had been taken: the ones that were sent before it, and none that came
 -- early.
-use Rattle.std.proofs.Common.{◌≡◌, ◌≢◌, ℕ, suc, ◌+◌, ◌-◌, ◌<◌, ◌≤◌, Bool, true, false, ◌&&◌, ltb, eqb, List, [], length, refl, sym, ap, ◌∙◌, subst, arith, Option, Some, None}
+use Rattle.std.proofs.Common.{◌≡◌, ◌≢◌, ℕ, suc, ◌+◌, ◌-◌, ◌<◌, ◌≤◌, Bool, true, false, ◌&&◌, ltb, eqb, List, []}
+use Rattle.std.proofs.Common.{length, refl, sym, ap, ◌∙◌, subst, arith, Option, Some, None}
 use Rattle.std.specs.List.{filter, slice_get, AllByRecursion as Each}
 use Rattle.std.specs.Option.{option_map_or}
 use Rattle.std.proofs.lemmas.Bool.{le-ltb, false≢true}
 use Rattle.radio_packet.specs.declared.copy.RadioCopy.{RadioCopy}
-use Rattle.mote_net.specs.Net.{NetTold}
+use Rattle.mote_net.specs.Net.{NetModel}
 use Rattle.window_laws.specs.Windows.{is_from_sender, is_within}
 use Rattle.window_laws.proofs.Lists.{filter_filter, every_filter}
 use Rattle.worker_cut.specs.Crossed.{is_own, is_to}
@@ -35,7 +36,7 @@ too_late a b at until h = let e = le-ltb at until h in rw e (never a b)
     never true false = refl
     never false b = refl
 
-module _ (n : NetTold) (of : List ℕ) (width windows workers : ℕ) (all : AllRan n of width windows workers) (cut : IsCut (length n.motes) workers of) (are : AreWindows width n.end windows) where
+module _ (n : NetModel) (of : List ℕ) (width windows workers : ℕ) (all : AllRan n of width windows workers) (cut : IsCut (length n.motes) workers of) (are : AreWindows width n.end windows) where
   -- all that was sent to a worker before a window
   abbrev pub sent_so_far : (u k : ℕ) → List RadioCopy
   sent_so_far u k = sent_before workers (λ v. sent_before k (sent_to n of width windows workers all v u))

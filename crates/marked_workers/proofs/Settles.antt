@@ -1,9 +1,10 @@
 -- At the end all that was pushed is taken, and the inboxes are settled.
-use Rattle.std.proofs.Common.{◌≡◌, ◌≢◌, ◌⊎◌, ℕ, ◌<◌, ◌≤◌, false, List, [], ◌∷◌, ◌++◌, length, drop, refl, sym, ap, ◌∙◌, subst, inl, inr, arith, append-nil, Option, Some, None}
+use Rattle.std.proofs.Common.{◌≡◌, ◌≢◌, ◌⊎◌, ℕ, ◌<◌, ◌≤◌, false, List, [], ◌∷◌, ◌++◌, length, drop, refl, sym, ap, ◌∙◌}
+use Rattle.std.proofs.Common.{subst, inl, inr, arith, append-nil, Option, Some, None}
 use Rattle.std.specs.List.{slice_get, AllByRecursion as Each}
 use Rattle.std.proofs.lemmas.Bool.{cases_eq, cases_lt, false≢true}
 use Rattle.std.proofs.Math.Seq.{drop-length}
-use Rattle.mote_net.specs.Net.{NetTold}
+use Rattle.mote_net.specs.Net.{NetModel}
 use Rattle.window_laws.proofs.Lists.{every_weaker}
 use Rattle.worker_cut.specs.Crossed.{is_own}
 use Rattle.copy_inbox.specs.declared.items.Item.{Item}
@@ -15,7 +16,8 @@ use Rattle.copy_inbox.specs.Handles.{TakerView, SenderView, after_gather, AllGat
 use Rattle.copy_inbox.proofs.Parts.{part-not_nil}
 use Rattle.copy_exchange.specs.Endpoints.{AreOpen, pushed_list}
 use Rattle.copy_exchange.specs.Takers.{copies_gathered, copies_in, IsOrderly}
-use Rattle.copy_exchange.proofs.Gathers.{OneOf, copies_by, as_gathered, joined, with_joined, all_gathered, orderly_then}
+use Rattle.copy_exchange.proofs.Gathers.{OneOf, copies_by, as_gathered, joined, with_joined, all_gathered}
+use Rattle.copy_exchange.proofs.Gathers.{orderly_then}
 use Rattle.copy_exchange.proofs.Parts.{from}
 use Rattle.copy_exchange.specs.Pushes.{pushes, marks_in}
 use Rattle.copy_exchange.proofs.Early.{copies_pushes}
@@ -29,7 +31,7 @@ use Rattle.marked_workers.proofs.Pairs.{sent_to, none_sent, not_other, Pair, pai
 use Rattle.marked_workers.proofs.Seen.{nobodys}
 
 -- ---- the senders on one inbox
-module _ (n : NetTold) (of : List ℕ) (width windows workers : ℕ) (all : AllRan n of width windows workers) (u : ℕ) (lu : u < workers) where
+module _ (n : NetModel) (of : List ℕ) (width windows workers : ℕ) (all : AllRan n of width windows workers) (u : ℕ) (lu : u < workers) where
   -- the worker whose sender it is
   record Owner (a : SenderView) : Type 0 where
     worker : ℕ

@@ -1,10 +1,11 @@
 -- All motes before each window: the windows of all workers are those of the law of windows.
-use Rattle.std.proofs.Common.{◌≡◌, ℕ, zero, suc, ◌+◌, ◌<◌, ◌≤◌, true, List, [], ◌++◌, length, refl, sym, ap, ◌∙◌, subst, inl, inr, arith, append-nil, Option, Some, None}
+use Rattle.std.proofs.Common.{◌≡◌, ℕ, zero, suc, ◌+◌, ◌<◌, ◌≤◌, true, List, [], ◌++◌, length, refl, sym, ap, ◌∙◌}
+use Rattle.std.proofs.Common.{subst, inl, inr, arith, append-nil, Option, Some, None}
 use Rattle.std.specs.List.{filter, slice_get}
 use Rattle.std.specs.Option.{option_map_or}
 use Rattle.std.proofs.lemmas.Bool.{cases_Bool}
 use Rattle.radio_packet.specs.declared.copy.RadioCopy.{RadioCopy}
-use Rattle.mote_net.specs.Net.{NetTold}
+use Rattle.mote_net.specs.Net.{NetModel}
 use Rattle.window_laws.specs.Forward.{RunsForward}
 use Rattle.window_laws.specs.Windows.{Alone, first_mote, Windows, is_at, Last}
 use Rattle.net_agenda.specs.NetSystem.{system_of}
@@ -27,7 +28,7 @@ use Rattle.marked_workers.proofs.Lists.{none_before}
 use Rattle.marked_workers.proofs.Pairs.{sent_to}
 use Rattle.marked_workers.proofs.Seen.{sent_so_far, of_worker, of_nobody, sees, seen}
 
-module _ (n : NetTold) (fine : RunsForward (system_of n)) (of : List ℕ) (width windows workers : ℕ) (all : AllRan n of width windows workers) (cut : IsCut (length n.motes) workers of) (are : AreWindows width n.end windows)
+module _ (n : NetModel) (fine : RunsForward (system_of n)) (of : List ℕ) (width windows workers : ℕ) (all : AllRan n of width windows workers) (cut : IsCut (length n.motes) workers of) (are : AreWindows width n.end windows)
     (short : width ≤ (system_of n).lookahead) where
   -- all motes before a window, each as its worker had it
   abbrev pub stage : ℕ → Motes

@@ -1,9 +1,10 @@
 -- A worker's windows, one after another: the effect of each, by the promise of its thread.
-use Rattle.std.proofs.Common.{◌≡◌, ◌≢◌, ◌==◌, ℕ, suc, ◌<◌, ◌≤◌, List, [], ◌∷◌, ◌++◌, length, get_or, map, refl, sym, ap, ◌∙◌, subst, arith, None}
+use Rattle.std.proofs.Common.{◌≡◌, ◌≢◌, ◌==◌, ℕ, suc, ◌<◌, ◌≤◌, List, [], ◌∷◌, ◌++◌, length, get_or, map, refl, sym}
+use Rattle.std.proofs.Common.{ap, ◌∙◌, subst, arith, None}
 use Rattle.std.specs.List.{filter, AllByRecursion as Each}
 use Rattle.std.proofs.lemmas.Bool.{ne_eqb}
 use Rattle.radio_packet.specs.declared.copy.RadioCopy.{RadioCopy}
-use Rattle.mote_net.specs.Net.{NetTold}
+use Rattle.mote_net.specs.Net.{NetModel}
 use Rattle.window_laws.proofs.Lists.{every_weaker}
 use Rattle.net_agenda.specs.NetSystem.{system_of}
 use Rattle.worker_cut.specs.Crossed.{is_to, IsExpected}
@@ -30,12 +31,13 @@ use Rattle.all_workers.specs.declared.worker.Worker.{Worker}
 use Rattle.marked_workers.specs.declared.worker.MarkWorker.{MarkWorker}
 use Rattle.marked_workers.specs.Bounds.{bound, windows_of, AreWindows}
 use Rattle.marked_workers.specs.WorkerHistory.{WorkerRunsMarked}
-use Rattle.marked_workers.specs.Thread.{IsFirst, IsStarted, IsSame, SendsWindow, TakesWindow, HasRun, WorkerRunsAllWindows}
+use Rattle.marked_workers.specs.Thread.{IsFirst, IsStarted, IsSame, SendsWindow, TakesWindow, HasRun}
+use Rattle.marked_workers.specs.Thread.{WorkerRunsAllWindows}
 use Rattle.marked_workers.proofs.Bounds.{are_windows, begins_before, no_wider}
 use Rattle.marked_workers.proofs.Promise.{promise_first, promise_next}
 
 -- outgoing copies are for motes of the workers
-pub reaches_sent : (n : NetTold) (of : List ℕ) (workers worker : ℕ) (outgoing : List RadioCopy) → IsCut (length n.motes) workers of → Each (IsOutgoing n of worker) outgoing → Each (Reaches of workers) outgoing
+pub reaches_sent : (n : NetModel) (of : List ℕ) (workers worker : ℕ) (outgoing : List RadioCopy) → IsCut (length n.motes) workers of → Each (IsOutgoing n of worker) outgoing → Each (Reaches of workers) outgoing
 reaches_sent n of workers worker outgoing cut out = every_weaker _ _ (λ c h. h.reaches) outgoing (leaves_sent n of workers worker outgoing cut out)
 
 -- items of senders that were made have no part of another
@@ -49,7 +51,7 @@ of_made_more : (made : ℕ) (xs ys : List Item) → OfMade made xs → Each (λ 
 of_made_more made xs ys h more s le = part-append s xs ys ∙ (ap (λ l. l ++ part s ys) (h s le) ∙ none_of_others made ys more s le)
 
 -- a worker before its first window, with its counts of marks
-pub started : (n : NetTold) (of : List ℕ) (inboxes : List InboxId) (w : Worker) (m : MarkEndpoint) → IsFirst n of inboxes w → m.base ≡ w.endpoint
+pub started : (n : NetModel) (of : List ℕ) (inboxes : List InboxId) (w : Worker) (m : MarkEndpoint) → IsFirst n of inboxes w → m.base ≡ w.endpoint
     → Counts m.marks.items w.endpoint.taker.state → IsStarted n of inboxes (record { share = w.share; endpoint = m })
 started n of inboxes w m first same counts =
     subst (λ (x : Endpoint). IsStarted n of inboxes (record { share = w.share; endpoint = record m { base = x } })) (sym same) (record {
@@ -64,7 +66,7 @@ started n of inboxes w m first same counts =
     })
 
 -- and after all its windows, without the counts
-pub told_of : (n : NetTold) (of : List ℕ) (width windows : ℕ) (inboxes : List InboxId) (w d : Worker) (m e : MarkWorker) → IsSame w m → IsSame d e
+pub told_of : (n : NetModel) (of : List ℕ) (width windows : ℕ) (inboxes : List InboxId) (w d : Worker) (m e : MarkWorker) → IsSame w m → IsSame d e
     → HasRun n of width windows inboxes m e → WorkerRunsAllWindows n of width windows inboxes w d
 told_of n of width windows inboxes w d m e before after ran = record {
   stays = subst (λ x. Stays x d.endpoint) before.endpoint (subst (Stays m.endpoint.base) after.endpoint ran.stays);
@@ -75,7 +77,7 @@ told_of n of width windows inboxes w d m e before after ran = record {
 }
 
 -- before its first window
-pub no_window : (n : NetTold) (of : List ℕ) (width : ℕ) (inboxes : List InboxId) (w : MarkWorker) → IsStarted n of inboxes w → HasRun n of width 0 inboxes w w
+pub no_window : (n : NetModel) (of : List ℕ) (width : ℕ) (inboxes : List InboxId) (w : MarkWorker) → IsStarted n of inboxes w → HasRun n of width 0 inboxes w w
 no_window n of width inboxes w m = record {
   stays = stays_same w.endpoint.base;
   promise = subst (λ (p : ℕ → List Carried). WorkerRunsMarked n of width 0 (length inboxes) w.endpoint.base.worker w.share w.endpoint.base.taker.state p)
@@ -87,7 +89,7 @@ no_window n of width inboxes w m = record {
 }
 
 -- a worker after some windows
-module _ (n : NetTold) (of : List ℕ) (width k until : ℕ) (inboxes : List InboxId) (wide : 0 < width) (low : k < windows_of width n.end) (at : until ≡ bound width n.end (suc k)) (first old : MarkWorker)
+module _ (n : NetModel) (of : List ℕ) (width k until : ℕ) (inboxes : List InboxId) (wide : 0 < width) (low : k < windows_of width n.end) (at : until ≡ bound width n.end (suc k)) (first old : MarkWorker)
     (stands : HasRun n of width k inboxes first old) where
   are : AreWindows width n.end (windows_of width n.end)
   are = are_windows width n.end wide

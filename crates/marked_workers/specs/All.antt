@@ -1,7 +1,7 @@
 -- The actions of all workers in a run with marks, worker by worker.
 use Rattle.std.specs.Prelude.{◌≡◌, ℕ, ◌<◌, List, [], slice_get, Option, Some}
 use Rattle.std.specs.List.{AllByRecursion as Each}
-use Rattle.mote_net.specs.Net.{NetTold}
+use Rattle.mote_net.specs.Net.{NetModel}
 use Rattle.copy_inbox.specs.declared.items.Item.{Item}
 use Rattle.copy_inbox.specs.Items.{part, BeginsWith}
 use Rattle.copy_inbox.specs.Handles.{SenderView, TakerView}
@@ -12,7 +12,7 @@ use Rattle.marked_workers.specs.WorkerHistory.{WorkerHistory, WorkerRunsWindows}
 
 -- Each worker ran its windows as its history says, and has taken a prefix of the items that each sender on its inbox
 -- pushed. `sender inbox worker` is the sender of a worker on an inbox.
-pub record AllRan (n : NetTold) (of : List ℕ) (width windows workers : ℕ) : Type 0 where
+pub record AllRan (n : NetModel) (of : List ℕ) (width windows workers : ℕ) : Type 0 where
   pub made : ℕ → ℕ
   pub taken : ℕ → List Item
   pub sender : (inbox worker : ℕ) → Option SenderView
@@ -33,7 +33,7 @@ pub record GatheredSenders (made : ℕ) (taken : List Item) (senders : List Send
   pub gathered : taker ≡ gather_senders before senders
 
 -- These takers took and gathered the items of `all`, and no more.
-abbrev pub IsOfTakers : {n : NetTold} {of : List ℕ} {width windows workers : ℕ}
+abbrev pub IsOfTakers : {n : NetModel} {of : List ℕ} {width windows workers : ℕ}
     → AllRan n of width windows workers → List TakerView → Type 0
 IsOfTakers {n} {of} {width} {windows} {workers} all takers = (v : ℕ) → v < workers → (taker : TakerView)
     → slice_get takers v ≡ Some taker → GatheredSenders (all.made v) (all.taken v) (all.senders v) taker

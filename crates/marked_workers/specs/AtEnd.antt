@@ -1,7 +1,7 @@
 -- All workers at the end of a run with marks.
 use Rattle.std.specs.Prelude.{ℕ, ◌≡◌, suc, ◌<◌, ◌≤◌, List, length, slice_index_or, Option, None}
 use Rattle.std.specs.List.{AllByRecursion as Each}
-use Rattle.mote_net.specs.Net.{NetTold}
+use Rattle.mote_net.specs.Net.{NetModel}
 use Rattle.window_laws.specs.Forward.{RunsForward}
 use Rattle.net_agenda.specs.NetSystem.{system_of}
 use Rattle.copy_inbox.specs.Gathered.{Whole}
@@ -20,7 +20,7 @@ use Rattle.marked_workers.specs.WorkerHistory.{WorkerRunsMarked}
 -- One worker when all threads are joined: it ran all windows as it promised, had taken a prefix of the items that each
 -- sender on its inbox pushed, and then gathered these senders. `sender inbox worker` is the sender of a worker on an
 -- inbox.
-pub record EndsMarked (n : NetTold) (of : List ℕ) (width windows workers : ℕ)
+pub record EndsMarked (n : NetModel) (of : List ℕ) (width windows workers : ℕ)
     (sender : (inbox worker : ℕ) → Option SenderView) (worker : ℕ) (share : Share) (taker : TakerView) : Type 0 where
   pub before : TakerView
   pub promise : WorkerRunsMarked n of width windows workers worker share before.state
@@ -31,7 +31,7 @@ pub record EndsMarked (n : NetTold) (of : List ℕ) (width windows workers : ℕ
   pub gathered : taker ≡ gather_senders before senders
 
 -- all workers
-pub record EndAllMarked (n : NetTold) (of : List ℕ) (width windows : ℕ) (group : Workers) : Type 0 where
+pub record EndAllMarked (n : NetModel) (of : List ℕ) (width windows : ℕ) (group : Workers) : Type 0 where
   pub cut : IsCut (length n.motes) (length group.inboxes.items) of
   pub shares : length group.shares.items ≡ length group.inboxes.items
   pub takers : length group.takers.items ≡ length group.inboxes.items
@@ -46,7 +46,7 @@ pub record EndAllMarked (n : NetTold) (of : List ℕ) (width windows : ℕ) (gro
 -- However the threads were scheduled, all workers are at the end, as if all copies had been exchanged between the
 -- windows, and each has taken all items that were pushed to it, with every mark.
 abbrev pub MarkedWindowsLeadToTheEnd : Type 0
-MarkedWindowsLeadToTheEnd = (n : NetTold) → RunsForward (system_of n) → (of : List ℕ) (width windows : ℕ)
+MarkedWindowsLeadToTheEnd = (n : NetModel) → RunsForward (system_of n) → (of : List ℕ) (width windows : ℕ)
     → width ≤ (system_of n).lookahead → AreWindows width n.end windows
     → (group : Workers) → EndAllMarked n of width windows group
     → IsAt n of (suc n.end) group × Each (λ (t : TakerView). Whole t.state.gathered t.state.taken) group.takers.items

@@ -1,7 +1,7 @@
 -- The run of all workers with marks.
 use Rattle.std.specs.Prelude.{ℕ, ◌≡◌, List, [], map, None}
 use Rattle.std.specs.List.{AllByRecursion as Each, AllZip}
-use Rattle.mote_net.specs.Net.{NetTold}
+use Rattle.mote_net.specs.Net.{NetModel}
 use Rattle.copy_exchange.specs.declared.endpoint.Endpoint.{Endpoint}
 use Rattle.copy_exchange.specs.Endpoints.{Together}
 use Rattle.copy_exchange.specs.Steps.{GathersBack}
@@ -15,7 +15,7 @@ endpoints_of workers = map (λ worker. worker.endpoint) workers
 
 -- the senders of all workers were made together, each worker ran all windows in its thread, and the senders were then
 -- gathered
-pub record GroupRunsMarked (n : NetTold) (of : List ℕ) (width : ℕ) (old new : Workers) : Type 0 where
+pub record GroupRunsMarked (n : NetModel) (of : List ℕ) (width : ℕ) (old new : Workers) : Type 0 where
   pub first : List Worker
   pub done : List Worker
   pub together : Together new.inboxes.items (endpoints_of first)

@@ -2,7 +2,7 @@
 use Rattle.std.specs.Prelude.{ℕ, ◌≡◌, suc, ◌+◌, ◌≤◌, List, [], length}
 use Rattle.std.specs.List.{AllByRecursion as Each}
 use Rattle.radio_packet.specs.declared.copy.RadioCopy.{RadioCopy}
-use Rattle.mote_net.specs.Net.{NetTold}
+use Rattle.mote_net.specs.Net.{NetModel}
 use Rattle.window_laws.specs.Windows.{first_mote}
 use Rattle.net_agenda.specs.NetSystem.{system_of}
 use Rattle.copy_inbox.specs.Handles.{InboxId}
@@ -19,7 +19,7 @@ use Rattle.marked_workers.specs.WorkerHistory.{WorkerRunsMarked}
 
 -- A worker before its first window: its share is as it began, on its inbox a sender of each other worker was made, and
 -- nothing was pushed or taken.
-pub record IsFirst (n : NetTold) (of : List ℕ) (inboxes : List InboxId) (w : Worker) : Type 0 where
+pub record IsFirst (n : NetModel) (of : List ℕ) (inboxes : List InboxId) (w : Worker) : Type 0 where
   pub cut : IsCut (length n.motes) (length inboxes) of
   pub keeps : Keeps n of w.endpoint.worker 0 (first_mote (system_of n)) [] w.share
   pub on_inboxes : IsOnInboxes inboxes w.endpoint
@@ -35,7 +35,7 @@ pub record IsSame (w : Worker) (m : MarkWorker) : Type 0 where
   pub endpoint : m.endpoint.base ≡ w.endpoint
 
 -- a worker in its thread before its first window
-pub record IsStarted (n : NetTold) (of : List ℕ) (inboxes : List InboxId) (w : MarkWorker) : Type 0 where
+pub record IsStarted (n : NetModel) (of : List ℕ) (inboxes : List InboxId) (w : MarkWorker) : Type 0 where
   pub cut : IsCut (length n.motes) (length inboxes) of
   pub keeps : Keeps n of w.endpoint.base.worker 0 (first_mote (system_of n)) [] w.share
   pub on_inboxes : IsOnInboxes inboxes w.endpoint.base
@@ -46,7 +46,7 @@ pub record IsStarted (n : NetTold) (of : List ℕ) (inboxes : List InboxId) (w :
   pub none_pushed : HasPushedNothing w.endpoint.base
 
 -- its motes ran through a window, and the outgoing copies were pushed, with the window's mark after them
-pub record SendsWindow (n : NetTold) (of : List ℕ) (workers window until : ℕ) (old new : MarkWorker) : Type 0 where
+pub record SendsWindow (n : NetModel) (of : List ℕ) (workers window until : ℕ) (old new : MarkWorker) : Type 0 where
   pub outgoing : List RadioCopy
   pub runs : (worker from : ℕ) (motes : Motes) (taken : List RadioCopy) → Keeps n of worker from motes taken old.share
       → from ≤ until → until ≤ from + (system_of n).lookahead
@@ -67,7 +67,7 @@ pub record TakesWindow (of : List ℕ) (window until : ℕ) (old new : MarkWorke
   pub keeps : TakesIn arrived old.share new.share
 
 -- a worker that has run this many windows, from the state `first` on
-pub record HasRun (n : NetTold) (of : List ℕ) (width windows : ℕ) (inboxes : List InboxId)
+pub record HasRun (n : NetModel) (of : List ℕ) (width windows : ℕ) (inboxes : List InboxId)
     (first now : MarkWorker) : Type 0 where
   pub stays : Stays first.endpoint.base now.endpoint.base
   pub promise : WorkerRunsMarked n of width windows (length inboxes) first.endpoint.base.worker now.share
@@ -78,13 +78,13 @@ pub record HasRun (n : NetTold) (of : List ℕ) (width windows : ℕ) (inboxes :
 
 -- If windows are no longer than the lookahead: from whichever first state this many windows have led to the old one,
 -- one more window has led from it to the new one.
-abbrev pub LeadsOn : NetTold → (of : List ℕ) → (width window : ℕ) → (inboxes : List InboxId)
+abbrev pub LeadsOn : NetModel → (of : List ℕ) → (width window : ℕ) → (inboxes : List InboxId)
     → (old new : MarkWorker) → Type 0
 LeadsOn n of width window inboxes old new = width ≤ (system_of n).lookahead → (first : MarkWorker)
     → HasRun n of width window inboxes first old → HasRun n of width (suc window) inboxes first new
 
 -- all that a worker's thread does: it ran this many windows
-pub record WorkerRunsAllWindows (n : NetTold) (of : List ℕ) (width windows : ℕ) (inboxes : List InboxId)
+pub record WorkerRunsAllWindows (n : NetModel) (of : List ℕ) (width windows : ℕ) (inboxes : List InboxId)
     (first now : Worker) : Type 0 where
   pub stays : Stays first.endpoint now.endpoint
   pub promise : WorkerRunsMarked n of width windows (length inboxes) first.endpoint.worker now.share

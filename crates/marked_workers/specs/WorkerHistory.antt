@@ -2,7 +2,7 @@
 use Rattle.std.specs.Prelude.{ℕ, ◌≡◌, ◌≢◌, suc, ◌<◌, ◌≤◌, true, List, [], ◌++◌}
 use Rattle.std.specs.List.{filter, AllByRecursion as Each}
 use Rattle.radio_packet.specs.declared.copy.RadioCopy.{RadioCopy}
-use Rattle.mote_net.specs.Net.{NetTold}
+use Rattle.mote_net.specs.Net.{NetModel}
 use Rattle.window_laws.specs.Windows.{first_mote, is_from_sender}
 use Rattle.net_agenda.specs.NetSystem.{system_of}
 use Rattle.worker_cut.specs.Crossed.{is_own, is_to}
@@ -24,7 +24,7 @@ pub record WorkerHistory : Type 0 where
   pub outgoing : ℕ → List RadioCopy
 
 -- one window of the worker's motes, on the copies that it had taken by then
-pub record RunsMotes (n : NetTold) (of : List ℕ) (worker from until : ℕ) (motes next : Motes)
+pub record RunsMotes (n : NetModel) (of : List ℕ) (worker from until : ℕ) (motes next : Motes)
     (taken outgoing : List RadioCopy) : Type 0 where
   pub runs : (k : ℕ) → is_own of worker k ≡ true → RunsOwnMote n (is_own of worker) from until motes next taken k
   pub out : (s : ℕ) → outgoing_by n (is_own of worker) next s
@@ -35,7 +35,7 @@ pub record RunsMotes (n : NetTold) (of : List ℕ) (worker from until : ℕ) (mo
 -- The first windows of one worker, this many. Before each window it had taken, of each sender that was made on its
 -- inbox, the marks of all windows before. The items that it pushed to another worker are, window by window, the copies
 -- for that worker's motes and then the mark.
-pub record WorkerRunsWindows (n : NetTold) (of : List ℕ) (width windows workers worker made : ℕ) (taken : List Item)
+pub record WorkerRunsWindows (n : NetModel) (of : List ℕ) (width windows workers worker made : ℕ) (taken : List Item)
     (pushed : ℕ → List Carried) (history : WorkerHistory) : Type 0 where
   pub first : history.motes 0 ≡ first_mote (system_of n)
   pub nothing : history.taken 0 ≡ []
@@ -50,7 +50,7 @@ pub record WorkerRunsWindows (n : NetTold) (of : List ℕ) (width windows worker
 
 -- The promise: the worker ran this many windows, with some history, and the share keeps the motes at their end. The
 -- taker has taken the items of the history, and has gathered nobody.
-pub record WorkerRunsMarked (n : NetTold) (of : List ℕ) (width windows workers worker : ℕ) (share : Share)
+pub record WorkerRunsMarked (n : NetModel) (of : List ℕ) (width windows workers worker : ℕ) (share : Share)
     (state : TakerState) (pushed : ℕ → List Carried) : Type 0 where
   pub history : WorkerHistory
   pub ran : WorkerRunsWindows n of width windows workers worker state.made state.taken pushed history

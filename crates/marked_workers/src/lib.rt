@@ -6,6 +6,6 @@ mod run;
 mod thread;
 mod worker;
 
-pub use run::run_marked;
+pub use run::run_by_marks;
 pub use thread::MarkRunner;
 pub use worker::{MarkWorker, WorkersRun};

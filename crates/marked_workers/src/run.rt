@@ -63,8 +63,8 @@ where
     requires wide { 0 < run.width }
     requires short { run.width ≤ (system_of (net_of run.net.now)).lookahead }
     requires first { Each (IsFirst (net_of run.net.now) run.of.now run.inboxes.now) workers.items }
-    ensures runs { let n = net_of run.entry.net.now in IfOk result (λ done. AllZip
-        (WorkerRunsAllWindows n run.entry.of.now run.entry.width (windows_of run.entry.width n.end) run.entry.inboxes.now)
+    ensures runs { let n = net_of run.entry.net.now in IfOk result (λ done. AllZip (WorkerRunsAllWindows n
+        run.entry.of.now run.entry.width (windows_of run.entry.width n.end) run.entry.inboxes.now)
         workers.items done.items) }
     ensures failed { IfErr result (λ e. is_own e ≡ true) }
 {
@@ -123,7 +123,7 @@ where
 /// # Errors
 /// `Memory`, or `Thread` if a thread couldn't be started, the gate refused a start, or the executor returned an error:
 /// that of the lowest worker that has one. It is never `Stopped`: a worker stops only if another, or a start, failed.
-pub fn run_marked<R, G>(
+pub fn run_by_marks<R, G>(
     rt: &R,
     alloc: Global,
     net: &Net,

@@ -17,7 +17,7 @@ ghost use Rattle.marked_workers.specs.Thread.{SendsWindow, TakesWindow};
 
 use crate::worker::{MarkWorker, WorkersRun};
 use all_workers::{Worker, window_end};
-use copy_exchange::{MarkEndpoint, MarkError, Standing};
+use copy_exchange::{MarkEndpoint, MarkError, WindowPosition};
 use fork_join::{Refused, Watch, Work};
 use std::alloc::{AllocGlobal, Global};
 use std::random::RandomSource;
@@ -105,7 +105,7 @@ fn take_window<R: Wait + AllocGlobal, L: Ledger>(
 {
     let number = worker.endpoint.base.worker;
     let inbox = &run.inboxes[usize::from(number)];
-    let standing = Standing {
+    let standing = WindowPosition {
         worker: number,
         of: run.of,
         from: until,

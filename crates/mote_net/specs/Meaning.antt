@@ -4,8 +4,11 @@ use Rattle.mote_net.specs.declared.net.MoteSetup.{MoteSetup as SetupOfCode}
 use Rattle.mote_net.specs.declared.net.Net.{Net}
 use Rattle.mote_net.specs.declared.programs.NamedProgram.{NamedProgram}
 use Rattle.mote_net.specs.Programs.{NamedTree}
-use Rattle.mote_net.specs.Net.{MoteSetup, NetTold, no_program}
+use Rattle.mote_net.specs.Net.{MoteSetup, NetModel, no_program}
 use Rattle.program_tree.specs.Program.{tree_of}
+
+abbrev pub named_tree : NamedProgram → NamedTree
+named_tree p = record { name = p.name; tree = tree_of p.program }
 
 -- the program at an index
 abbrev pub program_at : List NamedProgram → ℕ → NamedTree
@@ -19,13 +22,10 @@ setup_of programs m = record {
 }
 
 -- the meaning of a `Net`
-abbrev pub net_of : Net → NetTold
+abbrev pub net_of : Net → NetModel
 net_of n = record {
   end = n.end;
   collide = n.collide;
   radio = n.medium;
   motes = map (setup_of n.programs.items) n.motes.items;
 }
-
-abbrev pub named_tree : NamedProgram → NamedTree
-named_tree p = record { name = p.name; tree = tree_of p.program }

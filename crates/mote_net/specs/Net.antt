@@ -11,7 +11,7 @@ pub record MoteSetup : Type 0 where
   pub queue : ℕ
 
 -- a net: its last moment, whether packets collide, its medium with the places of the motes, and its motes in order
-pub record NetTold : Type 0 where
+pub record NetModel : Type 0 where
   pub end : ℕ
   pub collide : Bool
   pub radio : Radio

@@ -13,7 +13,7 @@ pub record Packet : Type 0 where
   pub fates : List Fate
 
 -- the trace of each mote, the packets that the medium carried, and the number of copies still on their way
-pub record ReportTold : Type 0 where
+pub record ReportModel : Type 0 where
   pub traces : List (List Line)
   pub log : List Packet
   pub left : ℕ
@@ -21,8 +21,8 @@ pub record ReportTold : Type 0 where
 abbrev pub lines_in : Vec Line Global → List Line
 lines_in t = t.items
 
-abbrev pub told_line : LogLine → Packet
-told_line l = record { sent = l.sent; fates = l.fates.items }
+abbrev pub line_model : LogLine → Packet
+line_model l = record { sent = l.sent; fates = l.fates.items }
 
-abbrev pub report_of : Report → ReportTold
-report_of r = record { traces = map lines_in r.traces.items; log = map told_line r.medium.items; left = r.left }
+abbrev pub report_of : Report → ReportModel
+report_of r = record { traces = map lines_in r.traces.items; log = map line_model r.medium.items; left = r.left }

@@ -32,9 +32,9 @@ is_past_in moment None = false
 is_past_in moment (Some n) = is_past moment n.last
 
 -- the lines and packets of a turn, with the next wake
-abbrev pub told_with : Out → (wake : Option ℕ) → TurnOut
-told_with out wake = record { lines = out.lines; sends = out.sends; wake = wake }
+abbrev pub turn_out_of : Out → (wake : Option ℕ) → TurnOut
+turn_out_of out wake = record { lines = out.lines; sends = out.sends; wake = wake }
 
 -- the outcome of a turn, and the node that it left
-abbrev pub turn_told : TurnOut → Node → TurnGiven
-turn_told out n = record { node = n; lines = out.lines.items; sends = out.sends.items; wake = out.wake }
+abbrev pub turn_given : TurnOut → Node → TurnGiven
+turn_given out n = record { node = n; lines = out.lines.items; sends = out.sends.items; wake = out.wake }

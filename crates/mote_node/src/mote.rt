@@ -115,9 +115,9 @@ fn is_past(moment: u64, last: Option<u64>) -> bool
 impl Mote {
     ghost use Rattle.mote_node.specs.Node.{new_node};
     ghost use Rattle.mote_node.specs.Turn.{turn_of};
-    ghost use Rattle.mote_node.specs.Public.{node_in, node_held, wake_in, is_past_in, turn_told};
+    ghost use Rattle.mote_node.specs.Public.{node_in, node_held, wake_in, is_past_in, turn_given};
     ghost use Rattle.mote_node.specs.Node.{with_collide};
-    ghost use Rattle.mote_node.specs.Public.{told_with};
+    ghost use Rattle.mote_node.specs.Public.{turn_out_of};
 
     /// The mote with this number and program, before its first turn. Its event queue has room for this many events, 1
     /// to 128.
@@ -194,7 +194,7 @@ impl Mote {
     ) -> Result<TurnOut, MoteError>
         requires moment_bounded { moment ≤ 2 ^ 40 }
         ensures ok { let t = tree_of program.now in
-            IfOk result (λ out. option_map (turn_told out) (node_in t self.new)
+            IfOk result (λ out. option_map (turn_given out) (node_in t self.new)
             ≡ option_map (turn_of moment arrivals.now) (node_in t self.old)) }
 
         ensures failed { let t = tree_of program.now in (result ≡ Err MoteError.Failed) ↔ (node_in t self.old ≡ None) }
@@ -228,7 +228,7 @@ impl Mote {
     ) -> Result<Option<u64>, MoteError>
         requires moment_bounded { moment ≤ 2 ^ 40 }
         ensures ok { let t = tree_of program.now in
-            IfOk result (λ wake. option_map (turn_told (told_with out.new wake)) (node_in t self.new)
+            IfOk result (λ wake. option_map (turn_given (turn_out_of out.new wake)) (node_in t self.new)
             ≡ option_map (turn_of moment arrivals.now) (node_in t self.old)) }
 
         ensures failed { let t = tree_of program.now in (result ≡ Err MoteError.Failed) ↔ (node_in t self.old ≡ None) }

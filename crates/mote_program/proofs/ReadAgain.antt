@@ -6,7 +6,7 @@ use Rattle.program_tree.specs.Code.{Tree}
 use Rattle.program_tree.specs.EventNames.{CastEvent, SentEvent, AnyEvent}
 use Rattle.program_tree.specs.Faults.{IsProgram}
 use Rattle.program_tree.specs.Made.{IsOfText, WasRead}
-use Rattle.program_tree.specs.Reading.{IsTreeOf, IsToldOf}
+use Rattle.program_tree.specs.Reading.{IsTreeOf, IsErrorOf}
 use Rattle.program_tree.specs.ShapeOf.{shape_of, tokens_of_tree, text_of_tree}
 use Rattle.program_tree.specs.Tree.{Expression, Action, Body, Expression-set, Body-set}
 use Rattle.program_tree.specs.declared.error.ReadErrorKind.{ReadErrorKind}
@@ -58,7 +58,7 @@ tree_set = hlevel (props, body_set)
 pub is_tree : (text : List ℕ) (t : Tree) → ∥ IsTreeOf text t ∥₁ → IsTreeOf text t
 is_tree text t m = go (tree_or_told text).one
   where
-    go : ((u : Tree) × IsTreeOf text u) ⊎ ((k : ReadErrorKind) × (line : ℕ) × IsToldOf text k line) → IsTreeOf text t
+    go : ((u : Tree) × IsTreeOf text u) ⊎ ((k : ReadErrorKind) × (line : ℕ) × IsErrorOf text k line) → IsTreeOf text t
     go (inl h) = subst (IsTreeOf text) (∥∥₁_elim m (tree_set h.0 t) (λ k. one_tree text h.0 t h.1 k)) h.1
     go (inr f) = let none : IsProp ⊥ = hlevel in absurd (∥∥₁_elim m none (λ h. never_both text t f.0 f.1 h f.2))
 

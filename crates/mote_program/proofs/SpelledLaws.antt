@@ -28,6 +28,9 @@ use Rattle.mote_program.specs.Spelled.{statement_tokens, items_tokens, else_toke
 use Rattle.mote_program.specs.Spelled.{named_tokens, handler_tokens, declared_tokens, runs_tokens, code_tokens}
 use Rattle.mote_program.specs.Spelled.{comma_tokens, autostart_tokens, receiver_tokens, head_tokens, spelled_tokens}
 use Rattle.program_tree.proofs.CountLaws.{length-codes_in}
+use Rattle.program_tree.specs.Grammar.{key, named, new}
+use Rattle.program_tree.specs.Tree.{a_process}
+use Rattle.program_tree.specs.Tokens.{Token}
 
 pub expression_spelled : (c : Context) (e : Expression Name) (ms : List Mark) → tokens (expression_marks c e ms)
     ≡ expression_tokens e ++ tokens ms
@@ -161,7 +164,8 @@ code_spelled p ms =
 codes_spelled : (ps : List (Name × CodeShape)) (ms : List Mark) → tokens (codes_marks ps ms) ≡ flat_map code_tokens ps
     ++ tokens ms
 codes_spelled [] ms = refl
-codes_spelled (p ∷ ps) ms = rw (code_spelled p (codes_marks ps ms), codes_spelled ps ms) (simp append_assoc)
+codes_spelled (p ∷ ps) ms = code_spelled p (codes_marks ps ms) ∙ ap (λ ts. code_tokens p ++ ts) (codes_spelled ps ms)
+    ∙ sym (append_assoc (code_tokens p) (flat_map code_tokens ps) (tokens ms))
 
 line_spelled : (ps : List (Name × CodeShape)) (ms : List Mark)
     → tokens (process_marks ps ms) ≡ (flat_map comma_tokens (named_of ps) ++ (token.Semicolon ∷ [])) ++ tokens ms
@@ -187,15 +191,27 @@ program_spelled : (p : ProgramShape) (names : List Name) → names ≡ p.first.0
     → tokens (program_marks p []) ≡ head_tokens p.events p.semaphores names p.autostart p.receiver
     ++ flat_map code_tokens (p.first ∷ p.others)
 program_spelled p names same =
-    rw (same, codes_spelled (p.first ∷ p.others) []) (simp (
-      events_spelled,
-      semaphores_spelled,
-      line_spelled,
-      autostart_spelled,
-      receiver_spelled,
-      append_assoc,
-      append-nil,
-    ))
+    let m4 : List Mark = codes_marks (p.first ∷ p.others) [] in
+    let m3 : List Mark = receiver_marks p.receiver m4 in
+    let m2 : List Mark = autostart_marks p.autostart m3 in
+    let k : List Token = flat_map code_tokens (p.first ∷ p.others) in
+    let r : List Token = receiver_tokens p.receiver in
+    let a : List Token = autostart_tokens p.autostart in
+    let l : List Token = flat_map comma_tokens (named_of p.others) ++ (token.Semicolon ∷ []) in
+    let s : List Token = flat_map (valued_tokens word.Semaphore) p.semaphores in
+    let e : List Token = flat_map (listed_tokens word.Event) p.events in
+    let m1 : List Mark = key word.Process ∷ named p.first.0 (new a_process p.first.0) ∷ process_marks p.others m2 in
+    let codes : tokens m4 ≡ k = codes_spelled (p.first ∷ p.others) [] ∙ append-nil k in
+    let after : tokens m2 ≡ (a ++ r) ++ k = autostart_spelled p.autostart m3
+    ∙ ap (λ ts. a ++ ts) (receiver_spelled p.receiver m4 ∙ ap (λ ts. r ++ ts) codes) ∙ sym (append_assoc a r k) in
+    let line : tokens (process_marks p.others m2) ≡ (l ++ (a ++ r)) ++ k =
+    line_spelled p.others m2 ∙ ap (λ ts. l ++ ts) after ∙ sym (append_assoc l (a ++ r) k) in
+    let first : List Token → List Token = λ ts. token.Keyword word.Process ∷ token.Name p.first.0 ∷ ts in
+    events_spelled p.events (semaphore_marks p.semaphores m1)
+    ∙ ap (λ ts. e ++ ts) (semaphores_spelled p.semaphores m1 ∙ ap (λ ts. s ++ first ts) line
+    ∙ sym (append_assoc s (first (l ++ (a ++ r))) k))
+    ∙ sym (append_assoc e (s ++ first (l ++ (a ++ r))) k)
+    ∙ ap (λ ns. head_tokens p.events p.semaphores ns p.autostart p.receiver ++ k) (sym same)
 
 head_tail : {A : Type 0} (zs : List A) (d : A) → 0 < length zs → get_or zs 0 d ∷ drop 1 zs ≡ zs
 head_tail [] d h = absurd (omega arith)

@@ -31,7 +31,7 @@ pub fn each_name_is_listed()
 
 /// Both properties hold of a small tree that names something of each class, and fail for small trees that break one
 /// thing each.
-pub fn trees_are_told_apart()
+pub fn trees_are_distinct()
     ensures trees_that_declare { TreesThatDeclare }
     ensures undeclared { TreesThatDoNot }
     ensures lacking { TreesThatLack }

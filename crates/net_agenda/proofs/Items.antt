@@ -1,5 +1,7 @@
 -- The items that are read back from buckets are those of the list that the buckets hold.
-use Rattle.std.proofs.Common.{◌≡◌, ℕ, zero, suc, ◌≤◌, Bool, true, false, not, ◌&&◌, ◌||◌, eqb, ltb, List, [], ◌∷◌, ◌++◌, length, map, replicate, refl, sym, ap, ◌∙◌, subst, inl, inr, arith, append-nil, Some, None, unwrap_or}
+use Rattle.std.proofs.Common.{◌≡◌, ℕ, zero, suc, ◌≤◌, Bool, true, false, not, ◌&&◌, ◌||◌, eqb, ltb, List, [], ◌∷◌}
+use Rattle.std.proofs.Common.{◌++◌, length, map, replicate, refl, sym, ap, ◌∙◌, subst, inl, inr, arith, append-nil}
+use Rattle.std.proofs.Common.{Some, None, unwrap_or}
 use Rattle.std.specs.List.{filter, list_any, flat_map, AllByRecursion}
 use Rattle.std.specs.List.Sorted.{IsPermutation, IsStrictlySortedBy}
 use Rattle.std.specs.Map.{lookup, keys_of}
@@ -10,14 +12,16 @@ use Rattle.std.proofs.lemmas.Bool.{cases_Bool, eq-eqb, eqb-true, and_parts, fals
 use Rattle.std.proofs.lemmas.Bool.Decides.{nat_tests}
 use Rattle.std.proofs.lemmas.List.Elements.{filter-append}
 use Rattle.std.proofs.lemmas.List.Filters.{length-filter_both}
-use Rattle.std.proofs.lemmas.List.Sorted.{IsPermutation-refl, IsPermutation-sym, IsPermutation-trans, IsPermutation-append, IsPermutation-filter_both}
+use Rattle.std.proofs.lemmas.List.Sorted.{IsPermutation-refl, IsPermutation-sym, IsPermutation-trans}
+use Rattle.std.proofs.lemmas.List.Sorted.{IsPermutation-append, IsPermutation-filter_both}
 use Rattle.std.proofs.lemmas.Map.Keys.{sorted_head, sorted_tail}
 use Rattle.window_laws.specs.Agenda.{Item, Wake, Packet, comes_at, moment_of, mote_of, packets}
 use Rattle.window_laws.proofs.Agenda.{packets_filter}
 use Rattle.window_laws.proofs.Lists.{every_passes}
 use Rattle.net_agenda.specs.declared.bucket.Bucket.{Bucket}
-use Rattle.net_agenda.specs.declared.bucket.Coming.{Coming}
-use Rattle.net_agenda.specs.Buckets.{arrival_of, Due, nothing_due, is_wake, due_all, gathered, due_of, is_here, item_at, items_in, Buckets, Holds}
+use Rattle.net_agenda.specs.declared.bucket.PendingEvent.{PendingEvent}
+use Rattle.net_agenda.specs.Buckets.{arrival_of, Due, nothing_due, is_wake, due_all, gathered, due_of, is_here}
+use Rattle.net_agenda.specs.Buckets.{item_at, items_in, Buckets, Holds}
 use Rattle.net_agenda.specs.Items.{copy_at, bucket_items, items_of, is_wake_at, AreSameItems}
 use Rattle.net_agenda.proofs.Gathered.{unwrapped, due_taken, any_same}
 use Rattle.net_agenda.proofs.Keys.{same_number}
@@ -35,7 +39,7 @@ not_among : (key : ℕ) (es : Entries) → AllByRecursion (λ q. nat_cmp key q �
 not_among key [] h = refl
 not_among key (e ∷ es) h = let f : is_at (nat_cmp key) e.0 ≡ false = ap is_eq h.0 in rw f (not_among key es h.1)
 
-none_elsewhere : (t m u : ℕ) (cs : List Coming) → eqb t u ≡ false → filter (comes_at t m) (map (item_at u) cs) ≡ []
+none_elsewhere : (t m u : ℕ) (cs : List PendingEvent) → eqb t u ≡ false → filter (comes_at t m) (map (item_at u) cs) ≡ []
 none_elsewhere t m u [] e = refl
 none_elsewhere t m u (c ∷ cs) e = let f : comes_at t m (item_at u c) ≡ false = other (moment_of (item_at u c)) (mote_of (item_at u c)) (moment_at u c) in rw f (none_elsewhere t m u cs e)
   where

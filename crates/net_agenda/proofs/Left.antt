@@ -1,5 +1,6 @@
 -- How many packets are left, counted bucket by bucket.
-use Rattle.std.proofs.Common.{◌≡◌, ℕ, suc, ◌+◌, List, [], ◌∷◌, length, length-append, map, refl, ap, ◌∙◌, arith, Option, Some, None}
+use Rattle.std.proofs.Common.{◌≡◌, ℕ, suc, ◌+◌, List, [], ◌∷◌, length, length-append, map, refl, ap, ◌∙◌, arith}
+use Rattle.std.proofs.Common.{Option, Some, None}
 use Rattle.std.specs.List.{filter}
 use Rattle.std.specs.BTreeMap.{IsOrdered}
 use Rattle.std.specs.Ordering.{nat_cmp}
@@ -8,12 +9,12 @@ use Rattle.radio_packet.specs.declared.arrival.Arrival.{Arrival}
 use Rattle.window_laws.specs.Agenda.{Item, packets}
 use Rattle.window_laws.proofs.Agenda.{packets_append}
 use Rattle.net_agenda.specs.declared.bucket.Bucket.{Bucket}
-use Rattle.net_agenda.specs.declared.bucket.Coming.{Coming}
+use Rattle.net_agenda.specs.declared.bucket.PendingEvent.{PendingEvent}
 use Rattle.net_agenda.specs.Buckets.{packet_in, Buckets, Holds, is_packet, item_at}
 use Rattle.net_agenda.specs.Items.{bucket_items, items_of}
 use Rattle.net_agenda.proofs.Items.{Entries, items_among, same_due, same_permute}
 
-counted : (t : ℕ) (cs : List Coming) → length (packets (map (item_at t) cs)) ≡ length (filter is_packet cs)
+counted : (t : ℕ) (cs : List PendingEvent) → length (packets (map (item_at t) cs)) ≡ length (filter is_packet cs)
 counted t [] = refl
 counted t (c ∷ cs) = of (counted t cs) (packet_in c) refl
   where
@@ -21,7 +22,7 @@ counted t (c ∷ cs) = of (counted t cs) (packet_in c) refl
     of rest None e = rw e rest
     of rest (Some a) e = rw e (ap suc rest)
 
-pub all_left : (buckets : Buckets) → IsOrdered nat_cmp buckets → (items : List Item) → Holds buckets items → (xs : List Coming) → xs ≡ [] → length xs + length (packets (items_among buckets.entries)) ≡ length (packets items)
+pub all_left : (buckets : Buckets) → IsOrdered nat_cmp buckets → (items : List Item) → Holds buckets items → (xs : List PendingEvent) → xs ≡ [] → length xs + length (packets (items_among buckets.entries)) ≡ length (packets items)
 all_left buckets ordered items holds xs none =
     let both = same_permute (length items) items (items_of buckets) (omega arith) (same_due buckets ordered items holds) in
     let n = length_permutation _ _ both.1 in

@@ -1,5 +1,7 @@
 -- A bucket changed at one moment, and the agenda that the buckets hold then.
-use Rattle.std.proofs.Common.{◌≡◌, ℕ, Bool, true, false, cond, not, ◌&&◌, ◌||◌, ltb, eqb, if◌then◌else◌, List, [], ◌∷◌, ◌++◌, map, refl, sym, ap, ◌∙◌, subst, inl, inr, arith, ◌<◌, ◌≤◌, Option, Some, None, IsSome, unwrap_or}
+use Rattle.std.proofs.Common.{◌≡◌, ℕ, Bool, true, false, cond, not, ◌&&◌, ◌||◌, ltb, eqb, if◌then◌else◌, List, [], ◌∷◌}
+use Rattle.std.proofs.Common.{◌++◌, map, refl, sym, ap, ◌∙◌, subst, inl, inr, arith, ◌<◌, ◌≤◌, Option, Some, None}
+use Rattle.std.proofs.Common.{IsSome, unwrap_or}
 use Rattle.std.specs.List.{filter, list_any}
 use Rattle.std.specs.Ordering.{nat_cmp, is_eq, is_gt}
 use Rattle.std.specs.BTreeMap.{get, is_at}
@@ -11,33 +13,37 @@ use Rattle.radio_packet.specs.declared.arrival.Arrival.{Arrival}
 use Rattle.window_laws.specs.Agenda.{Item, Wake, IsLeast, comes_at, is_wake_of, moment_of, mote_of, packets}
 use Rattle.window_laws.proofs.Lists.{any_every}
 use Rattle.net_agenda.specs.declared.bucket.Bucket.{Bucket}
-use Rattle.net_agenda.specs.declared.bucket.Coming.{Coming}
-use Rattle.net_agenda.specs.Buckets.{goes_to, packet_in, arrival_of, arrivals_in_order, arrivals_at, nothing_due, gathered, due_of, is_here, is_for, of_mote, is_wake_for, packets_of, FallsIfSaid, is_nothing, first_mote, IsTaken, IsReady, Buckets, Holds, item_of, item_at, items_in, items_at, without_wake}
+use Rattle.net_agenda.specs.declared.bucket.PendingEvent.{PendingEvent}
+use Rattle.net_agenda.specs.Buckets.{goes_to, packet_in, arrival_of, arrivals_in_order, arrivals_at, nothing_due}
+use Rattle.net_agenda.specs.Buckets.{gathered, due_of, is_here, is_for, of_mote, is_wake_for, packets_of, FallsIfSaid}
+use Rattle.net_agenda.specs.Buckets.{is_nothing, first_mote, IsTaken, IsReady, Buckets, Holds, item_of, item_at}
+use Rattle.net_agenda.specs.Buckets.{items_in, items_at, without_wake}
 use Rattle.net_agenda.proofs.Falls.{first_low}
-use Rattle.net_agenda.proofs.Gathered.{unwrapped, due_both, due_elsewhere, due_taken, due_unwoken, due_asleep, any_same, from_due, held, then_out}
+use Rattle.net_agenda.proofs.Gathered.{unwrapped, due_both, due_elsewhere, due_taken, due_unwoken, due_asleep}
+use Rattle.net_agenda.proofs.Gathered.{any_same, from_due, held, then_out}
 use Rattle.net_agenda.proofs.Keys.{not_greater}
 use Rattle.net_agenda.proofs.Orders.{given_in_order, none_in_order}
 
 -- the items of one bucket
 
-pub moment_at : (t : ℕ) (c : Coming) → moment_of (item_at t c) ≡ t
+pub moment_at : (t : ℕ) (c : PendingEvent) → moment_of (item_at t c) ≡ t
 moment_at t c = of (packet_in c)
   where
     of : (p : Option Arrival) → moment_of (item_of t (goes_to c) p) ≡ t
     of None = refl
     of (Some a) = refl
 
-mote_at : (t : ℕ) (c : Coming) → mote_of (item_at t c) ≡ (goes_to c)
+mote_at : (t : ℕ) (c : PendingEvent) → mote_of (item_at t c) ≡ (goes_to c)
 mote_at t c = of (packet_in c)
   where
     of : (p : Option Arrival) → mote_of (item_of t (goes_to c) p) ≡ (goes_to c)
     of None = refl
     of (Some a) = refl
 
-comes_here : (t m : ℕ) (c : Coming) → comes_at t m (item_at t c) ≡ is_for m c
+comes_here : (t m : ℕ) (c : PendingEvent) → comes_at t m (item_at t c) ≡ is_for m c
 comes_here t m c = ap (λ u. eqb u t && eqb (mote_of (item_at t c)) m) (moment_at t c) ∙ (ap (λ j. eqb t t && eqb j m) (mote_at t c) ∙ ap (λ b. b && eqb (goes_to c) m) (eq-eqb t t refl))
 
-filter_at : (t m : ℕ) (cs : List Coming) → filter (comes_at t m) (map (item_at t) cs) ≡ map (item_at t) (of_mote m cs)
+filter_at : (t m : ℕ) (cs : List PendingEvent) → filter (comes_at t m) (map (item_at t) cs) ≡ map (item_at t) (of_mote m cs)
 filter_at t m [] = refl
 filter_at t m (c ∷ cs) =
     ap (λ b. cond b (item_at t c ∷ filter (comes_at t m) (map (item_at t) cs)) (filter (comes_at t m) (map (item_at t) cs))) (comes_here t m c)
@@ -46,14 +52,14 @@ filter_at t m (c ∷ cs) =
       | inr e ↦ rw e (filter_at t m cs)
     ]
 
-any_at : (t m : ℕ) (cs : List Coming) → list_any (comes_at t m) (map (item_at t) cs) ≡ list_any (is_for m) cs
+any_at : (t m : ℕ) (cs : List PendingEvent) → list_any (comes_at t m) (map (item_at t) cs) ≡ list_any (is_for m) cs
 any_at t m [] = refl
 any_at t m (c ∷ cs) = ap (λ b. b || list_any (comes_at t m) (map (item_at t) cs)) (comes_here t m c) ∙ ap (λ b. is_for m c || b) (any_at t m cs)
 
-bucket_due : (t m : ℕ) (cs : List Coming) → due_of t m (map (item_at t) cs) ≡ gathered (map (item_at t) (of_mote m cs))
+bucket_due : (t m : ℕ) (cs : List PendingEvent) → due_of t m (map (item_at t) cs) ≡ gathered (map (item_at t) (of_mote m cs))
 bucket_due t m cs = ap gathered (filter_at t m cs)
 
-given : (t : ℕ) (cs : List Coming) → map arrival_of (packets (map (item_at t) cs)) ≡ packets_of cs
+given : (t : ℕ) (cs : List PendingEvent) → map arrival_of (packets (map (item_at t) cs)) ≡ packets_of cs
 given t [] = refl
 given t (c ∷ cs) = of (given t cs) (packet_in c) refl
   where
@@ -61,7 +67,7 @@ given t (c ∷ cs) = of (given t cs) (packet_in c) refl
     of rest None e = rw e rest
     of rest (Some a) e = rw e (ap (λ l. a ∷ l) rest)
 
-is_wake_here : (t k : ℕ) (c : Coming) → is_wake_of k (item_at t c) ≡ is_wake_for k c
+is_wake_here : (t k : ℕ) (c : PendingEvent) → is_wake_of k (item_at t c) ≡ is_wake_for k c
 is_wake_here t k c = of (packet_in c) refl
   where
     of : (p : Option Arrival) → packet_in c ≡ p → is_wake_of k (item_at t c) ≡ is_wake_for k c
@@ -76,7 +82,7 @@ is_wake_here t k c = of (packet_in c) refl
         and_false true = refl
         and_false false = refl
 
-asleep_at : (t k : ℕ) (cs : List Coming) → map (item_at t) (filter (λ c. not (is_wake_for k c)) cs) ≡ filter (λ item. not (is_wake_of k item)) (map (item_at t) cs)
+asleep_at : (t k : ℕ) (cs : List PendingEvent) → map (item_at t) (filter (λ c. not (is_wake_for k c)) cs) ≡ filter (λ item. not (is_wake_of k item)) (map (item_at t) cs)
 asleep_at t k [] = refl
 asleep_at t k (c ∷ cs) =
     elim (cases_Bool (is_wake_for k c)) [
@@ -86,11 +92,11 @@ asleep_at t k (c ∷ cs) =
 
 -- something put in
 
-not_none : (cs : List Coming) (c : Coming) → is_nothing (cs ++ c ∷ []) ≡ false
+not_none : (cs : List PendingEvent) (c : PendingEvent) → is_nothing (cs ++ c ∷ []) ≡ false
 not_none [] c = refl
 not_none (x ∷ cs) c = refl
 
-pub put_more : (old new : Buckets) (t : ℕ) (c : Coming) (b : Bucket) (cs : List Coming) (items : List Item) → Holds old items → items_at old t ≡ map (item_at t) cs
+pub put_more : (old new : Buckets) (t : ℕ) (c : PendingEvent) (b : Bucket) (cs : List PendingEvent) (items : List Item) → Holds old items → items_at old t ≡ map (item_at t) cs
     → b.coming.items ≡ cs ++ c ∷ [] → FallsIfSaid b → ((q : ℕ) → get nat_cmp new q ≡ cond (is_eq (nat_cmp t q)) (Some b) (get nat_cmp old q)) → Holds new (items ++ item_at t c ∷ [])
 put_more old new t c b cs items holds at more falls updates =
     held old new t (Some b) items (items ++ item_at t c ∷ []) holds updates ready
@@ -105,7 +111,7 @@ put_more old new t c b cs items holds at more falls updates =
 abbrev pub left_of : Bucket → Option Bucket
 left_of b = if is_nothing b.coming.items then None else Some b
 
-none_is : (cs : List Coming) → is_nothing cs ≡ true → [] ≡ cs
+none_is : (cs : List PendingEvent) → is_nothing cs ≡ true → [] ≡ cs
 none_is [] h = refl
 none_is (c ∷ cs) h = absurd (false≢true h)
 
@@ -253,7 +259,7 @@ least_of buckets t m b items holds found first low = record {
         elim (cases_order t u) [
           | inl f ↦ (let g : Some b ≡ Some d = sym found ∙ (ap (get nat_cmp buckets) f ∙ e) in let is : b ≡ d = cc in
               let any : list_any (is_for k) b.coming.items ≡ true = ap (λ x. list_any (is_for k) x.coming.items) is ∙ (sym (any_at u k d.coming.items) ∙ h) in
-              same t u k m f (any_every (m ≤ k) (is_for k) (λ (c : Coming). m ≤ (goes_to c)) (λ c j n. (let q = eqb-true (goes_to c) k j in omega arith)) b.coming.items any (first_low b m (holds.ready t b found) first).low))
+              same t u k m f (any_every (m ≤ k) (is_for k) (λ (c : PendingEvent). m ≤ (goes_to c)) (λ c j n. (let q = eqb-true (goes_to c) k j in omega arith)) b.coming.items any (first_low b m (holds.ready t b found) first).low))
           | inr (inl f) ↦ later t u k m f
           | inr (inr f) ↦ absurd (omega arith)
         ]

@@ -3,14 +3,14 @@ use Rattle.std.proofs.Common.{◌≡◌, ℕ, Some, refl}
 use Rattle.process_kernel.specs.Mote.{unbooted}
 use Rattle.mote_node.specs.Node.{new_node}
 use Rattle.mote_node.specs.Wake.{wake_of}
-use Rattle.mote_net.specs.Net.{NetTold}
+use Rattle.mote_net.specs.Net.{NetModel}
 use Rattle.net_agenda.specs.NetSystem.{first_node_in}
 
-pub new_wakes : (n : NetTold) (k : ℕ) → wake_of (first_node_in n k) ≡ Some 0
+pub new_wakes : (n : NetModel) (k : ℕ) → wake_of (first_node_in n k) ≡ Some 0
 unfolding new_node unbooted
 new_wakes n k = refl
 
 -- and it knows its number
-pub new_numbers : (n : NetTold) (k : ℕ) → (first_node_in n k).mote.state.mote ≡ k
+pub new_numbers : (n : NetModel) (k : ℕ) → (first_node_in n k).mote.state.mote ≡ k
 unfolding new_node unbooted
 new_numbers n k = refl

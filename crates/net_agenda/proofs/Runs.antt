@@ -1,5 +1,7 @@
 -- The copies of a packet that come at one moment, put in one after another.
-use Rattle.std.proofs.Common.{◌≡◌, ℕ, suc, ◌+◌, ◌-◌, ◌<◌, cond, false, eqb, List, [], ◌∷◌, ◌++◌, length, map, take, drop, get_or, refl, sym, ap, ◌∙◌, subst, append_assoc, take_all, length-drop, append-nil, add-one, arith, Option, Some, None, Result, Ok, Err, IfOk, OnOk}
+use Rattle.std.proofs.Common.{◌≡◌, ℕ, suc, ◌+◌, ◌-◌, ◌<◌, cond, false, eqb, List, [], ◌∷◌, ◌++◌, length, map, take}
+use Rattle.std.proofs.Common.{drop, get_or, refl, sym, ap, ◌∙◌, subst, append_assoc, take_all, length-drop, append-nil}
+use Rattle.std.proofs.Common.{add-one, arith, Option, Some, None, Result, Ok, Err, IfOk, OnOk}
 use Rattle.std.specs.List.{filter_map, AllByRecursion}
 use Rattle.std.specs.Ordering.{nat_cmp, is_eq}
 use Rattle.std.specs.BTreeMap.{get}
@@ -12,7 +14,7 @@ use Rattle.radio_packet.specs.declared.fate.Fate.{Fate}
 use Rattle.radio_medium.specs.Medium.{copy_of}
 use Rattle.window_laws.specs.Agenda.{Item, Packet, moment_of}
 use Rattle.net_agenda.specs.declared.bucket.Bucket.{Bucket}
-use Rattle.net_agenda.specs.declared.bucket.Coming.{Coming}
+use Rattle.net_agenda.specs.declared.bucket.PendingEvent.{PendingEvent}
 use Rattle.net_agenda.specs.Buckets.{due_of, is_nothing, Buckets, FallsIfSaid, Holds, IsReady, item_at, items_at}
 use Rattle.net_agenda.proofs.Gathered.{due_both, due_elsewhere, held, more_copies, more_fates}
 use Rattle.net_agenda.proofs.Moments.{moment_at}
@@ -31,14 +33,14 @@ one_copy sent f t e = rw e refl
 no_copy : (sent : Sent) (f : Fate) → f.at ≡ None → copies_with sent (f ∷ []) ≡ []
 no_copy sent f e = rw e refl
 
-pub like_more : (t : ℕ) (before now : List Coming) (sent : Sent) (fs : List Fate) (i : ℕ) (f : Fate) (c : Coming) → i < length fs → (get_or fs i f).at ≡ Some t
+pub like_more : (t : ℕ) (before now : List PendingEvent) (sent : Sent) (fs : List Fate) (i : ℕ) (f : Fate) (c : PendingEvent) → i < length fs → (get_or fs i f).at ≡ Some t
     → item_at t c ≡ copy_to t (get_or fs i f).to sent → map (item_at t) now ≡ map (item_at t) before ++ copies_with sent (take i fs)
     → map (item_at t) (now ++ c ∷ []) ≡ map (item_at t) before ++ copies_with sent (take (i + 1) fs)
 like_more t before now sent fs i f c low at is so =
     map-append (item_at t) now (c ∷ []) ∙ (ap (λ l. l ++ item_at t c ∷ []) so
     ∙ (ap (λ l. (map (item_at t) before ++ copies_with sent (take i fs)) ++ l) (ap (λ x. x ∷ []) is ∙ sym (one_copy sent (get_or fs i f) t at)) ∙ more_fates (map (item_at t) before) sent fs i f low))
 
-pub same_more : (t : ℕ) (before now : List Coming) (cs : List RadioCopy) (i : ℕ) (d : RadioCopy) (c : Coming) → i < length cs → (get_or cs i d).at ≡ t
+pub same_more : (t : ℕ) (before now : List PendingEvent) (cs : List RadioCopy) (i : ℕ) (d : RadioCopy) (c : PendingEvent) → i < length cs → (get_or cs i d).at ≡ t
     → item_at (get_or cs i d).at c ≡ Packet (get_or cs i d) → map (item_at t) now ≡ map (item_at t) before ++ map Packet (take i cs)
     → map (item_at t) (now ++ c ∷ []) ≡ map (item_at t) before ++ map Packet (take (i + 1) cs)
 same_more t before now cs i d c low at is so =
@@ -52,7 +54,7 @@ lost_more before sent fs i f low at =
 
 -- many put in at one moment
 
-all_then : (t : ℕ) (cs : List Coming) → AllByRecursion (λ item. moment_of item ≡ t) (map (item_at t) cs)
+all_then : (t : ℕ) (cs : List PendingEvent) → AllByRecursion (λ item. moment_of item ≡ t) (map (item_at t) cs)
 all_then t [] = tt
 all_then t (c ∷ cs) = (moment_at t c, all_then t cs)
 

@@ -1,5 +1,6 @@
 -- A net runs forward, and the node after a turn has the wake that the turn gave.
-use Rattle.std.proofs.Common.{◌≡◌, ℕ, ◌<◌, List, length, map, subst, refl, Option, Some, None, option_map, unwrap_or, slice_get}
+use Rattle.std.proofs.Common.{◌≡◌, ℕ, ◌<◌, List, length, map, subst, refl, Option, Some, None, option_map, unwrap_or}
+use Rattle.std.proofs.Common.{slice_get}
 use Rattle.program_tree.specs.Code.{Tree}
 use Rattle.mote_node.specs.Node.{Node}
 use Rattle.mote_node.specs.Turn.{turn_of}
@@ -9,13 +10,13 @@ use Rattle.radio_packet.specs.declared.copy.RadioCopy.{RadioCopy}
 use Rattle.radio_medium.specs.Medium.{medium_fault}
 use Rattle.radio_medium.proofs.Copies.{copies_later}
 use Rattle.radio_medium.proofs.Delays.{lookahead-above}
-use Rattle.mote_net.specs.Net.{MoteSetup, NetTold}
+use Rattle.mote_net.specs.Net.{MoteSetup, NetModel}
 use Rattle.window_laws.specs.Forward.{RunsForward}
 use Rattle.window_laws.proofs.Lists.{every_weaker}
 use Rattle.net_agenda.specs.Buckets.{arrival_of}
 use Rattle.net_agenda.specs.NetSystem.{no_mote, node_turn, system_of}
 
-pub system_is : (n : NetTold) → medium_fault n.radio ≡ None → length n.radio.places ≡ length n.motes → RunsForward (system_of n)
+pub system_is : (n : NetModel) → medium_fault n.radio ≡ None → length n.radio.places ≡ length n.motes → RunsForward (system_of n)
 unfolding system_of
 system_is n fault placed = record {
   some_lookahead = lookahead-above n.radio fault n.end;

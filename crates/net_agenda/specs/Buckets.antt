@@ -6,8 +6,8 @@ use Rattle.std.specs.Ordering.{nat_cmp}
 use Rattle.std.specs.BTreeMap.{BTreeMap, get}
 use Rattle.radio_packet.specs.declared.arrival.Arrival.{Arrival}
 use Rattle.net_agenda.specs.declared.bucket.Bucket.{Bucket}
-use Rattle.net_agenda.specs.declared.bucket.Coming.{Coming}
-use Rattle.net_agenda.specs.declared.bucket.Coming.TheVariants as coming
+use Rattle.net_agenda.specs.declared.bucket.PendingEvent.{PendingEvent}
+use Rattle.net_agenda.specs.declared.bucket.PendingEvent.TheVariants as coming
 pub use Rattle.net_agenda.specs.NetSystem.{arrival_of}
 use Rattle.window_laws.specs.Order.{sorted_by, in_order}
 use Rattle.window_laws.specs.Agenda.{Item, Wake, Packet, comes_at, packets}
@@ -43,39 +43,39 @@ due_of moment mote items = gathered (filter (comes_at moment mote) items)
 -- one bucket: the pending events of a moment
 
 -- the mote to which it comes
-abbrev pub goes_to : Coming → ℕ
+abbrev pub goes_to : PendingEvent → ℕ
 goes_to (coming.Wake mote) = mote
 goes_to (coming.Copy to sender value number) = to
 
 -- the packet, as the mote is given it, if it is one
-abbrev pub packet_in : Coming → Option Arrival
+abbrev pub packet_in : PendingEvent → Option Arrival
 packet_in (coming.Wake mote) = None
 packet_in (coming.Copy to sender value number) = Some (record { sender = sender; number = number; value = value })
 
-abbrev pub is_for : (mote : ℕ) → Coming → Bool
+abbrev pub is_for : (mote : ℕ) → PendingEvent → Bool
 is_for mote one = goes_to one == mote
 
-abbrev pub of_mote : (mote : ℕ) → List Coming → List Coming
+abbrev pub of_mote : (mote : ℕ) → List PendingEvent → List PendingEvent
 of_mote mote all = filter (is_for mote) all
 
-abbrev pub is_packet : Coming → Bool
+abbrev pub is_packet : PendingEvent → Bool
 is_packet one = is_some (packet_in one)
 
-abbrev pub is_wake_for : (mote : ℕ) → Coming → Bool
+abbrev pub is_wake_for : (mote : ℕ) → PendingEvent → Bool
 is_wake_for mote one = is_for mote one && not (is_packet one)
 
-abbrev pub packets_of : List Coming → List Arrival
+abbrev pub packets_of : List PendingEvent → List Arrival
 packets_of all = filter_map packet_in all
 
 -- no mote is above one before it
-abbrev pub Falls : List Coming → Type 0
+abbrev pub Falls : List PendingEvent → Type 0
 Falls [] = Unit {0}
 Falls (first ∷ rest) = AllByRecursion (λ one. goes_to one ≤ goes_to first) rest × Falls rest
 
 abbrev pub FallsIfSaid : Bucket → Type 0
 FallsIfSaid bucket = bucket.falls ≡ true → Falls bucket.coming.items
 
-abbrev pub is_nothing : List Coming → Bool
+abbrev pub is_nothing : List PendingEvent → Bool
 is_nothing [] = true
 is_nothing (first ∷ rest) = false
 
@@ -83,11 +83,11 @@ abbrev pub lower_mote : Option ℕ → ℕ → Option ℕ
 lower_mote None mote = Some mote
 lower_mote (Some other) mote = if nat_lt mote other then Some mote else Some other
 
-abbrev pub least_from : Option ℕ → List Coming → Option ℕ
+abbrev pub least_from : Option ℕ → List PendingEvent → Option ℕ
 least_from least [] = least
 least_from least (first ∷ rest) = least_from (lower_mote least (goes_to first)) rest
 
-abbrev pub least_mote : List Coming → Option ℕ
+abbrev pub least_mote : List PendingEvent → Option ℕ
 least_mote all = least_from None all
 
 -- the least mote, which is that of the last if the motes fall
@@ -117,7 +117,7 @@ item_of moment mote None = Wake moment mote
 item_of moment mote (Some a) =
     Packet (record { at = moment; to = mote; sender = a.sender; number = a.number; value = a.value })
 
-abbrev pub item_at : (moment : ℕ) → Coming → Item
+abbrev pub item_at : (moment : ℕ) → PendingEvent → Item
 item_at moment one = item_of moment (goes_to one) (packet_in one)
 
 abbrev pub items_in : (moment : ℕ) → Option Bucket → List Item

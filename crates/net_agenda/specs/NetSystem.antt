@@ -7,7 +7,7 @@ use Rattle.mote_node.specs.Turn.{turn_of}
 use Rattle.mote_node.specs.Turn as node
 use Rattle.radio_packet.specs.declared.copy.RadioCopy.{RadioCopy}
 use Rattle.radio_medium.specs.Medium.{copies, lookahead}
-use Rattle.mote_net.specs.Net.{MoteSetup, NetTold, no_program}
+use Rattle.mote_net.specs.Net.{MoteSetup, NetModel, no_program}
 use Rattle.window_laws.specs.System.{System, Turned}
 use Rattle.radio_packet.specs.declared.arrival.Arrival.{Arrival}
 
@@ -23,11 +23,11 @@ abbrev pub mote_at : List MoteSetup → (mote : ℕ) → MoteSetup
 mote_at motes mote = unwrap_or (slice_get motes mote) no_mote
 
 -- the program of a mote
-abbrev pub tree_at : NetTold → (mote : ℕ) → Tree
+abbrev pub tree_at : NetModel → (mote : ℕ) → Tree
 tree_at n mote = (mote_at n.motes mote).tree
 
 -- a mote before its first turn
-abbrev pub first_node_in : NetTold → (mote : ℕ) → Node
+abbrev pub first_node_in : NetModel → (mote : ℕ) → Node
 first_node_in n mote = let m = mote_at n.motes mote in with_collide n.collide (new_node m.tree mote m.queue)
 
 abbrev pub turned_of : node.TurnGiven → Turned Node Line
@@ -37,7 +37,7 @@ abbrev pub node_turn : (mote : ℕ) → Node → (moment : ℕ) → List RadioCo
 node_turn mote n moment given = turned_of (turn_of moment (map arrival_of given) n)
 
 -- the motes of a net, and its medium
-unfoldable pub system_of : NetTold → System Node Line
+unfoldable pub system_of : NetModel → System Node Line
 system_of n = record {
   motes = length n.motes;
   first = first_node_in n;

@@ -7,7 +7,7 @@ ghost use Rattle.window_laws.specs.Agenda.{Item, Wake, Packet, IsLeast, packets,
 ghost use Rattle.net_agenda.specs.Buckets.{Holds, first_key, item_at};
 ghost use Rattle.net_agenda.specs.Changes.{Adds, AreDue, DropsWake, MovesWake, TakesDue};
 
-use crate::bucket::{Bucket, Coming};
+use crate::bucket::{Bucket, PendingEvent};
 use crate::spread::Lists;
 use radio_packet::{Arrival, Fate, RadioCopy, Sent};
 use std::alloc::{AllocError, Global};
@@ -41,7 +41,7 @@ impl Agenda {
     }
 
     /// Adds a pending event of a mote at a moment.
-    fn put(&mut self, moment: u64, coming: Coming) -> Result<(), AllocError>
+    fn put(&mut self, moment: u64, coming: PendingEvent) -> Result<(), AllocError>
         ensures adds { OnOk result (Adds self.old.buckets self.new.buckets (item_at moment coming ∷ [])) }
     {
         if let Some(bucket) = self.buckets.get_mut(&moment) {
@@ -60,7 +60,7 @@ impl Agenda {
     pub fn put_wake(&mut self, moment: u64, mote: u16) -> Result<(), AllocError>
         ensures adds { OnOk result (Adds self.old.buckets self.new.buckets (Wake moment mote ∷ [])) }
     {
-        self.put(moment, Coming::Wake(mote))
+        self.put(moment, PendingEvent::Wake(mote))
     }
 
     /// Adds the next wake of a mote, if it has one.

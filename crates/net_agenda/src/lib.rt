@@ -8,7 +8,7 @@ mod spread;
 mod traces;
 
 pub use agenda::Agenda;
-pub use bucket::{Bucket, Coming};
+pub use bucket::{Bucket, PendingEvent};
 pub use mote::new_mote;
 pub use spread::Lists;
 pub use traces::{add_lines, extend_trace};

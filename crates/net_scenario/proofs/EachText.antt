@@ -5,7 +5,7 @@ use Rattle.std.specs.Option.{option_map_or}
 use Rattle.toml.specs.Data.{Members}
 use Rattle.toml.specs.Parse.{parse_document}
 use Rattle.program_tree.specs.Code.{Tree}
-use Rattle.program_tree.specs.Reading.{IsTreeOf, IsToldOf}
+use Rattle.program_tree.specs.Reading.{IsTreeOf, IsErrorOf}
 use Rattle.program_tree.specs.ReadingLaws.{HasTreeOrFault}
 use Rattle.program_tree.specs.declared.error.ReadError.{ReadError}
 use Rattle.program_tree.specs.declared.error.ReadErrorKind.{ReadErrorKind}
@@ -20,8 +20,8 @@ use Rattle.net_scenario.specs.Errors.{of_table}
 use Rattle.net_scenario.specs.Document.{table_at, document_fault}
 use Rattle.mote_net.specs.Programs.{NamedTree}
 use Rattle.net_scenario.specs.Programs.{ProgramText, texts_of, AllRead, FirstRefused}
-use Rattle.mote_net.specs.Net.{NetTold}
-use Rattle.net_scenario.specs.Net.{net_told, radio_told}
+use Rattle.mote_net.specs.Net.{NetModel}
+use Rattle.net_scenario.specs.Net.{net_in, radio_in}
 use Rattle.net_scenario.specs.Reading.{Document, document_of, faultless, HasTrees, TellsNet, TellsFault}
 use Rattle.net_scenario.specs.Laws.{NetOrFault}
 
@@ -46,7 +46,7 @@ read_on p ps t is (inr (name, e, m)) = inr (
 )
 
 read_one : (p : ProgramText) (ps : List ProgramText) → Reads ps → ((t : Tree) × IsTreeOf p.text t)
-    ⊎ ((kind : ReadErrorKind) × (line : ℕ) × IsToldOf p.text kind line) → Reads (p ∷ ps)
+    ⊎ ((kind : ReadErrorKind) × (line : ℕ) × IsErrorOf p.text kind line) → Reads (p ∷ ps)
 read_one p ps rest (inl (t, is)) = read_on p ps t is rest
 read_one p ps rest (inr (kind, line, told)) =
     inr (
@@ -69,19 +69,19 @@ read_all each (p ∷ ps) = read_one p ps (read_all each ps) (each p.text).one
 
 -- a text describes a net or has a fault
 abbrev Tells : List ℕ → Type 0
-Tells text = ((n : NetTold) × TellsNet text n) ⊎ ((e : ScenarioError) × TellsFault text e)
+Tells text = ((n : NetModel) × TellsNet text n) ⊎ ((e : ScenarioError) × TellsFault text e)
 
 by_medium : (text : List ℕ) (d : Document text) (trees : HasTrees d.top) (fault : Option MediumError)
-    → medium_fault (radio_told d.top) ≡ fault → Tells text
+    → medium_fault (radio_in d.top) ≡ fault → Tells text
 by_medium text d trees None e = inl (
-  net_told d.top trees.trees,
+  net_in d.top trees.trees,
   (d, record { programs = trees; medium = e; told = refl }),
 )
 by_medium text d trees (Some fault) e = inr (Medium fault, (d, record { programs = trees; medium = e }))
 
 by_programs : (text : List ℕ) (d : Document text) → Reads (texts_of (table_at (codes "programs") d.top)) → Tells text
 by_programs text d (inl (trees, read)) = by_medium text d (record { trees = trees; read = read })
-    (medium_fault (radio_told d.top)) refl
+    (medium_fault (radio_in d.top)) refl
 by_programs text d (inr (name, e, refused)) = inr (Program name e, (d, refused))
 
 table_told : (text : List ℕ) (f : TableFault) → document_of text ≡ Err (of_table f) → TellsFault text (of_table f)

@@ -2,7 +2,7 @@
 use Rattle.std.proofs.Common.{◌≡◌, ℕ, List, [], ◌∷◌, ◌++◌, refl, sym, ap, ◌∙◌, subst, Err}
 use Rattle.toml.specs.Data.{Members}
 use Rattle.program_tree.specs.Code.{Tree}
-use Rattle.program_tree.specs.Reading.{IsTreeOf, IsToldOf}
+use Rattle.program_tree.specs.Reading.{IsTreeOf, IsErrorOf}
 use Rattle.program_tree.specs.declared.error.ReadError.{ReadError}
 use Rattle.program_tree.specs.declared.error.ReadErrorKind.{ReadErrorKind}
 use Rattle.radio_medium.specs.declared.error.MediumError.{MediumError}
@@ -12,7 +12,7 @@ use Rattle.net_scenario.specs.declared.error.ScenarioError.TheVariants.{OutOfRan
 use Rattle.net_scenario.specs.declared.error.ScenarioError.TheVariants.{Memory}
 use Rattle.mote_net.specs.Programs.{NamedTree}
 use Rattle.net_scenario.specs.Programs.{ProgramText, AllRead, FirstRefused}
-use Rattle.net_scenario.specs.Net.{net_told}
+use Rattle.net_scenario.specs.Net.{net_in}
 use Rattle.net_scenario.specs.Reading.{Document, document_of, IsNetOf, IsRefusedProgramOf, IsMediumFaultOf, TellsFault}
 use Rattle.net_scenario.specs.Laws.{ProgramLaws, OneNet, NeverBoth, OneFault}
 
@@ -54,7 +54,7 @@ read_or_refused laws ps ts name e a m =
 -- the first program with a fault is one program, if those before it have trees
 one_split : ProgramLaws → (b c : List ProgramText) (p q : ProgramText) (r s : List ProgramText)
     (ts us : List NamedTree) (k l : ReadErrorKind) (m n : ℕ)
-    → b ++ p ∷ r ≡ c ++ q ∷ s → AllRead b ts → AllRead c us → IsToldOf p.text k m → IsToldOf q.text l n → p ≡ q
+    → b ++ p ∷ r ≡ c ++ q ∷ s → AllRead b ts → AllRead c us → IsErrorOf p.text k m → IsErrorOf q.text l n → p ≡ q
 one_split laws [] [] p q r s ts us k l m n e a d x y = cc
 one_split laws [] (v ∷ c) p q r s ts [] k l m n e a d x y = absurd d
 one_split laws [] (v ∷ c) p q r s ts (u ∷ us) k l m n e a d x y =
@@ -86,7 +86,7 @@ one_refused laws ps m n d e x y =
     (sym x.split ∙ y.split) x.read y.read x.told y.told in
     let name : m ≡ n = ap (λ (p : ProgramText). p.name) same in
     let text : x.text ≡ y.text = ap (λ (p : ProgramText). p.text) same in
-    let P : List ℕ → Type 0 = λ t. IsToldOf t d.kind d.line in
+    let P : List ℕ → Type 0 = λ t. IsErrorOf t d.kind d.line in
     let fault = laws.one_fault y.text d.kind e.kind d.line e.line (subst P text x.told) y.told in
     (name, same_error d e fault.0 fault.1)
 
@@ -96,7 +96,7 @@ one_net laws text m n a b =
     let x = a.1 in
     let y : IsNetOf a.0.top n = subst P (one_document text b.0 a.0) b.1 in
     let trees : x.programs.trees ≡ y.programs.trees = one_reading laws _ _ _ x.programs.read y.programs.read in
-    x.told ∙ ap (net_told a.0.top) trees ∙ sym y.told
+    x.told ∙ ap (net_in a.0.top) trees ∙ sym y.told
 
 pub never_both : ProgramLaws → NeverBoth
 never_both laws text n (Program name e) a b =

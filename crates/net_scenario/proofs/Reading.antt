@@ -30,7 +30,7 @@ use Rattle.net_scenario.specs.Programs.{texts_of, AllRead}
 use Rattle.net_scenario.specs.Reads.{ReadsPrograms}
 use Rattle.mote_net.specs.Net.{MoteSetup}
 use Rattle.mote_net.specs.Meaning.{setup_of}
-use Rattle.net_scenario.specs.Net.{mote_of_table, place_told, radio_told}
+use Rattle.net_scenario.specs.Net.{mote_of_table, place_in, radio_in}
 use Rattle.net_scenario.specs.Reading.{document_of, HasTrees, IsNetOf}
 use Rattle.net_scenario.specs.Reads.{MakesRadio, MakesNet, Answers}
 
@@ -62,7 +62,7 @@ refused top OutOfRange m = absurd m
 refused top UnknownProgram m = absurd m
 
 -- a medium that isn't made
-pub no_medium : (top : Members) (e : ScenarioError) (programs : HasTrees top) → MakesRadio (radio_told top) (Err e)
+pub no_medium : (top : Members) (e : ScenarioError) (programs : HasTrees top) → MakesRadio (radio_in top) (Err e)
     → MakesNet top (Err e)
 no_medium top (Program name e) programs m = absurd m
 no_medium top Memory programs m = tt
@@ -93,14 +93,14 @@ pub made : (top : Members) (e : ℕ) (flag : Bool) (radio : Radio) (ps : List Na
     → AllRead (texts_of (table_at (codes "programs") top)) (map named_tree ps)
     → integer_at (codes "end") top ≡ Some (pos e)
     → flag ≡ boolean_at (codes "collide") (table_at (codes "medium") top)
-    → MakesRadio (radio_told top) (Ok radio)
+    → MakesRadio (radio_in top) (Ok radio)
     → map (setup_of ps) ms ≡ map (mote_of_table (table_at (codes "queue") top) (map named_tree ps))
     (tables_at (codes "mote") top)
     → IsNetOf top (record { end = e; collide = flag; radio = radio; motes = map (setup_of ps) ms })
 made top e flag radio ps ms read end-is flag-is radio-is motes-are =
     let same-end : e ≡ natural_at (codes "end") top =
     sym (ap (λ (o : Option ℤ). natural (unwrap_or o (pos 0))) end-is) in
-    let same-radio : radio ≡ radio_told top = radio-is.0 in
+    let same-radio : radio ≡ radio_in top = radio-is.0 in
     record {
       programs = record { trees = map named_tree ps; read = read };
       medium = radio-is.1;
@@ -125,7 +125,7 @@ some_motes top f = tables_asked fewest_motes most_motes (codes "mote") top
     (keeps_all (version_of top) top_rules top f.top 4 (lit< tt) refl)
 
 -- as many places as motes
-pub place_count : (top : Members) (radio : Radio) → MakesRadio (radio_told top) (Ok radio)
+pub place_count : (top : Members) (radio : Radio) → MakesRadio (radio_in top) (Ok radio)
     → length radio.places ≡ length (tables_at (codes "mote") top)
 place_count top radio made = ap (λ (r : Radio). length r.places) made.0 ∙ length-map (tables_at (codes "mote") top)
-    place_told
+    place_in

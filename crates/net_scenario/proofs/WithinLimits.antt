@@ -7,7 +7,7 @@ use Rattle.radio_medium.specs.Medium.{IsWithinLimits}
 use Rattle.radio_medium.specs.declared.place.Place.{Place}
 use Rattle.net_scenario.specs.Document.{version_of, natural, integer_at, table_at, tables_at, first_some}
 use Rattle.mote_net.specs.Limits.{latest_end}
-use Rattle.net_scenario.specs.Net.{place_told, loss_of, radio_told}
+use Rattle.net_scenario.specs.Net.{place_in, loss_of, radio_in}
 use Rattle.net_scenario.specs.Rules.{keys_fault, top_rules, medium_rules, mote_rules}
 use Rattle.net_scenario.specs.declared.version.Version.TheVariants.{First}
 use Rattle.net_scenario.proofs.Each.{Faultless, or_none}
@@ -17,7 +17,7 @@ use Rattle.net_scenario.proofs.Reading.{few_motes}
 abbrev pub IsNear : Place → Type 0
 IsNear p = (unsigned_abs p.x ≤ 30000) × (unsigned_abs p.y ≤ 30000)
 
-near : (ms : Members) → keys_fault mote_rules ms ≡ None → IsNear (place_told ms)
+near : (ms : Members) → keys_fault mote_rules ms ≡ None → IsNear (place_in ms)
 near ms h = (
   signed_within 30000 (codes "x") ms (number_kept (neg_ℤ (pos 30000))
       (pos 30000) _ _ (keeps_all First mote_rules ms h 0 (lit< tt) refl)),
@@ -26,7 +26,7 @@ near ms h = (
 )
 
 -- no place is farther than a coordinate may be
-pub all_near : (ts : List Members) → first_some (keys_fault mote_rules) ts ≡ None → All IsNear (map place_told ts)
+pub all_near : (ts : List Members) → first_some (keys_fault mote_rules) ts ≡ None → All IsNear (map place_in ts)
 all_near [] h k d lt = absurd (omega arith)
 all_near (t ∷ ts) h zero d lt = near t (or_none _ _ h).0
 all_near (t ∷ ts) h (suc k) d lt = all_near ts (or_none _ _ h).1 k d (omega arith)
@@ -37,12 +37,12 @@ pub same_radio : (top : Members) (range base per : ℕ)
     → integer_at (codes "base") (table_at (codes "medium") top) ≡ Some (pos base)
     → integer_at (codes "per") (table_at (codes "medium") top) ≡ Some (pos per)
     → record {
-      places = map place_told (tables_at (codes "mote") top);
+      places = map place_in (tables_at (codes "mote") top);
       range = range;
       base = base;
       per = per;
       losses = map loss_of (tables_at (codes "loss") top);
-    } ≡ radio_told top
+    } ≡ radio_in top
 same_radio top range base per a b c =
     let same : (o : Option ℤ) (n : ℕ) → o ≡ Some (pos n) → n ≡ natural (unwrap_or o (pos 0)) =
     λ o n e. sym (ap (λ (p : Option ℤ). natural (unwrap_or p (pos 0))) e) in
@@ -53,7 +53,7 @@ pub within_limits : (top : Members) → Faultless top → (range base per : ℕ)
     → integer_at (codes "base") (table_at (codes "medium") top) ≡ Some (pos base)
     → integer_at (codes "per") (table_at (codes "medium") top) ≡ Some (pos per)
     → IsWithinLimits (record {
-      places = map place_told (tables_at (codes "mote") top);
+      places = map place_in (tables_at (codes "mote") top);
       range = range;
       base = base;
       per = per;
@@ -62,7 +62,7 @@ pub within_limits : (top : Members) → Faultless top → (range base per : ℕ)
 within_limits top f range base per a b c =
     let medium = table_at (codes "medium") top in
     let few = few_motes top f in
-    let as_many = length-map (tables_at (codes "mote") top) place_told in
+    let as_many = length-map (tables_at (codes "mote") top) place_in in
     record {
       motes = omega (arith, few, as_many);
       places = all_near (tables_at (codes "mote") top) f.motes;

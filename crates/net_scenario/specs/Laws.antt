@@ -1,28 +1,28 @@
 -- The meaning of a text: one net or one error, and never both.
 use Rattle.std.specs.Prelude.{◌≡◌, ◌⊎◌, ℕ, List}
 use Rattle.program_tree.specs.Code.{Tree}
-use Rattle.program_tree.specs.Reading.{IsTreeOf, IsToldOf}
+use Rattle.program_tree.specs.Reading.{IsTreeOf, IsErrorOf}
 use Rattle.program_tree.specs.declared.error.ReadErrorKind.{ReadErrorKind}
 use Rattle.net_scenario.specs.declared.error.ScenarioError.{ScenarioError}
-use Rattle.mote_net.specs.Net.{NetTold}
+use Rattle.mote_net.specs.Net.{NetModel}
 use Rattle.net_scenario.specs.Reading.{TellsNet, TellsFault}
 
 -- the same of the texts of programs
 pub record ProgramLaws : Type 0 where
   pub one_tree : (text : List ℕ) (t u : Tree) → IsTreeOf text t → IsTreeOf text u → t ≡ u
-  pub one_fault : (text : List ℕ) (k l : ReadErrorKind) (m n : ℕ) → IsToldOf text k m → IsToldOf text l n
+  pub one_fault : (text : List ℕ) (k l : ReadErrorKind) (m n : ℕ) → IsErrorOf text k m → IsErrorOf text l n
       → (k ≡ l) × (m ≡ n)
-  pub never_both : (text : List ℕ) (t : Tree) (k : ReadErrorKind) (m : ℕ) → IsTreeOf text t → IsToldOf text k m → ⊥
+  pub never_both : (text : List ℕ) (t : Tree) (k : ReadErrorKind) (m : ℕ) → IsTreeOf text t → IsErrorOf text k m → ⊥
 
 abbrev pub OneNet : Type 0
-OneNet = (text : List ℕ) (m n : NetTold) → TellsNet text m → TellsNet text n → m ≡ n
+OneNet = (text : List ℕ) (m n : NetModel) → TellsNet text m → TellsNet text n → m ≡ n
 
 abbrev pub NeverBoth : Type 0
-NeverBoth = (text : List ℕ) (n : NetTold) (e : ScenarioError) → TellsNet text n → TellsFault text e → ⊥
+NeverBoth = (text : List ℕ) (n : NetModel) (e : ScenarioError) → TellsNet text n → TellsFault text e → ⊥
 
 -- and each has one of them
 abbrev pub NetOrFault : Type 0
-NetOrFault = (text : List ℕ) → ((n : NetTold) × TellsNet text n) ⊎ ((e : ScenarioError) × TellsFault text e)
+NetOrFault = (text : List ℕ) → ((n : NetModel) × TellsNet text n) ⊎ ((e : ScenarioError) × TellsFault text e)
 
 abbrev pub OneFault : Type 0
 OneFault = (text : List ℕ) (e f : ScenarioError) → TellsFault text e → TellsFault text f → e ≡ f

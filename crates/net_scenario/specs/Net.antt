@@ -8,7 +8,7 @@ use Rattle.radio_medium.specs.declared.place.Place.{Place}
 use Rattle.radio_medium.specs.declared.losses.Loss.{Loss}
 use Rattle.net_scenario.specs.declared.error.TableFault.{TableFault}
 use Rattle.net_scenario.specs.declared.error.TableFault.TheVariants.{UnknownProgram}
-use Rattle.mote_net.specs.Net.{MoteSetup, NetTold, no_program}
+use Rattle.mote_net.specs.Net.{MoteSetup, NetModel, no_program}
 use Rattle.net_scenario.specs.Limits.{usual_queue}
 use Rattle.net_scenario.specs.Document.{natural, number_at, natural_at, integer_at, boolean_at, text_at, table_at}
 use Rattle.net_scenario.specs.Document.{tables_at}
@@ -29,8 +29,8 @@ mote_of_table queue trees ms = record {
   queue = queue_of queue (text_at (codes "program") ms);
 }
 
-abbrev pub place_told : Members → Place
-place_told ms = record { x = number_at (codes "x") ms; y = number_at (codes "y") ms }
+abbrev pub place_in : Members → Place
+place_in ms = record { x = number_at (codes "x") ms; y = number_at (codes "y") ms }
 
 abbrev pub loss_of : Members → Loss
 loss_of ms = record {
@@ -40,9 +40,9 @@ loss_of ms = record {
 }
 
 -- the medium of a document: its numbers, the places of its motes, and its losses
-abbrev pub radio_told : Members → Radio
-radio_told top = record {
-  places = map place_told (tables_at (codes "mote") top);
+abbrev pub radio_in : Members → Radio
+radio_in top = record {
+  places = map place_in (tables_at (codes "mote") top);
   range = natural_at (codes "range") (table_at (codes "medium") top);
   base = natural_at (codes "base") (table_at (codes "medium") top);
   per = natural_at (codes "per") (table_at (codes "medium") top);
@@ -50,11 +50,11 @@ radio_told top = record {
 }
 
 -- the net of a document and the trees of its programs
-abbrev pub net_told : Members → List NamedTree → NetTold
-net_told top trees = record {
+abbrev pub net_in : Members → List NamedTree → NetModel
+net_in top trees = record {
   end = natural_at (codes "end") top;
   collide = boolean_at (codes "collide") (table_at (codes "medium") top);
-  radio = radio_told top;
+  radio = radio_in top;
   motes = map (mote_of_table (table_at (codes "queue") top) trees) (tables_at (codes "mote") top);
 }
 

@@ -1,7 +1,7 @@
 -- The programs of a scenario, in byte order of their names, and how they are read.
 use Rattle.std.specs.Prelude.{◌≡◌, ℕ, List, [], ◌∷◌, ◌++◌, unwrap_or}
 use Rattle.toml.specs.Data.{Members, no_members, member, as_str}
-use Rattle.program_tree.specs.Reading.{IsTreeOf, IsToldOf}
+use Rattle.program_tree.specs.Reading.{IsTreeOf, IsErrorOf}
 use Rattle.program_tree.specs.declared.error.ReadError.{ReadError}
 use Rattle.mote_net.specs.Programs.{NamedTree}
 
@@ -29,4 +29,4 @@ pub record FirstRefused (programs : List ProgramText) (name : List ℕ) (error :
   pub trees : List NamedTree
   pub split : programs ≡ before ++ record { name = name; text = text } ∷ after
   pub read : AllRead before trees
-  pub told : IsToldOf text error.kind error.line
+  pub told : IsErrorOf text error.kind error.line

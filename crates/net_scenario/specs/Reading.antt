@@ -13,8 +13,8 @@ use Rattle.net_scenario.specs.Errors.{of_table}
 use Rattle.net_scenario.specs.Document.{table_at, document_fault}
 use Rattle.mote_net.specs.Programs.{NamedTree}
 use Rattle.net_scenario.specs.Programs.{texts_of, AllRead, FirstRefused}
-use Rattle.mote_net.specs.Net.{NetTold}
-use Rattle.net_scenario.specs.Net.{net_told, radio_told}
+use Rattle.mote_net.specs.Net.{NetModel}
+use Rattle.net_scenario.specs.Net.{net_in, radio_in}
 
 -- a table without fault, or its first fault
 abbrev pub faultless : Option Members → Result Members ScenarioError
@@ -37,22 +37,22 @@ pub record HasTrees (top : Members) : Type 0 where
   pub read : AllRead (texts_of (table_at (codes "programs") top)) trees
 
 -- the document's programs are all read and its medium has no fault: its net is this
-pub record IsNetOf (top : Members) (net : NetTold) : Type 0 where
+pub record IsNetOf (top : Members) (net : NetModel) : Type 0 where
   pub programs : HasTrees top
-  pub medium : medium_fault (radio_told top) ≡ None
-  pub told : net ≡ net_told top programs.trees
+  pub medium : medium_fault (radio_in top) ≡ None
+  pub told : net ≡ net_in top programs.trees
 
 -- the document's programs are all read, and its medium has this fault
 pub record IsMediumFaultOf (top : Members) (error : MediumError) : Type 0 where
   pub programs : HasTrees top
-  pub medium : medium_fault (radio_told top) ≡ Some error
+  pub medium : medium_fault (radio_in top) ≡ Some error
 
 -- the first program of the document that isn't read
 abbrev pub IsRefusedProgramOf : Members → List ℕ → ReadError → Type 0
 IsRefusedProgramOf top name error = FirstRefused (texts_of (table_at (codes "programs") top)) name error
 
 -- the text describes this net
-abbrev pub TellsNet : List ℕ → NetTold → Type 0
+abbrev pub TellsNet : List ℕ → NetModel → Type 0
 TellsNet text net = (d : Document text) × IsNetOf d.top net
 
 -- this is the first fault of the text

@@ -17,7 +17,7 @@ use Rattle.std.specs.Cmp.Lexicographic.{slice_cmp}
 use Rattle.std.specs.List.Sorted.{IsStrictlySortedBy}
 use Rattle.std.specs.Ordering.{nat_cmp}
 use Rattle.program_tree.specs.Program.{tree_of}
-use Rattle.program_tree.specs.Reading.{IsTreeOf, IsToldOf}
+use Rattle.program_tree.specs.Reading.{IsTreeOf, IsErrorOf}
 use Rattle.mote_net.specs.declared.programs.NamedProgram.{NamedProgram}
 
 -- the table of a text, unless memory ran out
@@ -62,6 +62,6 @@ ReadsPrograms texts (Err e) = ⊥
 -- one program is read, or its fault reported, unless an allocation failed
 abbrev pub ReadsProgram : ProgramText → Result NamedProgram ScenarioError → Type 0
 ReadsProgram p (Ok q) = (q.name ≡ p.name) × IsTreeOf p.text (tree_of q.program)
-ReadsProgram p (Err (Program name e)) = (name ≡ p.name) × IsToldOf p.text e.kind e.line
+ReadsProgram p (Err (Program name e)) = (name ≡ p.name) × IsErrorOf p.text e.kind e.line
 ReadsProgram p (Err Memory) = Unit {0}
 ReadsProgram p (Err e) = ⊥

@@ -3,7 +3,7 @@ ghost use Rattle.std.specs.Prelude.{◌≡◌, map, None, IfOk};
 ghost use Rattle.toml.specs.View.{items_view, table_view};
 ghost use Rattle.net_scenario.specs.Rules.{keys_fault, loss_rules, mote_rules};
 ghost use Rattle.net_scenario.specs.Document.{first_some, tables_in};
-ghost use Rattle.net_scenario.specs.Net.{place_told, loss_of};
+ghost use Rattle.net_scenario.specs.Net.{place_in, loss_of};
 
 use crate::values::{integer_at, natural_at};
 use radio_medium::{Loss, Place};
@@ -11,9 +11,9 @@ use std::alloc::{AllocError, Global};
 use toml::{Table, Value};
 
 /// The place of a mote.
-fn place_told(table: &Table) -> Place
+fn place_in(table: &Table) -> Place
     requires no_fault { keys_fault mote_rules (table_view table.now) ≡ None }
-    ensures value { result ≡ place_told (table_view table.now) }
+    ensures value { result ≡ place_in (table_view table.now) }
 {
     Place {
         x: integer_at(table, "x"),
@@ -27,12 +27,12 @@ fn place_told(table: &Table) -> Place
 /// If an allocation failed.
 pub fn places_of(alloc: Global, items: &[Value]) -> Result<Vec<Place>, AllocError>
     requires no_fault { first_some (keys_fault mote_rules) (tables_in (items_view items.now)) ≡ None }
-    ensures places { IfOk result (λ v. v.items ≡ map place_told (tables_in (items_view items.now))) }
+    ensures places { IfOk result (λ v. v.items ≡ map place_in (tables_in (items_view items.now))) }
 {
     let mut places = Vec::new(alloc);
     for item in items {
         if let Some(table) = item.as_table() {
-            places.push(place_told(table))?;
+            places.push(place_in(table))?;
         }
     }
     Ok(places)

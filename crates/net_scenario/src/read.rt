@@ -2,7 +2,7 @@
 ghost use Rattle.std.specs.Prelude.{◌≡◌, None};
 ghost use Rattle.toml.specs.View.{table_view};
 ghost use Rattle.net_scenario.specs.Document.{document_fault};
-ghost use Rattle.net_scenario.specs.Net.{radio_told};
+ghost use Rattle.net_scenario.specs.Net.{radio_in};
 ghost use Rattle.net_scenario.specs.Reads.{Parses, MakesRadio, MakesNet, Answers};
 
 use crate::document::check_document;
@@ -31,7 +31,7 @@ fn parse_toml(alloc: Global, text: &str) -> Result<Table, ScenarioError>
 /// The medium of a document: the numbers of its table, the places of the motes and the losses.
 fn medium_of(alloc: Global, top: &Table) -> Result<Medium, ScenarioError>
     requires no_fault { document_fault (table_view top.now) ≡ None }
-    ensures makes_radio { MakesRadio (radio_told (table_view top.now)) result }
+    ensures makes_radio { MakesRadio (radio_in (table_view top.now)) result }
 {
     let places = places_of(alloc, items_at(top, "mote"))?;
     let losses = losses_of(alloc, items_at(top, "loss"))?;

@@ -16,7 +16,7 @@ use Rattle.process_kernel.specs.declared.process.Member.{Member}
 use Rattle.process_kernel.specs.declared.machine.Machine.{Machine}
 use Rattle.process_kernel.specs.declared.machine.Stop.{Stop}
 use Rattle.process_kernel.specs.declared.machine.Stop.TheVariants.{Halted, Memory}
-use Rattle.process_kernel.specs.declared.look.Shown.{Shown}
+use Rattle.process_kernel.specs.declared.look.KernelView.{KernelView}
 use Rattle.program_tree.specs.declared.event.Event.{Event}
 use Rattle.program_tree.specs.declared.event.Proc.{Proc}
 use Rattle.protothread.specs.declared.part.Part.{Part}
@@ -65,8 +65,8 @@ state_of program m = record {
   sends = m.out.sends.items;
 }
 
-abbrev pub looks_of_shown : Shown → Looks
-looks_of_shown x = looks_at x.moment x.mote x.timers.timers x.states.items x.semaphores.items
+abbrev pub looks_of_view : KernelView → Looks
+looks_of_view x = looks_at x.moment x.mote x.timers.timers x.states.items x.semaphores.items
 
 -- the answer of a step and the state after it are this outcome; out of memory no claim is made
 abbrev pub Tells : {A : Type 0} → Result A Stop → State → Outcome A → Type 0
@@ -75,13 +75,13 @@ Tells (Err Halted) s o = o ≡ Ends s
 Tells (Err Memory) s o = Unit {0}
 
 -- the same of a thread, with its remainder
-abbrev pub told_answer : Code → Thread → Result PtState Stop → Result Answer Stop
-told_answer code thread (Ok answer) = Ok (answer, remainder_of code thread)
-told_answer code thread (Err e) = Err e
+abbrev pub answer_model : Code → Thread → Result PtState Stop → Result Answer Stop
+answer_model code thread (Ok answer) = Ok (answer, remainder_of code thread)
+answer_model code thread (Err e) = Err e
 
-abbrev pub told_thread : Code → Thread → Result (Unit {0}) Stop → Result Remainder Stop
-told_thread code thread (Ok done) = Ok (remainder_of code thread)
-told_thread code thread (Err e) = Err e
+abbrev pub remainder_model : Code → Thread → Result (Unit {0}) Stop → Result Remainder Stop
+remainder_model code thread (Ok done) = Ok (remainder_of code thread)
+remainder_model code thread (Err e) = Err e
 
 -- the output begins with these lines and packets
 unfoldable pub Begins : List Line → List Sent → Out → Type 0

@@ -7,7 +7,7 @@ ghost use Rattle.process_kernel.specs.Call.{has_ended as is_an_end};
 ghost use Rattle.process_kernel.specs.Ctimer.{callback_of, ctimer_of};
 ghost use Rattle.process_kernel.specs.Follows.{Follows};
 ghost use Rattle.process_kernel.specs.Reaction.{handler_of, resume_of, own_of, react_of};
-ghost use Rattle.process_kernel.specs.Views.{HasRoom, Pays, told_answer, part_of};
+ghost use Rattle.process_kernel.specs.Views.{HasRoom, Pays, answer_model, part_of};
 
 use crate::event::is_event;
 use crate::machine::{Machine, Stop};
@@ -242,7 +242,7 @@ impl Machine {
         event: &Event,
     ) -> Result<PtState, Stop>
         requires room { HasRoom 0 self.old }
-        ensures follows { Follows program.now self.old (told_answer (code_of text.now) thread.new result) self.new
+        ensures follows { Follows program.now self.old (answer_model (code_of text.now) thread.new result) self.new
             (λ calls state. calls.run state (code_of text.now)
             (remainder_of (code_of text.now) thread.old) process event.now) }
     {

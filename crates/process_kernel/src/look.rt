@@ -9,7 +9,7 @@ use protothread::{Look, Semaphore};
 
 /// A protothread's view: the moment, the mote's number, the timers, the states of the processes and the semaphores.
 #[derive(Drop)]
-pub struct Shown {
+pub struct KernelView {
     pub(crate) moment: u64,
     pub(crate) mote: u16,
     pub(crate) timer_count: u16,
@@ -19,7 +19,7 @@ pub struct Shown {
     ghost each_timer: { length timers.timers ≡ timer_count },
 }
 
-impl Shown {
+impl KernelView {
     pub(crate) fn set_state(&mut self, place: usize, state: ProcessState)
         requires in_range { place < length self.old.states.items }
         ensures states { self.new.states.items ≡ slice_set self.old.states.items place state }
@@ -31,10 +31,10 @@ impl Shown {
     }
 }
 
-impl Look for Shown {
-    ghost use Rattle.process_kernel.specs.Views.{looks_of_shown};
+impl Look for KernelView {
+    ghost use Rattle.process_kernel.specs.Views.{looks_of_view};
 
-    ghost looks = { looks_of_shown };
+    ghost looks = { looks_of_view };
 
     fn now(&self) -> u16 {
         (self.moment % 65_536) as u16

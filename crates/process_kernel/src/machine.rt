@@ -5,7 +5,7 @@ ghost use Rattle.process_kernel.specs.Members.{AreMembers};
 ghost use Rattle.process_kernel.specs.ProcessList.{numbered_from};
 ghost use Rattle.std.proofs.Props.{props};
 
-use crate::look::Shown;
+use crate::look::KernelView;
 use crate::process::Member;
 use crate::ring::Ring;
 use event_queue::EventQueue;
@@ -54,7 +54,7 @@ impl<T: Drop> From<AllocFailed<T>> for Stop {
 /// (Contiki's `needspoll`). The fields that a run touches are next to each other, so that it needs few cache lines.
 #[derive(Drop)]
 pub struct Machine {
-    pub(crate) shown: Shown,
+    pub(crate) shown: KernelView,
     pub(crate) members: Vec<Member>,
     pub(crate) started: u32,
     pub(crate) is_numbered: bool,

@@ -9,7 +9,7 @@ ghost use Rattle.process_kernel.specs.Follows.{Follows};
 ghost use Rattle.process_kernel.specs.Start.{start_of};
 ghost use Rattle.process_kernel.specs.Kill.{kill_of};
 ghost use Rattle.process_kernel.specs.Operation.{posted, act_of, perform_of};
-ghost use Rattle.process_kernel.specs.Views.{HasRoom, told_thread};
+ghost use Rattle.process_kernel.specs.Views.{HasRoom, remainder_model};
 
 use crate::event::system_event;
 use crate::machine::{Machine, Stop};
@@ -58,7 +58,7 @@ impl Machine {
         op: &Op,
     ) -> Result<(), Stop>
         requires room { HasRoom 1 self.old }
-        ensures follows { Follows program.now self.old (told_thread (code_of text.now) thread.new result) self.new
+        ensures follows { Follows program.now self.old (remainder_model (code_of text.now) thread.new result) self.new
             (λ calls state. perform_of calls state (remainder_of (code_of text.now) thread.old) current op.now) }
     {
         match op {

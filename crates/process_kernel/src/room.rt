@@ -8,7 +8,7 @@ ghost use Rattle.protothread.specs.Remainder.{fresh_of};
 ghost use Rattle.process_kernel.specs.Mote.{unbooted};
 ghost use Rattle.process_kernel.specs.Views.{state_of, remainders_of};
 
-use crate::look::Shown;
+use crate::look::KernelView;
 use crate::machine::Machine;
 use crate::process::ProcessState;
 use crate::ring::Ring;
@@ -52,7 +52,7 @@ fn first_semaphores(alloc: Global, program: &Program) -> Result<Vec<Semaphore>, 
 }
 
 /// The view that a protothread of a mote with this number would get before the boot.
-fn first_shown(alloc: Global, program: &Program, mote: u16) -> Result<Shown, AllocError>
+fn first_shown(alloc: Global, program: &Program, mote: u16) -> Result<KernelView, AllocError>
     ensures mote { IfOk result (λ shown. (shown.mote ≡ mote) × (shown.moment ≡ 0)) }
     ensures timers { let n = length (tree_of program.now).timers in
         IfOk result (λ shown. (shown.timer_count ≡ n) × (shown.timers ≡ new_timers n)) }
@@ -62,7 +62,7 @@ fn first_shown(alloc: Global, program: &Program, mote: u16) -> Result<Shown, All
 {
     let timers = program.timers();
     let places = usize::from(program.processes()) + 3;
-    Ok(Shown {
+    Ok(KernelView {
         moment: 0,
         mote,
         timer_count: timers,

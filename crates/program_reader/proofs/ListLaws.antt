@@ -15,10 +15,10 @@ use Rattle.program_tree.specs.Tree.{Class}
 use Rattle.program_reader.specs.declared.fault.Fault.{Fault}
 use Rattle.std.specs.Prelude.{IsErrAnd}
 use Rattle.program_tree.specs.declared.keyword.Keyword.{Keyword}
-use Rattle.program_reader.specs.declared.fault.Refusal.{Refusal}
+use Rattle.program_reader.specs.declared.fault.ReadFailure.{ReadFailure}
 use Rattle.program_reader.specs.Machine as machine
 use Rattle.program_tree.specs.Tokens as token
-use Rattle.program_reader.specs.declared.fault.Refusal.TheVariants as refusal
+use Rattle.program_reader.specs.declared.fault.ReadFailure.TheVariants as refusal
 
 pub with_all-append : (names : Names) (c : Class) (xs : List Name) (x : Name) → with_all names c (xs ++ x ∷ [])
     ≡ with_new (with_all names c xs) c x
@@ -118,6 +118,6 @@ shorter_behind t old m0 new split h = omega (arith, ap length split)
 pub ruleset list_steps = (no_names_yet, no_values_yet, shorter_behind)
 
 -- a fault that `?` hands on
-pub handed_on : {T U : Type 0} {r : Result U Refusal} {a : Refusal} {f : Fault} → IsErrAnd r (λ e. e ≡ a)
-    → r ≡ Err (refusal.Fault f) → ◌≡◌ {A = Result T Refusal} (Err a) (Err (refusal.Fault f))
+pub handed_on : {T U : Type 0} {r : Result U ReadFailure} {a : ReadFailure} {f : Fault} → IsErrAnd r (λ e. e ≡ a)
+    → r ≡ Err (refusal.Fault f) → ◌≡◌ {A = Result T ReadFailure} (Err a) (Err (refusal.Fault f))
 handed_on {r = r} h e = let p = err_from_is_err_and r h in cc (p.1, p.2, e)

@@ -6,12 +6,12 @@ use Rattle.std.proofs.lemmas.Bool.{ltb-true, ltb-false}
 use Rattle.std.proofs.lemmas.List.{length-append, length-map}
 use Rattle.std.proofs.lemmas.Option.{slice_get-get_or}
 use Rattle.program_tree.specs.Code.{Tree}
-use Rattle.program_tree.specs.Faults.{nothing_yet, IsProgram, IsTold}
-use Rattle.program_tree.specs.ReadingLaws.{IsToldAt}
+use Rattle.program_tree.specs.Faults.{nothing_yet, IsProgram, IsFirstFault}
+use Rattle.program_tree.specs.ReadingLaws.{IsFirstFaultAt}
 use Rattle.program_tree.specs.Grammar.{program_marks}
 use Rattle.program_tree.specs.Kinds.{kind_number}
 use Rattle.program_reader.specs.Machine.{Verdict, tell, whole, fault, from_events}
-use Rattle.program_tree.specs.Reading.{IsTreeOfTokens, IsTreeOf, IsToldOf}
+use Rattle.program_tree.specs.Reading.{IsTreeOfTokens, IsTreeOf, IsErrorOf}
 use Rattle.program_tree.specs.ReadingLaws.{HasTreeOrFault}
 use Rattle.program_tree.specs.Numbers.{tree_of_shape}
 use Rattle.program_tree.specs.Shapes.{ProgramShape}
@@ -46,7 +46,7 @@ pub tree_read : (text : List ℕ) (ts : List Token) (ls : List ℕ) (t : Tree) �
 tree_read text ts ls t lexed h = record { tokens = ts; lines = ls; lexed = lexed; spelled = h }
 
 pub read_fails : (k : ReadErrorKind) (left : ℕ) (text : List Token) → tell nothing_yet (from_events ∷ []) text
-    ≡ fault k left → IsToldAt k left text
+    ≡ fault k left → IsFirstFaultAt k left text
 read_fails k left text e = subst (λ v. Judged v text) e (judged text)
 
 -- a reported error, as the reader has it
@@ -69,7 +69,7 @@ line_within text ts ls left h = omega (arith, length-lines text (map token_of ts
 
 pub told_read : (text : List ℕ) (ts : List TokenRead) (ls : List ℕ) (k : ReadErrorKind) (left line : ℕ)
     → IsLexed text (map token_of ts) ls → tell nothing_yet (from_events ∷ []) (map token_of ts) ≡ fault k left →
-    slice_get ls (length ts - left) ≡ Some line → IsToldOf text k line
+    slice_get ls (length ts - left) ≡ Some line → IsErrorOf text k line
 told_read text ts ls k left line lexed e at =
     let t = read_fails k left (map token_of ts) e in
     let here : length t.0 ≡ length ts - left = at_split (map token_of ts) t.0 t.1 left t.2 t.3
@@ -86,20 +86,20 @@ told_read text ts ls k left line lexed e at =
     }
 
 -- a failed allocation is no fault of a text
-never_memory : (before rest : List Token) → IsTold Memory before rest → ⊥
+never_memory : (before rest : List Token) → IsFirstFault Memory before rest → ⊥
 never_memory before rest h = absurd (cc (h.here.broken))
 
-pub told_no_memory : (text : List ℕ) (line : ℕ) → IsToldOf text Memory line → ⊥
+pub told_no_memory : (text : List ℕ) (line : ℕ) → IsErrorOf text Memory line → ⊥
 told_no_memory text line h = never_memory h.before h.rest h.told
 
 -- a tree and a reported error
-pub never_both : (text : List ℕ) (t : Tree) (k : ReadErrorKind) (line : ℕ) → IsTreeOf text t → IsToldOf text k line → ⊥
+pub never_both : (text : List ℕ) (t : Tree) (k : ReadErrorKind) (line : ℕ) → IsTreeOf text t → IsErrorOf text k line → ⊥
 never_both text t k line h f =
     let e = one_lexing text h.tokens f.tokens h.lines f.lines h.lexed f.lexed in
     h.spelled.program.sound f.before f.rest k (e.0 ∙ f.split) f.told.here
 
 by_verdict : (text : List ℕ) (ts : List Token) (ls : List ℕ) (v : Verdict) → IsLexed text ts ls → Judged v ts
-    → ((t : Tree) × IsTreeOf text t) ⊎ ((k : ReadErrorKind) × (line : ℕ) × IsToldOf text k line)
+    → ((t : Tree) × IsTreeOf text t) ⊎ ((k : ReadErrorKind) × (line : ℕ) × IsErrorOf text k line)
 by_verdict text ts ls whole lexed h = inl (
   tree_of_shape h.0,
   record {
@@ -153,7 +153,7 @@ same_kind BadTarget BadTarget e = refl
 same_kind Memory Memory e = refl
 same_kind j k e = absurd cc
 
-same_here : (j k : ReadErrorKind) (before rest : List Token) → IsTold j before rest → IsTold k before rest → j ≡ k
+same_here : (j k : ReadErrorKind) (before rest : List Token) → IsFirstFault j before rest → IsFirstFault k before rest → j ≡ k
 same_here j k before rest h i = go (nat_lt (kind_number j) (kind_number k)) (nat_lt (kind_number k) (kind_number j))
     refl refl
   where
@@ -162,7 +162,7 @@ same_here j k before rest h i = go (nat_lt (kind_number j) (kind_number k)) (nat
     go false true d e = absurd (h.least k (ltb-true _ _ e) i.here)
     go false false d e = same_kind j k (omega (arith, ltb-false _ _ d, ltb-false _ _ e))
 
-same_told : (j k : ReadErrorKind) (b r c s : List Token) → b ++ r ≡ c ++ s → IsTold j b r → IsTold k c s → (j ≡ k)
+same_told : (j k : ReadErrorKind) (b r c s : List Token) → b ++ r ≡ c ++ s → IsFirstFault j b r → IsFirstFault k c s → (j ≡ k)
     × (length b ≡ length c)
 same_told j k b r c s e h i = go (nat_lt (length b) (length c)) (nat_lt (length c) (length b)) refl refl
   where
@@ -173,9 +173,9 @@ same_told j k b r c s e h i = go (nat_lt (length b) (length c)) (nat_lt (length 
     go false false x y =
         let l : length b ≡ length c = omega (arith, ltb-false _ _ x, ltb-false _ _ y) in
         let q = same_front b c r s e l in
-        (same_here j k c s (subst (λ z. IsTold j c z) q.1 (subst (λ z. IsTold j z r) q.0 h)) i, l)
+        (same_here j k c s (subst (λ z. IsFirstFault j c z) q.1 (subst (λ z. IsFirstFault j z r) q.0 h)) i, l)
 
-pub one_told : (text : List ℕ) (j k : ReadErrorKind) (l m : ℕ) → IsToldOf text j l → IsToldOf text k m → (j ≡ k)
+pub one_told : (text : List ℕ) (j k : ReadErrorKind) (l m : ℕ) → IsErrorOf text j l → IsErrorOf text k m → (j ≡ k)
     × (l ≡ m)
 one_told text j k l m h i =
     let e = one_lexing text h.tokens i.tokens h.lines i.lines h.lexed i.lexed in

@@ -12,7 +12,7 @@ use Rattle.program_tree.specs.Shapes.{ProgramShape}
 use Rattle.program_tree.specs.Kinds.{kind_number}
 use Rattle.program_tree.specs.Faults.{Scope, nothing_yet, scope_after, scope_from, scope_of, breaks, CanFollow}
 use Rattle.program_tree.specs.Faults.{LacksProcess, Breach, IsFault, IsProgram}
-use Rattle.program_tree.specs.ReadingLaws.{IsToldAt}
+use Rattle.program_tree.specs.ReadingLaws.{IsFirstFaultAt}
 use Rattle.program_tree.specs.Tokens.{Token}
 use Rattle.program_tree.specs.declared.error.ReadErrorKind.{ReadErrorKind}
 use Rattle.program_tree.specs.declared.error.ReadErrorKind.TheVariants.{BadToken, Unexpected, UnknownName, NameTwice}
@@ -233,7 +233,7 @@ Clean before ts = (b r : List Token) (j : ReadErrorKind) → before ++ ts ≡ b 
 -- the verdict holds of the text
 abbrev pub Judged : Verdict → List Token → Type 0
 Judged whole text = (p : ProgramShape) × IsProgram p text
-Judged (fault k left) text = IsToldAt k left text
+Judged (fault k left) text = IsFirstFaultAt k left text
 
 -- a token that fits, with its mark
 record Stage (before ts : List Token) (ms : List Mark) (f : Pending) (s : Scope) (t : Token) (m : Mark)

@@ -11,12 +11,12 @@ use Rattle.program_tree.specs.declared.tree.Expr.{Expr}
 use Rattle.program_tree.specs.declared.tree.Stmt.{Stmt}
 use Rattle.program_reader.specs.Machine.{expression, items}
 use Rattle.program_reader.specs.Steps.{scope_of, context_of, fixed, Reads, ReadsStatement, Numbered, Fits, Fails}
-use Rattle.program_reader.specs.declared.fault.Refusal.{Refusal}
+use Rattle.program_reader.specs.declared.fault.ReadFailure.{ReadFailure}
 use Rattle.program_reader.specs.declared.reader.Reader.{Reader}
 use Rattle.program_reader.specs.declared.scope.Context.{Context}
 
 -- an expression
-pub record AnswersExpression (old new : Reader) (place : Context) (result : Result Expr Refusal) : Type 0 where
+pub record AnswersExpression (old new : Reader) (place : Context) (result : Result Expr ReadFailure) : Type 0 where
   pub no_longer : length new.cursor ≤ length old.cursor
   pub same : new.scope ≡ old.scope
   pub ok : IfOk result (λ e. Reads (scope_of old.scope) (scope_of old.scope) (expression (context_of place))
@@ -29,7 +29,7 @@ pub record AnswersExpression (old new : Reader) (place : Context) (result : Resu
   pub err : Fails (scope_of old.scope) (expression (context_of place)) old.cursor result
 
 -- a statement without a block
-pub record AnswersAction (old new : Reader) (place : Context) (result : Result Action Refusal) : Type 0 where
+pub record AnswersAction (old new : Reader) (place : Context) (result : Result Action ReadFailure) : Type 0 where
   pub names : fixed new.scope ≡ fixed old.scope
   pub shorter : OnOk result (length new.cursor < length old.cursor)
   pub counts : OnOk result (old.scope.statements < new.scope.statements)
@@ -42,7 +42,7 @@ pub record AnswersAction (old new : Reader) (place : Context) (result : Result A
   pub err : Fails (scope_of old.scope) (items (context_of place)) old.cursor result
 
 -- a statement, which is counted along with those in its blocks
-pub record AnswersStatement (old new : Reader) (place : Context) (result : Result Stmt Refusal) : Type 0 where
+pub record AnswersStatement (old new : Reader) (place : Context) (result : Result Stmt ReadFailure) : Type 0 where
   pub names : fixed new.scope ≡ fixed old.scope
   pub shorter : OnOk result (length new.cursor < length old.cursor)
   pub ok : IfOk result (λ s. ReadsStatement (scope_of old.scope) (scope_of new.scope) (context_of place)

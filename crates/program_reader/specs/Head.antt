@@ -17,8 +17,8 @@ use Rattle.program_tree.specs.Tree.{Class, an_event, a_semaphore, a_process, a_v
 use Rattle.program_reader.specs.declared.declarations.Kind.{Kind}
 use Rattle.program_reader.specs.declared.declarations.Kind.TheVariants as kind
 use Rattle.program_reader.specs.declared.fault.Fault.{Fault}
-use Rattle.program_reader.specs.declared.fault.Refusal.{Refusal}
-use Rattle.program_reader.specs.declared.fault.Refusal.TheVariants as refusal
+use Rattle.program_reader.specs.declared.fault.ReadFailure.{ReadFailure}
+use Rattle.program_reader.specs.declared.fault.ReadFailure.TheVariants as refusal
 use Rattle.program_tree.specs.declared.keyword.Keyword.TheVariants as word
 
 abbrev pub class_of_kind : Kind → Class
@@ -39,7 +39,7 @@ abbrev pub with_starting : Scope → List Name → Scope
 with_starting s xs = record s { starting = xs }
 
 -- if the result is a fault, it is the first one, whatever comes after these symbols
-abbrev pub FailsIn : {T : Type 0} → Scope → Pending → List Token → Result T Refusal → Type 0
+abbrev pub FailsIn : {T : Type 0} → Scope → Pending → List Token → Result T ReadFailure → Type 0
 FailsIn s y old result = (f : Fault) → result ≡ Err (refusal.Fault f) → (more : Pending)
     → tell s (y ++ more) old ≡ fault f.kind f.left
 

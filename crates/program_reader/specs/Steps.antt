@@ -18,8 +18,8 @@ use Rattle.program_tree.specs.Tree.{Class, an_event, a_semaphore, a_process, a_v
 use Rattle.program_reader.specs.declared.cursor.Sign.{Sign}
 use Rattle.program_reader.specs.declared.cursor.Sign.TheVariants as read_sign
 use Rattle.program_reader.specs.declared.fault.Fault.{Fault}
-use Rattle.program_reader.specs.declared.fault.Refusal.{Refusal}
-use Rattle.program_reader.specs.declared.fault.Refusal.TheVariants as refusal
+use Rattle.program_reader.specs.declared.fault.ReadFailure.{ReadFailure}
+use Rattle.program_reader.specs.declared.fault.ReadFailure.TheVariants as refusal
 use Rattle.program_tree.specs.declared.keyword.Keyword.{Keyword}
 use Rattle.program_reader.specs.declared.scope.Context.{Context as ContextRead}
 use Rattle.program_reader.specs.declared.scope.Found.{Found}
@@ -120,7 +120,7 @@ pub record ReadsSign (y : Symbol) (t : Token) (old new : List Token) : Type 0 wh
   pub spelled : old ≡ t ∷ new
   pub goes_on : (s : Scope) (f : Pending) → tell s (y ∷ f) old ≡ tell s f new
 
-abbrev pub FailsSign : {T : Type 0} → Symbol → List Token → Result T Refusal → Type 0
+abbrev pub FailsSign : {T : Type 0} → Symbol → List Token → Result T ReadFailure → Type 0
 FailsSign y old result = (f : Fault) → result ≡ Err (refusal.Fault f) → (s : Scope) (more : Pending)
     → tell s (y ∷ more) old ≡ fault f.kind f.left
 
@@ -131,7 +131,7 @@ pub record Reads (s s' : Scope) (y : Symbol) (marks : Names → List Mark → Li
     pub goes_on : (f : Pending) → tell s (y ∷ f) old ≡ tell s' f new
 
 -- if the result is a fault, it is the first one, whatever comes after the symbol
-abbrev pub Fails : {T : Type 0} → Scope → Symbol → List Token → Result T Refusal → Type 0
+abbrev pub Fails : {T : Type 0} → Scope → Symbol → List Token → Result T ReadFailure → Type 0
 Fails s y old result = (f : Fault) → result ≡ Err (refusal.Fault f) → (more : Pending)
     → tell s (y ∷ more) old ≡ fault f.kind f.left
 

@@ -20,7 +20,7 @@ ghost use Rattle.program_tree.specs.Tree.{IsWithinLimits};
 ghost use Rattle.program_reader.specs.declared.fault.Fault.{Fault};
 
 use crate::cursor::{Cursor, Sign};
-use crate::fault::Refusal;
+use crate::fault::ReadFailure;
 use crate::reader::Reader;
 use crate::scope::Scope;
 use program_tree::flat_block::FlatBlock;
@@ -34,9 +34,9 @@ use std::mem;
 impl Cursor<'_> {
     /// The keyword and the name of a code, and its opening brace.
     #[tactic(auto, using(crate::proofs::CodeLaws::opening_steps))]
-    fn opening(&mut self, name: &str) -> Result<(), Refusal>
+    fn opening(&mut self, name: &str) -> Result<(), ReadFailure>
         ensures ok { OnOk result ((s : faults.Scope) → ReadsOpening name.now s self.old self.new) }
-        ensures err { (f : Fault) → result ≡ Err (Refusal.Fault f)
+        ensures err { (f : Fault) → result ≡ Err (ReadFailure.Fault f)
             → (s : faults.Scope) (xs : List Name) (more : machine.Pending) →
             tell s (machine.codes name.now xs ∷ more) self.old ≡ fault f.kind f.left }
     {
@@ -51,11 +51,11 @@ impl Cursor<'_> {
     }
 
     /// The same for a process, by its number.
-    fn opening_of(&mut self, scope: &Scope, process: usize) -> Result<(), Refusal>
+    fn opening_of(&mut self, scope: &Scope, process: usize) -> Result<(), ReadFailure>
         requires process_exists { process < length scope.now.processes }
         ensures ok { OnOk result ((s : faults.Scope) → ReadsOpening (slice_index_or scope.now.processes process []) s
             self.old self.new) }
-        ensures err { (f : Fault) → result ≡ Err (Refusal.Fault f)
+        ensures err { (f : Fault) → result ≡ Err (ReadFailure.Fault f)
             → (s : faults.Scope) (xs : List Name) (more : machine.Pending) →
             tell s (machine.codes (slice_index_or scope.now.processes process []) xs ∷ more) self.old
             ≡ fault f.kind f.left }
@@ -65,11 +65,11 @@ impl Cursor<'_> {
 
     /// The last brace of a code.
     #[tactic(auto, using(crate::proofs::CodeLaws::brace_steps))]
-    fn last_brace(&mut self) -> Result<(), Refusal>
+    fn last_brace(&mut self) -> Result<(), ReadFailure>
         ensures spelled { OnOk result (self.old ≡ token.CloseBrace ∷ self.new) }
         ensures ok { OnOk result ((s : faults.Scope) (f : machine.Pending) → tell s (last_brace ∷ f) self.old
             ≡ tell (with_names s (outside s.names)) f self.new) }
-        ensures err { (f : Fault) → result ≡ Err (Refusal.Fault f) → (s : faults.Scope) (more : machine.Pending)
+        ensures err { (f : Fault) → result ≡ Err (ReadFailure.Fault f) → (s : faults.Scope) (more : machine.Pending)
             → tell s (last_brace ∷ more) self.old ≡ fault f.kind f.left }
     {
         match self.peek() {
@@ -135,7 +135,7 @@ impl Scope {
 impl Reader<'_> {
     /// Reads the text between the braces of a code. Its names are then in scope.
     #[tactic(auto, using(crate::proofs::ContentLaws::content_steps))]
-    fn content(&mut self) -> Result<Content, Refusal>
+    fn content(&mut self) -> Result<Content, ReadFailure>
         requires has_no_own_names { HasNoOwnNames self.old.scope }
         ensures body { IfOk result (λ c. IsWithinLimits (tree_in c.body)) }
         ensures callbacks { IfOk result (λ c. All (λ b. IsWithinLimits (tree_in b)) c.callbacks.items) }
@@ -168,13 +168,13 @@ impl Reader<'_> {
 
     /// The code of the process with this number.
     #[tactic(auto, using(crate::proofs::MadeLaws::code_steps))]
-    pub(crate) fn code(&mut self, process: usize) -> Result<ProcessText, Refusal>
+    pub(crate) fn code(&mut self, process: usize) -> Result<ProcessText, ReadFailure>
         requires process { process < length self.old.scope.processes }
         requires own { HasNoOwnNames self.old.scope }
         ensures ok { IfOk result (λ t. ReadsCode (slice_index_or self.old.scope.processes process []) process
             (code_of t)
             (scope_of self.old.scope) (scope_of self.new.scope) self.old.cursor self.new.cursor) }
-        ensures err { (f : Fault) → result ≡ Err (Refusal.Fault f) → (xs : List Name) (more : machine.Pending) →
+        ensures err { (f : Fault) → result ≡ Err (ReadFailure.Fault f) → (xs : List Name) (more : machine.Pending) →
             machine.tell (scope_of self.old.scope) (machine.codes (slice_index_or self.old.scope.processes process [])
             xs ∷ more) self.old.cursor ≡ machine.fault f.kind f.left }
     {

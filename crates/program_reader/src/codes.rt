@@ -13,7 +13,7 @@ ghost use Rattle.program_reader.specs.Steps.{scope_of};
 ghost use Rattle.program_reader.specs.declared.fault.Fault.{Fault};
 
 use crate::cursor::Cursor;
-use crate::fault::Refusal;
+use crate::fault::ReadFailure;
 use crate::reader::Reader;
 use crate::scope::Scope as ScopeRead;
 use program_tree::process_text::ProcessText;
@@ -55,11 +55,11 @@ fn timers(alloc: Global, mut codes: &[ProcessText]) -> Result<Vec<Timer>, AllocE
 
 impl Reader<'_> {
     /// The codes of the processes, in their order.
-    fn codes(&mut self) -> Result<Vec<ProcessText>, Refusal>
+    fn codes(&mut self) -> Result<Vec<ProcessText>, ReadFailure>
         requires has_no_own_names { HasNoOwnNames self.old.scope }
         ensures ok { IfOk result (λ codes. HasCodes (map code_of codes.items) [] (scope_of self.old.scope)
             (scope_of self.new.scope) self.old.cursor self.new.cursor) }
-        ensures err { (f : Fault) → result ≡ Err (Refusal.Fault f) → (more : machine.Pending) →
+        ensures err { (f : Fault) → result ≡ Err (ReadFailure.Fault f) → (more : machine.Pending) →
             machine.tell (scope_of self.old.scope) (machine.codes_form self.old.scope.processes more) self.old.cursor
             ≡ machine.fault f.kind f.left }
     {
@@ -74,9 +74,9 @@ impl Reader<'_> {
 
 impl Cursor<'_> {
     /// The end of the text.
-    fn end(&self) -> Result<(), Refusal>
+    fn end(&self) -> Result<(), ReadFailure>
         ensures ok { OnOk result (self.now ≡ []) }
-        ensures err { (f : Fault) → result ≡ Err (Refusal.Fault f) → (s : Scope)
+        ensures err { (f : Fault) → result ≡ Err (ReadFailure.Fault f) → (s : Scope)
             → machine.tell s [] self.now ≡ machine.fault f.kind f.left }
     {
         if self.left() == 0 {
@@ -97,7 +97,7 @@ struct Head {
 
 impl Reader<'_> {
     /// Reads the parts before the codes.
-    fn head(&mut self) -> Result<Head, Refusal>
+    fn head(&mut self) -> Result<Head, ReadFailure>
         ensures ok { IfOk result (λ h. ReadsHead h.counts.items h.autostart.items h.receiver (scope_of self.old.scope)
             (scope_of self.new.scope) self.old.cursor self.new.cursor) }
         ensures err { FailsIn (scope_of self.old.scope) (machine.from_events ∷ []) self.old.cursor result }
@@ -126,11 +126,11 @@ struct Parts {
 
 impl Reader<'_> {
     /// The codes, after which the text ends.
-    fn last_codes(&mut self) -> Result<Vec<ProcessText>, Refusal>
+    fn last_codes(&mut self) -> Result<Vec<ProcessText>, ReadFailure>
         requires has_no_own_names { HasNoOwnNames self.old.scope }
         ensures ok { IfOk result (λ codes. HasCodes (map code_of codes.items) [] (scope_of self.old.scope)
             (scope_of self.new.scope) self.old.cursor []) }
-        ensures err { (f : Fault) → result ≡ Err (Refusal.Fault f) →
+        ensures err { (f : Fault) → result ≡ Err (ReadFailure.Fault f) →
             machine.tell (scope_of self.old.scope) (machine.codes_form self.old.scope.processes []) self.old.cursor
             ≡ machine.fault f.kind f.left }
     {
@@ -140,12 +140,12 @@ impl Reader<'_> {
     }
 
     /// All parts of a text, from its first token on.
-    fn parts(&mut self) -> Result<Parts, Refusal>
+    fn parts(&mut self) -> Result<Parts, ReadFailure>
         requires fresh { scope_of self.old.scope ≡ nothing_yet }
         requires lexed { AreLexed self.old.cursor }
         ensures made { IfOk result (λ p. IsMade (tree_with self.new.scope p)) }
         ensures tree { IfOk result (λ p. IsTreeOfTokens self.old.cursor (tree_with self.new.scope p)) }
-        ensures err { (f : Fault) → result ≡ Err (Refusal.Fault f)
+        ensures err { (f : Fault) → result ≡ Err (ReadFailure.Fault f)
             → machine.tell nothing_yet (machine.from_events ∷ []) self.old.cursor ≡ machine.fault f.kind f.left }
     {
         let head = self.head()?;
@@ -177,10 +177,10 @@ impl Reader<'_> {
 }
 
 /// The program that the tokens are, or their first fault.
-pub(crate) fn program<'a>(alloc: Global, tokens: &'a [Token<'a>]) -> Result<Program, Refusal>
+pub(crate) fn program<'a>(alloc: Global, tokens: &'a [Token<'a>]) -> Result<Program, ReadFailure>
     requires are_lexed { AreLexed (map token_of tokens.now) }
     ensures ok { IfOk result (λ p. IsTreeOfTokens (map token_of tokens.now) (tree_of p)) }
-    ensures err { (f : Fault) → result ≡ Err (Refusal.Fault f) →
+    ensures err { (f : Fault) → result ≡ Err (ReadFailure.Fault f) →
         machine.tell nothing_yet (machine.from_events ∷ []) (map token_of tokens.now) ≡ machine.fault f.kind f.left }
 {
     let mut reader = Reader {

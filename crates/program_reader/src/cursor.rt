@@ -6,7 +6,7 @@ ghost use Rattle.program_tree.specs.TokenMeaning.{token_of};
 ghost use Rattle.program_reader.specs.Machine.{first, unfit_at};
 ghost use Rattle.program_reader.specs.Steps.{ReadsSign, FailsSign, symbol_of, token_of_sign};
 
-use crate::fault::{Fault, Refusal};
+use crate::fault::{Fault, ReadFailure};
 use program_tree::error::ReadErrorKind;
 use program_tree::keyword::Keyword;
 use program_tree::token::Token;
@@ -69,18 +69,19 @@ impl<'a> Cursor<'a> {
     }
 
     /// The fault of this kind at the next token.
-    pub(crate) fn fault(&self, kind: ReadErrorKind) -> Refusal
-        ensures refusal { result ≡ Refusal.Fault (record { kind = kind; left = length self.now }) }
+    pub(crate) fn fault(&self, kind: ReadErrorKind) -> ReadFailure
+        ensures refusal { result ≡ ReadFailure.Fault (record { kind = kind; left = length self.now }) }
     {
-        Refusal::Fault(Fault {
+        ReadFailure::Fault(Fault {
             kind,
             left: self.left(),
         })
     }
 
     /// The fault of a token that isn't allowed here, or of the end.
-    pub(crate) fn unfit(&self) -> Refusal
-        ensures refusal { result ≡ Refusal.Fault (record { kind = unfit_at (first self.now); left = length self.now }) }
+    pub(crate) fn unfit(&self) -> ReadFailure
+        ensures refusal { result
+            ≡ ReadFailure.Fault (record { kind = unfit_at (first self.now); left = length self.now }) }
     {
         match self.peek() {
             Some(Token::Bad) => self.fault(ReadErrorKind::BadToken),
@@ -89,7 +90,7 @@ impl<'a> Cursor<'a> {
     }
 
     /// Reads a sign.
-    pub(crate) fn sign(&mut self, expected: Sign) -> Result<(), Refusal>
+    pub(crate) fn sign(&mut self, expected: Sign) -> Result<(), ReadFailure>
         ensures no_longer { length self.new ≤ length self.old }
         ensures ok { OnOk result (ReadsSign (symbol_of expected) (token_of_sign expected) self.old self.new) }
         ensures err { FailsSign (symbol_of expected) self.old result }

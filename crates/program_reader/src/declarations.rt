@@ -9,7 +9,7 @@ ghost use Rattle.program_reader.specs.Steps.{scope_of, ReadsSign, FailsSign};
 ghost use Rattle.program_tree.specs.Tokens as token;
 
 use crate::cursor::{Cursor, Sign};
-use crate::fault::Refusal;
+use crate::fault::ReadFailure;
 use crate::reader::Reader;
 use crate::scope::Scope;
 use program_tree::error::ReadErrorKind;
@@ -87,7 +87,7 @@ impl Scope {
 impl Cursor<'_> {
     /// A first value.
     #[tactic(auto, using(crate::proofs::HeadLaws::number_steps))]
-    fn number(&mut self) -> Result<u16, Refusal>
+    fn number(&mut self) -> Result<u16, ReadFailure>
         ensures no_longer { length self.new ≤ length self.old }
         ensures ok { IfOk result (λ n. ReadsSign machine.number (token.Number n) self.old self.new) }
         ensures err { FailsSign machine.number self.old result }
@@ -113,7 +113,7 @@ impl<'a> Cursor<'a> {
         alloc: Global,
         scope: &mut Scope,
         kind: Kind,
-    ) -> Result<&'a str, Refusal>
+    ) -> Result<&'a str, ReadFailure>
         requires etimers_first { kind ≡ Kind.Etimer → scope.old.ctimers ≡ [] }
         ensures no_longer { OnOk result (length self.new ≤ length self.old) }
         ensures etimers { OnOk result (kind ≢ Kind.Etimer → scope.new.etimers ≡ scope.old.etimers) }
@@ -142,7 +142,7 @@ impl<'a> Cursor<'a> {
 impl Reader<'_> {
     /// A new name and a semicolon.
     #[tactic(auto, using(crate::proofs::HeadLaws::new_goes, crate::proofs::HeadLaws::is_listed))]
-    pub(crate) fn listed(&mut self, kind: Kind) -> Result<(), Refusal>
+    pub(crate) fn listed(&mut self, kind: Kind) -> Result<(), ReadFailure>
         requires etimers_first { kind ≡ Kind.Etimer → self.old.scope.ctimers ≡ [] }
         ensures no_longer { OnOk result (length self.new.cursor ≤ length self.old.cursor) }
         ensures ctimers { OnOk result (kind ≢ Kind.Ctimer → self.new.scope.ctimers ≡ self.old.scope.ctimers) }
@@ -157,7 +157,11 @@ impl Reader<'_> {
 
     /// A new name with its first value, and a semicolon.
     #[tactic(auto, using(crate::proofs::HeadLaws::new_goes, crate::proofs::HeadLaws::is_valued))]
-    pub(crate) fn with_value(&mut self, kind: Kind, values: &mut Vec<u16>) -> Result<(), Refusal>
+    pub(crate) fn with_value(
+        &mut self,
+        kind: Kind,
+        values: &mut Vec<u16>,
+    ) -> Result<(), ReadFailure>
         requires not_etimer { kind ≢ Kind.Etimer }
         ensures no_longer { OnOk result (length self.new.cursor ≤ length self.old.cursor) }
         ensures etimers { OnOk result (self.new.scope.etimers ≡ self.old.scope.etimers) }

@@ -12,7 +12,7 @@ ghost use Rattle.program_tree.specs.Tree.{expression_map, binary};
 ghost use Rattle.program_reader.specs.Values.{telling_keyword, ReadsSides};
 
 use crate::cursor::{Cursor, Sign};
-use crate::fault::Refusal;
+use crate::fault::ReadFailure;
 use crate::reader::Reader;
 use crate::scope::{Context, LEVELS};
 use crate::value_word::{Telling, ValueWord};
@@ -62,7 +62,7 @@ impl Sides {
 
 impl Cursor<'_> {
     /// The operator of an expression in parentheses.
-    fn operator(&mut self) -> Result<Operator, Refusal>
+    fn operator(&mut self) -> Result<Operator, ReadFailure>
         ensures no_longer { length self.new ≤ length self.old }
         ensures ok { IfOk result (λ o. ReadsSign operator (token.Op o) self.old self.new) }
         ensures err { FailsSign operator self.old result }
@@ -80,7 +80,7 @@ impl Cursor<'_> {
 impl Reader<'_> {
     /// A keyword that asks about something, and after it in parentheses its name.
     #[tactic(auto, using(crate::proofs::ExpressionSteps::word_steps))]
-    fn question(&mut self, place: &Context, telling: Telling) -> Result<Expr, Refusal>
+    fn question(&mut self, place: &Context, telling: Telling) -> Result<Expr, ReadFailure>
         requires at_keyword { first self.old.cursor ≡ Some (token.Keyword (telling_keyword telling)) }
         ensures answers_expression { AnswersExpression self.old self.new place.now result }
     {
@@ -94,7 +94,7 @@ impl Reader<'_> {
 
     /// `is`, and after it in parentheses an event.
     #[tactic(auto, using(crate::proofs::ExpressionSteps::word_steps))]
-    fn is(&mut self, place: &Context) -> Result<Expr, Refusal>
+    fn is(&mut self, place: &Context) -> Result<Expr, ReadFailure>
         requires at_keyword { first self.old.cursor ≡ Some (token.Keyword Keyword.Is) }
         ensures answers_expression { AnswersExpression self.old self.new place.now result }
     {
@@ -107,7 +107,7 @@ impl Reader<'_> {
 
     /// An expression that begins with a keyword.
     #[tactic(auto, using(crate::proofs::ValueLaws::no_word))]
-    fn word(&mut self, place: &Context, keyword: Keyword) -> Result<Expr, Refusal>
+    fn word(&mut self, place: &Context, keyword: Keyword) -> Result<Expr, ReadFailure>
         requires at_keyword { first self.old.cursor ≡ Some (token.Keyword keyword) }
         ensures answers_expression { AnswersExpression self.old self.new place.now result }
     {
@@ -125,7 +125,7 @@ impl Reader<'_> {
     /// `!` and what it negates.
     #[cycle(expression)]
     #[tactic(auto, using(crate::proofs::ExpressionSteps::bang_start))]
-    fn negation(&mut self, place: &Context) -> Result<Expr, Refusal>
+    fn negation(&mut self, place: &Context) -> Result<Expr, ReadFailure>
         requires shallow { place.now.level ≤ LEVELS }
         requires at_bang { first self.old.cursor ≡ Some token.Bang }
         ensures answers_expression { AnswersExpression self.old self.new place.now result }
@@ -140,7 +140,7 @@ impl Reader<'_> {
 
     /// The two sides of an operator, with the operator between them and the sign that closes them.
     #[cycle(expression)]
-    fn sides(&mut self, place: &Context) -> Result<Sides, Refusal>
+    fn sides(&mut self, place: &Context) -> Result<Sides, ReadFailure>
         requires shallow { place.now.level ≤ LEVELS }
         ensures no_longer { length self.new.cursor ≤ length self.old.cursor }
         ensures same { self.new.scope ≡ self.old.scope }
@@ -174,7 +174,7 @@ impl Reader<'_> {
     /// An expression in parentheses.
     #[cycle(expression)]
     #[tactic(auto, using(crate::proofs::ExpressionSteps::open_start))]
-    fn binary(&mut self, place: &Context) -> Result<Expr, Refusal>
+    fn binary(&mut self, place: &Context) -> Result<Expr, ReadFailure>
         requires shallow { place.now.level ≤ LEVELS }
         requires at_open { first self.old.cursor ≡ Some token.Open }
         ensures answers_expression { AnswersExpression self.old self.new place.now result }
@@ -190,7 +190,7 @@ impl Reader<'_> {
     /// An expression, at this place.
     #[cycle(expression)]
     #[tactic(auto, using(crate::proofs::ExpressionSteps::variable_start))]
-    pub(crate) fn expression(&mut self, place: &Context) -> Result<Expr, Refusal>
+    pub(crate) fn expression(&mut self, place: &Context) -> Result<Expr, ReadFailure>
         requires shallow { place.now.level ≤ LEVELS }
         ensures answers_expression { AnswersExpression self.old self.new place.now result }
     {

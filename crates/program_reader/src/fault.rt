@@ -1,6 +1,6 @@
 //! The errors of tokens that aren't a program, as the parts of the reader return it.
 ghost use Rattle.std.specs.Prelude.{◌≡◌};
-ghost use Rattle.program_reader.specs.declared.fault.Refusal.TheVariants.{Memory};
+ghost use Rattle.program_reader.specs.declared.fault.ReadFailure.TheVariants.{Memory};
 
 use program_tree::error::ReadErrorKind;
 use std::alloc::{AllocError, AllocFailed};
@@ -14,23 +14,23 @@ pub(crate) struct Fault {
 
 /// Out of memory (an allocation failed), or the first fault.
 #[derive(Clone, Copy)]
-pub(crate) enum Refusal {
+pub(crate) enum ReadFailure {
     Memory,
     Fault(Fault),
 }
 
-impl From<AllocError> for Refusal {
+impl From<AllocError> for ReadFailure {
     ghost from_gives = { λ _ e. e ≡ Memory };
 
     fn from(_error: AllocError) -> Self {
-        Refusal::Memory
+        ReadFailure::Memory
     }
 }
 
-impl<T: Drop> From<AllocFailed<T>> for Refusal {
+impl<T: Drop> From<AllocFailed<T>> for ReadFailure {
     ghost from_gives = { λ _ e. e ≡ Memory };
 
     fn from(_error: AllocFailed<T>) -> Self {
-        Refusal::Memory
+        ReadFailure::Memory
     }
 }

@@ -14,7 +14,7 @@ ghost use Rattle.program_tree.specs.declared.keyword.Keyword.TheVariants as word
 
 use crate::cursor::{Cursor, Sign};
 use crate::declarations::Kind;
-use crate::fault::Refusal;
+use crate::fault::ReadFailure;
 use crate::reader::Reader;
 use crate::scope::{Context, Scope};
 use program_tree::class::Class;
@@ -49,12 +49,12 @@ impl Scope {
         name: &str,
         number: u8,
         numbers: &mut Vec<u8>,
-    ) -> Result<(), Refusal>
+    ) -> Result<(), ReadFailure>
         requires not_yet_listed { place_of self.old.starting name.now ≡ None }
         ensures scope { OnOk result (scope_of self.new ≡ with_starting (scope_of self.old)
             (self.old.starting ++ name.now ∷ [])) }
         ensures numbers { OnOk result (numbers.new.items ≡ numbers.old.items ++ number ∷ []) }
-        ensures memory { IfErr result (λ e. e ≡ Refusal.Memory) }
+        ensures memory { IfErr result (λ e. e ≡ ReadFailure.Memory) }
     {
         self.starting.add(alloc, name)?;
         numbers.push(number)?;
@@ -70,7 +70,7 @@ impl Cursor<'_> {
         alloc: Global,
         scope: &mut Scope,
         numbers: &mut Vec<u8>,
-    ) -> Result<(), Refusal>
+    ) -> Result<(), ReadFailure>
         ensures no_longer { OnOk result (length self.new ≤ length self.old) }
         ensures ok { OnOk result (IsStarting (scope_of scope.old) (scope_of scope.new) numbers.old.items
             numbers.new.items self.old self.new) }
@@ -92,7 +92,7 @@ impl Cursor<'_> {
 impl Reader<'_> {
     /// The process line.
     #[tactic(auto, using(crate::proofs::LineLaws::line_steps))]
-    pub(crate) fn processes(&mut self) -> Result<(), Refusal>
+    pub(crate) fn processes(&mut self) -> Result<(), ReadFailure>
         requires at_keyword { first self.old.cursor ≡ Some (token.Keyword word.Semaphore) → ⊥ }
         ensures ok { OnOk result (ReadsProcesses (scope_of self.old.scope) (scope_of self.new.scope) self.old.cursor
             self.new.cursor) }
@@ -114,10 +114,10 @@ impl Reader<'_> {
     }
 
     /// The processes that start at boot, by their numbers.
-    pub(crate) fn autostart(&mut self) -> Result<Vec<u8>, Refusal>
+    pub(crate) fn autostart(&mut self) -> Result<Vec<u8>, ReadFailure>
         ensures ok { IfOk result (λ numbers. ReadsAutostart (scope_of self.old.scope) (scope_of self.new.scope)
             numbers.items self.old.cursor self.new.cursor) }
-        ensures err { (f : Fault) → result ≡ Err (Refusal.Fault f)
+        ensures err { (f : Fault) → result ≡ Err (ReadFailure.Fault f)
             → (x : Name) (xs : List Name) (more : machine.Pending) →
             machine.tell (scope_of self.old.scope) (machine.from_autostart x xs ∷ more) self.old.cursor
             ≡ machine.fault f.kind f.left }
@@ -129,11 +129,11 @@ impl Reader<'_> {
 
     /// Reads the names after `autostart`, if it is present, and adds their numbers.
     #[tactic(auto, using(crate::proofs::StartLaws::autostart_steps))]
-    fn starting_names(&mut self, numbers: &mut Vec<u8>) -> Result<(), Refusal>
+    fn starting_names(&mut self, numbers: &mut Vec<u8>) -> Result<(), ReadFailure>
         requires none_yet { numbers.old.items ≡ [] }
         ensures ok { OnOk result (ReadsAutostart (scope_of self.old.scope) (scope_of self.new.scope) numbers.new.items
             self.old.cursor self.new.cursor) }
-        ensures err { (f : Fault) → result ≡ Err (Refusal.Fault f)
+        ensures err { (f : Fault) → result ≡ Err (ReadFailure.Fault f)
             → (x : Name) (xs : List Name) (more : machine.Pending) →
             machine.tell (scope_of self.old.scope) (machine.from_autostart x xs ∷ more) self.old.cursor
             ≡ machine.fault f.kind f.left }
@@ -150,11 +150,11 @@ impl Reader<'_> {
 
     /// The process that packets go to, by its number.
     #[tactic(auto, using(crate::proofs::StartLaws::receiver_steps))]
-    pub(crate) fn receiver(&mut self) -> Result<Option<u8>, Refusal>
+    pub(crate) fn receiver(&mut self) -> Result<Option<u8>, ReadFailure>
         ensures same { self.new.scope ≡ self.old.scope }
         ensures ok { IfOk result (λ receiver. ReadsReceiver (scope_of self.old.scope) receiver self.old.cursor
             self.new.cursor) }
-        ensures err { (f : Fault) → result ≡ Err (Refusal.Fault f)
+        ensures err { (f : Fault) → result ≡ Err (ReadFailure.Fault f)
             → (x : Name) (xs : List Name) (more : machine.Pending) →
             machine.tell (scope_of self.old.scope) (machine.from_receiver x xs ∷ more) self.old.cursor
             ≡ machine.fault f.kind f.left }

@@ -1,7 +1,7 @@
 //! Laws of the notation: theorems, each stated as the contract of an empty function.
 ghost use Rattle.std.specs.Prelude.{◌≡◌, ℕ, List};
 ghost use Rattle.program_tree.specs.Code.{Tree};
-ghost use Rattle.program_tree.specs.Reading.{IsTreeOf, IsToldOf};
+ghost use Rattle.program_tree.specs.Reading.{IsTreeOf, IsErrorOf};
 ghost use Rattle.program_tree.specs.ReadingLaws.{HasTreeOrFault};
 ghost use Rattle.program_tree.specs.declared.error.ReadErrorKind.{ReadErrorKind};
 
@@ -17,7 +17,7 @@ pub fn tree_or_fault()
 
 /// At most one fault of a text is reported.
 pub fn at_most_one_fault()
-    ensures at_most_one { (text : List ℕ) (j k : ReadErrorKind) (l m : ℕ) → IsToldOf text j l → IsToldOf text k m →
+    ensures at_most_one { (text : List ℕ) (j k : ReadErrorKind) (l m : ℕ) → IsErrorOf text j l → IsErrorOf text k m →
         (j ≡ k)
         × (l ≡ m) }
 {}

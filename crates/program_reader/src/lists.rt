@@ -11,14 +11,14 @@ ghost use Rattle.program_tree.specs.Tree.{an_event, a_semaphore, a_variable, a_t
 ghost use Rattle.program_tree.specs.declared.keyword.Keyword.TheVariants as word;
 
 use crate::declarations::Kind;
-use crate::fault::Refusal;
+use crate::fault::ReadFailure;
 use crate::reader::Reader;
 use program_tree::keyword::Keyword;
 
 impl Reader<'_> {
     /// The events that a program declares.
     #[tactic(auto, using(crate::proofs::ListLaws::list_steps))]
-    pub(crate) fn events(&mut self) -> Result<(), Refusal>
+    pub(crate) fn events(&mut self) -> Result<(), ReadFailure>
         ensures no_longer { OnOk result (length self.new.cursor ≤ length self.old.cursor) }
         ensures ok { OnOk result (ReadsNames an_event from_events from_semaphores event_marks (scope_of self.old.scope)
             (scope_of self.new.scope) self.old.cursor self.new.cursor) }
@@ -32,7 +32,7 @@ impl Reader<'_> {
 
     /// The semaphores, with their first counts.
     #[tactic(auto, using(crate::proofs::ListLaws::list_steps))]
-    pub(crate) fn semaphores(&mut self) -> Result<Vec<u16>, Refusal>
+    pub(crate) fn semaphores(&mut self) -> Result<Vec<u16>, ReadFailure>
         ensures no_longer { OnOk result (length self.new.cursor ≤ length self.old.cursor) }
         ensures behind { OnOk result (first self.new.cursor ≡ Some (token.Keyword word.Semaphore) → ⊥) }
         ensures ok { IfOk result (λ values. ReadsValues a_semaphore from_semaphores from_semaphores semaphore_marks
@@ -48,7 +48,7 @@ impl Reader<'_> {
 
     /// The variables of a process, with their first values.
     #[tactic(auto, using(crate::proofs::ListLaws::list_steps))]
-    pub(crate) fn variables(&mut self) -> Result<Vec<u16>, Refusal>
+    pub(crate) fn variables(&mut self) -> Result<Vec<u16>, ReadFailure>
         ensures no_longer { OnOk result (length self.new.cursor ≤ length self.old.cursor) }
         ensures timers { OnOk result (KeepsTimers self.old.scope self.new.scope) }
         ensures ok { IfOk result (λ values. ReadsValues a_variable from_variables from_etimers variable_marks
@@ -64,7 +64,7 @@ impl Reader<'_> {
 
     /// The event timers of a process, which come before its callback timers.
     #[tactic(auto, using(crate::proofs::ListLaws::list_steps))]
-    pub(crate) fn etimers(&mut self) -> Result<(), Refusal>
+    pub(crate) fn etimers(&mut self) -> Result<(), ReadFailure>
         requires etimers_first { self.old.scope.ctimers ≡ [] }
         ensures no_longer { OnOk result (length self.new.cursor ≤ length self.old.cursor) }
         ensures ctimers { OnOk result (self.new.scope.ctimers ≡ []) }

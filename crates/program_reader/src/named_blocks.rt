@@ -16,7 +16,7 @@ ghost use Rattle.program_tree.specs.Tree.{a_timer, a_thread, body_map, IsWithinL
 ghost use Rattle.program_tree.specs.declared.keyword.Keyword.TheVariants as word;
 
 use crate::declarations::Kind;
-use crate::fault::Refusal;
+use crate::fault::ReadFailure;
 use crate::reader::Reader;
 use crate::scope::Context;
 use program_tree::flat_block::FlatBlock;
@@ -31,7 +31,7 @@ const SIMPLE: Context<'static> = Context {
 
 impl Reader<'_> {
     /// A block of a process, with its flat code.
-    fn flat_block(&mut self, place: &Context) -> Result<FlatBlock, Refusal>
+    fn flat_block(&mut self, place: &Context) -> Result<FlatBlock, ReadFailure>
         requires outermost { place.now.level ≡ 0 }
         ensures names { fixed self.new.scope ≡ fixed self.old.scope }
         ensures no_longer { OnOk result (length self.new.cursor ≤ length self.old.cursor) }
@@ -53,7 +53,7 @@ impl Reader<'_> {
 
     /// The name and the block of a callback timer.
     #[tactic(auto, using(crate::proofs::BlockLaws::ctimer_steps))]
-    fn ctimer(&mut self) -> Result<FlatBlock, Refusal>
+    fn ctimer(&mut self) -> Result<FlatBlock, ReadFailure>
         ensures no_longer { OnOk result (length self.new.cursor ≤ length self.old.cursor) }
         ensures etimers { OnOk result (self.new.scope.etimers ≡ self.old.scope.etimers) }
         ensures within { IfOk result (λ b. IsWithinLimits (tree_in b)) }
@@ -71,7 +71,7 @@ impl Reader<'_> {
 
     /// The callback timers of a process, with their blocks.
     #[tactic(auto, using(crate::proofs::BlockLaws::blocks_steps))]
-    pub(crate) fn ctimers(&mut self) -> Result<Vec<FlatBlock>, Refusal>
+    pub(crate) fn ctimers(&mut self) -> Result<Vec<FlatBlock>, ReadFailure>
         ensures no_longer { OnOk result (length self.new.cursor ≤ length self.old.cursor) }
         ensures etimers { OnOk result (self.new.scope.etimers ≡ self.old.scope.etimers) }
         ensures within { IfOk result (λ blocks. All (λ b. IsWithinLimits (tree_in b)) blocks.items) }
@@ -90,7 +90,7 @@ impl Reader<'_> {
 
     /// The name and the block of a thread, which can spawn the threads before it.
     #[tactic(auto, using(crate::proofs::BlockLaws::thread_steps))]
-    fn thread(&mut self) -> Result<FlatBlock, Refusal>
+    fn thread(&mut self) -> Result<FlatBlock, ReadFailure>
         ensures no_longer { OnOk result (length self.new.cursor ≤ length self.old.cursor) }
         ensures timers { OnOk result (KeepsTimers self.old.scope self.new.scope) }
         ensures within { IfOk result (λ b. IsWithinLimits (tree_in b)) }
@@ -114,7 +114,7 @@ impl Reader<'_> {
 
     /// The threads of a process, with their blocks.
     #[tactic(auto, using(crate::proofs::BlockLaws::blocks_steps))]
-    pub(crate) fn threads(&mut self) -> Result<Vec<FlatBlock>, Refusal>
+    pub(crate) fn threads(&mut self) -> Result<Vec<FlatBlock>, ReadFailure>
         requires none_yet { self.old.scope.threads ≡ [] }
         ensures no_longer { OnOk result (length self.new.cursor ≤ length self.old.cursor) }
         ensures timers { OnOk result (KeepsTimers self.old.scope self.new.scope) }
@@ -135,7 +135,7 @@ impl Reader<'_> {
 
     /// Reads the block that runs at POLL, if present.
     #[tactic(auto, using(crate::proofs::BlockLaws::on_poll_steps))]
-    pub(crate) fn on_poll(&mut self) -> Result<Option<FlatBlock>, Refusal>
+    pub(crate) fn on_poll(&mut self) -> Result<Option<FlatBlock>, ReadFailure>
         ensures fixed { fixed self.new.scope ≡ fixed self.old.scope }
         ensures within { IfOk result (λ block. ForSome block (λ b. IsWithinLimits (tree_in b))) }
         ensures ok { IfOk result (λ block. ReadsHandler word.OnPoll machine.from_on_poll machine.from_on_exit
@@ -152,7 +152,7 @@ impl Reader<'_> {
 
     /// Reads the block that runs at EXIT, if present.
     #[tactic(auto, using(crate::proofs::BlockLaws::on_exit_steps))]
-    pub(crate) fn on_exit(&mut self) -> Result<Option<FlatBlock>, Refusal>
+    pub(crate) fn on_exit(&mut self) -> Result<Option<FlatBlock>, ReadFailure>
         ensures fixed { fixed self.new.scope ≡ fixed self.old.scope }
         ensures within { IfOk result (λ block. ForSome block (λ b. IsWithinLimits (tree_in b))) }
         ensures ok { IfOk result (λ block. ReadsHandler word.OnExit machine.from_on_exit machine.from_body
@@ -169,7 +169,7 @@ impl Reader<'_> {
 
     /// The body.
     #[tactic(auto, using(crate::proofs::BlockLaws::body_steps))]
-    pub(crate) fn body(&mut self) -> Result<FlatBlock, Refusal>
+    pub(crate) fn body(&mut self) -> Result<FlatBlock, ReadFailure>
         ensures fixed { fixed self.new.scope ≡ fixed self.old.scope }
         ensures within { IfOk result (λ b. IsWithinLimits (tree_in b)) }
         ensures ok { IfOk result (λ b. ReadsBody (tree_in b) (scope_of self.old.scope) (scope_of self.new.scope)

@@ -12,7 +12,7 @@ ghost use Rattle.program_reader.specs.Steps.{Fits};
 ghost use Rattle.program_tree.specs.Tree.{an_event};
 
 use crate::cursor::Cursor;
-use crate::fault::Refusal;
+use crate::fault::ReadFailure;
 use crate::scope::{Context, Found, Scope};
 use program_tree::class::Class;
 use program_tree::error::ReadErrorKind;
@@ -32,7 +32,7 @@ pub(crate) struct Reader<'a> {
 impl Reader<'_> {
     /// The number of the name at this place, if it refers to something of this class.
     #[tactic(auto, using(crate::proofs::NameSteps::number_steps))]
-    fn number(&self, place: &Context, class: Class) -> Result<u8, Refusal>
+    fn number(&self, place: &Context, class: Class) -> Result<u8, ReadFailure>
         ensures ok { IfOk result (λ i. IsNamed (scope_of self.now.scope).names (context_of place.now).thread
             (class_of class) i self.now.cursor) }
         ensures bounded { IfOk result (λ i. i < most_of (class_of class)) }
@@ -51,7 +51,7 @@ impl Reader<'_> {
 
     /// Reads a name that refers to something of this class, and returns its number.
     #[tactic(auto, using(crate::proofs::NameSteps::name_steps))]
-    pub(crate) fn name(&mut self, place: &Context, class: Class) -> Result<u8, Refusal>
+    pub(crate) fn name(&mut self, place: &Context, class: Class) -> Result<u8, ReadFailure>
         ensures no_longer { length self.new.cursor ≤ length self.old.cursor }
         ensures same { self.new.scope ≡ self.old.scope }
         ensures ok { IfOk result (λ i. Reads (scope_of self.old.scope) (scope_of self.old.scope)
@@ -73,7 +73,7 @@ impl Reader<'_> {
 
     /// An event that may be broadcast.
     #[tactic(auto, using(crate::proofs::EventSteps::cast_name, crate::proofs::EventSteps::key_reads))]
-    pub(crate) fn cast(&mut self, place: &Context) -> Result<CastEvent, Refusal>
+    pub(crate) fn cast(&mut self, place: &Context) -> Result<CastEvent, ReadFailure>
         ensures no_longer { length self.new.cursor ≤ length self.old.cursor }
         ensures same { self.new.scope ≡ self.old.scope }
         ensures ok { IfOk result (λ e. Reads (scope_of self.old.scope) (scope_of self.old.scope)
@@ -112,7 +112,7 @@ impl Reader<'_> {
     }
 
     /// An event that may be posted to one process.
-    pub(crate) fn sent(&mut self, place: &Context) -> Result<SentEvent, Refusal>
+    pub(crate) fn sent(&mut self, place: &Context) -> Result<SentEvent, ReadFailure>
         ensures no_longer { length self.new.cursor ≤ length self.old.cursor }
         ensures same { self.new.scope ≡ self.old.scope }
         ensures ok { IfOk result (λ e. Reads (scope_of self.old.scope) (scope_of self.old.scope)
@@ -135,7 +135,7 @@ impl Reader<'_> {
     }
 
     /// An event that a process may get.
-    pub(crate) fn any(&mut self, place: &Context) -> Result<AnyEvent, Refusal>
+    pub(crate) fn any(&mut self, place: &Context) -> Result<AnyEvent, ReadFailure>
         ensures no_longer { length self.new.cursor ≤ length self.old.cursor }
         ensures same { self.new.scope ≡ self.old.scope }
         ensures ok { IfOk result (λ e. Reads (scope_of self.old.scope) (scope_of self.old.scope)

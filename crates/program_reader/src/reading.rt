@@ -2,10 +2,10 @@
 ghost use Rattle.std.specs.Prelude.{◌≡◌, IfOk};
 ghost use Rattle.program_tree.specs.Code.{Tree};
 ghost use Rattle.program_tree.specs.Program.{tree_of};
-ghost use Rattle.program_tree.specs.Reading.{IsTreeOf, IsToldOf};
+ghost use Rattle.program_tree.specs.Reading.{IsTreeOf, IsErrorOf};
 
 use crate::codes::program;
-use crate::fault::Refusal;
+use crate::fault::ReadFailure;
 use crate::lexer::lex;
 use program_tree::error::{ReadError, ReadErrorKind};
 use program_tree::program::Program;
@@ -24,7 +24,7 @@ use std::alloc::Global;
 pub fn read(alloc: Global, text: &str) -> Result<Program, ReadError>
     ensures ok { IfOk result (λ p. IsTreeOf text.now (tree_of p)) }
     ensures told { (e : ReadError) → result ≡ Err e → (e.kind ≡ ReadErrorKind.Memory → ⊥)
-        → IsToldOf text.now e.kind e.line }
+        → IsErrorOf text.now e.kind e.line }
     ensures memory { (e : ReadError) → result ≡ Err e → e.kind ≡ ReadErrorKind.Memory → e.line ≡ 0 }
     ensures only { (t : Tree) → IsTreeOf text.now t → IfOk result (λ p. tree_of p ≡ t) }
     ensures accepts { (t : Tree) → IsTreeOf text.now t → (e : ReadError) → result ≡ Err e
@@ -33,11 +33,11 @@ pub fn read(alloc: Global, text: &str) -> Result<Program, ReadError>
     let lexed = lex(alloc, text)?;
     match program(alloc, &lexed.tokens) {
         Ok(program) => Ok(program),
-        Err(Refusal::Memory) => Err(ReadError {
+        Err(ReadFailure::Memory) => Err(ReadError {
             kind: ReadErrorKind::Memory,
             line: 0,
         }),
-        Err(Refusal::Fault(fault)) => Err(ReadError {
+        Err(ReadFailure::Fault(fault)) => Err(ReadError {
             kind: fault.kind,
             line: lexed.lines[lexed.tokens.len() - fault.left],
         }),

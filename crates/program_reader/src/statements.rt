@@ -16,7 +16,7 @@ ghost use Rattle.program_tree.specs.Meaning.{block_of, otherwise_of};
 ghost use Rattle.program_tree.specs.Tree.{other_height, size, other_size};
 
 use crate::cursor::Sign;
-use crate::fault::Refusal;
+use crate::fault::ReadFailure;
 use crate::plain::{About, Bare, Plain, Valued};
 use crate::reader::Reader;
 use crate::scope::{Context, Found, LEVELS};
@@ -50,7 +50,7 @@ fn is_wait(keyword: Keyword) -> bool
 impl Reader<'_> {
     /// Tests whether a statement may begin with this keyword here.
     #[tactic(auto, using(crate::proofs::StatementSteps::may_begin_steps))]
-    fn may_begin(&self, place: &Context, keyword: Keyword) -> Result<(), Refusal>
+    fn may_begin(&self, place: &Context, keyword: Keyword) -> Result<(), ReadFailure>
         requires at_keyword { first self.now.cursor ≡ Some (token.Keyword keyword) }
         requires statement { IsStatement (beginning keyword) }
         ensures no_wait { OnOk result ((place.now.simple && waits keyword) ≡ false) }
@@ -68,7 +68,7 @@ impl Reader<'_> {
 
     /// Reads the keyword that a statement begins with, and counts the statement.
     #[tactic(auto, using(crate::proofs::StatementSteps::begin_ok))]
-    fn begin(&mut self, place: &Context, keyword: Keyword) -> Result<(), Refusal>
+    fn begin(&mut self, place: &Context, keyword: Keyword) -> Result<(), ReadFailure>
         requires at_keyword { first self.old.cursor ≡ Some (token.Keyword keyword) }
         requires statement { IsStatement (beginning keyword) }
         ensures names { fixed self.new.scope ≡ fixed self.old.scope }
@@ -86,7 +86,7 @@ impl Reader<'_> {
 
     /// The number of the variable that an assignment begins with.
     #[tactic(auto, using(crate::proofs::StatementSteps::may_assign_steps))]
-    fn may_assign(&self, place: &Context, name: &str) -> Result<u8, Refusal>
+    fn may_assign(&self, place: &Context, name: &str) -> Result<u8, ReadFailure>
         requires at_name { first self.now.cursor ≡ Some (token.Name name.now) }
         ensures finds { IfOk result (λ i. Finds (scope_of self.now.scope).names (context_of place.now).thread
             a_variable name.now i) }
@@ -105,7 +105,7 @@ impl Reader<'_> {
 
     /// Reads the variable that an assignment begins with, and counts the statement.
     #[tactic(auto, using(crate::proofs::StatementSteps::target_steps))]
-    fn target(&mut self, place: &Context, name: &str) -> Result<u8, Refusal>
+    fn target(&mut self, place: &Context, name: &str) -> Result<u8, ReadFailure>
         requires at_name { first self.old.cursor ≡ Some (token.Name name.now) }
         ensures names { fixed self.new.scope ≡ fixed self.old.scope }
         ensures shorter { OnOk result (length self.new.cursor < length self.old.cursor) }
@@ -126,7 +126,7 @@ impl Reader<'_> {
 
     /// Reads `;`, or `into`, a variable that gets the result and `;`.
     #[tactic(auto, using(crate::proofs::StatementSteps::into_start))]
-    fn into_end(&mut self, place: &Context) -> Result<Option<u8>, Refusal>
+    fn into_end(&mut self, place: &Context) -> Result<Option<u8>, ReadFailure>
         ensures no_longer { length self.new.cursor ≤ length self.old.cursor }
         ensures same { self.new.scope ≡ self.old.scope }
         ensures ok { IfOk result (λ i. Reads (scope_of self.old.scope) (scope_of self.old.scope)
@@ -154,7 +154,7 @@ impl Reader<'_> {
     }
 
     /// A statement that is its keyword alone.
-    fn bare(&mut self, place: &Context, bare: Bare) -> Result<Action, Refusal>
+    fn bare(&mut self, place: &Context, bare: Bare) -> Result<Action, ReadFailure>
         requires at_keyword { first self.old.cursor ≡ Some (token.Keyword (bare_keyword bare)) }
         ensures answers_action { AnswersAction self.old self.new place.now result }
     {
@@ -164,7 +164,7 @@ impl Reader<'_> {
     }
 
     /// A statement that is its keyword and an expression.
-    fn valued(&mut self, place: &Context, valued: Valued) -> Result<Action, Refusal>
+    fn valued(&mut self, place: &Context, valued: Valued) -> Result<Action, ReadFailure>
         requires shallow { place.now.level ≤ LEVELS }
         requires at_keyword { first self.old.cursor ≡ Some (token.Keyword (valued_keyword valued)) }
         ensures answers_action { AnswersAction self.old self.new place.now result }
@@ -176,7 +176,7 @@ impl Reader<'_> {
     }
 
     /// A statement that is its keyword and a name.
-    fn about(&mut self, place: &Context, about: About) -> Result<Action, Refusal>
+    fn about(&mut self, place: &Context, about: About) -> Result<Action, ReadFailure>
         requires at_keyword { first self.old.cursor ≡ Some (token.Keyword (about_keyword about)) }
         ensures answers_action { AnswersAction self.old self.new place.now result }
     {
@@ -186,7 +186,7 @@ impl Reader<'_> {
         Ok(about.action(number))
     }
 
-    fn post(&mut self, place: &Context) -> Result<Action, Refusal>
+    fn post(&mut self, place: &Context) -> Result<Action, ReadFailure>
         requires shallow { place.now.level ≤ LEVELS }
         requires at_keyword { first self.old.cursor ≡ Some (token.Keyword Keyword.Post) }
         ensures answers_action { AnswersAction self.old self.new place.now result }
@@ -199,7 +199,7 @@ impl Reader<'_> {
         Ok(Action::Post(process, event, word, told))
     }
 
-    fn broadcast(&mut self, place: &Context) -> Result<Action, Refusal>
+    fn broadcast(&mut self, place: &Context) -> Result<Action, ReadFailure>
         requires shallow { place.now.level ≤ LEVELS }
         requires at_keyword { first self.old.cursor ≡ Some (token.Keyword Keyword.Broadcast) }
         ensures answers_action { AnswersAction self.old self.new place.now result }
@@ -211,7 +211,7 @@ impl Reader<'_> {
         Ok(Action::Broadcast(event, word, told))
     }
 
-    fn synch(&mut self, place: &Context) -> Result<Action, Refusal>
+    fn synch(&mut self, place: &Context) -> Result<Action, ReadFailure>
         requires shallow { place.now.level ≤ LEVELS }
         requires at_keyword { first self.old.cursor ≡ Some (token.Keyword Keyword.Synch) }
         ensures answers_action { AnswersAction self.old self.new place.now result }
@@ -224,7 +224,7 @@ impl Reader<'_> {
         Ok(Action::Synch(process, event, word))
     }
 
-    fn set(&mut self, place: &Context) -> Result<Action, Refusal>
+    fn set(&mut self, place: &Context) -> Result<Action, ReadFailure>
         requires shallow { place.now.level ≤ LEVELS }
         requires at_keyword { first self.old.cursor ≡ Some (token.Keyword Keyword.Set) }
         ensures answers_action { AnswersAction self.old self.new place.now result }
@@ -236,7 +236,7 @@ impl Reader<'_> {
         Ok(Action::Set(timer, interval))
     }
 
-    fn assign(&mut self, place: &Context, name: &str) -> Result<Action, Refusal>
+    fn assign(&mut self, place: &Context, name: &str) -> Result<Action, ReadFailure>
         requires shallow { place.now.level ≤ LEVELS }
         requires at_name { first self.old.cursor ≡ Some (token.Name name.now) }
         ensures answers_action { AnswersAction self.old self.new place.now result }
@@ -250,7 +250,7 @@ impl Reader<'_> {
 
     /// A statement that begins with a keyword and has no block.
     #[tactic(auto, using(crate::proofs::PlainLaws::no_action))]
-    fn action(&mut self, place: &Context, keyword: Keyword) -> Result<Action, Refusal>
+    fn action(&mut self, place: &Context, keyword: Keyword) -> Result<Action, ReadFailure>
         requires shallow { place.now.level ≤ LEVELS }
         requires at_keyword { first self.old.cursor ≡ Some (token.Keyword keyword) }
         requires plain { IsPlain (beginning keyword) }
@@ -269,7 +269,7 @@ impl Reader<'_> {
     }
 
     /// A statement without a block.
-    fn plain(&mut self, place: &Context) -> Result<Action, Refusal>
+    fn plain(&mut self, place: &Context) -> Result<Action, ReadFailure>
         requires shallow { place.now.level ≤ LEVELS }
         requires plain { BeginsPlain (first self.old.cursor) }
         ensures answers_action { AnswersAction self.old self.new place.now result }
@@ -282,7 +282,7 @@ impl Reader<'_> {
     }
 
     #[cycle(statement)]
-    fn branch(&mut self, place: &Context) -> Result<Stmt, Refusal>
+    fn branch(&mut self, place: &Context) -> Result<Stmt, ReadFailure>
         requires low { place.now.level ≤ LEVELS }
         requires at_keyword { first self.old.cursor ≡ Some (token.Keyword Keyword.If) }
         ensures answers_statement { AnswersStatement self.old self.new place.now result }
@@ -295,7 +295,7 @@ impl Reader<'_> {
     }
 
     #[cycle(statement)]
-    fn repeat(&mut self, place: &Context) -> Result<Stmt, Refusal>
+    fn repeat(&mut self, place: &Context) -> Result<Stmt, ReadFailure>
         requires low { place.now.level ≤ LEVELS }
         requires at_keyword { first self.old.cursor ≡ Some (token.Keyword Keyword.While) }
         ensures answers_statement { AnswersStatement self.old self.new place.now result }
@@ -308,7 +308,7 @@ impl Reader<'_> {
 
     /// A statement of a block.
     #[cycle(statement)]
-    fn statement(&mut self, place: &Context) -> Result<Stmt, Refusal>
+    fn statement(&mut self, place: &Context) -> Result<Stmt, ReadFailure>
         requires low { place.now.level ≤ LEVELS }
         requires inside { IsInside (first self.old.cursor) }
         ensures answers_statement { AnswersStatement self.old self.new place.now result }
@@ -323,7 +323,7 @@ impl Reader<'_> {
     /// Reads the part that may follow the first block of an `if`.
     #[cycle(statement)]
     #[tactic(auto, using(crate::proofs::Blocks::else_start))]
-    fn otherwise(&mut self, place: &Context) -> Result<Option<Block>, Refusal>
+    fn otherwise(&mut self, place: &Context) -> Result<Option<Block>, ReadFailure>
         requires low { place.now.level ≤ LEVELS }
         ensures names { fixed self.new.scope ≡ fixed self.old.scope }
         ensures no_longer { OnOk result (length self.new.cursor ≤ length self.old.cursor) }
@@ -354,7 +354,7 @@ impl Reader<'_> {
 
     /// Reads the opening brace of a block.
     #[tactic(auto, using(crate::proofs::Blocks::brace_deep))]
-    fn opening_brace(&mut self, place: &Context) -> Result<(), Refusal>
+    fn opening_brace(&mut self, place: &Context) -> Result<(), ReadFailure>
         requires low { place.now.level ≤ LEVELS }
         ensures same { self.new.scope ≡ self.old.scope }
         ensures no_longer { length self.new.cursor ≤ length self.old.cursor }
@@ -376,7 +376,7 @@ impl Reader<'_> {
 
     /// A block, at this place.
     #[cycle(statement)]
-    pub(crate) fn block(&mut self, place: &Context) -> Result<Block, Refusal>
+    pub(crate) fn block(&mut self, place: &Context) -> Result<Block, ReadFailure>
         requires low { place.now.level ≤ LEVELS }
         ensures names { fixed self.new.scope ≡ fixed self.old.scope }
         ensures no_longer { OnOk result (length self.new.cursor ≤ length self.old.cursor) }

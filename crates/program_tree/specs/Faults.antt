@@ -119,7 +119,7 @@ IsFault NoProcess before rest = LacksProcess before rest
 IsFault k before rest = Breach k before rest
 
 -- the fault at the earliest token; of several there, the one with the least number
-pub record IsTold (k : ReadErrorKind) (before rest : List Token) : Type 0 where
+pub record IsFirstFault (k : ReadErrorKind) (before rest : List Token) : Type 0 where
   pub here : IsFault k before rest
   pub least : (j : ReadErrorKind) → kind_number j < kind_number k → IsFault j before rest → ⊥
   pub earliest : (b r : List Token) (j : ReadErrorKind) → before ++ rest ≡ b ++ r → length b < length before

@@ -1,7 +1,7 @@
 -- The tree of a text, and the reported error of one that has none.
 use Rattle.std.specs.Prelude.{◌≡◌, ℕ, List, ◌++◌, length, slice_get, Some}
 use Rattle.program_tree.specs.Code.{Tree}
-use Rattle.program_tree.specs.Faults.{IsProgram, IsTold}
+use Rattle.program_tree.specs.Faults.{IsProgram, IsFirstFault}
 use Rattle.program_tree.specs.Numbers.{tree_of_shape}
 use Rattle.program_tree.specs.Shapes.{ProgramShape}
 use Rattle.program_tree.specs.Text.{IsLexed}
@@ -22,12 +22,12 @@ pub record IsTreeOf (text : List ℕ) (tree : Tree) : Type 0 where
   pub spelled : IsTreeOfTokens tokens tree
 
 -- the text's reported error is of this kind, and its token, or the end, is on this line
-pub record IsToldOf (text : List ℕ) (kind : ReadErrorKind) (line : ℕ) : Type 0 where
+pub record IsErrorOf (text : List ℕ) (kind : ReadErrorKind) (line : ℕ) : Type 0 where
   pub tokens : List Token
   pub lines : List ℕ
   pub lexed : IsLexed text tokens lines
   pub before : List Token
   pub rest : List Token
   pub split : tokens ≡ before ++ rest
-  pub told : IsTold kind before rest
+  pub told : IsFirstFault kind before rest
   pub stands : slice_get lines (length before) ≡ Some line

@@ -1,11 +1,15 @@
 -- Deeds by their statements.
-use Rattle.std.proofs.Common.{◌≡◌, ℕ, Bool, true, false, ◌&&◌, if◌then◌else◌, List, ◌++◌, ◌∷◌, None, refl, ap, sym, ◌∙◌, arith}
+use Rattle.std.proofs.Common.{◌≡◌, ℕ, Bool, true, false, ◌&&◌, if◌then◌else◌, List, ◌++◌, ◌∷◌, None, refl, ap, sym}
+use Rattle.std.proofs.Common.{◌∙◌, arith}
 use Rattle.std.proofs.lemmas.Grind.{common_steps}
 use Rattle.std.specs.Prelude.{not, ◌==◌, slice_index}
 use Rattle.program_tree.specs.declared.event.Event.{Event}
-use Rattle.program_tree.specs.Tree.{Expression, Action, assign, print, send, wait_until, wait_while, yield, yield_until, spawn, restart, exit, pause, acquire, signal, post, broadcast, synch, poll, start, kill, set, reset, restart_timer, stop, Statement, does, branch, while, Body, Otherwise, listed}
+use Rattle.program_tree.specs.Tree.{Expression, Action, assign, print, send, wait_until, wait_while, yield}
+use Rattle.program_tree.specs.Tree.{yield_until, spawn, restart, exit, pause, acquire, signal, post, broadcast, synch}
+use Rattle.program_tree.specs.Tree.{poll, start, kill, set, reset, restart_timer, stop, Statement, does, branch, while}
+use Rattle.program_tree.specs.Tree.{Body, Otherwise, listed}
 use Rattle.program_tree.specs.Code.{Code}
-use Rattle.protothread.specs.declared.deed.Deed.TheVariants.{Operates, Pauses, Waits, Yields}
+use Rattle.protothread.specs.declared.deed.StatementEffect.TheVariants.{Operates, Pauses, Waits, Yields}
 use Rattle.protothread.specs.declared.step.Op.{Op}
 use Rattle.protothread.specs.Looks.{Looks}
 use Rattle.protothread.specs.Value.{value, holds}

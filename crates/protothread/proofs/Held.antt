@@ -1,13 +1,16 @@
 -- The places at which a step yields control.
-use Rattle.std.proofs.Common.{◌≡◌, ℕ, zero, suc, ◌-◌, ◌<◌, inl, inr, Bool, true, false, ◌&&◌, if◌then◌else◌, List, [], ◌∷◌, None, refl, arith}
+use Rattle.std.proofs.Common.{◌≡◌, ℕ, zero, suc, ◌-◌, ◌<◌, inl, inr, Bool, true, false, ◌&&◌, if◌then◌else◌, List, []}
+use Rattle.std.proofs.Common.{◌∷◌, None, refl, arith}
 use Rattle.std.specs.Prelude.{nat_lt, not, slice_index, ◌==◌}
 use Rattle.program_tree.specs.declared.event.Event.{Event}
-use Rattle.program_tree.specs.Tree.{Action, assign, print, send, wait_until, wait_while, yield, yield_until, spawn, restart, exit, pause, acquire, signal, post, broadcast, synch, poll, start, kill, set, reset, restart_timer, stop, Statement, does, branch, while}
+use Rattle.program_tree.specs.Tree.{Action, assign, print, send, wait_until, wait_while, yield, yield_until, spawn}
+use Rattle.program_tree.specs.Tree.{restart, exit, pause, acquire, signal, post, broadcast, synch, poll, start, kill}
+use Rattle.program_tree.specs.Tree.{set, reset, restart_timer, stop, Statement, does, branch, while}
 use Rattle.program_tree.specs.Code.{Code}
 use Rattle.protothread.specs.declared.part.Part.{Part}
 use Rattle.protothread.specs.declared.thread.Mark.{Mark}
 use Rattle.protothread.specs.declared.thread.Mark.TheVariants.{AtRest, UnderWay, Pausing, RunAway}
-use Rattle.protothread.specs.declared.deed.Deed.TheVariants.{Pauses, Waits, Yields, Operates}
+use Rattle.protothread.specs.declared.deed.StatementEffect.TheVariants.{Pauses, Waits, Yields, Operates}
 use Rattle.protothread.specs.declared.step.Op.{Op}
 use Rattle.protothread.specs.declared.step.Step.TheVariants as step
 use Rattle.protothread.specs.declared.answer.PtState.{PtState}
@@ -16,7 +19,8 @@ use Rattle.protothread.specs.State.{state_number}
 use Rattle.protothread.specs.Looks.{Looks}
 use Rattle.protothread.specs.Value.{value, holds}
 use Rattle.protothread.specs.Remainder.{Place, ended, at, within, before, settled, Remainder, thread_block, whole_of}
-use Rattle.protothread.specs.Step.{Reached, goes_on, operates, answers, passes_where, deed_of, performed, spawner_reached, reached, continued, passed, advanced_of}
+use Rattle.protothread.specs.Step.{Reached, goes_on, operates, answers, passes_where, deed_of, performed}
+use Rattle.protothread.specs.Step.{spawner_reached, reached, continued, passed, advanced_of}
 use Rattle.protothread.specs.Laws.{is_wait, IsHeld, IsSound, GivesUpAtAWait, ControlIsGivenUpAtWaits}
 use Rattle.protothread.proofs.Units.{called, follows, stepped}
 

@@ -10,13 +10,16 @@ use Rattle.program_tree.specs.declared.event.SystemEvent.TheVariants.{Exit}
 use Rattle.program_tree.specs.Events.{system_number}
 use Rattle.program_tree.specs.EventNames as event_name
 use Rattle.program_tree.specs.EventNames.{CastEvent, cast_number}
-use Rattle.program_tree.specs.Tree.{Action, assign, print, send, wait_until, wait_while, yield, yield_until, spawn, restart, exit, pause, acquire, signal, post, broadcast, synch, poll, start, kill, set, reset, restart_timer, stop, Statement, does, branch, while}
+use Rattle.program_tree.specs.Tree.{Action, assign, print, send, wait_until, wait_while, yield, yield_until, spawn}
+use Rattle.program_tree.specs.Tree.{restart, exit, pause, acquire, signal, post, broadcast, synch, poll, start, kill}
+use Rattle.program_tree.specs.Tree.{set, reset, restart_timer, stop, Statement, does, branch, while}
 use Rattle.program_tree.specs.Code.{Code}
 use Rattle.protothread.specs.declared.part.Part.{Part}
 use Rattle.protothread.specs.declared.thread.Mark.{Mark}
 use Rattle.protothread.specs.declared.thread.Mark.TheVariants.{AtRest, UnderWay, Pausing, RunAway}
-use Rattle.protothread.specs.declared.deed.Deed.{Deed}
-use Rattle.protothread.specs.declared.deed.Deed.TheVariants.{Passes, Assigns, Operates, Pauses, Waits, Yields, Spawns, Restarts, Exits}
+use Rattle.protothread.specs.declared.deed.StatementEffect.{StatementEffect}
+use Rattle.protothread.specs.declared.deed.StatementEffect.TheVariants.{Passes, Assigns, Operates, Pauses, Waits}
+use Rattle.protothread.specs.declared.deed.StatementEffect.TheVariants.{Yields, Spawns, Restarts, Exits}
 use Rattle.protothread.specs.declared.step.Op.{Op}
 use Rattle.protothread.specs.declared.step.Op.TheVariants.{Post, Synch, Poll, Start, Kill}
 use Rattle.protothread.specs.declared.step.Step.{Step}
@@ -25,7 +28,8 @@ use Rattle.protothread.specs.declared.answer.PtState.TheVariants.{Waiting, Yield
 use Rattle.protothread.specs.Looks.{Looks}
 use Rattle.protothread.specs.Value.{value, holds}
 use Rattle.protothread.specs.Remainder.{Place, ended, at, within, settled, Remainder, thread_block, whole_of}
-use Rattle.protothread.specs.Step.{Reached, goes_on, operates, answers, passes_where, deed_of, performed, spawner_reached, reached, continued, passed, advanced_of}
+use Rattle.protothread.specs.Step.{Reached, goes_on, operates, answers, passes_where, deed_of, performed}
+use Rattle.protothread.specs.Step.{spawner_reached, reached, continued, passed, advanced_of}
 use Rattle.protothread.proofs.Units.{called, follows, stepped}
 
 abbrev pub IsOwn : Proc → Type 0
@@ -45,7 +49,7 @@ abbrev pub StepNamesOwn : Step → Type 0
 StepNamesOwn (step.Op o) = NamesOwn o
 StepNamesOwn s = Unit {0}
 
-abbrev DeedNamesOwn : Deed → Type 0
+abbrev DeedNamesOwn : StatementEffect → Type 0
 DeedNamesOwn (Operates o into) = NamesOwn o
 DeedNamesOwn (Pauses o) = NamesOwn o
 DeedNamesOwn d = Unit {0}
@@ -61,11 +65,11 @@ cast_is_no_exit event_name.«com» q = omega arith
 cast_is_no_exit event_name.packet q = omega arith
 cast_is_no_exit (event_name.declared i) q = omega arith
 
-passes_own : (b : Bool) (d : Deed) → DeedNamesOwn d → DeedNamesOwn (passes_where b d)
+passes_own : (b : Bool) (d : StatementEffect) → DeedNamesOwn d → DeedNamesOwn (passes_where b d)
 passes_own true d h = tt
 passes_own false d h = h
 
-either_own : (b : Bool) (c d : Deed) → DeedNamesOwn c → DeedNamesOwn d → DeedNamesOwn (if b then c else d)
+either_own : (b : Bool) (c d : StatementEffect) → DeedNamesOwn c → DeedNamesOwn d → DeedNamesOwn (if b then c else d)
 either_own true c d h k = h
 either_own false c d h k = k
 
@@ -94,7 +98,7 @@ own_deed process y vars event looks (reset t) = tt
 own_deed process y vars event looks (restart_timer t) = tt
 own_deed process y vars event looks (stop t) = tt
 
-own_performed : (code : Code) (whole : List (Statement ℕ)) (vars : List ℕ) (s : Statement ℕ) (rest : List (Statement ℕ)) (d : Deed)
+own_performed : (code : Code) (whole : List (Statement ℕ)) (vars : List ℕ) (s : Statement ℕ) (rest : List (Statement ℕ)) (d : StatementEffect)
     → DeedNamesOwn d → ReachedNamesOwn (performed code whole vars s rest d)
 own_performed code whole vars s rest Passes h = tt
 own_performed code whole vars s rest (Assigns i v) h = tt

@@ -1,5 +1,6 @@
 -- The effect of the innermost thread on those around it, which is that of the code.
-use Rattle.std.proofs.Common.{◌≡◌, ℕ, Bool, true, false, if◌then◌else◌, List, [], ◌∷◌, ◌++◌, length, refl, ap, sym, ◌∙◌, subst}
+use Rattle.std.proofs.Common.{◌≡◌, ℕ, Bool, true, false, if◌then◌else◌, List, [], ◌∷◌, ◌++◌, length, refl, ap, sym}
+use Rattle.std.proofs.Common.{◌∙◌, subst}
 use Rattle.std.proofs.lemmas.Bool.{ltb-true}
 use Rattle.program_tree.specs.declared.event.Event.{Event}
 use Rattle.program_tree.specs.declared.instruction.Instruction.{Instruction}
@@ -12,8 +13,9 @@ use Rattle.program_tree.specs.Scope.{earlier_threads}
 use Rattle.program_tree.proofs.Emitting.{rest_at-start}
 use Rattle.program_tree.proofs.Spawning.{action_fits_there}
 use Rattle.protothread.specs.declared.calls.Call.{Call}
-use Rattle.protothread.specs.declared.deed.Deed.{Deed}
-use Rattle.protothread.specs.declared.deed.Deed.TheVariants.{Passes, Assigns, Operates, Pauses, Waits, Yields, Spawns, Restarts, Exits}
+use Rattle.protothread.specs.declared.deed.StatementEffect.{StatementEffect}
+use Rattle.protothread.specs.declared.deed.StatementEffect.TheVariants.{Passes, Assigns, Operates, Pauses, Waits}
+use Rattle.protothread.specs.declared.deed.StatementEffect.TheVariants.{Yields, Spawns, Restarts, Exits}
 use Rattle.protothread.specs.declared.thread.Thread.{Thread}
 use Rattle.protothread.specs.declared.thread.Mark.{Mark}
 use Rattle.protothread.specs.declared.thread.Mark.TheVariants.{AtRest}
@@ -24,7 +26,8 @@ use Rattle.protothread.specs.Looks.{Looks}
 use Rattle.protothread.specs.Value.{value, holds}
 use Rattle.protothread.specs.Remainder.{Place, at, within, before, thread_block, whole_of}
 use Rattle.protothread.specs.Step.{goes_on, operates, answers, spawner_reached, statement_reached, reached}
-use Rattle.protothread.specs.Places.{part_body, thread_body, innermost, Caller, callers_in, nested, yielding, body_of_thread, callers_of, thread_place, place_by}
+use Rattle.protothread.specs.Places.{part_body, thread_body, innermost, Caller, callers_in, nested, yielding}
+use Rattle.protothread.specs.Places.{body_of_thread, callers_of, thread_place, place_by}
 use Rattle.protothread.specs.Reach.{home_of, made_of, reached_at, IsDoneBy, DeedCanSpawn, StandsIn, GoesOnAt}
 use Rattle.protothread.proofs.CallLaws.{innermost-push, callers_in-push, listed-thread, listed-part, home_of-calls}
 
@@ -71,7 +74,7 @@ reached_here code t vars event looks s rest =
     (ap (λ whole. home_of code whole (callers_of code t)) (sym (listed-part code t.part)) ∙ home_of-calls code (part_body code t.part) t.calls)
 
 -- an action spawns the threads of its statement
-pub deed_can : (cs : List Call) (s : Statement ℕ) (d : Deed) → IsDoneBy s d → ((t : ℕ) → s ≡ does (spawn t) → CanSpawn cs t) → DeedCanSpawn cs d
+pub deed_can : (cs : List Call) (s : Statement ℕ) (d : StatementEffect) → IsDoneBy s d → ((t : ℕ) → s ≡ does (spawn t) → CanSpawn cs t) → DeedCanSpawn cs d
 deed_can cs s Passes by can = tt
 deed_can cs s (Assigns i v) by can = tt
 deed_can cs s (Operates o into) by can = tt

@@ -1,24 +1,34 @@
 -- A text says the actions of its runs.
-use Rattle.std.proofs.Common.{◌≡◌, ℕ, zero, suc, ◌<◌, ◌≤◌, Bool, true, false, not, if◌then◌else◌, List, [], ◌∷◌, ◌++◌, Option, None, Some, slice_set, slice_index, refl, ap, sym, ◌∙◌, arith, append_assoc, subst, ◌==◌}
+use Rattle.std.proofs.Common.{◌≡◌, ℕ, zero, suc, ◌<◌, ◌≤◌, Bool, true, false, not, if◌then◌else◌, List, [], ◌∷◌, ◌++◌}
+use Rattle.std.proofs.Common.{Option, None, Some, slice_set, slice_index, refl, ap, sym, ◌∙◌, arith, append_assoc}
+use Rattle.std.proofs.Common.{subst, ◌==◌}
 use Rattle.std.proofs.lemmas.List.{append-nil}
 use Rattle.program_tree.specs.declared.event.Proc.TheVariants.{Own}
 use Rattle.program_tree.specs.declared.event.Target.TheVariants.{One}
 use Rattle.program_tree.specs.EventNames.{sent, cast, continue}
-use Rattle.program_tree.specs.Tree.{Expression, is, Action, wait_until, wait_while, yield, yield_until, spawn, restart, exit, pause, acquire, Statement, does, branch, while, listed}
+use Rattle.program_tree.specs.Tree.{Expression, is, Action, wait_until, wait_while, yield, yield_until, spawn, restart}
+use Rattle.program_tree.specs.Tree.{exit, pause, acquire, Statement, does, branch, while, listed}
 use Rattle.program_tree.specs.Code.{Code}
 use Rattle.protothread.specs.declared.answer.PtState.{PtState}
 use Rattle.protothread.specs.declared.answer.PtState.TheVariants.{Waiting, Yielded, Exited, Ended}
 use Rattle.protothread.specs.declared.part.Part.{Part}
 use Rattle.protothread.specs.declared.thread.Mark.TheVariants.{UnderWay, Pausing}
-use Rattle.protothread.specs.declared.deed.Deed.{Deed}
-use Rattle.protothread.specs.declared.deed.Deed.TheVariants.{Passes, Assigns, Operates, Waits, Yields}
+use Rattle.protothread.specs.declared.deed.StatementEffect.{StatementEffect}
+use Rattle.protothread.specs.declared.deed.StatementEffect.TheVariants.{Passes, Assigns, Operates, Waits, Yields}
 use Rattle.protothread.specs.declared.step.Op.{Op}
 use Rattle.protothread.specs.declared.step.Op.TheVariants.{Post, Take}
 use Rattle.protothread.specs.State.{state_number}
 use Rattle.protothread.specs.Value.{holds}
-use Rattle.protothread.specs.Remainder.{Place, ended, at, within, before, spawner_place, settled, thread_block, whole_of, fresh_of}
-use Rattle.protothread.specs.Step.{goes_on, operates as stops, answers, passes_where, performed, other_block, spawner_reached, reached, yield_answer}
-use Rattle.protothread.specs.Reading.{Sight, Happening, operates, gives_up, Completion, done, restarts, exits, stands, Restarts, with_answer, deed, meaning, Awaits, met, again, never, Reads, passes, assigns, performs, waits, waits_last, yields, yields_until, yields_until_last, pauses, pauses_last, posts_last, spawn_ends, spawn_exits, spawn_stands, restarted, restarted_last, exited, chooses, repeats, leaves, ReadsAll, nothing_left, in_turn, breaks_off, ReadsThread, once, anew}
+use Rattle.protothread.specs.Remainder.{Place, ended, at, within, before, spawner_place, settled, thread_block}
+use Rattle.protothread.specs.Remainder.{whole_of, fresh_of}
+use Rattle.protothread.specs.Step.{goes_on, operates as stops, answers, passes_where, performed, other_block}
+use Rattle.protothread.specs.Step.{spawner_reached, reached, yield_answer}
+use Rattle.protothread.specs.Reading.{Sight, Happening, operates, gives_up, Completion, done, restarts, exits, stands}
+use Rattle.protothread.specs.Reading.{Restarts, with_answer, deed, meaning, Awaits, met, again, never, Reads, passes}
+use Rattle.protothread.specs.Reading.{assigns, performs, waits, waits_last, yields, yields_until, yields_until_last}
+use Rattle.protothread.specs.Reading.{pauses, pauses_last, posts_last, spawn_ends, spawn_exits, spawn_stands}
+use Rattle.protothread.specs.Reading.{restarted, restarted_last, exited, chooses, repeats, leaves, ReadsAll}
+use Rattle.protothread.specs.Reading.{nothing_left, in_turn, breaks_off, ReadsThread, once, anew}
 use Rattle.protothread.proofs.Follows.{IsLive, behind_end, is_true, is_false, heard, comes_to_an_end}
 use Rattle.protothread.proofs.Goes.{Again, Behind, StepOf, Goes, entering, runs_go}
 use Rattle.protothread.specs.Runs.{Runs}
@@ -54,7 +64,7 @@ mapped R Q N n l h k out a low same f s = record {
 }
 
 -- the deeds that the rules `passes`, `assigns`, `performs` and `waits` of a reading are for
-abbrev IsOrdinary : Deed → Type 0
+abbrev IsOrdinary : StatementEffect → Type 0
 IsOrdinary Passes = Unit {0}
 IsOrdinary (Assigns i v) = Unit {0}
 IsOrdinary (Operates o into) = Unit {0}
@@ -227,7 +237,7 @@ module _ (code : Code) (part : Part) where
         (λ x o r. waits y a now next later vars x o e r)
         (one n (omega arith) home y c (does a) rest next later vars f.0 out f.2)
 
-    ordinary : (d : Deed) (n : ℕ) → n ≤ k → (now : Sight) (later : List Sight) (vars : List ℕ) (h : List Happening) (out : Completion)
+    ordinary : (d : StatementEffect) (n : ℕ) → n ≤ k → (now : Sight) (later : List Sight) (vars : List ℕ) (h : List Happening) (out : Completion)
         → deed code a now vars ≡ d → IsOrdinary d
         → To (suc n) (c.place (at false (does a) rest)) now later vars h out → One_split home y c (does a) rest n now later vars h out
     ordinary Passes n low now later vars h out e i g =

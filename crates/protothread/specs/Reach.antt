@@ -12,8 +12,8 @@ use Rattle.protothread.specs.declared.thread.Reach.{Reach}
 use Rattle.protothread.specs.declared.thread.Reach.TheVariants.{GoesOn, Operates, Answers}
 use Rattle.protothread.specs.declared.step.Op.{Op}
 use Rattle.protothread.specs.declared.step.Step.{Step}
-use Rattle.protothread.specs.declared.deed.Deed.{Deed}
-use Rattle.protothread.specs.declared.deed.Deed.TheVariants.{Spawns}
+use Rattle.protothread.specs.declared.deed.StatementEffect.{StatementEffect}
+use Rattle.protothread.specs.declared.deed.StatementEffect.TheVariants.{Spawns}
 use Rattle.protothread.specs.declared.calls.Call.{Call}
 use Rattle.protothread.specs.Looks.{Looks}
 use Rattle.protothread.specs.Calls.{CanSpawn, SpawnsSo}
@@ -34,7 +34,7 @@ made_of (c ∷ cs) vars r = spawner_reached c.thread c.rest vars (made_of cs var
 
 -- the effect of an action at the statement `s`, before the rest, on the thread
 abbrev pub performed_at : Code → Thread → (variables : List ℕ) → (s : Statement ℕ) → (rest : List (Statement ℕ))
-    → Deed → Reached
+    → StatementEffect → Reached
 performed_at code t vars s rest d =
     made_of (callers_of code t) vars (performed code (listed (body_of_thread code t)) vars s rest d)
 
@@ -45,12 +45,12 @@ reached_at code t vars event looks s rest =
     reached code (whole_of code t.part) vars event looks (nested (callers_of code t) (at t.is_yielded s rest))
 
 -- a deed of a statement spawns the thread that the statement names
-abbrev pub IsDoneBy : Statement ℕ → Deed → Type 0
+abbrev pub IsDoneBy : Statement ℕ → StatementEffect → Type 0
 IsDoneBy s (Spawns t) = s ≡ does (spawn t)
 IsDoneBy s d = Unit {0}
 
 -- an action spawns only threads that the innermost thread can spawn
-abbrev pub DeedCanSpawn : List Call → Deed → Type 0
+abbrev pub DeedCanSpawn : List Call → StatementEffect → Type 0
 DeedCanSpawn cs (Spawns t) = CanSpawn cs t
 DeedCanSpawn cs d = Unit {0}
 

@@ -12,8 +12,8 @@ use Rattle.program_tree.specs.Tree.{does, branch, while, Body, Otherwise, listed
 use Rattle.program_tree.specs.Code.{Code}
 use Rattle.protothread.specs.declared.answer.PtState.{PtState}
 use Rattle.protothread.specs.declared.answer.PtState.TheVariants.{Waiting}
-use Rattle.protothread.specs.declared.deed.Deed.{Deed}
-use Rattle.protothread.specs.declared.deed.Deed.TheVariants.{Passes, Assigns, Operates, Waits}
+use Rattle.protothread.specs.declared.deed.StatementEffect.{StatementEffect}
+use Rattle.protothread.specs.declared.deed.StatementEffect.TheVariants.{Passes, Assigns, Operates, Waits}
 use Rattle.protothread.specs.declared.step.Op.{Op}
 use Rattle.protothread.specs.declared.step.Op.TheVariants.{Post}
 use Rattle.protothread.specs.Looks.{Looks}
@@ -60,7 +60,7 @@ resumed into [] vars = stands vars
 resumed into (next ∷ later) vars = done next later (with_answer into vars next.answer)
 
 -- the immediate effect of a statement that is reached
-abbrev pub deed : Code → Action ℕ → Sight → (variables : List ℕ) → Deed
+abbrev pub deed : Code → Action ℕ → Sight → (variables : List ℕ) → StatementEffect
 deed code a now vars = deed_of code.number false vars now.event now.looks a
 
 abbrev pub meaning : Expression ℕ → Sight → (variables : List ℕ) → ℕ

@@ -17,9 +17,10 @@ use Rattle.protothread.specs.declared.answer.PtState.TheVariants.{Waiting, Yield
 use Rattle.protothread.specs.declared.part.Part.{Part}
 use Rattle.protothread.specs.declared.thread.Mark.{Mark}
 use Rattle.protothread.specs.declared.thread.Mark.TheVariants.{AtRest, UnderWay, Pausing, RunAway}
-use Rattle.protothread.specs.declared.deed.Deed.{Deed}
-use Rattle.protothread.specs.declared.deed.Deed.TheVariants.{Passes, Assigns, Operates, Pauses, Waits, Yields, Spawns}
-use Rattle.protothread.specs.declared.deed.Deed.TheVariants.{Restarts, Exits}
+use Rattle.protothread.specs.declared.deed.StatementEffect.{StatementEffect}
+use Rattle.protothread.specs.declared.deed.StatementEffect.TheVariants.{Passes, Assigns, Operates, Pauses, Waits}
+use Rattle.protothread.specs.declared.deed.StatementEffect.TheVariants.{Yields, Spawns}
+use Rattle.protothread.specs.declared.deed.StatementEffect.TheVariants.{Restarts, Exits}
 use Rattle.protothread.specs.declared.step.Op.{Op}
 use Rattle.protothread.specs.declared.step.Op.TheVariants as op
 use Rattle.protothread.specs.declared.step.Step.{Step}
@@ -37,12 +38,13 @@ pub record Advanced : Type 0 where
   pub units : ℕ
 
 -- continues after the statement if the test holds, and otherwise does the other action
-abbrev pub passes_where : Bool → (other : Deed) → Deed
+abbrev pub passes_where : Bool → (other : StatementEffect) → StatementEffect
 passes_where test other = if test then Passes else other
 
 -- The effect of a statement without blocks in a process of this number, when it is reached, or when the thread is
 -- resumed at it because it has yielded. A `pause` posts CONTINUE to its own process, and then waits for a CONTINUE.
-abbrev pub deed_of : (process : ℕ) → (is_yielded : Bool) → (variables : List ℕ) → Event → Looks → Action ℕ → Deed
+abbrev pub deed_of : (process : ℕ) → (is_yielded : Bool) → (variables : List ℕ) → Event → Looks → Action ℕ
+    → StatementEffect
 deed_of process yielded vars event looks (assign i e) = Assigns i (value vars event looks e)
 deed_of process yielded vars event looks (print e) = Operates (op.Print (value vars event looks e)) None
 deed_of process yielded vars event looks (send e) = Operates (op.Send (value vars event looks e)) None
@@ -83,7 +85,7 @@ pub data Reached : Type 0 where
 
 -- the effect of an action on the thread whose block is `whole`, at the statement `s` before the rest
 abbrev pub performed : Code → (whole : List (Statement ℕ)) → (variables : List ℕ) → (s : Statement ℕ)
-    → (rest : List (Statement ℕ)) → Deed → Reached
+    → (rest : List (Statement ℕ)) → StatementEffect → Reached
 performed code whole vars s rest Passes = goes_on vars (before false rest)
 performed code whole vars s rest (Assigns i v) = goes_on (slice_set vars i v) (before false rest)
 performed code whole vars s rest (Operates o into) = operates o (UnderWay into) (before false rest)

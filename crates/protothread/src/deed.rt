@@ -11,7 +11,7 @@ use program_tree::{Action, Event, Proc, SystemEvent, Target};
 
 /// The effect of a statement on the thread that is at it.
 #[derive(Clone, Copy)]
-pub(crate) enum Deed {
+pub(crate) enum StatementEffect {
     /// Nothing; the thread continues after it.
     Passes,
     /// A variable gets a value.
@@ -33,10 +33,10 @@ pub(crate) enum Deed {
 }
 
 /// Continues if the test holds, and otherwise does the other action.
-fn passes_where(test: bool, other: Deed) -> Deed
+fn passes_where(test: bool, other: StatementEffect) -> StatementEffect
     ensures value { result ≡ by_test test other }
 {
-    if test { Deed::Passes } else { other }
+    if test { StatementEffect::Passes } else { other }
 }
 
 /// The effect of a statement in a process of this number.
@@ -47,77 +47,79 @@ pub(crate) fn done_by<L: Look>(
     vars: &Vars,
     event: &Event,
     look: &L,
-) -> Deed
+) -> StatementEffect
     ensures value { result ≡ deed_of process is_yielded vars.now event.now (L.looks look.now) (action_of action.now) }
 {
     match action {
         Action::Assign(variable, value) => {
-            Deed::Assigns(*variable, evaluate(value, vars, event, look))
+            StatementEffect::Assigns(*variable, evaluate(value, vars, event, look))
         }
         Action::Print(value) => {
-            Deed::Operates(Op::Print(evaluate_by_call(value, vars, event, look)), None)
+            StatementEffect::Operates(Op::Print(evaluate_by_call(value, vars, event, look)), None)
         }
         Action::Send(value) => {
-            Deed::Operates(Op::Send(evaluate_by_call(value, vars, event, look)), None)
+            StatementEffect::Operates(Op::Send(evaluate_by_call(value, vars, event, look)), None)
         }
         Action::WaitUntil(condition) => {
             passes_where(
                 evaluate_by_call(condition, vars, event, look) != 0,
-                Deed::Waits,
+                StatementEffect::Waits,
             )
         }
         Action::WaitWhile(condition) => {
             passes_where(
                 evaluate_by_call(condition, vars, event, look) == 0,
-                Deed::Waits,
+                StatementEffect::Waits,
             )
         }
-        Action::Yield => passes_where(is_yielded, Deed::Yields),
+        Action::Yield => passes_where(is_yielded, StatementEffect::Yields),
         Action::YieldUntil(condition) => {
             let met = is_yielded && evaluate_by_call(condition, vars, event, look) != 0;
-            passes_where(met, Deed::Yields)
+            passes_where(met, StatementEffect::Yields)
         }
-        Action::Spawn(thread) => Deed::Spawns(*thread),
-        Action::Restart => Deed::Restarts,
-        Action::Exit => Deed::Exits,
+        Action::Spawn(thread) => StatementEffect::Spawns(*thread),
+        Action::Restart => StatementEffect::Restarts,
+        Action::Exit => StatementEffect::Exits,
         Action::Pause => {
             let goes_on = SystemEvent::Continue.number();
             if is_yielded {
-                passes_where(event.number == goes_on, Deed::Yields)
+                passes_where(event.number == goes_on, StatementEffect::Yields)
             } else {
-                Deed::Pauses(Op::Post(Target::One(Proc::Own(process)), goes_on, 0))
+                StatementEffect::Pauses(Op::Post(Target::One(Proc::Own(process)), goes_on, 0))
             }
         }
         Action::Acquire(semaphore) => {
             if look.count(*semaphore) == 0 {
-                Deed::Waits
+                StatementEffect::Waits
             } else {
-                Deed::Operates(Op::Take(*semaphore), None)
+                StatementEffect::Operates(Op::Take(*semaphore), None)
             }
         }
-        Action::Signal(semaphore) => Deed::Operates(Op::Signal(*semaphore), None),
+        Action::Signal(semaphore) => StatementEffect::Operates(Op::Signal(*semaphore), None),
         Action::Post(process, named, word, into) => {
             let word = evaluate_by_call(word, vars, event, look);
             let target = Target::One(Proc::Own(*process));
-            Deed::Operates(Op::Post(target, named.number(), word), *into)
+            StatementEffect::Operates(Op::Post(target, named.number(), word), *into)
         }
         Action::Broadcast(named, word, into) => {
             let word = evaluate_by_call(word, vars, event, look);
-            Deed::Operates(Op::Post(Target::All, named.number(), word), *into)
+            StatementEffect::Operates(Op::Post(Target::All, named.number(), word), *into)
         }
         Action::Synch(process, named, word) => {
             let word = evaluate_by_call(word, vars, event, look);
-            Deed::Operates(Op::Synch(Proc::Own(*process), named.number(), word), None)
+            StatementEffect::Operates(Op::Synch(Proc::Own(*process), named.number(), word), None)
         }
-        Action::Poll(process) => Deed::Operates(Op::Poll(Proc::Own(*process)), None),
-        Action::Start(process) => Deed::Operates(Op::Start(Proc::Own(*process)), None),
-        Action::Kill(process) => Deed::Operates(Op::Kill(Proc::Own(*process)), None),
+        Action::Poll(process) => StatementEffect::Operates(Op::Poll(Proc::Own(*process)), None),
+        Action::Start(process) => StatementEffect::Operates(Op::Start(Proc::Own(*process)), None),
+        Action::Kill(process) => StatementEffect::Operates(Op::Kill(Proc::Own(*process)), None),
         Action::Set(timer, interval) => {
             let interval = evaluate_by_call(interval, vars, event, look);
-            Deed::Operates(Op::Set(u16::from(*timer), interval), None)
+            StatementEffect::Operates(Op::Set(u16::from(*timer), interval), None)
         }
-        Action::Reset(timer) => Deed::Operates(Op::Reset(u16::from(*timer)), None),
-        Action::RestartTimer(timer) => { Deed::Operates(Op::RestartTimer(u16::from(*timer)), None) }
-        Action::Stop(timer) => Deed::Operates(Op::Stop(u16::from(*timer)), None),
+        Action::Reset(timer) => StatementEffect::Operates(Op::Reset(u16::from(*timer)), None),
+        Action::RestartTimer(timer) => {
+            StatementEffect::Operates(Op::RestartTimer(u16::from(*timer)), None)
+        }
+        Action::Stop(timer) => StatementEffect::Operates(Op::Stop(u16::from(*timer)), None),
     }
 }

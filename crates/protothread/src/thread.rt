@@ -12,7 +12,7 @@ ghost use Rattle.protothread.specs.Reach.{DeedCanSpawn, StandsIn, Reaches, Resum
 
 use crate::answer::PtState;
 use crate::calls::{Call, Calls};
-use crate::deed::{Deed, done_by};
+use crate::deed::{StatementEffect, done_by};
 use crate::fuel::Fuel;
 use crate::look::Look;
 use crate::part::{Part, thread_code};
@@ -130,7 +130,7 @@ impl Thread {
         &mut self,
         text: &'a ProcessText,
         flat: &'a [Instruction],
-        deed: Deed,
+        deed: StatementEffect,
         next: u16,
         vars: &mut Vars,
     ) -> Reach<'a>
@@ -146,44 +146,44 @@ impl Thread {
             vars.new }
     {
         match deed {
-            Deed::Passes => {
+            StatementEffect::Passes => {
                 self.go_on(next);
                 Reach::GoesOn(flat)
             }
-            Deed::Assigns(variable, value) => {
+            StatementEffect::Assigns(variable, value) => {
                 vars.set(variable, value);
                 self.go_on(next);
                 Reach::GoesOn(flat)
             }
-            Deed::Operates(op, into) => {
+            StatementEffect::Operates(op, into) => {
                 self.mark = Mark::UnderWay(into);
                 self.go_on(next);
                 Reach::Operates(op)
             }
-            Deed::Pauses(op) => {
+            StatementEffect::Pauses(op) => {
                 self.mark = Mark::Pausing;
                 self.is_yielded = true;
                 Reach::Operates(op)
             }
-            Deed::Waits => {
+            StatementEffect::Waits => {
                 self.give_up(false);
                 Reach::Answers(PtState::Waiting)
             }
-            Deed::Yields => {
+            StatementEffect::Yields => {
                 self.give_up(true);
                 Reach::Answers(self.yield_answer())
             }
-            Deed::Spawns(thread) => {
+            StatementEffect::Spawns(thread) => {
                 self.calls.push(Call { thread, next });
                 self.go_on(0);
                 Reach::GoesOn(thread_code(text, thread))
             }
-            Deed::Restarts => {
+            StatementEffect::Restarts => {
                 self.mark = Mark::AtRest;
                 self.go_on(0);
                 Reach::Answers(PtState::Waiting)
             }
-            Deed::Exits => match self.calls.pop() {
+            StatementEffect::Exits => match self.calls.pop() {
                 Some(call) => {
                     self.go_on(call.next);
                     Reach::GoesOn(self.innermost(text))

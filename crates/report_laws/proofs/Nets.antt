@@ -10,15 +10,16 @@ use Rattle.trace_lines.specs.declared.line.What.{What}
 use Rattle.mote_program.specs.Complete.{IsComplete}
 use Rattle.mote_program.specs.Declarations.{IsDeclared}
 use Rattle.mote_node.specs.Node.{Node}
-use Rattle.mote_net.specs.Net.{MoteSetup, NetTold}
-use Rattle.mote_net.specs.Report.{ReportTold}
+use Rattle.mote_net.specs.Net.{MoteSetup, NetModel}
+use Rattle.mote_net.specs.Report.{ReportModel}
 use Rattle.window_laws.specs.Agenda.{up_to}
 use Rattle.window_laws.specs.NetStep.{NetState, Run, Done, Turn, boot, turned_at, turn_at}
 use Rattle.net_agenda.specs.NetSystem.{system_of, no_mote, mote_at, tree_at}
 use Rattle.trace_printer.specs.Named.{IsNamed, AreNamed, IsNamedLine, HasNames}
 use Rattle.trace_printer.specs.Laws.{TextDeterminesReport, NoTextBeginsAnother}
 use Rattle.trace_printer.specs.ReportText.{report_text}
-use Rattle.report_laws.specs.Laws.{ProgramsDeclare, RunsNameOnly, IsRunOf, AreComparable, ComparingBytesIsComparingRuns, NoRunBeginsAnother}
+use Rattle.report_laws.specs.Laws.{ProgramsDeclare, RunsNameOnly, IsRunOf, AreComparable}
+use Rattle.report_laws.specs.Laws.{ComparingBytesIsComparingRuns, NoRunBeginsAnother}
 use Rattle.report_laws.specs.Names.{NamesOnly, NameOnly, Is64What, Is64Line}
 use Rattle.report_laws.proofs.Declared.{is_whole}
 use Rattle.report_laws.proofs.States.{IsWhole, FitsLine, each_append}
@@ -34,7 +35,7 @@ each_whole [] h k = no_mote_whole
 each_whole (m ∷ ms) h zero = is_whole m.tree h.0.0 h.0.1
 each_whole (m ∷ ms) h (suc k) = each_whole ms h.1 k
 
-module _ (n : NetTold) (declare : ProgramsDeclare n) where
+module _ (n : NetModel) (declare : ProgramsDeclare n) where
   whole : (k : ℕ) → IsWhole (tree_at n k)
   whole k = each_whole n.motes declare k
 
@@ -87,7 +88,7 @@ traces_name (m ∷ ms) f h =
 
 pub runs_name_only : RunsNameOnly
 runs_name_only n declare r report =
-    subst (λ (x : ReportTold). NameOnly n.motes x.traces) (sym report.told) (traces_name n.motes report.last.traces (run_sound n declare report.run (boot_sound n declare)).traces)
+    subst (λ (x : ReportModel). NameOnly n.motes x.traces) (sym report.told) (traces_name n.motes report.last.traces (run_sound n declare report.run (boot_sound n declare)).traces)
 
 -- with numbers of 64 bits, such a report has names
 
@@ -117,7 +118,7 @@ are_named [] (t ∷ ts) n b = absurd n
 are_named (m ∷ ms) [] n b = absurd n
 are_named (m ∷ ms) (t ∷ ts) n b = (lines_named m.tree t n.0 b.0, are_named ms ts n.1 b.1)
 
-pub run_is_named : (n : NetTold) (r : ReportTold) → ProgramsDeclare n → IsRunOf n r → IsNamed n r
+pub run_is_named : (n : NetModel) (r : ReportModel) → ProgramsDeclare n → IsRunOf n r → IsNamed n r
 run_is_named n r declare run = record {
   traces = are_named n.motes r.traces (runs_name_only n declare r run.report) run.numbers.traces;
   log = run.numbers.log;
@@ -125,13 +126,13 @@ run_is_named n r declare run = record {
 }
 
 -- a report with names in one net has them in another of the same motes
-named_there : (m n : NetTold) (r : ReportTold) → AreComparable m n → IsRunOf n r → IsNamed m r
+named_there : (m n : NetModel) (r : ReportModel) → AreComparable m n → IsRunOf n r → IsNamed m r
 named_there m n r same run =
     let declare : ProgramsDeclare n = subst (Each (λ (x : MoteSetup). IsDeclared x.tree × IsComplete x.tree)) (sym same.motes) same.declare in
     let named = run_is_named n r declare run in
     record { traces = subst (λ (ms : List MoteSetup). AreNamed ms r.traces) same.motes named.traces; log = named.log; left = named.left }
 
-text_there : (m n : NetTold) (r : ReportTold) → n.motes ≡ m.motes → report_text n r ≡ report_text m r
+text_there : (m n : NetModel) (r : ReportModel) → n.motes ≡ m.motes → report_text n r ≡ report_text m r
 text_there m n r same = ap (λ (ms : List MoteSetup). report_text (record m { motes = ms }) r) same
 
 pub comparing_bytes : TextDeterminesReport → ComparingBytesIsComparingRuns

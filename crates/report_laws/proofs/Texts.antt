@@ -1,5 +1,6 @@
 -- The programs of a scenario's net declare what they name, and their names differ, since each is the tree of a text.
-use Rattle.std.proofs.Common.{◌≡◌, ℕ, Bool, true, false, cond, List, [], ◌∷◌, map, Option, Some, None, unwrap_or, refl, sym, subst}
+use Rattle.std.proofs.Common.{◌≡◌, ℕ, Bool, true, false, cond, List, [], ◌∷◌, map, Option, Some, None, unwrap_or, refl}
+use Rattle.std.proofs.Common.{sym, subst}
 use Rattle.std.specs.Prelude.{find, codes}
 use Rattle.std.specs.List.{AllByRecursion as Each}
 use Rattle.std.proofs.lemmas.List.Elements.{All-nil}
@@ -9,7 +10,7 @@ use Rattle.program_tree.specs.Reading.{IsTreeOf}
 use Rattle.mote_program.specs.Complete.{IsComplete}
 use Rattle.mote_program.specs.Declarations.{IsDeclared}
 use Rattle.mote_program.specs.NameLaws.{NamesAreDeclared, DeclarationsAreComplete}
-use Rattle.mote_net.specs.Net.{MoteSetup, NetTold, no_program}
+use Rattle.mote_net.specs.Net.{MoteSetup, NetModel, no_program}
 use Rattle.mote_net.specs.Programs.{NamedTree}
 use Rattle.net_scenario.specs.Document.{table_at, tables_at}
 use Rattle.net_scenario.specs.Net.{mote_of_table}
@@ -17,7 +18,8 @@ use Rattle.net_scenario.specs.Programs.{ProgramText, AllRead}
 use Rattle.net_scenario.specs.Reading.{TellsNet}
 use Rattle.trace_printer.specs.Named.{NamesDiffer}
 use Rattle.report_laws.proofs.ProgramNames.{HasNames, names_differ}
-use Rattle.report_laws.specs.Laws.{TextsDeclare, NamesOfTextsDiffer, ComparingBytesIsComparingRuns, ScenariosAreComparable, SameBytesOfScenarios}
+use Rattle.report_laws.specs.Laws.{TextsDeclare, NamesOfTextsDiffer, ComparingBytesIsComparingRuns}
+use Rattle.report_laws.specs.Laws.{ScenariosAreComparable, SameBytesOfScenarios}
 use Rattle.report_laws.proofs.FreshNames.{text_names}
 
 -- a property of the tree of each text, and of the default for a program that isn't there
@@ -42,11 +44,11 @@ module _ (P : Tree → Type 0) (none : P no_program.tree) (each : (text : List �
   mote_trees queue ts (m ∷ ms) h = (found_tree _ ts h, mote_trees queue ts ms h)
 
   -- holds of each program of a scenario's net
-  net_trees : (text : List ℕ) (net : NetTold) → TellsNet text net → Each (λ (m : MoteSetup). P m.tree) net.motes
+  net_trees : (text : List ℕ) (net : NetModel) → TellsNet text net → Each (λ (m : MoteSetup). P m.tree) net.motes
   net_trees text net tells =
       let trees = tells.1.programs.trees in
       let all = read_trees _ trees tells.1.programs.read in
-      subst (λ (n : NetTold). Each (λ (m : MoteSetup). P m.tree) n.motes) (sym tells.1.told)
+      subst (λ (n : NetModel). Each (λ (m : MoteSetup). P m.tree) n.motes) (sym tells.1.told)
       (mote_trees (table_at (codes "queue") tells.0.top) trees (tables_at (codes "mote") tells.0.top) all)
 
 abbrev Declares : Tree → Type 0

@@ -3,8 +3,8 @@ use Rattle.std.specs.Prelude.{◌≡◌, ℕ, List, [], ◌++◌}
 use Rattle.std.specs.List.{AllByRecursion as Each}
 use Rattle.mote_program.specs.Complete.{IsComplete}
 use Rattle.mote_program.specs.Declarations.{IsDeclared}
-use Rattle.mote_net.specs.Net.{MoteSetup, NetTold}
-use Rattle.mote_net.specs.Report.{ReportTold}
+use Rattle.mote_net.specs.Net.{MoteSetup, NetModel}
+use Rattle.mote_net.specs.Report.{ReportModel}
 use Rattle.net_scenario.specs.Reading.{TellsNet}
 use Rattle.serial_run.specs.NetRun.{IsReportOf}
 use Rattle.trace_printer.specs.Named.{NetNamesDiffer}
@@ -12,29 +12,29 @@ use Rattle.trace_printer.specs.ReportText.{report_text}
 use Rattle.report_laws.specs.Names.{NameOnly, Is64Report}
 
 -- each program of the net declares what it names, and each declaration has its parts, as in the tree of any text
-abbrev pub ProgramsDeclare : NetTold → Type 0
+abbrev pub ProgramsDeclare : NetModel → Type 0
 ProgramsDeclare net = Each (λ (m : MoteSetup). IsDeclared m.tree × IsComplete m.tree) net.motes
 
 -- the net of each scenario's text has such programs
 abbrev pub TextsDeclare : Type 0
-TextsDeclare = (text : List ℕ) (net : NetTold) → TellsNet text net → ProgramsDeclare net
+TextsDeclare = (text : List ℕ) (net : NetModel) → TellsNet text net → ProgramsDeclare net
 
 -- and the names in each program of it differ
 abbrev pub NamesOfTextsDiffer : Type 0
-NamesOfTextsDiffer = (text : List ℕ) (net : NetTold) → TellsNet text net → NetNamesDiffer net
+NamesOfTextsDiffer = (text : List ℕ) (net : NetModel) → TellsNet text net → NetNamesDiffer net
 
 -- each process and event in each line of a run has its name
 abbrev pub RunsNameOnly : Type 0
-RunsNameOnly = (net : NetTold) → ProgramsDeclare net → (r : ReportTold) → IsReportOf net r
+RunsNameOnly = (net : NetModel) → ProgramsDeclare net → (r : ReportModel) → IsReportOf net r
     → NameOnly net.motes r.traces
 
 -- a report of a run of this net, in numbers of 64 bits
-pub record IsRunOf (net : NetTold) (r : ReportTold) : Type 0 where
+pub record IsRunOf (net : NetModel) (r : ReportModel) : Type 0 where
   pub report : IsReportOf net r
   pub numbers : Is64Report r
 
 -- two nets of the same motes, whose ends, media and collisions may differ
-pub record AreComparable (m n : NetTold) : Type 0 where
+pub record AreComparable (m n : NetModel) : Type 0 where
   pub motes : n.motes ≡ m.motes
   pub declare : ProgramsDeclare m
   pub differ : NetNamesDiffer m
@@ -42,23 +42,23 @@ pub record AreComparable (m n : NetTold) : Type 0 where
 -- Comparing bytes is comparing runs: two runs of the same motes that write the same text have the same traces, the
 -- same log, and as many copies left.
 abbrev pub ComparingBytesIsComparingRuns : Type 0
-ComparingBytesIsComparingRuns = (m n : NetTold) → AreComparable m n → (a b : ReportTold) → IsRunOf m a → IsRunOf n b
+ComparingBytesIsComparingRuns = (m n : NetModel) → AreComparable m n → (a b : ReportModel) → IsRunOf m a → IsRunOf n b
     → report_text m a ≡ report_text n b → a ≡ b
 
 -- and the text of neither is a proper prefix of the other's
 abbrev pub NoRunBeginsAnother : Type 0
-NoRunBeginsAnother = (m n : NetTold) → AreComparable m n → (a b : ReportTold) → IsRunOf m a → IsRunOf n b
+NoRunBeginsAnother = (m n : NetModel) → AreComparable m n → (a b : ReportModel) → IsRunOf m a → IsRunOf n b
     → (more : List ℕ) → report_text n b ≡ report_text m a ++ more → more ≡ []
 
 -- The same of the nets of two scenarios' texts, if they have the same motes: only the numbers are left as a premise.
-pub record AreScenarios (x y : List ℕ) (m n : NetTold) : Type 0 where
+pub record AreScenarios (x y : List ℕ) (m n : NetModel) : Type 0 where
   pub first : TellsNet x m
   pub second : TellsNet y n
   pub motes : n.motes ≡ m.motes
 
 abbrev pub ScenariosAreComparable : Type 0
-ScenariosAreComparable = (x y : List ℕ) (m n : NetTold) → AreScenarios x y m n → AreComparable m n
+ScenariosAreComparable = (x y : List ℕ) (m n : NetModel) → AreScenarios x y m n → AreComparable m n
 
 abbrev pub SameBytesOfScenarios : Type 0
-SameBytesOfScenarios = (x y : List ℕ) (m n : NetTold) → AreScenarios x y m n
-    → (a b : ReportTold) → IsRunOf m a → IsRunOf n b → report_text m a ≡ report_text n b → a ≡ b
+SameBytesOfScenarios = (x y : List ℕ) (m n : NetModel) → AreScenarios x y m n
+    → (a b : ReportModel) → IsRunOf m a → IsRunOf n b → report_text m a ≡ report_text n b → a ≡ b

@@ -6,7 +6,7 @@ use Rattle.trace_lines.specs.declared.line.Line.{Line}
 use Rattle.trace_lines.specs.declared.line.What.{What}
 use Rattle.trace_lines.specs.declared.line.What.TheVariants as what
 use Rattle.mote_net.specs.Net.{MoteSetup}
-use Rattle.mote_net.specs.Report.{ReportTold}
+use Rattle.mote_net.specs.Report.{ReportModel}
 pub use Rattle.trace_printer.specs.Named.{HasProcess, HasTarget, HasEvent, Is64, Is64Packet}
 
 -- the event of a line names only processes and events that the program has
@@ -46,7 +46,7 @@ NameOnly (m ∷ ms) [] = ⊥
 NameOnly (m ∷ ms) (t ∷ ts) = Each (λ (l : Line). NamesOnly m.tree l.what) t × NameOnly ms ts
 
 -- a report whose numbers have 64 bits, as those of each value of the type `Report` have
-pub record Is64Report (r : ReportTold) : Type 0 where
+pub record Is64Report (r : ReportModel) : Type 0 where
   pub traces : Each (Each Is64Line) r.traces
   pub log : Each Is64Packet r.log
   pub left : Is64 r.left

@@ -1,5 +1,6 @@
 -- A net has a report, and the windows lead to that report.
-use Rattle.std.proofs.Common.{◌≡◌, ℕ, ◌+◌, ◌<◌, ◌≤◌, Bool, true, eqb, List, [], ◌∷◌, length, map, refl, sym, ap, ◌∙◌, subst, inl, inr, arith}
+use Rattle.std.proofs.Common.{◌≡◌, ℕ, ◌+◌, ◌<◌, ◌≤◌, Bool, true, eqb, List, [], ◌∷◌, length, map, refl, sym, ap, ◌∙◌}
+use Rattle.std.proofs.Common.{subst, inl, inr, arith}
 use Rattle.std.specs.List.{filter, AllByRecursion}
 use Rattle.std.specs.List.Sorted.{IsPermutation}
 use Rattle.std.proofs.lemmas.Bool.{cases_Bool, cases_eq, eq-eqb, ne_eqb}
@@ -16,8 +17,8 @@ use Rattle.window_laws.proofs.Commute.{log_is_in_order, run_is_there, windows_re
 use Rattle.window_laws.proofs.Lists.{every_weaker}
 use Rattle.window_laws.proofs.Order.{sorted_permutes}
 use Rattle.net_agenda.specs.NetSystem.{system_of}
-use Rattle.mote_net.specs.Report.{Packet, ReportTold}
-use Rattle.serial_run.specs.NetRun.{packet_with_fates, told_at}
+use Rattle.mote_net.specs.Report.{Packet, ReportModel}
+use Rattle.serial_run.specs.NetRun.{packet_with_fates, report_at}
 use Rattle.serial_run.specs.Laws.{NetsRunForward, ReportIsThere, WindowsCommuteInNets}
 use Rattle.serial_run.specs.Stamps.{sent_by}
 use Rattle.net_agenda.proofs.Systems.{system_is}
@@ -29,7 +30,7 @@ nets_run_forward n fault placed = system_is n fault placed
 pub report_is_there : ReportIsThere
 report_is_there n fault placed =
     let r = run_is_there (system_of n) (system_is n fault placed) n.end in
-    (told_at n r.0, record { last = r.0; run = r.1; told = refl })
+    (report_at n r.0, record { last = r.0; run = r.1; told = refl })
 
 -- packets that are numbered on: the first, and the rest
 number_first : (k : ℕ) (x : Sent) (xs : List Sent) → AreNumberedFrom k (x ∷ xs) → x.number ≡ k
@@ -74,7 +75,7 @@ numbers_rise next (x ∷ xs) h = (later, numbers_rise (put next x.sender (next x
         every_weaker (λ (y : Sent). eqb y.sender x.sender ≡ true → next x.sender + 1 ≤ y.number) (λ (y : Sent). x.sender ≡ y.sender → x.number < y.number) (λ (y : Sent) g e. let k = g (eq-eqb y.sender x.sender (sym e)) in omega arith) xs
         (of_passed (λ (y : Sent). next x.sender + 1 ≤ y.number) (λ (y : Sent). eqb y.sender x.sender) xs (at_least (next x.sender + 1) (sent_by x.sender xs) (number_rest (next x.sender) x (sent_by x.sender xs) own)))
 
-abbrev told_of : List (List Line) → List Packet → ℕ → ReportTold
+abbrev told_of : List (List Line) → List Packet → ℕ → ReportModel
 told_of traces log left = record { traces = traces; log = log; left = left }
 
 pub windows_commute : WindowsCommuteInNets

@@ -1,5 +1,6 @@
 -- The copies of the log that arrive after the end stay on the agenda to the end.
-use Rattle.std.proofs.Common.{◌≡◌, ℕ, suc, ◌+◌, ◌<◌, ◌≤◌, Bool, true, false, ◌&&◌, ltb, eqb, List, [], ◌∷◌, ◌++◌, length, map, refl, sym, ap, ◌∙◌, inl, inr, arith, Option, Some, None}
+use Rattle.std.proofs.Common.{◌≡◌, ℕ, suc, ◌+◌, ◌<◌, ◌≤◌, Bool, true, false, ◌&&◌, ltb, eqb, List, [], ◌∷◌, ◌++◌}
+use Rattle.std.proofs.Common.{length, map, refl, sym, ap, ◌∙◌, inl, inr, arith, Option, Some, None}
 use Rattle.std.specs.List.{filter, flat_map, filter_map, AllByRecursion}
 use Rattle.std.proofs.lemmas.Bool.{cases_Bool}
 use Rattle.std.proofs.lemmas.Bool.Decides.{nat_tests}
@@ -11,12 +12,12 @@ use Rattle.radio_packet.specs.declared.sent.Sent.{Sent}
 use Rattle.radio_packet.specs.declared.fate.Fate.{Fate}
 use Rattle.radio_packet.specs.declared.copy.RadioCopy.{RadioCopy}
 use Rattle.radio_medium.specs.Medium.{Radio, copies, copy_of, fates}
-use Rattle.mote_net.specs.Net.{NetTold}
+use Rattle.mote_net.specs.Net.{NetModel}
 use Rattle.window_laws.specs.System.{System}
 use Rattle.window_laws.specs.Agenda.{Item, Wake, Packet, moment_of, comes_at, is_left, packets, wake_items, up_to}
 use Rattle.window_laws.proofs.Agenda.{packets_append, packets_map, packets_wakes}
 use Rattle.net_agenda.specs.NetSystem.{system_of}
-use Rattle.mote_net.specs.Report.{ReportTold}
+use Rattle.mote_net.specs.Report.{ReportModel}
 use Rattle.serial_run.specs.NetRun.{packet_with_fates, IsReportOf}
 use Rattle.window_laws.specs.NetStep.{NetState, Run, Done, Turn, sends_of, turned_at, turn_at, boot}
 use Rattle.serial_run.specs.Counted.{is_after, is_late, LateCopiesStay, LeftIsCounted, FatesTellLeft}
@@ -85,7 +86,7 @@ pub late_copies_stay : LateCopiesStay
 unfolding system_of
 late_copies_stay n r report = late_run (system_of n) n.end report.run (all_boot (system_of n) (is_after n.end))
 
-left_is : (n : NetTold) (r : ReportTold) (report : IsReportOf n r) → r.left ≡ length (filter (is_after n.end) (flat_map (copies n.radio) report.last.log))
+left_is : (n : NetModel) (r : ReportModel) (report : IsReportOf n r) → r.left ≡ length (filter (is_after n.end) (flat_map (copies n.radio) report.last.log))
 left_is n r report = ap (λ t. t.left) report.told ∙ ap length (late_copies_stay n r report)
 
 pub left_is_counted : LeftIsCounted
@@ -120,5 +121,5 @@ pub fates_tell_left : FatesTellLeft
 fates_tell_left n r report =
     left_is n r report
     ∙ (log_tells n.radio n.end report.last.log
-    ∙ (ap (λ (t : ReportTold). length (filter (is_late n.end) (flat_map (λ packet. packet.fates) t.log))) (sym report.told)
+    ∙ (ap (λ (t : ReportModel). length (filter (is_late n.end) (flat_map (λ packet. packet.fates) t.log))) (sym report.told)
     ∙ length-filter (is_late n.end) (flat_map (λ packet. packet.fates) r.log)))

@@ -1,13 +1,16 @@
 -- The copies of the log that arrive at or before the end are given in the turns of the run, each once, at its moment.
-use Rattle.std.proofs.Common.{◌≡◌, ℕ, ◌<◌, ◌≤◌, true, false, not, ◌&&◌, ltb, eqb, List, [], ◌∷◌, ◌++◌, append_assoc, refl, sym, ap, ◌∙◌, subst, inl, inr, arith}
+use Rattle.std.proofs.Common.{◌≡◌, ℕ, ◌<◌, ◌≤◌, true, false, not, ◌&&◌, ltb, eqb, List, [], ◌∷◌, ◌++◌, append_assoc}
+use Rattle.std.proofs.Common.{refl, sym, ap, ◌∙◌, subst, inl, inr, arith}
 use Rattle.std.specs.Prelude.{IsPermutation}
 use Rattle.std.specs.List.{filter, flat_map, AllByRecursion}
 use Rattle.std.proofs.lemmas.Bool.{cases_Bool, and_parts, eqb-true}
 use Rattle.std.proofs.lemmas.Bool.Decides.{nat_tests}
 use Rattle.std.proofs.lemmas.List.Elements.{filter-append, All-from_recursion, recursion_from_All}
-use Rattle.std.proofs.lemmas.List.Sorted.{IsPermutation-refl, IsPermutation-sym, IsPermutation-trans, IsPermutation-cons, IsPermutation-middle, IsPermutation-append_left, IsPermutation-append_right, All-permutation}
+use Rattle.std.proofs.lemmas.List.Sorted.{IsPermutation-refl, IsPermutation-sym, IsPermutation-trans}
+use Rattle.std.proofs.lemmas.List.Sorted.{IsPermutation-cons, IsPermutation-middle, IsPermutation-append_left}
+use Rattle.std.proofs.lemmas.List.Sorted.{IsPermutation-append_right, All-permutation}
 use Rattle.radio_packet.specs.declared.copy.RadioCopy.{RadioCopy}
-use Rattle.mote_net.specs.Net.{NetTold}
+use Rattle.mote_net.specs.Net.{NetModel}
 use Rattle.window_laws.specs.System.{System}
 use Rattle.window_laws.specs.Agenda.{Item, Wake, Packet, moment_of, comes_at, is_left, packets, up_to}
 use Rattle.window_laws.specs.Order.{in_order}
@@ -92,7 +95,7 @@ module _ {S L : Type 0} (system : System S L) (end : ℕ) where
       subst (IsPermutation (by (flat_map system.copies last.log))) (append_assoc given (due_at t m net) (flat_map (λ turn. turn.given) (turns run)))
       (given_run run (given ++ due_at t m net) (given_turn t m net given le has))
 
-boots : (n : NetTold) → HasGiven (system_of n) n.end [] (boot (system_of n))
+boots : (n : NetModel) → HasGiven (system_of n) n.end [] (boot (system_of n))
 boots n = subst (λ l. IsPermutation [] (by (system_of n) n.end l)) (sym (packets_wakes (up_to (system_of n).motes))) (IsPermutation-refl [])
 
 pub copies_are_given : CopiesAreGiven

@@ -6,12 +6,12 @@ use Rattle.kernel_laws.specs.Going.{GoesWith}
 use Rattle.kernel_laws.proofs.Motes.{in_order}
 use Rattle.mote_laws.proofs.Turns.{turn_keeps, new_goes}
 use Rattle.mote_node.specs.Node.{Node}
-use Rattle.mote_net.specs.Net.{NetTold}
+use Rattle.mote_net.specs.Net.{NetModel}
 use Rattle.net_agenda.specs.NetSystem.{system_of, mote_at}
 use Rattle.window_laws.specs.NetStep.{NetState, Run, Done, Turn, boot, turn_at}
 use Rattle.serial_run.specs.Laws.{TracesHandOn}
 
-module _ (n : NetTold) where
+module _ (n : NetModel) where
   abbrev AllGo : NetState Node Line → Type 0
   AllGo net = (k : ℕ) → GoesWith (net.traces k) (net.states k).mote
 

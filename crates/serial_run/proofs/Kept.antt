@@ -1,5 +1,6 @@
 -- An invariant of turns: each mote's own wake is in the agenda, and no event is for a mote that doesn't exist.
-use Rattle.std.proofs.Common.{◌≡◌, ℕ, ◌<◌, true, false, not, ◌&&◌, ◌||◌, eqb, List, [], ◌∷◌, ◌++◌, length, map, refl, sym, ap, ◌∙◌, subst, inl, inr, arith, append-nil, Option, Some, None}
+use Rattle.std.proofs.Common.{◌≡◌, ℕ, ◌<◌, true, false, not, ◌&&◌, ◌||◌, eqb, List, [], ◌∷◌, ◌++◌, length, map, refl}
+use Rattle.std.proofs.Common.{sym, ap, ◌∙◌, subst, inl, inr, arith, append-nil, Option, Some, None}
 use Rattle.std.specs.List.{filter, flat_map, AllByRecursion}
 use Rattle.std.proofs.lemmas.Bool.{cases_eq, cases_Bool, eq-eqb, ne_eqb}
 use Rattle.std.proofs.lemmas.Bool.Decides.{nat_tests}
@@ -10,7 +11,7 @@ use Rattle.radio_packet.specs.declared.copy.RadioCopy.{RadioCopy}
 use Rattle.mote_node.specs.Node.{Node}
 use Rattle.mote_node.specs.Turn.{turn_of}
 use Rattle.mote_node.specs.Wake.{wake_of}
-use Rattle.mote_net.specs.Net.{NetTold}
+use Rattle.mote_net.specs.Net.{NetModel}
 use Rattle.window_laws.specs.System.{Turned}
 use Rattle.window_laws.specs.Forward.{RunsForward}
 use Rattle.window_laws.specs.Agenda.{Item, Packet, mote_of, comes_at, is_wake_of, is_left, wake_items}
@@ -42,7 +43,7 @@ wake_later t m (Some u) =
     let f : eqb m m ≡ true = eq-eqb m m refl in
     elim (cases_Bool (eqb u t)) [ inl e ↦ rw (e, f) refl | inr e ↦ rw e refl ]
 
-module _ (n : NetTold) where
+module _ (n : NetModel) where
   turned : (t m : ℕ) (net : NetState Node Line) → Turned Node Line
   turned t m net = turned_at (system_of n) t m net
 

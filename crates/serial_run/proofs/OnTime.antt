@@ -1,5 +1,7 @@
 -- The run of a net gives each mote its turns at rising moments.
-use Rattle.std.proofs.Common.{◌≡◌, ◌⊎◌, ℕ, suc, length, ◌<◌, ◌≤◌, true, false, not, ◌&&◌, ◌||◌, nat_le, ltb, eqb, List, [], ◌∷◌, map, get_or, Option, Some, None, refl, sym, ap, ◌∙◌, subst, inl, inr, arith, zero-le}
+use Rattle.std.proofs.Common.{◌≡◌, ◌⊎◌, ℕ, suc, length, ◌<◌, ◌≤◌, true, false, not, ◌&&◌, ◌||◌, nat_le, ltb, eqb, List}
+use Rattle.std.proofs.Common.{[], ◌∷◌, map, get_or, Option, Some, None, refl, sym, ap, ◌∙◌, subst, inl, inr, arith}
+use Rattle.std.proofs.Common.{zero-le}
 use Rattle.std.specs.List.{filter, flat_map, AllByRecursion}
 use Rattle.std.proofs.lemmas.Bool.{cases_eq, eq-eqb, ne_eqb, eqb-true, and_parts}
 use Rattle.std.proofs.lemmas.Bool.Decides.{nat_tests}
@@ -10,7 +12,7 @@ use Rattle.mote_node.specs.declared.mote.Mote.{Mote}
 use Rattle.mote_node.specs.Node.{Node, new_node, is_past}
 use Rattle.mote_node.specs.Public.{node_in}
 use Rattle.mote_node.specs.Turn.{turn_of}
-use Rattle.mote_net.specs.Net.{NetTold}
+use Rattle.mote_net.specs.Net.{NetModel}
 use Rattle.window_laws.specs.System.{Turned, IsCopyOf}
 use Rattle.window_laws.specs.Forward.{RunsForward}
 use Rattle.window_laws.specs.Agenda.{Item, Packet, moment_of, mote_of, comes_at, is_left, is_from, wake_items, IsLeast}
@@ -46,7 +48,7 @@ put_same parts m x = let f : eqb m m ≡ true = eq-eqb m m refl in rw f refl
 put_other : {X : Type 0} (parts : ℕ → X) (m : ℕ) (x : X) (k : ℕ) → (k ≡ m → ⊥) → put parts m x k ≡ parts k
 put_other parts m x k ne = let f : eqb k m ≡ false = ne_eqb k m ne in rw f refl
 
-module _ (n : NetTold) where
+module _ (n : NetModel) where
   turn_ends : (t m : ℕ) (net : NetState Node Line) → (turned_at (system_of n) t m net).state.last ≡ Some t
   unfolding system_of turn_of
   turn_ends t m net = refl

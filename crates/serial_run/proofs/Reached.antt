@@ -1,11 +1,12 @@
 -- How far the engine has come.
-use Rattle.std.proofs.Common.{◌≡◌, ℕ, ◌<◌, ◌≤◌, true, not, ◌&&◌, ◌||◌, ltb, eqb, [], length, sym, ap, ◌∙◌, subst, arith}
+use Rattle.std.proofs.Common.{◌≡◌, ℕ, ◌<◌, ◌≤◌, true, not, ◌&&◌, ◌||◌, ltb, eqb, [], length, sym, ap, ◌∙◌, subst}
+use Rattle.std.proofs.Common.{arith}
 use Rattle.std.specs.List.{AllByRecursion}
 use Rattle.std.proofs.lemmas.Bool.{lt-ltb, eqb-true, and_parts}
 use Rattle.std.proofs.lemmas.Bool.Decides.{nat_tests}
 use Rattle.trace_lines.specs.declared.line.Line.{Line}
 use Rattle.mote_node.specs.Node.{Node}
-use Rattle.mote_net.specs.Net.{NetTold}
+use Rattle.mote_net.specs.Net.{NetModel}
 use Rattle.serial_run.specs.declared.engine.Engine.{Engine}
 use Rattle.window_laws.specs.Forward.{RunsForward}
 use Rattle.window_laws.specs.Agenda.{Wake, moment_of, mote_of, comes_at, wake_items, IsLeast, up_to}
@@ -19,21 +20,21 @@ use Rattle.serial_run.proofs.Kept.{kept_turn}
 use Rattle.serial_run.proofs.OnTime.{boot_on_time, turn_on_time}
 use Rattle.net_agenda.proofs.NewWakes.{new_wakes}
 
-kept_first : (n : NetTold) → KeepsWakes n (boot (system_of n))
+kept_first : (n : NetModel) → KeepsWakes n (boot (system_of n))
 unfolding system_of
 kept_first n = record {
   wakes = λ k h. first_wakes (length n.motes) k ∙ (let e = lt-ltb k (length n.motes) h in rw e (ap (wake_items k) (sym (new_wakes n k))));
   inside = every_map _ (λ mote. Wake 0 mote) (up_to (length n.motes)) (below_all (length n.motes));
 }
 
-pub reached_first : (n : NetTold) (engine : Engine) → StandsAt n engine (boot (system_of n)) → HasReached n engine
+pub reached_first : (n : NetModel) (engine : Engine) → StandsAt n engine (boot (system_of n)) → HasReached n engine
 reached_first n engine at = record { state = boot (system_of n); stands = at; kept = kept_first n; at = 0; on_time = boot_on_time n; led = λ last r. r }
 
-pub inside_least : (n : NetTold) (t m : ℕ) (state : NetState Node Line) → KeepsWakes n state → IsLeast t m state.agenda → m < length n.motes
+pub inside_least : (n : NetModel) (t m : ℕ) (state : NetState Node Line) → KeepsWakes n state → IsLeast t m state.agenda → m < length n.motes
 inside_least n t m state kept least =
     any_every _ (comes_at t m) _ (λ item e g. let k = eqb-true (mote_of item) m (and_parts (eqb (moment_of item) t) (eqb (mote_of item) m) e).1 in omega arith) state.agenda least.is_there kept.inside
 
-pub reached_next : (n : NetTold) → RunsForward (system_of n) → (old new : Engine) (t m end : ℕ) → end ≡ n.end → (at : HasReached n old) → IsLeast t m at.state.agenda → t ≤ end
+pub reached_next : (n : NetModel) → RunsForward (system_of n) → (old new : Engine) (t m end : ℕ) → end ≡ n.end → (at : HasReached n old) → IsLeast t m at.state.agenda → t ≤ end
     → ((state : NetState Node Line) → StandsAt n old state → KeepsWakes n state → StandsAt n new (turn_at (system_of n) t m state)) → HasReached n new
 reached_next n fine old new t m end e at least le turn = record {
   state = turn_at (system_of n) t m at.state;
@@ -50,7 +51,7 @@ reached_next n fine old new t m end e at least le turn = record {
 from_later : (end t m u k : ℕ) → end < t → (ltb t u || (eqb u t && not (ltb k m))) ≡ true → end < u
 from_later end t m u k h e = grind (arith, nat_tests)
 
-pub ended_past : (n : NetTold) (engine : Engine) (t m end : ℕ) → end ≡ n.end → (at : HasReached n engine) → IsLeast t m at.state.agenda → end < t → HasEnded n engine
+pub ended_past : (n : NetModel) (engine : Engine) (t m end : ℕ) → end ≡ n.end → (at : HasReached n engine) → IsLeast t m at.state.agenda → end < t → HasEnded n engine
 ended_past n engine t m end e at least h = record {
   last = at.state;
   stands = at.stands;
@@ -60,7 +61,7 @@ ended_past n engine t m end e at least h = record {
     past : end ≡ n.end → n.end < t
     past e = omega arith
 
-pub ended_empty : (n : NetTold) (engine : Engine) (at : HasReached n engine) → at.state.agenda ≡ [] → HasEnded n engine
+pub ended_empty : (n : NetModel) (engine : Engine) (at : HasReached n engine) → at.state.agenda ≡ [] → HasEnded n engine
 ended_empty n engine at e = record {
   last = at.state;
   stands = at.stands;

@@ -1,17 +1,18 @@
 -- The result of the engine at the end is the report.
-use Rattle.std.proofs.Common.{◌≡◌, ℕ, zero, suc, ◌<◌, ◌≤◌, List, [], ◌∷◌, ◌++◌, length, map, get_or, take, sym, ap, ◌∙◌, subst, refl, arith}
+use Rattle.std.proofs.Common.{◌≡◌, ℕ, zero, suc, ◌<◌, ◌≤◌, List, [], ◌∷◌, ◌++◌, length, map, get_or, take, sym, ap}
+use Rattle.std.proofs.Common.{◌∙◌, subst, refl, arith}
 use Rattle.std.specs.Prelude.{All, Vec}
 use Rattle.kernel_laws.specs.Going.{IsInOrder}
 use Rattle.std.specs.declared.alloc.Global.{Global}
 use Rattle.std.proofs.Math.Seq.{take-suc, take-length}
 use Rattle.std.proofs.lemmas.List.{map-append}
 use Rattle.trace_lines.specs.declared.line.Line.{Line}
-use Rattle.mote_net.specs.Net.{NetTold}
+use Rattle.mote_net.specs.Net.{NetModel}
 use Rattle.mote_net.specs.declared.report.Report.{Report}
-use Rattle.mote_net.specs.Report.{Packet, ReportTold, lines_in, told_line, report_of}
+use Rattle.mote_net.specs.Report.{Packet, ReportModel, lines_in, line_model, report_of}
 use Rattle.serial_run.specs.declared.engine.Engine.{Engine}
 use Rattle.window_laws.specs.Agenda.{packets, up_to}
-use Rattle.serial_run.specs.NetRun.{packet_with_fates, told_at, IsReportOf}
+use Rattle.serial_run.specs.NetRun.{packet_with_fates, report_at, IsReportOf}
 use Rattle.serial_run.specs.Stands.{IsWhole}
 use Rattle.serial_run.specs.Ended.{HasEnded}
 use Rattle.serial_run.proofs.Handed.{traces_hand_on}
@@ -34,18 +35,18 @@ family {X} {Y} g f xs h = ap (map g) (sym (take-length xs)) ∙ upto xs h (lengt
         ∙ (ap (λ l. l ++ g (get_or (x ∷ xs) n x) ∷ []) (upto (x ∷ xs) h n b)
         ∙ (ap (λ y. map f (up_to n) ++ y ∷ []) (h n a x) ∙ sym (map-append f (up_to n) (n ∷ [])))))
 
-abbrev told_of : List (List Line) → List Packet → ℕ → ReportTold
+abbrev told_of : List (List Line) → List Packet → ℕ → ReportModel
 told_of traces log left = record { traces = traces; log = log; left = left }
 
-pub report_is : (n : NetTold) (engine : Engine) (report : Report) → IsWhole n engine → (at : HasEnded n engine)
+pub report_is : (n : NetModel) (engine : Engine) (report : Report) → IsWhole n engine → (at : HasEnded n engine)
     → report.traces ≡ engine.traces → report.medium ≡ engine.log → report.left ≡ length (packets at.last.agenda) → IsReportOf n (report_of report)
 report_is n engine report whole at traces log left = record {
   last = at.last;
   run = at.run;
   told =
-      ap (λ (v : Vec (Vec Line Global) Global). told_of (map lines_in v.items) (map told_line report.medium.items) report.left) traces
-      ∙ (ap (λ l. told_of l (map told_line report.medium.items) report.left) all
-      ∙ (ap (λ l. told_of (map at.last.traces (up_to (length n.motes))) l report.left) (ap (λ v. map told_line v.items) log ∙ at.stands.log)
+      ap (λ (v : Vec (Vec Line Global) Global). told_of (map lines_in v.items) (map line_model report.medium.items) report.left) traces
+      ∙ (ap (λ l. told_of l (map line_model report.medium.items) report.left) all
+      ∙ (ap (λ l. told_of (map at.last.traces (up_to (length n.motes))) l report.left) (ap (λ v. map line_model v.items) log ∙ at.stands.log)
       ∙ ap (told_of (map at.last.traces (up_to (length n.motes))) (map (packet_with_fates n.radio) at.last.log)) left));
 }
   where
@@ -54,7 +55,7 @@ report_is n engine report whole at traces log left = record {
         family lines_in at.last.traces engine.traces.items (λ k h d. at.stands.traces k (let e = whole.traces in omega arith) d)
         ∙ ap (λ j. map at.last.traces (up_to j)) whole.traces
 
-pub all_in_order : (n : NetTold) (engine : Engine) → IsWhole n engine → HasEnded n engine → All (λ (v : Vec Line Global). IsInOrder v.items) engine.traces.items
+pub all_in_order : (n : NetModel) (engine : Engine) → IsWhole n engine → HasEnded n engine → All (λ (v : Vec Line Global). IsInOrder v.items) engine.traces.items
 all_in_order n engine whole at k d h =
     let there : k < length n.motes = (let e = whole.traces in omega arith) in
-    subst IsInOrder (sym (at.stands.traces k there d)) (traces_hand_on n (told_at n at.last) (record { last = at.last; run = at.run; told = refl }) k there)
+    subst IsInOrder (sym (at.stands.traces k there d)) (traces_hand_on n (report_at n at.last) (record { last = at.last; run = at.run; told = refl }) k there)

@@ -8,7 +8,7 @@ use Rattle.radio_packet.specs.declared.sent.Sent.{Sent}
 use Rattle.kernel_laws.specs.Stamps.{PacketsBear}
 use Rattle.mote_laws.proofs.Stamps.{turns_stamp, new_is}
 use Rattle.mote_node.specs.Node.{Node}
-use Rattle.mote_net.specs.Net.{NetTold}
+use Rattle.mote_net.specs.Net.{NetModel}
 use Rattle.window_laws.specs.NetStep.{NetState, Run, Done, Turn, boot, stamped, sends_of, turned_at, turn_at}
 use Rattle.net_agenda.specs.NetSystem.{system_of, mote_at}
 use Rattle.serial_run.specs.Stamps.{AreStamped, SendsAreStamped}
@@ -25,7 +25,7 @@ stamped_is t m (x ∷ xs) h =
 abbrev AreNamed : NetState Node Line → Type 0
 AreNamed net = (k : ℕ) → (net.states k).mote.state.mote ≡ k
 
-module _ (n : NetTold) where
+module _ (n : NetModel) where
   boot_named : AreNamed (boot (system_of n))
   unfolding system_of
   boot_named k = let m = mote_at n.motes k in (new_is m.tree k m.queue).0

@@ -1,5 +1,6 @@
 -- The traces of a net never go back in moment, and the packets of each mote are numbered in order.
-use Rattle.std.proofs.Common.{◌≡◌, ℕ, ◌+◌, ◌≤◌, true, false, not, ◌&&◌, ◌||◌, ltb, eqb, List, [], ◌∷◌, ◌++◌, length, map, Option, Some, None, refl, sym, ap, ◌∙◌, subst, inl, inr, arith, zero-le, append-nil}
+use Rattle.std.proofs.Common.{◌≡◌, ℕ, ◌+◌, ◌≤◌, true, false, not, ◌&&◌, ◌||◌, ltb, eqb, List, [], ◌∷◌, ◌++◌, length}
+use Rattle.std.proofs.Common.{map, Option, Some, None, refl, sym, ap, ◌∙◌, subst, inl, inr, arith, zero-le, append-nil}
 use Rattle.std.specs.List.{All, filter, flat_map, range_with_len, AllByRecursion}
 use Rattle.std.proofs.lemmas.Bool.{cases_eq, eq-eqb, ne_eqb}
 use Rattle.std.proofs.lemmas.Bool.Decides.{nat_tests}
@@ -15,12 +16,13 @@ use Rattle.mote_laws.proofs.Stamps.{turns_stamp, new_is}
 use Rattle.mote_node.specs.Node.{Node}
 use Rattle.mote_node.proofs.WakeLaws.{wakes_later}
 use Rattle.radio_medium.proofs.Copies.{copies_later}
-use Rattle.mote_net.specs.Net.{NetTold}
+use Rattle.mote_net.specs.Net.{NetModel}
 use Rattle.window_laws.specs.System.{Turned}
 use Rattle.window_laws.specs.Forward.{IsLater}
-use Rattle.window_laws.specs.Agenda.{Item, Packet, moment_of, mote_of, comes_at, is_left, is_from, wake_items, IsLeast, up_to}
+use Rattle.window_laws.specs.Agenda.{Item, Packet, moment_of, mote_of, comes_at, is_left, is_from, wake_items, IsLeast}
+use Rattle.window_laws.specs.Agenda.{up_to}
 use Rattle.net_agenda.specs.NetSystem.{system_of, mote_at}
-use Rattle.mote_net.specs.Report.{ReportTold, Packet as OfReport}
+use Rattle.mote_net.specs.Report.{ReportModel, Packet as OfReport}
 use Rattle.serial_run.specs.NetRun.{packet_with_fates}
 use Rattle.window_laws.specs.NetStep.{NetState, Run, Done, Turn, boot, put, stamped, turned_at, turn_at}
 use Rattle.serial_run.specs.Stamps.{TracesNeverGoBack, sent_by, LogCountsUp}
@@ -40,7 +42,7 @@ record Rises (at : ℕ) (net : NetState Node Line) : Type 0 where
   lines : (k : ℕ) → All (λ l. l.at ≤ at) (net.traces k)
   rise : (k : ℕ) → NeverGoBack (net.traces k)
 
-module _ (n : NetTold) where
+module _ (n : NetModel) where
   abbrev next : (t m : ℕ) (net : NetState Node Line) → Turned Node Line
   next t m net = turned_at (system_of n) t m net
 
@@ -143,7 +145,7 @@ put_other parts m x k ne = let f : eqb k m ≡ false = ne_eqb k m ne in rw f ref
 abbrev sent_of : Node → ℕ
 sent_of node = node.mote.state.sent
 
-module _ (n : NetTold) where
+module _ (n : NetModel) where
   sends_numbered : (t m : ℕ) (net : NetState Node Line) → AreNumberedFrom (sent_of (net.states m)) (turned_at (system_of n) t m net).sends
   unfolding system_of
   sends_numbered t m net = (turns_stamp t _ (net.states m)).numbered
@@ -191,16 +193,16 @@ module _ (n : NetTold) where
   unfolding system_of
   boot_counts k = let m = mote_at n.motes k in record { numbered = refl; counted = (new_is m.tree k m.queue).1 }
 
-pub sent_packets : (n : NetTold) (log : List Sent) → map (λ (p : OfReport). p.sent) (map (packet_with_fates n.radio) log) ≡ log
+pub sent_packets : (n : NetModel) (log : List Sent) → map (λ (p : OfReport). p.sent) (map (packet_with_fates n.radio) log) ≡ log
 sent_packets n [] = refl
 sent_packets n (s ∷ log) = ap (λ l. s ∷ l) (sent_packets n log)
 
 -- the log of a run, by itself
-pub run_counts_up : (n : NetTold) {last : NetState Node Line} → Run (system_of n) n.end (boot (system_of n)) last → (mote : ℕ) → AreNumberedFrom 0 (sent_by mote last.log)
+pub run_counts_up : (n : NetModel) {last : NetState Node Line} → Run (system_of n) n.end (boot (system_of n)) last → (mote : ℕ) → AreNumberedFrom 0 (sent_by mote last.log)
 run_counts_up n run mote = (run_counts n run (boot_counts n) mote).numbered
 
 pub log_counts_up : LogCountsUp
 log_counts_up n r report mote =
     let last = report.last in
-    let is : map (λ (p : OfReport). p.sent) r.log ≡ last.log = ap (λ (x : ReportTold). map (λ (p : OfReport). p.sent) x.log) report.told ∙ sent_packets n last.log in
+    let is : map (λ (p : OfReport). p.sent) r.log ≡ last.log = ap (λ (x : ReportModel). map (λ (p : OfReport). p.sent) x.log) report.told ∙ sent_packets n last.log in
     subst (λ l. AreNumberedFrom 0 (sent_by mote l)) (sym is) (run_counts_up n report.run mote)

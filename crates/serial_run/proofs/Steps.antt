@@ -1,5 +1,7 @@
 -- The engine's turn is the net's.
-use Rattle.std.proofs.Common.{◌≡◌, ℕ, ◌<◌, Bool, true, false, not, ◌&&◌, ◌||◌, List, ◌++◌, length, map, get_or, set, refl, sym, ap, ◌∙◌, subst, inl, inr, arith, append_assoc, Option, Some, None, option_map, get_or-set_same, get_or-set_other}
+use Rattle.std.proofs.Common.{◌≡◌, ℕ, ◌<◌, Bool, true, false, not, ◌&&◌, ◌||◌, List, ◌++◌, length, map, get_or, set}
+use Rattle.std.proofs.Common.{refl, sym, ap, ◌∙◌, subst, inl, inr, arith, append_assoc, Option, Some, None, option_map}
+use Rattle.std.proofs.Common.{get_or-set_same, get_or-set_other}
 use Rattle.std.specs.Prelude.{Vec}
 use Rattle.std.specs.declared.alloc.Global.{Global}
 use Rattle.std.specs.List.{filter, flat_map}
@@ -12,13 +14,13 @@ use Rattle.radio_packet.specs.declared.sent.Sent.{Sent}
 use Rattle.mote_node.specs.declared.mote.Mote.{Mote}
 use Rattle.mote_node.specs.declared.mote.TurnOut.{TurnOut}
 use Rattle.mote_node.specs.Node.{Node}
-use Rattle.mote_node.specs.Public.{node_in, turn_told, wake_in}
+use Rattle.mote_node.specs.Public.{node_in, turn_given, wake_in}
 use Rattle.mote_node.specs.Turn as node
 use Rattle.mote_node.specs.Turn.{turn_of}
 use Rattle.mote_node.specs.Wake.{wake_of}
 use Rattle.radio_medium.specs.Medium.{copies}
-use Rattle.mote_net.specs.Net.{NetTold}
-use Rattle.mote_net.specs.Report.{told_line}
+use Rattle.mote_net.specs.Net.{NetModel}
+use Rattle.mote_net.specs.Report.{line_model}
 use Rattle.serial_run.specs.declared.engine.Engine.{Engine}
 use Rattle.window_laws.specs.Agenda.{Item, Packet, comes_at, is_wake_of, is_left, wake_items}
 use Rattle.net_agenda.specs.Buckets.{Holds, arrivals_at, wake_but_at}
@@ -37,10 +39,10 @@ record Tells (o : Option Node) (out : TurnOut) (t : node.TurnGiven) : Type 0 whe
   sends : out.sends.items ≡ t.sends
   wake : out.wake ≡ t.wake
 
-tells : (o : Option Node) (out : TurnOut) (t : node.TurnGiven) → option_map (turn_told out) o ≡ Some t → Tells o out t
+tells : (o : Option Node) (out : TurnOut) (t : node.TurnGiven) → option_map (turn_given out) o ≡ Some t → Tells o out t
 tells None out t e = cc
 tells (Some x) out t e =
-    let f : turn_told out x ≡ t = cc in record {
+    let f : turn_given out x ≡ t = cc in record {
       node = ap (λ (u : node.TurnGiven). Some u.node) f;
       lines = ap (λ (u : node.TurnGiven). u.lines) f;
       sends = ap (λ (u : node.TurnGiven). u.sends) f;
@@ -51,7 +53,7 @@ neither : (a b : Bool) → not (a || b) ≡ (not a && not b)
 neither true b = refl
 neither false b = refl
 
-module _ (n : NetTold) (t m : ℕ) (state : NetState Node Line) where
+module _ (n : NetModel) (t m : ℕ) (state : NetState Node Line) where
   abbrev turned : node.TurnGiven
   turned = turn_of t (arrivals_at t m state.agenda) (state.states m)
 
@@ -67,7 +69,7 @@ module _ (n : NetTold) (t m : ℕ) (state : NetState Node Line) where
       → OneTakesTurn tree t packets m old.motes.items new.motes.items out
       → AddsLines m out.lines.items old.traces.items new.traces.items
       → Holds new.agenda.buckets (agenda_after out.wake out.sends.items)
-      → map told_line new.log.items ≡ map told_line old.log.items ++ map (packet_with_fates n.radio) (map (stamped t m) out.sends.items)
+      → map line_model new.log.items ≡ map line_model old.log.items ++ map (packet_with_fates n.radio) (map (stamped t m) out.sends.items)
       → StandsAt n new (turn_at (system_of n) t m state)
   unfolding system_of
   stands_turn old new tree packets out there motes traces at tree_is packets_are takes adds agenda log = record {
@@ -107,7 +109,7 @@ module _ (n : NetTold) (t m : ℕ) (state : NetState Node Line) where
 
       is : Tells (node_in (tree_at n m) takes.after) out turned
       is = tells _ out turned (
-          ap (λ x. option_map (turn_told out) (node_in x takes.after)) (sym tree_is)
+          ap (λ x. option_map (turn_given out) (node_in x takes.after)) (sym tree_is)
           ∙ (takes.turned takes.after
           ∙ (ap (λ x. option_map (turn_of t packets) (node_in x (get_or old.motes.items m takes.after))) tree_is
           ∙ (ap (option_map (turn_of t packets)) (at.nodes m there takes.after) ∙ ap (λ p. Some (turn_of t p (state.states m))) packets_are))))

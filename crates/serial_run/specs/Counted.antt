@@ -6,12 +6,12 @@ use Rattle.std.specs.Option.{option_map_or}
 use Rattle.radio_packet.specs.declared.copy.RadioCopy.{RadioCopy}
 use Rattle.radio_packet.specs.declared.fate.Fate.{Fate}
 use Rattle.radio_medium.specs.Medium.{copies, medium_fault}
-use Rattle.mote_net.specs.Net.{NetTold}
+use Rattle.mote_net.specs.Net.{NetModel}
 use Rattle.window_laws.specs.System.{System}
 use Rattle.window_laws.specs.Order.{in_order}
 use Rattle.window_laws.specs.Agenda.{comes_at, packets}
 use Rattle.window_laws.specs.NetStep.{NetState, Run, Done, Turn}
-use Rattle.mote_net.specs.Report.{ReportTold}
+use Rattle.mote_net.specs.Report.{ReportModel}
 use Rattle.serial_run.specs.NetRun.{IsReportOf}
 
 abbrev pub is_after : (end : ℕ) → RadioCopy → Bool
@@ -23,12 +23,12 @@ is_by end copy = not (is_after end copy)
 
 -- the copies on the agenda at the end are those, of all packets of the log, that arrive after the end
 abbrev pub LateCopiesStay : Type 0
-LateCopiesStay = (n : NetTold) (r : ReportTold) (report : IsReportOf n r) → packets report.last.agenda
+LateCopiesStay = (n : NetModel) (r : ReportModel) (report : IsReportOf n r) → packets report.last.agenda
     ≡ filter (is_after n.end) (flat_map (copies n.radio) report.last.log)
 
 -- this many copies are left
 abbrev pub LeftIsCounted : Type 0
-LeftIsCounted = (n : NetTold) (r : ReportTold) (report : IsReportOf n r) → r.left
+LeftIsCounted = (n : NetModel) (r : ReportModel) (report : IsReportOf n r) → r.left
     ≡ count_by (is_after n.end) (flat_map (copies n.radio) report.last.log)
 
 -- the copy isn't lost, and arrives after the end
@@ -37,7 +37,7 @@ is_late end fate = option_map_or (nat_lt end) fate.at false
 
 -- and this many fates in the report have an arrival after the end
 abbrev pub FatesTellLeft : Type 0
-FatesTellLeft = (n : NetTold) (r : ReportTold) → IsReportOf n r → r.left
+FatesTellLeft = (n : NetModel) (r : ReportModel) → IsReportOf n r → r.left
     ≡ count_by (is_late n.end) (flat_map (λ packet. packet.fates) r.log)
 
 -- a turn of a run: its moment, its mote, and the copies it is given
@@ -55,7 +55,7 @@ turns {net = net} (Turn moment mote least le rest) =
 
 -- the turns of the run are given the copies of the log that arrive at or before the end, each once
 abbrev pub CopiesAreGiven : Type 0
-CopiesAreGiven = (n : NetTold) (r : ReportTold) (report : IsReportOf n r)
+CopiesAreGiven = (n : NetModel) (r : ReportModel) (report : IsReportOf n r)
     → IsPermutation (filter (is_by n.end) (flat_map (copies n.radio) report.last.log))
     (flat_map (λ turn. turn.given) (turns report.run))
 
@@ -64,7 +64,7 @@ IsGivenInTime turn = AllByRecursion (λ (copy : RadioCopy). (copy.at ≡ turn.mo
 
 -- each in a turn of its receiver, at its moment
 abbrev pub CopiesComeInTime : Type 0
-CopiesComeInTime = (n : NetTold) (r : ReportTold) (report : IsReportOf n r)
+CopiesComeInTime = (n : NetModel) (r : ReportModel) (report : IsReportOf n r)
     → AllByRecursion IsGivenInTime (turns report.run)
 
 -- a copy for this mote that arrives at this moment
@@ -77,6 +77,6 @@ IsGivenAll sent turn = turn.given ≡ in_order (filter (is_for turn.moment turn.
 -- if the medium is without fault and has a place for each mote, a turn is given all copies of the log for its mote at
 -- its moment
 abbrev pub TurnsAreGivenAll : Type 0
-TurnsAreGivenAll = (n : NetTold) (r : ReportTold) (report : IsReportOf n r) → medium_fault n.radio ≡ None
+TurnsAreGivenAll = (n : NetModel) (r : ReportModel) (report : IsReportOf n r) → medium_fault n.radio ≡ None
     → length n.radio.places ≡ length n.motes
     → AllByRecursion (IsGivenAll (flat_map (copies n.radio) report.last.log)) (turns report.run)

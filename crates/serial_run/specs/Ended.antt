@@ -2,7 +2,7 @@
 use Rattle.std.specs.Prelude.{ℕ}
 use Rattle.trace_lines.specs.declared.line.Line.{Line}
 use Rattle.mote_node.specs.Node.{Node}
-use Rattle.mote_net.specs.Net.{NetTold}
+use Rattle.mote_net.specs.Net.{NetModel}
 use Rattle.serial_run.specs.declared.engine.Engine.{Engine}
 use Rattle.net_agenda.specs.NetSystem.{system_of}
 use Rattle.window_laws.specs.NetStep.{NetState, Run, boot}
@@ -11,7 +11,7 @@ use Rattle.serial_run.specs.Stands.{StandsAt, KeepsWakes}
 
 -- The engine's state is one to which a prefix of the run leads: each run that continues from there is the rest of a run
 -- from boot.
-pub record HasReached (n : NetTold) (engine : Engine) : Type 0 where
+pub record HasReached (n : NetModel) (engine : Engine) : Type 0 where
   pub state : NetState Node Line
   pub stands : StandsAt n engine state
   pub kept : KeepsWakes n state
@@ -21,7 +21,7 @@ pub record HasReached (n : NetTold) (engine : Engine) : Type 0 where
       → Run (system_of n) n.end (boot (system_of n)) last
 
 -- the engine's state is the end of the run
-pub record HasEnded (n : NetTold) (engine : Engine) : Type 0 where
+pub record HasEnded (n : NetModel) (engine : Engine) : Type 0 where
   pub last : NetState Node Line
   pub stands : StandsAt n engine last
   pub run : Run (system_of n) n.end (boot (system_of n)) last

@@ -8,7 +8,7 @@ use Rattle.kernel_laws.specs.Going.{IsInOrder}
 use Rattle.mote_node.specs.Node.{Node}
 use Rattle.radio_packet.specs.declared.copy.RadioCopy.{RadioCopy}
 use Rattle.radio_medium.specs.Medium.{medium_fault}
-use Rattle.mote_net.specs.Net.{NetTold}
+use Rattle.mote_net.specs.Net.{NetModel}
 use Rattle.window_laws.specs.System.{System}
 use Rattle.window_laws.specs.Forward.{RunsForward}
 use Rattle.window_laws.specs.Sorts.{is_sooner}
@@ -18,35 +18,35 @@ use Rattle.window_laws.specs.Windows.{LoneMote, first_mote, IsJoined, IsLeft, Wi
 use Rattle.net_agenda.specs.Buckets.{Buckets, Holds}
 use Rattle.net_agenda.specs.Items.{AreSameItems, WakesDiffer, items_of}
 use Rattle.net_agenda.specs.NetSystem.{system_of}
-use Rattle.mote_net.specs.Report.{ReportTold}
+use Rattle.mote_net.specs.Report.{ReportModel}
 use Rattle.serial_run.specs.NetRun.{packet_with_fates, IsReportOf}
 
 -- a net has at most one report
 abbrev pub ReportIsOne : Type 0
-ReportIsOne = (n : NetTold) (a b : ReportTold) → IsReportOf n a → IsReportOf n b → b ≡ a
+ReportIsOne = (n : NetModel) (a b : ReportModel) → IsReportOf n a → IsReportOf n b → b ≡ a
 
 -- A net whose medium is without fault and has a place for each mote, as every `Net` has, runs forward: wakes come
 -- later than the turn, and copies no sooner than the lookahead, which is above 0.
 abbrev pub NetsRunForward : Type 0
-NetsRunForward = (n : NetTold) → medium_fault n.radio ≡ None → length n.radio.places ≡ length n.motes
+NetsRunForward = (n : NetModel) → medium_fault n.radio ≡ None → length n.radio.places ≡ length n.motes
     → RunsForward (system_of n)
 
 -- so it has a report
 abbrev pub ReportIsThere : Type 0
-ReportIsThere = (n : NetTold) → medium_fault n.radio ≡ None → length n.radio.places ≡ length n.motes → (r : ReportTold)
-    × IsReportOf n r
+ReportIsThere = (n : NetModel) → medium_fault n.radio ≡ None → length n.radio.places ≡ length n.motes
+    → (r : ReportModel) × IsReportOf n r
 
 -- the packets that the motes sent, sorted by moment, sender and number
-pub record IsMediumLog (n : NetTold) (motes : (number : ℕ) → LoneMote Node Line) (log : List Sent) : Type 0 where
+pub record IsMediumLog (n : NetModel) (motes : (number : ℕ) → LoneMote Node Line) (log : List Sent) : Type 0 where
   pub joined : List Sent
   pub is_joined : IsJoined (system_of n) motes joined
   pub same : IsPermutation joined log
   pub sorted : IsSortedBy is_sooner log
 
 -- the report if each mote ran alone: its lines, the packets that all sent as a log, and how many copies are left
-abbrev pub told_by : (n : NetTold) → (motes : (number : ℕ) → LoneMote Node Line) → (log : List Sent)
-    → (rest : List RadioCopy) → ReportTold
-told_by n motes log rest = record {
+abbrev pub report_by : (n : NetModel) → (motes : (number : ℕ) → LoneMote Node Line) → (log : List Sent)
+    → (rest : List RadioCopy) → ReportModel
+report_by n motes log rest = record {
   traces = map (λ number. (motes number).lines) (up_to (length n.motes));
   log = map (packet_with_fates n.radio) log;
   left = length rest;
@@ -57,15 +57,15 @@ told_by n motes log rest = record {
 -- lines of each mote, the medium's log sorted by moment, sender and number, and the copies that arrive after the end
 -- are those of the net's run.
 abbrev pub WindowsCommuteInNets : Type 0
-WindowsCommuteInNets = (n : NetTold) → medium_fault n.radio ≡ None → length n.radio.places ≡ length n.motes
+WindowsCommuteInNets = (n : NetModel) → medium_fault n.radio ≡ None → length n.radio.places ≡ length n.motes
     → (motes : (number : ℕ) → LoneMote Node Line) → Windows (system_of n) 0 (suc n.end) (first_mote (system_of n)) motes
     → (log : List Sent) → IsMediumLog n motes log → (rest : List RadioCopy) → IsLeft (system_of n) n.end motes rest
-    → IsReportOf n (told_by n motes log rest)
+    → IsReportOf n (report_by n motes log rest)
 
 -- the lines of each mote deliver each accepted event, in order, nothing follows a halt, and only a process that is not
 -- listed starts
 abbrev pub TracesHandOn : Type 0
-TracesHandOn = (n : NetTold) (r : ReportTold) (report : IsReportOf n r) (k : ℕ) → k < length n.motes
+TracesHandOn = (n : NetModel) (r : ReportModel) (report : IsReportOf n r) (k : ℕ) → k < length n.motes
     → IsInOrder (report.last.traces k)
 
 -- the items that are in the buckets of an agenda are those of the list that they hold
@@ -84,9 +84,9 @@ OneWake items = (mote : ℕ) → length (filter (is_wake_of mote) items) ≤ 1
 
 -- each of them has at most one wake of a mote
 abbrev pub AlwaysOneWake : Type 0
-AlwaysOneWake = (n : NetTold) (r : ReportTold) (report : IsReportOf n r) → AllByRecursion OneWake (agendas report.run)
+AlwaysOneWake = (n : NetModel) (r : ReportModel) (report : IsReportOf n r) → AllByRecursion OneWake (agendas report.run)
 
 -- so in none of them does a mote have two wakes at one moment
 abbrev pub WakesAlwaysDiffer : Type 0
-WakesAlwaysDiffer = (n : NetTold) (r : ReportTold) (report : IsReportOf n r)
+WakesAlwaysDiffer = (n : NetModel) (r : ReportModel) (report : IsReportOf n r)
     → AllByRecursion WakesDiffer (agendas report.run)

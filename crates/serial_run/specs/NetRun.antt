@@ -4,26 +4,26 @@ use Rattle.trace_lines.specs.declared.line.Line.{Line}
 use Rattle.radio_packet.specs.declared.sent.Sent.{Sent}
 use Rattle.mote_node.specs.Node.{Node}
 use Rattle.radio_medium.specs.Medium.{Radio, fates}
-use Rattle.mote_net.specs.Net.{NetTold}
+use Rattle.mote_net.specs.Net.{NetModel}
 use Rattle.window_laws.specs.Agenda.{packets, up_to}
 use Rattle.window_laws.specs.NetStep.{NetState, Run, boot}
 use Rattle.net_agenda.specs.NetSystem.{system_of}
-use Rattle.mote_net.specs.Report.{Packet, ReportTold}
+use Rattle.mote_net.specs.Report.{Packet, ReportModel}
 
 abbrev pub packet_with_fates : Radio → Sent → Packet
 packet_with_fates radio sent = record { sent = sent; fates = fates radio sent }
 
 -- the report of a net whose run has ended: each mote's trace, each packet with the fates of its copies, and how many
 -- copies are still on their way
-abbrev pub told_at : NetTold → NetState Node Line → ReportTold
-told_at n last = record {
+abbrev pub report_at : NetModel → NetState Node Line → ReportModel
+report_at n last = record {
   traces = map last.traces (up_to (length n.motes));
   log = map (packet_with_fates n.radio) last.log;
   left = length (packets last.agenda);
 }
 
 -- the run of the net, from before the motes' first turns, ends with this report
-pub record IsReportOf (n : NetTold) (r : ReportTold) : Type 0 where
+pub record IsReportOf (n : NetModel) (r : ReportModel) : Type 0 where
   pub last : NetState Node Line
   pub run : Run (system_of n) n.end (boot (system_of n)) last
-  pub told : r ≡ told_at n last
+  pub told : r ≡ report_at n last

@@ -4,15 +4,15 @@ use Rattle.std.specs.List.{filter}
 use Rattle.radio_packet.specs.declared.sent.Sent.{Sent}
 use Rattle.kernel_laws.specs.Stamps.{AreNumberedFrom}
 use Rattle.mote_laws.specs.Stamps.{NeverGoBack}
-use Rattle.mote_net.specs.Net.{NetTold}
-use Rattle.mote_net.specs.Report.{ReportTold}
+use Rattle.mote_net.specs.Net.{NetModel}
+use Rattle.mote_net.specs.Report.{ReportModel}
 use Rattle.window_laws.specs.System.{System}
 use Rattle.window_laws.specs.NetStep.{NetState, Run, Done, Turn, sends_of, turned_at}
 use Rattle.serial_run.specs.NetRun.{IsReportOf}
 
 -- no line of a trace is of an earlier moment than one before it
 abbrev pub TracesNeverGoBack : Type 0
-TracesNeverGoBack = (n : NetTold) (r : ReportTold) → IsReportOf n r → All NeverGoBack r.traces
+TracesNeverGoBack = (n : NetModel) (r : ReportModel) → IsReportOf n r → All NeverGoBack r.traces
 
 -- the packets that this mote sent
 abbrev pub sent_by : (mote : ℕ) → List Sent → List Sent
@@ -20,7 +20,7 @@ sent_by mote sends = filter (λ x. x.sender == mote) sends
 
 -- in the medium's log the packets of each mote are numbered 0, 1, 2 and so on, in order
 abbrev pub LogCountsUp : Type 0
-LogCountsUp = (n : NetTold) (r : ReportTold) → IsReportOf n r → (mote : ℕ)
+LogCountsUp = (n : NetModel) (r : ReportModel) → IsReportOf n r → (mote : ℕ)
     → AreNumberedFrom 0 (sent_by mote (map (λ p. p.sent) r.log))
 
 -- in each turn of a run the packets have the moment and the mote before they are stamped
@@ -31,4 +31,4 @@ AreStamped {system = system} {net = net} (Turn moment mote least le rest) =
     let turned = turned_at system moment mote net in (sends_of moment mote turned ≡ turned.sends) × AreStamped rest
 
 abbrev pub SendsAreStamped : Type 0
-SendsAreStamped = (n : NetTold) (r : ReportTold) (report : IsReportOf n r) → AreStamped report.run
+SendsAreStamped = (n : NetModel) (r : ReportModel) (report : IsReportOf n r) → AreStamped report.run

@@ -8,11 +8,11 @@ use Rattle.trace_lines.specs.declared.line.Line.{Line}
 use Rattle.mote_node.specs.declared.mote.Mote.{Mote}
 use Rattle.mote_node.specs.declared.mote.TurnOut.{TurnOut}
 use Rattle.mote_node.specs.Node.{Node}
-use Rattle.mote_node.specs.Public.{node_in, turn_told, wake_in}
+use Rattle.mote_node.specs.Public.{node_in, turn_given, wake_in}
 use Rattle.mote_node.specs.Turn.{turn_of}
 use Rattle.mote_node.specs.Wake.{wake_of}
-use Rattle.mote_net.specs.Net.{NetTold}
-use Rattle.mote_net.specs.Report.{told_line}
+use Rattle.mote_net.specs.Net.{NetModel}
+use Rattle.mote_net.specs.Report.{line_model}
 use Rattle.serial_run.specs.declared.engine.Engine.{Engine}
 use Rattle.window_laws.specs.Agenda.{mote_of, is_wake_of, wake_items}
 use Rattle.net_agenda.specs.Buckets.{Holds}
@@ -22,31 +22,31 @@ use Rattle.serial_run.specs.OnTime.{CanTurn}
 use Rattle.window_laws.specs.NetStep.{NetState, turn_at}
 use Rattle.program_tree.specs.Code as code
 
-abbrev pub OneNode : NetTold → List Mote → NetState Node Line → (mote : ℕ) → Type 0
+abbrev pub OneNode : NetModel → List Mote → NetState Node Line → (mote : ℕ) → Type 0
 OneNode n motes net k = (d : Mote) → node_in (tree_at n k) (slice_index_or motes k d) ≡ Some (net.states k)
 
 abbrev pub OneTrace : List (Vec Line Global) → NetState Node Line → (mote : ℕ) → Type 0
 OneTrace traces net k = (d : Vec Line Global) → (slice_index_or traces k d).items ≡ net.traces k
 
 -- the engine's motes, traces, log and agenda are those of this net
-pub record StandsAt (n : NetTold) (engine : Engine) (net : NetState Node Line) : Type 0 where
+pub record StandsAt (n : NetModel) (engine : Engine) (net : NetState Node Line) : Type 0 where
   pub nodes : (k : ℕ) → k < length n.motes → OneNode n engine.motes.items net k
   pub traces : (k : ℕ) → k < length n.motes → OneTrace engine.traces.items net k
-  pub log : map told_line engine.log.items ≡ map (packet_with_fates n.radio) net.log
+  pub log : map line_model engine.log.items ≡ map (packet_with_fates n.radio) net.log
   pub agenda : Holds engine.agenda.buckets net.agenda
 
 -- each mote has a node and a trace
-pub record IsWhole (n : NetTold) (engine : Engine) : Type 0 where
+pub record IsWhole (n : NetModel) (engine : Engine) : Type 0 where
   pub motes : length engine.motes.items ≡ length n.motes
   pub traces : length engine.traces.items ≡ length n.motes
 
 -- the agenda has each mote's own next wake, and no event for a mote that doesn't exist
-pub record KeepsWakes (n : NetTold) (net : NetState Node Line) : Type 0 where
+pub record KeepsWakes (n : NetModel) (net : NetState Node Line) : Type 0 where
   pub wakes : (k : ℕ) → k < length n.motes → filter (is_wake_of k) net.agenda ≡ wake_items k (wake_of (net.states k))
   pub inside : AllByRecursion (λ item. mote_of item < length n.motes) net.agenda
 
 -- in whatever state the net was, its next one is that after this turn
-abbrev pub TurnLeads : NetTold → (moment mote : ℕ) → Engine → Engine → Type 0
+abbrev pub TurnLeads : NetModel → (moment mote : ℕ) → Engine → Engine → Type 0
 TurnLeads n moment mote old new = (state : NetState Node Line) → StandsAt n old state → KeepsWakes n state
     → StandsAt n new (turn_at (system_of n) moment mote state)
 
@@ -63,5 +63,5 @@ pub record OneTakesTurn (tree : code.Tree) (moment : ℕ) (packets : List Arriva
     (out : TurnOut) : Type 0 where
   pub after : Mote
   pub put : new ≡ slice_set old k after
-  pub turned : (d : Mote) → option_map (turn_told out) (node_in tree after)
+  pub turned : (d : Mote) → option_map (turn_given out) (node_in tree after)
       ≡ option_map (turn_of moment packets) (node_in tree (slice_index_or old k d))

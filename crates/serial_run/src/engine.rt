@@ -2,7 +2,7 @@
 
 ghost use Rattle.std.specs.Prelude.{◌≡◌, ◌<◌, ◌≤◌, ◌^◌, length, Some, OnOk, IfOk};
 ghost use Rattle.program_tree.specs.Program.{tree_of};
-ghost use Rattle.mote_node.specs.Public.{told_with};
+ghost use Rattle.mote_node.specs.Public.{turn_out_of};
 ghost use Rattle.trace_lines.specs.declared.line.Line.{Line};
 ghost use Rattle.mote_net.specs.Meaning.{net_of};
 ghost use Rattle.net_agenda.specs.Buckets.{wake_but_at};
@@ -61,7 +61,7 @@ fn turn_mote(
     requires moment_bounded { moment ≤ 2 ^ 40 }
     requires ready { CanTurnAt (tree_of program.now) moment motes.old.items number }
     ensures one_takes_turn { IfOk result (λ wake. OneTakesTurn
-        (tree_of program.now) moment packets.now number motes.old.items motes.new.items (told_with out.new wake)) }
+        (tree_of program.now) moment packets.now number motes.old.items motes.new.items (turn_out_of out.new wake)) }
 {
     match motes[usize::from(number)].turn_into(program, moment, packets, out) {
         Ok(wake) => Ok(wake),

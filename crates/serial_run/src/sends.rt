@@ -5,7 +5,7 @@ ghost use Rattle.std.specs.List.{flat_map};
 ghost use Rattle.radio_medium.specs.Medium.{copies};
 ghost use Rattle.window_laws.specs.Agenda.{Packet};
 ghost use Rattle.net_agenda.specs.Changes.{Adds};
-ghost use Rattle.mote_net.specs.Report.{told_line};
+ghost use Rattle.mote_net.specs.Report.{line_model};
 ghost use Rattle.serial_run.specs.NetRun.{packet_with_fates};
 ghost use Rattle.window_laws.specs.NetStep.{stamped};
 
@@ -26,7 +26,7 @@ fn send(
     requires moment { sent.now.at ≤ 2 ^ 40 }
     ensures agenda { OnOk result (Adds agenda.old.buckets agenda.new.buckets
         (map Packet (copies medium.now sent.now))) }
-    ensures log { OnOk result (map told_line log.new.items ≡ map told_line log.old.items
+    ensures log { OnOk result (map line_model log.new.items ≡ map line_model log.old.items
         ++ packet_with_fates medium.now sent.now ∷ []) }
 {
     let fates = medium.fates(sent)?;
@@ -51,7 +51,7 @@ pub fn send_all(
     requires moment { moment ≤ 2 ^ 40 }
     ensures agenda { OnOk result (Adds agenda.old.buckets agenda.new.buckets
         (map Packet (flat_map (copies medium.now) (map (stamped moment mote) sends.now)))) }
-    ensures log { OnOk result (map told_line log.new.items ≡ map told_line log.old.items
+    ensures log { OnOk result (map line_model log.new.items ≡ map line_model log.old.items
         ++ map (packet_with_fates medium.now) (map (stamped moment mote) sends.now)) }
 {
     for sent in sends {

@@ -1,12 +1,12 @@
 -- The text written for the report of a scenario's net, and the reason why a text was refused.
 use Rattle.std.proofs.Common.{◌≡◌, ℕ, List, ◌++◌, Option, Result, Ok, Err, ap, sym, ◌∙◌, subst}
 use Rattle.net_scenario.specs.Laws.{OneNet}
-use Rattle.mote_net.specs.Net.{NetTold}
+use Rattle.mote_net.specs.Net.{NetModel}
 use Rattle.net_scenario.specs.Reading.{TellsNet}
 use Rattle.net_scenario.specs.Reads.{Answers}
 use Rattle.net_scenario.specs.declared.error.ScenarioError.{ScenarioError}
 use Rattle.net_scenario.specs.declared.error.ScenarioError.TheVariants as scenario
-use Rattle.mote_net.specs.Report.{ReportTold}
+use Rattle.mote_net.specs.Report.{ReportModel}
 use Rattle.trace_printer.specs.ReportText.{report_text}
 use Rattle.serial_run.specs.Laws.{ReportIsOne}
 use Rattle.serial_run.specs.NetRun.{IsReportOf}
@@ -17,11 +17,11 @@ use Rattle.simulation.specs.declared.error.SimError.TheVariants as fault
 use Rattle.simulation.specs.Simulation.{IsScenario, Reported, RefusesText, Way, SimulatedWith, SimulatedSome}
 
 -- the text describes this net
-abbrev pub scenario_of : (bytes : List ℕ) (n : NetTold) → IsText bytes → TellsNet bytes n → IsScenario bytes
+abbrev pub scenario_of : (bytes : List ℕ) (n : NetModel) → IsText bytes → TellsNet bytes n → IsScenario bytes
 scenario_of bytes n short told = record { is_text = short; net = n; told = told }
 
 -- whatever is written of the report's text is written of the bytes' report
-pub reported : (written : List ℕ → Type 0) (bytes : List ℕ) (n : NetTold) (r : ReportTold) → IsText bytes → TellsNet bytes n → IsReportOf n r → written (report_text n r) → Reported bytes written
+pub reported : (written : List ℕ → Type 0) (bytes : List ℕ) (n : NetModel) (r : ReportModel) → IsText bytes → TellsNet bytes n → IsReportOf n r → written (report_text n r) → Reported bytes written
 reported written bytes n r short told ran h = record { from = scenario_of bytes n short told; report = r; run = ran; got = h }
 
 -- a fault that a text is refused with is its first, or out of memory
@@ -45,7 +45,7 @@ some_bytes way bytes old new (Err (fault.Print e)) h = (bytes, h)
 some_bytes way bytes old new (Err e) h = tt
 
 -- two reports of one net have the same text
-same_text : ReportIsOne → (m n : NetTold) (r s : ReportTold) → m ≡ n → IsReportOf m r → IsReportOf n s → report_text m r ≡ report_text n s
+same_text : ReportIsOne → (m n : NetModel) (r s : ReportModel) → m ≡ n → IsReportOf m r → IsReportOf n s → report_text m r ≡ report_text n s
 same_text one m n r s same ran run =
     ap (λ net. report_text net r) same ∙ ap (report_text n) (one n s r run (subst (λ net. IsReportOf net r) same ran))
 

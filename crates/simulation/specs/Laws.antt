@@ -1,7 +1,7 @@
 -- Laws of whole simulations.
 use Rattle.std.specs.Prelude.{◌≡◌, ℕ, List, Some, Ok}
-use Rattle.mote_net.specs.Report.{ReportTold}
-use Rattle.mote_net.specs.Net.{NetTold}
+use Rattle.mote_net.specs.Report.{ReportModel}
+use Rattle.mote_net.specs.Net.{NetModel}
 use Rattle.net_scenario.specs.Reading.{TellsNet}
 use Rattle.serial_run.specs.NetRun.{IsReportOf}
 use Rattle.simulation.specs.Simulation.{Way, SimulatedWith}
@@ -14,4 +14,4 @@ OneReport = (bytes old a b : List ℕ) (v w : Way)
 
 -- The net of each scenario's text has a report.
 abbrev pub ScenarioHasReport : Type 0
-ScenarioHasReport = (text : List ℕ) (n : NetTold) → TellsNet text n → (r : ReportTold) × IsReportOf n r
+ScenarioHasReport = (text : List ℕ) (n : NetModel) → TellsNet text n → (r : ReportModel) × IsReportOf n r

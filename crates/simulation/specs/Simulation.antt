@@ -1,11 +1,11 @@
 -- The result of a simulation of some bytes.
 use Rattle.std.specs.Prelude.{◌≡◌, ◌≤◌, ℕ, List, Option, Some, None, IsSome, Result, Ok, Err}
 use Rattle.std.specs.Io.KnownBytes.{Keeps, Appends}
-use Rattle.mote_net.specs.Net.{NetTold}
+use Rattle.mote_net.specs.Net.{NetModel}
 use Rattle.net_scenario.specs.Reading.{TellsNet, TellsFault}
 use Rattle.net_scenario.specs.declared.error.ScenarioError.{ScenarioError}
 use Rattle.net_scenario.specs.declared.error.ScenarioError.TheVariants as scenario
-use Rattle.mote_net.specs.Report.{ReportTold, report_of}
+use Rattle.mote_net.specs.Report.{ReportModel, report_of}
 use Rattle.mote_net.specs.declared.report.Report.{Report}
 use Rattle.trace_printer.specs.Output.{AppendsFront}
 use Rattle.trace_printer.specs.ReportText.{report_text}
@@ -29,13 +29,13 @@ sim_fault input.Memory = fault.Memory
 -- the bytes are a text of at most a mebibyte, which describes this net
 pub record IsScenario (bytes : List ℕ) : Type 0 where
   pub is_text : IsText bytes
-  pub net : NetTold
+  pub net : NetModel
   pub told : TellsNet bytes net
 
 -- the bytes are a scenario, and of the text of the report of its net's run the writer has got this
 pub record Reported (bytes : List ℕ) (written : List ℕ → Type 0) : Type 0 where
   pub from : IsScenario bytes
-  pub report : ReportTold
+  pub report : ReportModel
   pub run : IsReportOf from.net report
   pub got : written (report_text from.net report)
 
@@ -76,7 +76,7 @@ RefusesRun way run.Thread = IsSome way × MayRun way
 RefusesRun way run.Stopped = ⊥
 
 -- the answer to running a net in this way: the report is that of the net's run, whose definition knows no worker
-abbrev pub RunsWith : Way → NetTold → Result Report RunError → Type 0
+abbrev pub RunsWith : Way → NetModel → Result Report RunError → Type 0
 RunsWith way net (Ok report) = MayRun way × IsReportOf net (report_of report)
 RunsWith way net (Err e) = RefusesRun way e
 

@@ -1,5 +1,6 @@
 -- A small program whose names differ, and two reports that only names would tell apart.
-use Rattle.std.proofs.Common.{◌≡◌, ℕ, zero, suc, List, [], ◌∷◌, refl, ap, sym, subst, ◌∙◌, arith, codes, if◌then◌else◌, bytes_eq, inl, inr}
+use Rattle.std.proofs.Common.{◌≡◌, ℕ, zero, suc, List, [], ◌∷◌, refl, ap, sym, subst, ◌∙◌, arith, codes, if◌then◌else◌}
+use Rattle.std.proofs.Common.{bytes_eq, inl, inr}
 use Rattle.program_tree.specs.Code.{Tree}
 use Rattle.program_tree.specs.Events.{system_number}
 use Rattle.program_tree.specs.declared.event.Proc.TheVariants.{Own, Etimer, Ctimer, Radio}
@@ -10,7 +11,7 @@ use Rattle.program_tree.specs.declared.event.Target.TheVariants.{One, All}
 use Rattle.trace_lines.specs.declared.line.Line.{Line}
 use Rattle.trace_lines.specs.declared.line.What.{What}
 use Rattle.trace_lines.specs.declared.line.What.TheVariants.{Start}
-use Rattle.mote_net.specs.Report.{ReportTold}
+use Rattle.mote_net.specs.Report.{ReportModel}
 use Rattle.trace_printer.specs.Named.{HasEvent, HasTarget, IsWord}
 use Rattle.trace_printer.specs.NamedCases.{OneProcessDiffers, TextsMeetWithoutNames, tree_with}
 use Rattle.trace_printer.specs.Words.{event_word, target_word}
@@ -103,4 +104,4 @@ first_started ([] ∷ ts) = 0
 first_started ((l ∷ ls) ∷ ts) = process_of l.what
 
 pub texts_meet : TextsMeetWithoutNames
-texts_meet = (refl, λ same. numbers_differ 1 2 refl (ap (λ (r : ReportTold). first_started r.traces) same))
+texts_meet = (refl, λ same. numbers_differ 1 2 refl (ap (λ (r : ReportModel). first_started r.traces) same))

@@ -1,5 +1,7 @@
 -- The text of a report of a net determines the report.
-use Rattle.std.proofs.Common.{◌≡◌, ℕ, ◌+◌, ◌*◌, ◌<◌, ◌≤◌, List, [], ◌∷◌, ◌++◌, map, get_or, drop, Option, Some, None, refl, ap, ap₂, sym, ◌∙◌, arith, append_assoc, append-nil, codes, decimal, eq-eqb, true≢false}
+use Rattle.std.proofs.Common.{◌≡◌, ℕ, ◌+◌, ◌*◌, ◌<◌, ◌≤◌, List, [], ◌∷◌, ◌++◌, map, get_or, drop, Option, Some, None}
+use Rattle.std.proofs.Common.{refl, ap, ap₂, sym, ◌∙◌, arith, append_assoc, append-nil, codes, decimal, eq-eqb}
+use Rattle.std.proofs.Common.{true≢false}
 use Rattle.std.specs.List.{flat_map, AllByRecursion as Each}
 use Rattle.std.proofs.lemmas.List.{append_cancel_left}
 use Rattle.program_tree.specs.Code.{Tree}
@@ -13,13 +15,16 @@ use Rattle.trace_lines.specs.declared.line.Line.{Line}
 use Rattle.trace_lines.specs.declared.line.What.{What}
 use Rattle.trace_lines.specs.declared.line.What.TheVariants.{Start, Leave, Post, Full, Take, Drop, Print, Busy, Halt}
 use Rattle.trace_lines.specs.declared.line.What.TheVariants.{Send, Recv, Lost, Deaf, Collide}
-use Rattle.mote_net.specs.Net.{MoteSetup, NetTold}
-use Rattle.mote_net.specs.Report.{Packet, ReportTold}
+use Rattle.mote_net.specs.Net.{MoteSetup, NetModel}
+use Rattle.mote_net.specs.Report.{Packet, ReportModel}
 use Rattle.trace_printer.specs.Laws.{NoTextBeginsAnother, TextDeterminesReport}
-use Rattle.trace_printer.specs.Named.{AreNamed, HasNames, HasProcess, Is64, Is64Fate, Is64Packet, IsNamed, IsNamedLine, IsTime64, IsWord, NamesDiffer, NetNamesDiffer}
+use Rattle.trace_printer.specs.Named.{AreNamed, HasNames, HasProcess, Is64, Is64Fate, Is64Packet, IsNamed, IsNamedLine}
+use Rattle.trace_printer.specs.Named.{IsTime64, IsWord, NamesDiffer, NetNamesDiffer}
 use Rattle.trace_printer.specs.ReportText.{left_text, line_text, medium_text, motes_text, packet_text, report_text}
 use Rattle.trace_printer.specs.Words.{arrival_word, fate_word, line_of, process_word, words_of}
-use Rattle.trace_printer.proofs.Separated.{Begins, after_first, each_append, items_same, line_begins, lines_same, no_number, number_first, number_is_low, number_is_word, number_same, rest_same, runs_same, word_by_test}
+use Rattle.trace_printer.proofs.Separated.{Begins, after_first, each_append, items_same, line_begins, lines_same}
+use Rattle.trace_printer.proofs.Separated.{no_number, number_first, number_is_low, number_is_word, number_same}
+use Rattle.trace_printer.proofs.Separated.{rest_same, runs_same, word_by_test}
 
 -- ---- the words of a trace's line
 
@@ -214,7 +219,7 @@ medium_same log more left rest x y hl hm fl fr e =
     (packets.0, number_same left rest fl fr (ap (word_at 0) last.1), last.2)
 
 -- two reports of one net, each with a text after it
-texts_same : (net : NetTold) → NetNamesDiffer net → (a b : ReportTold) → IsNamed net a → IsNamed net b → (x y : List ℕ)
+texts_same : (net : NetModel) → NetNamesDiffer net → (a b : ReportModel) → IsNamed net a → IsNamed net b → (x y : List ℕ)
     → report_text net a ++ x ≡ report_text net b ++ y → (a ≡ b) × (x ≡ y)
 texts_same net names a b ha hb x y e =
     let letter : 57 < 109 = omega arith in
@@ -223,7 +228,7 @@ texts_same net names a b ha hb x y e =
     let motes = motes_same 0 net.motes a.traces b.traces (end_a ++ x) (end_b ++ y) names ha.traces hb.traces letter letter
     (sym (append_assoc (motes_text 0 net.motes a.traces) end_a x) ∙ (e ∙ append_assoc (motes_text 0 net.motes b.traces) end_b y)) in
     let medium = medium_same a.log b.log a.left b.left x y ha.log hb.log ha.left hb.left motes.1 in
-    let make : List (List Line) → List Packet → ℕ → ReportTold = λ traces log left. record { traces = traces; log = log; left = left } in
+    let make : List (List Line) → List Packet → ℕ → ReportModel = λ traces log left. record { traces = traces; log = log; left = left } in
     (ap (λ (t : List (List Line)). make t a.log a.left) motes.0 ∙ ap₂ (λ (l : List Packet) (n : ℕ). make b.traces l n) medium.0 medium.1, medium.2)
 
 pub text_determines : TextDeterminesReport

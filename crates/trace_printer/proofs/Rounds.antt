@@ -1,5 +1,6 @@
 -- Parts of the traces' text, one after another.
-use Rattle.std.proofs.Common.{◌≡◌, ℕ, ◌+◌, ◌-◌, ◌≤◌, List, [], ◌∷◌, ◌++◌, take, drop, refl, ap, sym, ◌∙◌, arith, append-nil, take-append-drop, Option}
+use Rattle.std.proofs.Common.{◌≡◌, ℕ, ◌+◌, ◌-◌, ◌≤◌, List, [], ◌∷◌, ◌++◌, take, drop, refl, ap, sym, ◌∙◌, arith}
+use Rattle.std.proofs.Common.{append-nil, take-append-drop, Option}
 use Rattle.std.specs.Io.KnownBytes.{Appends}
 use Rattle.std.specs.List.{concat, flat_map, AllZip, AllByRecursion as Each}
 use Rattle.std.proofs.lemmas.List.Folds.{concat-append}
@@ -9,7 +10,7 @@ use Rattle.trace_printer.specs.TraceLines.{part_text}
 use Rattle.trace_printer.proofs.TraceLines.{drop_drop, part_sum}
 use Rattle.trace_printer.specs.declared.part.Part.{Part}
 use Rattle.trace_printer.specs.declared.part.Traces.{Traces}
-use Rattle.trace_printer.specs.Parts.{Adjoin, HasTraces, IsPut, lines_told, page_of}
+use Rattle.trace_printer.specs.Parts.{Adjoin, HasTraces, IsPut, texts_of_lines, page_of}
 
 -- a text is written to its end
 pub written_all : (a b : Option (List ℕ)) (text : List ℕ) → Appends a b text → Written a b text []
@@ -34,7 +35,7 @@ adjoin_ready t first last [] has h = tt
 adjoin_ready t first last (p ∷ ps) has h = ((has, h.1), adjoin_ready t (first + p.count) last ps has h.2)
 
 -- the pages of adjoining parts
-pub put_text : (t : Traces) (first last n : ℕ) (ps qs : List Part) → Adjoin first ps last → last ≡ first + n → AllZip (IsPut t) ps qs → flat_map page_of qs ≡ part_text (lines_told t) first n
+pub put_text : (t : Traces) (first last n : ℕ) (ps qs : List Part) → Adjoin first ps last → last ≡ first + n → AllZip (IsPut t) ps qs → flat_map page_of qs ≡ part_text (texts_of_lines t) first n
 put_text t first last n [] [] h is put =
     let none : n ≡ 0 = omega (arith, h) in
     rw none refl
@@ -44,9 +45,9 @@ put_text t first last n (p ∷ ps) (q ∷ qs) h is put =
     let low = adjoin_le (first + p.count) last ps h.2 in
     let sum : n ≡ p.count + (n - p.count) = omega (arith, low, is) in
     let rest = put_text t (first + p.count) last (n - p.count) ps qs h.2 (omega (arith, low, is)) put.1 in
-    let this : q.page ≡ part_text (lines_told t) first p.count = put.0 ∙ ap (λ k. part_text (lines_told t) k p.count) h.0 in
-    ap (λ (l : List ℕ). l ++ flat_map page_of qs) this ∙ ap (λ (l : List ℕ). part_text (lines_told t) first p.count ++ l) rest
-    ∙ sym (part_sum (lines_told t) first p.count (n - p.count)) ∙ ap (part_text (lines_told t) first) (sym sum)
+    let this : q.page ≡ part_text (texts_of_lines t) first p.count = put.0 ∙ ap (λ k. part_text (texts_of_lines t) k p.count) h.0 in
+    ap (λ (l : List ℕ). l ++ flat_map page_of qs) this ∙ ap (λ (l : List ℕ). part_text (texts_of_lines t) first p.count ++ l) rest
+    ∙ sym (part_sum (texts_of_lines t) first p.count (n - p.count)) ∙ ap (part_text (texts_of_lines t) first) (sym sum)
 
 -- the next lines, this many, and then those after them
 pub rest_next : (lines : List (List ℕ)) (skip count : ℕ) → concat (drop skip lines) ≡ part_text lines skip count ++ concat (drop (skip + count) lines)

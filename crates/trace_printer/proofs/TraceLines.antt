@@ -1,5 +1,7 @@
 -- The lines of all traces, and the text of some of them.
-use Rattle.std.proofs.Common.{◌≡◌, ℕ, zero, suc, ◌+◌, ◌-◌, ◌<◌, ◌≤◌, List, [], map, ◌∷◌, ◌++◌, length, get_or, take, drop, refl, ap, sym, ◌∙◌, add-one, arith, append_assoc, Vec, Global, Some, slice_get, option_map, codes, decimal}
+use Rattle.std.proofs.Common.{◌≡◌, ℕ, zero, suc, ◌+◌, ◌-◌, ◌<◌, ◌≤◌, List, [], map, ◌∷◌, ◌++◌, length, get_or, take}
+use Rattle.std.proofs.Common.{drop, refl, ap, sym, ◌∙◌, add-one, arith, append_assoc, Vec, Global, Some, slice_get}
+use Rattle.std.proofs.Common.{option_map, codes, decimal}
 use Rattle.std.specs.List.{concat, flat_map, sum_by}
 use Rattle.std.proofs.lemmas.List.{drop-map, length-append, length-map, take-map}
 use Rattle.std.proofs.lemmas.List.Folds.{concat-append}
@@ -8,8 +10,8 @@ use Rattle.std.proofs.Math.ListN.{drop_of_length-le}
 use Rattle.std.proofs.Math.Seq.{take-nil, drop-nil, take-add}
 use Rattle.program_tree.specs.Code.{Tree}
 use Rattle.trace_lines.specs.declared.line.Line.{Line}
-use Rattle.mote_net.specs.Net.{MoteSetup, NetTold}
-use Rattle.mote_net.specs.Report.{Packet, lines_in, told_line}
+use Rattle.mote_net.specs.Net.{MoteSetup, NetModel}
+use Rattle.mote_net.specs.Report.{Packet, lines_in, line_model}
 use Rattle.mote_net.specs.declared.report.LogLine.{LogLine}
 use Rattle.trace_printer.specs.ReportText.{line_text, medium_text, motes_text, packet_text}
 use Rattle.trace_printer.specs.TraceLines.{mote_lines, lines_from, lines_of, medium_lines, part_text}
@@ -119,12 +121,12 @@ part_next page put all lines rest whole skip count skip_on count_on is more skip
 
 -- some packets of a log
 pub packets_some : (log some : List LogLine) (skip count : ℕ) → some ≡ take count (drop skip log)
-    → map told_line some ≡ take count (drop skip (map told_line log))
+    → map line_model some ≡ take count (drop skip (map line_model log))
 packets_some log some skip count is =
-    ap (map told_line) is ∙ rw (drop-map told_line skip log, take-map told_line count (drop skip log)) refl
+    ap (map line_model) is ∙ rw (drop-map line_model skip log, take-map line_model count (drop skip log)) refl
 
 -- the text of all lines is that of the motes, and then that of the medium
-pub all_text : (net : NetTold) (ts : List (List Line)) (log : List Packet)
+pub all_text : (net : NetModel) (ts : List (List Line)) (log : List Packet)
     → concat (lines_of net ts ++ medium_lines log) ≡ motes_text 0 net.motes ts ++ medium_text log
 all_text net ts log =
     rw (concat-append (lines_of net ts) (medium_lines log), lines_text 0 net.motes ts, mapped_lines packet_text log) refl

@@ -1,16 +1,16 @@
 -- Laws of the text of a report.
 use Rattle.std.specs.Prelude.{◌≡◌, ℕ, List, [], ◌++◌}
-use Rattle.mote_net.specs.Net.{NetTold}
-use Rattle.mote_net.specs.Report.{ReportTold}
+use Rattle.mote_net.specs.Net.{NetModel}
+use Rattle.mote_net.specs.Report.{ReportModel}
 use Rattle.trace_printer.specs.Named.{IsNamed, NetNamesDiffer}
 use Rattle.trace_printer.specs.ReportText.{report_text}
 
 -- Two reports of one net with the same text are the same: the same traces, the same log, and as many copies left.
 abbrev pub TextDeterminesReport : Type 0
-TextDeterminesReport = (net : NetTold) → NetNamesDiffer net → (a b : ReportTold) → IsNamed net a → IsNamed net b
+TextDeterminesReport = (net : NetModel) → NetNamesDiffer net → (a b : ReportModel) → IsNamed net a → IsNamed net b
     → report_text net a ≡ report_text net b → a ≡ b
 
 -- No text of a report of a net is a proper prefix of another.
 abbrev pub NoTextBeginsAnother : Type 0
-NoTextBeginsAnother = (net : NetTold) → NetNamesDiffer net → (a b : ReportTold) → IsNamed net a → IsNamed net b
+NoTextBeginsAnother = (net : NetModel) → NetNamesDiffer net → (a b : ReportModel) → IsNamed net a → IsNamed net b
     → (more : List ℕ) → report_text net b ≡ report_text net a ++ more → more ≡ []

@@ -13,8 +13,8 @@ use Rattle.trace_lines.specs.declared.line.Line.{Line}
 use Rattle.trace_lines.specs.declared.line.What.{What}
 use Rattle.trace_lines.specs.declared.line.What.TheVariants.{Start, Leave, Post, Full, Take, Drop, Print, Busy, Halt}
 use Rattle.trace_lines.specs.declared.line.What.TheVariants.{Send, Recv, Lost, Deaf, Collide}
-use Rattle.mote_net.specs.Net.{MoteSetup, NetTold}
-use Rattle.mote_net.specs.Report.{Packet, ReportTold}
+use Rattle.mote_net.specs.Net.{MoteSetup, NetModel}
+use Rattle.mote_net.specs.Report.{Packet, ReportModel}
 use Rattle.trace_printer.specs.Words.{event_word, target_word}
 
 -- a number of 64 bits
@@ -85,11 +85,11 @@ AreNamed (m ∷ ms) [] = ⊥
 AreNamed (m ∷ ms) (t ∷ ts) = Each (IsNamedLine m.tree) t × AreNamed ms ts
 
 -- a report of a net in which each process and event has a name, in numbers of 64 bits
-pub record IsNamed (net : NetTold) (r : ReportTold) : Type 0 where
+pub record IsNamed (net : NetModel) (r : ReportModel) : Type 0 where
   pub traces : AreNamed net.motes r.traces
   pub log : Each Is64Packet r.log
   pub left : Is64 r.left
 
 -- in each program of the net
-abbrev pub NetNamesDiffer : NetTold → Type 0
+abbrev pub NetNamesDiffer : NetModel → Type 0
 NetNamesDiffer net = Each (λ (m : MoteSetup). NamesDiffer m.tree) net.motes

@@ -3,8 +3,8 @@ use Rattle.std.specs.Prelude.{◌≡◌, ℕ, List, [], ◌∷◌, codes, None, 
 use Rattle.program_tree.specs.Code.{Tree}
 use Rattle.program_tree.specs.declared.event.Proc.TheVariants.{Own}
 use Rattle.trace_lines.specs.declared.line.What.TheVariants.{Start}
-use Rattle.mote_net.specs.Net.{NetTold}
-use Rattle.mote_net.specs.Report.{ReportTold}
+use Rattle.mote_net.specs.Net.{NetModel}
+use Rattle.mote_net.specs.Report.{ReportModel}
 use Rattle.trace_printer.specs.Named.{NamesDiffer}
 use Rattle.trace_printer.specs.ReportText.{report_text}
 
@@ -25,7 +25,7 @@ abbrev pub OneProcessDiffers : Type 0
 OneProcessDiffers = NamesDiffer (tree_with (codes "a" ∷ []))
 
 -- one mote, which runs that program
-abbrev pub one_mote : NetTold
+abbrev pub one_mote : NetModel
 one_mote = record {
   end = 0;
   collide = false;
@@ -34,7 +34,7 @@ one_mote = record {
 }
 
 -- it starts a process with this number
-abbrev pub starts : (process : ℕ) → ReportTold
+abbrev pub starts : (process : ℕ) → ReportModel
 starts process = record {
   traces = (record { at = 0; what = Start (Own process) } ∷ []) ∷ [];
   log = [];

@@ -1,22 +1,22 @@
 -- The text of the traces and the medium in parts.
 use Rattle.std.specs.Prelude.{◌≡◌, ◌≤◌, ℕ, ◌+◌, ◌/◌, List, [], ◌∷◌, ◌++◌, length, map}
 use Rattle.mote_net.specs.Meaning.{net_of}
-use Rattle.mote_net.specs.Report.{lines_in, told_line}
+use Rattle.mote_net.specs.Report.{lines_in, line_model}
 use Rattle.trace_printer.specs.TraceLines.{lines_of, medium_lines, part_text}
 use Rattle.trace_printer.specs.declared.part.Part.{Part}
 use Rattle.trace_printer.specs.declared.part.Traces.{Traces}
 
 -- the lines that all motes show
-abbrev pub traces_told : Traces → List (List ℕ)
-traces_told t = lines_of (net_of t.net.now) (map lines_in t.traces.now)
+abbrev pub trace_texts : Traces → List (List ℕ)
+trace_texts t = lines_of (net_of t.net.now) (map lines_in t.traces.now)
 
 -- there is one trace for each mote, and their lines are counted
 abbrev pub HasTraces : Traces → Type 0
-HasTraces t = (length t.traces.now ≡ length (net_of t.net.now).motes) × (length (traces_told t) ≡ t.lines)
+HasTraces t = (length t.traces.now ≡ length (net_of t.net.now).motes) × (length (trace_texts t) ≡ t.lines)
 
 -- the lines that all motes show, and then those of the medium
-abbrev pub lines_told : Traces → List (List ℕ)
-lines_told t = traces_told t ++ medium_lines (map told_line t.medium.now)
+abbrev pub texts_of_lines : Traces → List (List ℕ)
+texts_of_lines t = trace_texts t ++ medium_lines (map line_model t.medium.now)
 
 -- from the first line to the last each part begins at the end of the one before it, and nothing is on its page yet
 abbrev pub Adjoin : (first : ℕ) → List Part → (last : ℕ) → Type 0
@@ -29,7 +29,7 @@ IsShare count workers p = (count / workers ≤ p.count) × (p.count ≤ count / 
 
 -- its lines are put on its page
 abbrev pub IsPut : Traces → (old new : Part) → Type 0
-IsPut t old new = new.page ≡ part_text (lines_told t) old.skip old.count
+IsPut t old new = new.page ≡ part_text (texts_of_lines t) old.skip old.count
 
 abbrev pub page_of : Part → List ℕ
 page_of p = p.page

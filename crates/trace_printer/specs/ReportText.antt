@@ -4,8 +4,8 @@ use Rattle.std.specs.Prelude.{ℕ, ◌+◌, List, [], ◌∷◌, ◌++◌, codes
 use Rattle.std.specs.List.{flat_map}
 use Rattle.program_tree.specs.Code.{Tree}
 use Rattle.trace_lines.specs.declared.line.Line.{Line}
-use Rattle.mote_net.specs.Net.{MoteSetup, NetTold}
-use Rattle.mote_net.specs.Report.{Packet, ReportTold}
+use Rattle.mote_net.specs.Net.{MoteSetup, NetModel}
+use Rattle.mote_net.specs.Report.{Packet, ReportModel}
 use Rattle.trace_printer.specs.Words.{line_of, words_of, fate_word}
 
 -- a line of a trace: the moment, and the words of the event in a mote with this program
@@ -35,5 +35,5 @@ medium_text log = line_of (codes "medium") [] ++ flat_map packet_text log
 abbrev pub left_text : (left : ℕ) → List ℕ
 left_text left = line_of (codes "left") (decimal left ∷ [])
 
-abbrev pub report_text : NetTold → ReportTold → List ℕ
+abbrev pub report_text : NetModel → ReportModel → List ℕ
 report_text net r = motes_text 0 net.motes r.traces ++ (medium_text r.log ++ left_text r.left)

@@ -2,7 +2,7 @@
 use Rattle.std.specs.Prelude.{ℕ, ◌+◌, List, [], ◌∷◌, ◌++◌, codes, decimal, map, take, drop}
 use Rattle.std.specs.List.{concat}
 use Rattle.trace_lines.specs.declared.line.Line.{Line}
-use Rattle.mote_net.specs.Net.{MoteSetup, NetTold}
+use Rattle.mote_net.specs.Net.{MoteSetup, NetModel}
 use Rattle.mote_net.specs.Report.{Packet}
 use Rattle.trace_printer.specs.ReportText.{line_text, packet_text}
 use Rattle.trace_printer.specs.Words.{line_of}
@@ -18,7 +18,7 @@ lines_from mote [] ts = []
 lines_from mote (m ∷ ms) [] = []
 
 -- the lines that the motes of a net show
-abbrev pub lines_of : NetTold → List (List Line) → List (List ℕ)
+abbrev pub lines_of : NetModel → List (List Line) → List (List ℕ)
 lines_of net traces = lines_from 0 net.motes traces
 
 -- the line that begins the log of the medium, and those of its packets

@@ -1,14 +1,14 @@
 //! A report, round by round.
 ghost use Rattle.std.specs.Prelude.{◌≡◌, ◌≤◌, ◌<◌, ◌+◌, ◌^◌, [], length, map, vec_len, IfSome};
 ghost use Rattle.std.specs.List.{concat};
-ghost use Rattle.mote_net.specs.Net.{NetTold};
+ghost use Rattle.mote_net.specs.Net.{NetModel};
 ghost use Rattle.mote_net.specs.Meaning.{net_of};
 ghost use Rattle.mote_net.specs.Report.{lines_in, report_of};
 ghost use Rattle.trace_printer.specs.Writes.{Writes};
 ghost use Rattle.trace_printer.specs.Page.{Prints};
 ghost use Rattle.trace_printer.specs.ReportText.{report_text};
 ghost use Rattle.trace_printer.specs.TraceLines.{lines_of};
-ghost use Rattle.trace_printer.specs.Parts.{HasTraces, lines_told};
+ghost use Rattle.trace_printer.specs.Parts.{HasTraces, texts_of_lines};
 
 use crate::error::PrintError;
 use crate::numbered::count_lines;
@@ -40,8 +40,8 @@ fn write_traces<R: Threads + Wait + Sync, W: Write>(
 ) -> Result<(), PrintError>
     requires positive { 1 ≤ workers }
     requires traces { HasTraces traces.now }
-    requires all { length (lines_told traces.now) ≡ lines }
-    ensures prints { let text = concat (lines_told traces.now)
+    requires all { length (texts_of_lines traces.now) ≡ lines }
+    ensures prints { let text = concat (texts_of_lines traces.now)
         in Prints (W.contents writer.old) (W.contents writer.new) [] [] result text }
 {
     let mut skip = 0;
@@ -56,7 +56,7 @@ fn write_traces<R: Threads + Wait + Sync, W: Write>(
 /// The number of lines of the traces, if workers are to format them and those of the medium: if there are two workers
 /// or more, and `MANY` lines or more.
 fn many_lines(workers: u16, traces: &[Vec<Line>], log: &[LogLine]) -> Option<usize>
-    ensures lines { (net : NetTold) → length traces.now ≡ length net.motes
+    ensures lines { (net : NetModel) → length traces.now ≡ length net.motes
         → IfSome result (λ count. length (lines_of net (map lines_in traces.now)) ≡ count) }
     ensures all { IfSome result (λ count. count + length log.now + 1 < 2 ^ 64) }
 {

@@ -2,7 +2,7 @@
 ghost use Rattle.std.specs.Prelude.{◌≡◌, [], ◌++◌, ◌∷◌, map, codes, decimal, OnOk};
 ghost use Rattle.std.specs.List.{flat_map};
 ghost use Rattle.program_tree.specs.Program.{tree_of};
-ghost use Rattle.mote_net.specs.Report.{told_line};
+ghost use Rattle.mote_net.specs.Report.{line_model};
 ghost use Rattle.trace_printer.specs.ReportText.{left_text, line_text, packet_text};
 ghost use Rattle.trace_printer.specs.Words.{fate_word, line_of};
 
@@ -303,7 +303,7 @@ fn put_line_feed(page: &mut Page) -> Result<(), AllocError>
 /// # Errors
 /// If an allocation failed.
 pub fn put_packet(page: &mut Page, line: &LogLine) -> Result<(), AllocError>
-    ensures appended { OnOk result (page.new ≡ page.old ++ packet_text (told_line line.now)) }
+    ensures appended { OnOk result (page.new ≡ page.old ++ packet_text (line_model line.now)) }
 {
     put_sent(page, line.sent)?;
     put_fates(page, &line.fates)?;

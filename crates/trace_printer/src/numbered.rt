@@ -2,10 +2,10 @@
 ghost use Rattle.std.specs.Prelude.{◌≡◌, [], ◌∷◌, ◌++◌, length, map, take, drop, codes, decimal, IfSome, OnOk};
 ghost use Rattle.std.specs.List.{flat_map};
 ghost use Rattle.program_tree.specs.Program.{tree_of};
-ghost use Rattle.mote_net.specs.Net.{NetTold};
+ghost use Rattle.mote_net.specs.Net.{NetModel};
 ghost use Rattle.mote_net.specs.Meaning.{net_of};
-ghost use Rattle.mote_net.specs.Report.{lines_in, told_line};
-ghost use Rattle.trace_printer.specs.Parts.{HasTraces, lines_told};
+ghost use Rattle.mote_net.specs.Report.{lines_in, line_model};
+ghost use Rattle.trace_printer.specs.Parts.{HasTraces, texts_of_lines};
 ghost use Rattle.trace_printer.specs.ReportText.{line_text, packet_text};
 ghost use Rattle.trace_printer.specs.TraceLines.{part_text, lines_of, medium_lines};
 ghost use Rattle.trace_printer.specs.Words.{line_of};
@@ -21,7 +21,7 @@ use trace_lines::Line;
 /// The number of lines that the motes with these traces show: those of each trace, and one before them. `None` if the
 /// count overflows.
 pub fn count_lines(traces: &[Vec<Line>]) -> Option<usize>
-    ensures count { (net : NetTold) → length traces.now ≡ length net.motes
+    ensures count { (net : NetModel) → length traces.now ≡ length net.motes
         → IfSome result (λ count. length (lines_of net (map lines_in traces.now)) ≡ count) }
 {
     let mut count: usize = 0;
@@ -111,7 +111,7 @@ pub fn put_part(
 
 /// Appends lines of the medium.
 fn put_packets(page: &mut Page, log: &[LogLine]) -> Result<(), AllocError>
-    ensures appended { OnOk result (page.new ≡ page.old ++ flat_map packet_text (map told_line log.now)) }
+    ensures appended { OnOk result (page.new ≡ page.old ++ flat_map packet_text (map line_model log.now)) }
 {
     for line in log {
         put_packet(page, line)?;
@@ -127,7 +127,7 @@ fn put_medium_part(
     count: usize,
 ) -> Result<(), AllocError>
     ensures appended { OnOk result (page.new
-        ≡ page.old ++ part_text (medium_lines (map told_line log.now)) skip count) }
+        ≡ page.old ++ part_text (medium_lines (map line_model log.now)) skip count) }
 {
     if skip > 0 {
         return put_packets(page, some_of(log, skip - 1, count));
@@ -151,7 +151,7 @@ pub fn put_all_part(
     count: usize,
 ) -> Result<(), AllocError>
     requires has_traces { HasTraces traces.now }
-    ensures appended { OnOk result (page.new ≡ page.old ++ part_text (lines_told traces.now) skip count) }
+    ensures appended { OnOk result (page.new ≡ page.old ++ part_text (texts_of_lines traces.now) skip count) }
 {
     put_part(page, traces.net, traces.traces, skip, count)?;
     let left = count.saturating_sub(traces.lines.saturating_sub(skip));

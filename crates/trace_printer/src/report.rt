@@ -3,7 +3,7 @@ ghost use Rattle.std.specs.Prelude.{◌≡◌, ◌++◌, ◌∷◌, [], length, 
 ghost use Rattle.std.specs.List.{flat_map};
 ghost use Rattle.program_tree.specs.Program.{tree_of};
 ghost use Rattle.mote_net.specs.Meaning.{net_of};
-ghost use Rattle.mote_net.specs.Report.{lines_in, told_line, report_of};
+ghost use Rattle.mote_net.specs.Report.{lines_in, line_model, report_of};
 ghost use Rattle.trace_printer.specs.Writes.{Writes};
 ghost use Rattle.trace_printer.specs.Page.{Prints};
 ghost use Rattle.trace_printer.specs.ReportText.{line_text, motes_text, packet_text, medium_text, left_text};
@@ -104,7 +104,7 @@ fn print_packets<W: Write>(
     page: &mut Page,
     log: &[LogLine],
 ) -> Result<(), PrintError>
-    ensures prints { let text = flat_map packet_text (map told_line log.now)
+    ensures prints { let text = flat_map packet_text (map line_model log.now)
         in Prints (W.contents writer.old) (W.contents writer.new) page.old page.new result text }
 {
     for line in log {
@@ -119,7 +119,7 @@ fn print_medium<W: Write>(
     page: &mut Page,
     log: &[LogLine],
 ) -> Result<(), PrintError>
-    ensures prints { let text = medium_text (map told_line log.now)
+    ensures prints { let text = medium_text (map line_model log.now)
         in Prints (W.contents writer.old) (W.contents writer.new) page.old page.new result text }
 {
     put_medium(page)?;

@@ -4,7 +4,7 @@ ghost use Rattle.std.specs.Prelude.{◌≡◌, ◌<◌, ◌≤◌, ◌+◌, ◌^
 ghost use Rattle.std.specs.List.{flat_map, AllByRecursion as Each};
 ghost use Rattle.trace_printer.specs.Page.{Prints};
 ghost use Rattle.trace_printer.specs.TraceLines.{part_text};
-ghost use Rattle.trace_printer.specs.Parts.{Adjoin, HasTraces, IsShare, lines_told, page_of};
+ghost use Rattle.trace_printer.specs.Parts.{Adjoin, HasTraces, IsShare, texts_of_lines, page_of};
 
 use crate::error::PrintError;
 use crate::numbered::put_all_part;
@@ -49,7 +49,8 @@ fn put<R: Threads + Wait + Sync>(
     requires positive { 1 ≤ workers }
     requires traces { HasTraces traces.now }
     requires end_bounded { skip + count < 2 ^ 64 }
-    ensures text { IfOk result (λ parts. flat_map page_of parts.items ≡ part_text (lines_told traces.now) skip count) }
+    ensures text { IfOk result (λ parts. flat_map page_of parts.items
+        ≡ part_text (texts_of_lines traces.now) skip count) }
 {
     let parts = cut(alloc, workers, skip, count)?;
     fork_join(rt, alloc, parts, traces)
@@ -74,7 +75,7 @@ fn write_alone<W: Write>(
     writer: &mut W,
 ) -> Result<(), PrintError>
     requires has_traces { HasTraces traces.now }
-    ensures prints { let text = part_text (lines_told traces.now) skip count
+    ensures prints { let text = part_text (texts_of_lines traces.now) skip count
         in Prints (W.contents writer.old) (W.contents writer.new) [] [] result text }
 {
     let mut page = Page::empty(alloc);
@@ -99,7 +100,7 @@ pub fn write_round<R: Threads + Wait + Sync, W: Write>(
     requires positive { 1 ≤ workers }
     requires traces { HasTraces traces.now }
     requires end_bounded { skip + count < 2 ^ 64 }
-    ensures prints { let text = part_text (lines_told traces.now) skip count
+    ensures prints { let text = part_text (texts_of_lines traces.now) skip count
         in Prints (W.contents writer.old) (W.contents writer.new) [] [] result text }
 {
     match put(rt, alloc, workers, traces, skip, count) {

@@ -1,5 +1,6 @@
 -- The report of the workers is that of the net, and the copies that went through their inboxes are those of its log.
-use Rattle.std.proofs.Common.{◌≡◌, ℕ, zero, suc, ◌+◌, ◌<◌, List, [], ◌∷◌, length, map, get_or, refl, sym, ap, ◌∙◌, subst, arith, Some, None, Vec, length-append}
+use Rattle.std.proofs.Common.{◌≡◌, ℕ, zero, suc, ◌+◌, ◌<◌, List, [], ◌∷◌, length, map, get_or, refl, sym, ap, ◌∙◌}
+use Rattle.std.proofs.Common.{subst, arith, Some, None, Vec, length-append}
 use Rattle.std.specs.Prelude.{All}
 use Rattle.std.specs.declared.alloc.Global.{Global}
 use Rattle.std.specs.List.{zip, slice_get, sum_by, AllByRecursion as Each, AllZip}
@@ -8,7 +9,7 @@ use Rattle.std.proofs.lemmas.List.Elements.{All-from_recursion}
 use Rattle.trace_lines.specs.declared.line.Line.{Line}
 use Rattle.kernel_laws.specs.Going.{IsInOrder}
 use Rattle.radio_medium.specs.Medium.{medium_fault}
-use Rattle.mote_net.specs.Net.{NetTold}
+use Rattle.mote_net.specs.Net.{NetModel}
 use Rattle.net_agenda.specs.NetSystem.{system_of}
 use Rattle.net_agenda.proofs.Systems.{system_is}
 use Rattle.window_laws.specs.Agenda.{up_to}
@@ -27,8 +28,8 @@ use Rattle.all_workers.specs.declared.workers.Workers.{Workers}
 use Rattle.all_workers.specs.Workers.{IsAt, IsWorkerAt}
 use Rattle.all_workers.proofs.Lookups.{there, read, zip_inside, zip_long}
 use Rattle.mote_net.specs.declared.report.Report.{Report}
-use Rattle.mote_net.specs.Report.{Packet, ReportTold, lines_in, told_line, report_of}
-use Rattle.window_workers.specs.Crossed.{Pair, packets_told, CrossedTo, AllCrossed}
+use Rattle.mote_net.specs.Report.{Packet, ReportModel, lines_in, line_model, report_of}
+use Rattle.window_workers.specs.Crossed.{Pair, logged_packets, CrossedTo, AllCrossed}
 use Rattle.serial_run.specs.NetRun.{packet_with_fates, IsReportOf}
 use Rattle.window_workers.specs.Over.{TellsWhatItKept, logs_of, IsLogOf, AreTracesOf}
 use Rattle.serial_run.proofs.ByWindows.{windows_commute}
@@ -38,10 +39,10 @@ use Rattle.window_workers.proofs.Pairs.{each_mapped, second_at}
 use Rattle.serial_run.proofs.Stamps.{sent_packets}
 use Rattle.window_workers.proofs.Waiting.{taken_by_end}
 
-abbrev told_of : List (List Line) → List Packet → ℕ → ReportTold
+abbrev told_of : List (List Line) → List Packet → ℕ → ReportModel
 told_of traces log left = record { traces = traces; log = log; left = left }
 
-module _ (n : NetTold) (fault : medium_fault n.radio ≡ None) (placed : length n.radio.places ≡ length n.motes) (of : List ℕ) (group : Workers) (at : IsAt n of (suc n.end) group) (ended : List Ended) (ends : AllZip TellsWhatItKept group.shares.items ended) where
+module _ (n : NetModel) (fault : medium_fault n.radio ≡ None) (placed : length n.radio.places ≡ length n.motes) (of : List ℕ) (group : Workers) (at : IsAt n of (suc n.end) group) (ended : List Ended) (ends : AllZip TellsWhatItKept group.shares.items ended) where
   fine : RunsForward (system_of n)
   fine = system_is n fault placed
 
@@ -57,7 +58,7 @@ module _ (n : NetTold) (fault : medium_fault n.radio ≡ None) (placed : length 
     sorted = is.in_order;
   }) (coming (system_of n) fine (suc n.end) at.motes) (pending_left (system_of n) at.motes (coming (system_of n) fine (suc n.end) at.motes) n.end (coming_pending (system_of n) fine (suc n.end) at.motes at.led))
 
-  report_is : (r : ReportTold) → r.traces ≡ map (λ number. (at.motes number).lines) (up_to (length n.motes)) → IsLogOf n (logs_of ended) r.log → r.left ≡ all_left → IsReportOf n r
+  report_is : (r : ReportModel) → r.traces ≡ map (λ number. (at.motes number).lines) (up_to (length n.motes)) → IsLogOf n (logs_of ended) r.log → r.left ≡ all_left → IsReportOf n r
   report_is r traces is left =
       let w = by_windows r.log is in record {
         last = w.last;
@@ -70,7 +71,7 @@ module _ (n : NetTold) (fault : medium_fault n.radio ≡ None) (placed : length 
       }
 
   -- the results of the workers, joined, are the report of the net
-  pub told_is : (r : Report) → AreTracesOf of ended r.traces.items → IsLogOf n (logs_of ended) (map told_line r.medium.items)
+  pub told_is : (r : Report) → AreTracesOf of ended r.traces.items → IsLogOf n (logs_of ended) (map line_model r.medium.items)
       → sum_by (λ (one : Ended). one.left) ended + sum_by (λ (pair : Pair). length (gathered_by pair.1)) (zip group.inboxes.items group.takers.items)
       ≡ r.left + sum_by (λ (pair : Pair). length (taken_by pair.1)) (zip group.inboxes.items group.takers.items)
       → IsReportOf n (report_of r)
@@ -80,14 +81,14 @@ module _ (n : NetTold) (fault : medium_fault n.radio ≡ None) (placed : length 
       (λ v pair e. second_at group.inboxes.items group.takers.items v pair e) sums)
 
   -- the report's packets are those of the motes, in order
-  packets_are : (r : ReportTold) → IsReportOf n r → packets_told r ≡ as_log (logs_of ended)
+  packets_are : (r : ReportModel) → IsReportOf n r → logged_packets r ≡ as_log (logs_of ended)
   packets_are r report =
       let by = is_report n fine of group at ended ends in
-      ap packets_told report.told
+      ap logged_packets report.told
       ∙ (sent_packets n report.last.log
       ∙ (ap (λ net. net.log) (run_is_one (system_of n) n.end by.run report.run) ∙ sym by.log_is))
 
-  crossed_to : (r : ReportTold) → IsReportOf n r → (v : ℕ) → v < length group.inboxes.items → (taker : TakerView) → slice_get group.takers.items v ≡ Some taker → CrossedTo n of (packets_told r) v taker
+  crossed_to : (r : ReportModel) → IsReportOf n r → (v : ℕ) → v < length group.inboxes.items → (taker : TakerView) → slice_get group.takers.items v ≡ Some taker → CrossedTo n of (logged_packets r) v taker
   unfolding system_of
   crossed_to r report v h taker e =
       let s = there group.shares.items v (subst (λ l. v < l) (sym at.shares) h) in
@@ -98,20 +99,20 @@ module _ (n : NetTold) (fault : medium_fault n.radio ≡ None) (placed : length 
         taken = taken_by_end n fine of (suc n.end) at.motes at.led group.first_out at.first v (get_or group.shares.items v s.0) taker here n.end refl;
       }
 
-  pub all_crossed : (r : ReportTold) → IsReportOf n r → AllCrossed n of r (zip group.inboxes.items group.takers.items)
+  pub all_crossed : (r : ReportModel) → IsReportOf n r → AllCrossed n of r (zip group.inboxes.items group.takers.items)
   all_crossed r report v pair e = crossed_to r report v (zip_inside group.inboxes.items group.takers.items v pair e) pair.1 (second_at group.inboxes.items group.takers.items v pair e)
 
 -- ---- the properties of every report
-pub one_trace_each : (n : NetTold) (r : Report) → IsReportOf n (report_of r) → length r.traces.items ≡ length n.motes
+pub one_trace_each : (n : NetModel) (r : Report) → IsReportOf n (report_of r) → length r.traces.items ≡ length n.motes
 one_trace_each n r report =
-    sym (length-map r.traces.items lines_in) ∙ (ap (λ (t : ReportTold). length t.traces) report.told ∙ (length-map (up_to (length n.motes)) report.last.traces ∙ counted (length n.motes)))
+    sym (length-map r.traces.items lines_in) ∙ (ap (λ (t : ReportModel). length t.traces) report.told ∙ (length-map (up_to (length n.motes)) report.last.traces ∙ counted (length n.motes)))
   where
     counted : (k : ℕ) → length (up_to k) ≡ k
     counted zero = refl
     counted (suc k) = let e = counted k in let a = length-append (up_to k) (k ∷ []) in omega arith
 
-pub all_hand_on : (n : NetTold) (r : Report) → IsReportOf n (report_of r) → All (λ (v : Vec Line Global). IsInOrder v.items) r.traces.items
+pub all_hand_on : (n : NetModel) (r : Report) → IsReportOf n (report_of r) → All (λ (v : Vec Line Global). IsInOrder v.items) r.traces.items
 all_hand_on n r report =
     All-from_recursion (λ (v : Vec Line Global). IsInOrder v.items) r.traces.items
-    (each_mapped IsInOrder lines_in r.traces.items (subst (Each IsInOrder) (sym (ap (λ (t : ReportTold). t.traces) report.told)) (every_map IsInOrder report.last.traces (up_to (length n.motes))
+    (each_mapped IsInOrder lines_in r.traces.items (subst (Each IsInOrder) (sym (ap (λ (t : ReportModel). t.traces) report.told)) (every_map IsInOrder report.last.traces (up_to (length n.motes))
     (every_weaker (λ k. k < length n.motes) (λ k. IsInOrder (report.last.traces k)) (λ k h. traces_hand_on n (report_of r) report k h) (up_to (length n.motes)) (below_all (length n.motes))))))

@@ -1,5 +1,6 @@
 -- The results of the workers at the end, joined: the packets, the traces and the count of copies left.
-use Rattle.std.proofs.Common.{◌≡◌, ◌⊎◌, ℕ, suc, ◌+◌, ◌<◌, ◌≤◌, ◌^◌, true, false, cond, eqb, ltb, List, [], ◌∷◌, length, map, get_or, refl, sym, ap, ◌∙◌, subst, inl, inr, arith, Some, Vec}
+use Rattle.std.proofs.Common.{◌≡◌, ◌⊎◌, ℕ, suc, ◌+◌, ◌<◌, ◌≤◌, ◌^◌, true, false, cond, eqb, ltb, List, [], ◌∷◌, length}
+use Rattle.std.proofs.Common.{map, get_or, refl, sym, ap, ◌∙◌, subst, inl, inr, arith, Some, Vec}
 use Rattle.std.specs.declared.alloc.Global.{Global}
 use Rattle.std.specs.List.{filter, slice_get, sum_by, AllByRecursion as Each, AllZip}
 use Rattle.std.specs.Option.{option_map_or}
@@ -8,7 +9,7 @@ use Rattle.std.proofs.lemmas.List.Sorted.{IsPermutation-sym}
 use Rattle.trace_lines.specs.declared.line.Line.{Line}
 use Rattle.radio_packet.specs.declared.sent.Sent.{Sent}
 use Rattle.radio_packet.specs.declared.copy.RadioCopy.{RadioCopy}
-use Rattle.mote_net.specs.Net.{NetTold}
+use Rattle.mote_net.specs.Net.{NetModel}
 use Rattle.net_agenda.specs.NetSystem.{system_of}
 use Rattle.window_laws.specs.Agenda.{up_to}
 use Rattle.window_laws.specs.NetStep.{NetState, Run, Done, Turn, stamped, turned_at}
@@ -16,7 +17,8 @@ use Rattle.window_laws.specs.Report.{IsReport}
 use Rattle.window_laws.specs.System.{System}
 use Rattle.window_laws.specs.Forward.{RunsForward}
 use Rattle.window_laws.specs.Windows.{is_sent_by, IsJoined, as_log, sends_by, copies_by}
-use Rattle.window_laws.proofs.Lists.{every_append, every_both, every_filter, every_flat_map, every_passes, every_weaker}
+use Rattle.window_laws.proofs.Lists.{every_append, every_both, every_filter, every_flat_map, every_passes}
+use Rattle.window_laws.proofs.Lists.{every_weaker}
 use Rattle.window_laws.proofs.Order.{sorted_permutes}
 use Rattle.copy_inbox.specs.Handles.{TakerView}
 use Rattle.copy_exchange.specs.Takers.{taken_by, gathered_by}
@@ -47,7 +49,7 @@ nobody of s i h = ap (λ o. option_map_or (λ w. eqb w i) o false) (beyond of s 
 not_mine : (of : List ℕ) (s w i : ℕ) → slice_get of s ≡ Some w → (i ≡ w → ⊥) → is_own of i s ≡ false
 not_mine of s w i e ne = ap (λ o. option_map_or (λ w. eqb w i) o false) e ∙ ne_eqb w i (λ q. ne (sym q))
 
-module _ (n : NetTold) (fine : RunsForward (system_of n)) (of : List ℕ) (group : Workers) (at : IsAt n of (suc n.end) group) (ended : List Ended) (ends : AllZip TellsWhatItKept group.shares.items ended) where
+module _ (n : NetModel) (fine : RunsForward (system_of n)) (of : List ℕ) (group : Workers) (at : IsAt n of (suc n.end) group) (ended : List Ended) (ends : AllZip TellsWhatItKept group.shares.items ended) where
   abbrev workers : ℕ
   workers = length group.inboxes.items
 

@@ -3,11 +3,11 @@ use Rattle.std.specs.Prelude.{ℕ, ◌≡◌, List, map, IsPermutation, Some, sl
 use Rattle.std.specs.List.{filter}
 use Rattle.radio_packet.specs.declared.sent.Sent.{Sent}
 use Rattle.radio_medium.specs.Medium.{copies}
-use Rattle.mote_net.specs.Net.{NetTold}
+use Rattle.mote_net.specs.Net.{NetModel}
 use Rattle.copy_inbox.specs.Handles.{InboxId, TakerView}
 use Rattle.copy_exchange.specs.Takers.{taken_by, gathered_by}
 use Rattle.worker_cut.specs.CrossesTo.{AreThoseTo}
-use Rattle.mote_net.specs.Report.{ReportTold}
+use Rattle.mote_net.specs.Report.{ReportModel}
 use Rattle.serial_run.specs.Counted.{is_by}
 
 -- an inbox with its taker, as contracts see them
@@ -15,16 +15,16 @@ abbrev pub Pair : Type 0
 Pair = InboxId × TakerView
 
 -- the packets of a report's log
-abbrev pub packets_told : ReportTold → List Sent
-packets_told r = map (λ packet. packet.sent) r.log
+abbrev pub logged_packets : ReportModel → List Sent
+logged_packets r = map (λ packet. packet.sent) r.log
 
 -- The senders of this worker's inbox were given the copies of these packets that go from a mote of another worker to
 -- one of this worker, each once and no others; and those that arrive at or before the end were taken.
-pub record CrossedTo (n : NetTold) (of : List ℕ) (log : List Sent) (worker : ℕ) (taker : TakerView) : Type 0 where
+pub record CrossedTo (n : NetModel) (of : List ℕ) (log : List Sent) (worker : ℕ) (taker : TakerView) : Type 0 where
   pub gathered : AreThoseTo (copies n.radio) of worker log (gathered_by taker)
   pub taken : IsPermutation (filter (is_by n.end) (gathered_by taker)) (filter (is_by n.end) (taken_by taker))
 
 -- of the report's log, the copies for each worker crossed to it; the inboxes are in the order of the workers
-abbrev pub AllCrossed : NetTold → (of : List ℕ) → ReportTold → List Pair → Type 0
+abbrev pub AllCrossed : NetModel → (of : List ℕ) → ReportModel → List Pair → Type 0
 AllCrossed n of r pairs = (worker : ℕ) (pair : Pair) → slice_get pairs worker ≡ Some pair
-    → CrossedTo n of (packets_told r) worker pair.1
+    → CrossedTo n of (logged_packets r) worker pair.1

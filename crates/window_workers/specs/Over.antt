@@ -6,7 +6,7 @@ use Rattle.std.specs.declared.alloc.Global.{Global}
 use Rattle.trace_lines.specs.declared.line.Line.{Line}
 use Rattle.radio_packet.specs.declared.sent.Sent.{Sent}
 use Rattle.radio_packet.specs.declared.copy.RadioCopy.{RadioCopy}
-use Rattle.mote_net.specs.Net.{NetTold}
+use Rattle.mote_net.specs.Net.{NetModel}
 use Rattle.window_laws.specs.Sorts.{is_sooner}
 use Rattle.worker_window.specs.declared.share.Share.{Share}
 use Rattle.worker_window.specs.declared.share.Ended.{Ended}
@@ -19,7 +19,7 @@ use Rattle.serial_run.specs.NetRun.{packet_with_fates}
 
 -- a share that is taken apart yields its contents
 abbrev pub TellsWhatItKept : Share → Ended → Type 0
-TellsWhatItKept share ended = (n : NetTold) (of : List ℕ) (worker from : ℕ) (motes : Motes) (taken : List RadioCopy)
+TellsWhatItKept share ended = (n : NetModel) (of : List ℕ) (worker from : ℕ) (motes : Motes) (taken : List RadioCopy)
     → Keeps n of worker from motes taken share → TellsAtEnd n of worker from motes taken ended
 
 -- the packets of all workers with their fates, one worker's after another's
@@ -46,7 +46,7 @@ abbrev pub KeepsTraces : Ended → Ended → Type 0
 KeepsTraces old new = new.traces ≡ old.traces
 
 -- these packets in the order of moment, sender and number, each with the fates of its copies
-pub record IsLogOf (n : NetTold) (sends : List Sent) (log : List Packet) : Type 0 where
+pub record IsLogOf (n : NetModel) (sends : List Sent) (log : List Packet) : Type 0 where
   pub sorted : List Sent
   pub same : IsPermutation sends sorted
   pub in_order : IsSortedBy is_sooner sorted

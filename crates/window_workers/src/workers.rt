@@ -24,8 +24,8 @@ use crate::traces::joined_traces;
 use all_workers::Workers;
 use copy_exchange::{make_inboxes, pair_inboxes, split_pairs};
 use copy_inbox::{Inbox, Taker};
-use joined_workers::run_group;
-use marked_workers::run_marked;
+use joined_workers::run_by_joins;
+use marked_workers::run_by_marks;
 use mote_net::{Net, Report};
 use serial_run::RunError;
 use std::alloc::{AllocGlobal, Global};
@@ -98,8 +98,8 @@ where
     ensures err { IfErr result (IsAnswerTo None) }
 {
     let ran = match sync {
-        SyncKind::Joins => run_group(rt, alloc, net, of, longest, gate, group),
-        SyncKind::Marks => run_marked(rt, alloc, net, of, longest, gate, group),
+        SyncKind::Joins => run_by_joins(rt, alloc, net, of, longest, gate, group),
+        SyncKind::Marks => run_by_marks(rt, alloc, net, of, longest, gate, group),
     };
     match ran {
         Ok(group) => Ok(group),

@@ -1,5 +1,7 @@
 -- A mote comes back to its share.
-use Rattle.std.proofs.Common.{◌≡◌, ℕ, ◌+◌, ◌<◌, ◌≤◌, Bool, true, false, cond, not, ◌&&◌, ◌||◌, ltb, eqb, List, [], ◌∷◌, ◌++◌, length, map, get_or, refl, sym, ap, ◌∙◌, subst, inl, inr, arith, append-nil, Option, Some, None, get_or-set_same, get_or-set_other}
+use Rattle.std.proofs.Common.{◌≡◌, ℕ, ◌+◌, ◌<◌, ◌≤◌, Bool, true, false, cond, not, ◌&&◌, ◌||◌, ltb, eqb, List, [], ◌∷◌}
+use Rattle.std.proofs.Common.{◌++◌, length, map, get_or, refl, sym, ap, ◌∙◌, subst, inl, inr, arith, append-nil}
+use Rattle.std.proofs.Common.{Option, Some, None, get_or-set_same, get_or-set_other}
 use Rattle.std.specs.Prelude.{Vec}
 use Rattle.std.specs.List.{filter, flat_map, AllByRecursion}
 use Rattle.std.specs.declared.alloc.Global.{Global}
@@ -13,12 +15,14 @@ use Rattle.mote_node.specs.Node.{Node, is_past}
 use Rattle.mote_node.specs.Wake.{wake_of}
 use Rattle.radio_packet.specs.declared.copy.RadioCopy.{RadioCopy}
 use Rattle.radio_medium.specs.Medium.{copies}
-use Rattle.mote_net.specs.Net.{NetTold}
+use Rattle.mote_net.specs.Net.{NetModel}
 use Rattle.window_laws.specs.Agenda.{Item, Wake, Packet, is_wake_of, packets, wake_items}
 use Rattle.window_laws.specs.NetStep.{put}
 use Rattle.window_laws.specs.Windows.{LoneMote, NoneBefore, copies_by, is_from_sender, is_sent_by}
-use Rattle.window_laws.proofs.Agenda.{packets_append, packets_map, packets_wake, no_wake_in_packets, own_wake, other_wake}
-use Rattle.window_laws.proofs.Lists.{filter_none, filter_every, filter_stronger, every_filter, every_passes, every_weaker}
+use Rattle.window_laws.proofs.Agenda.{packets_append, packets_map, packets_wake, no_wake_in_packets, own_wake}
+use Rattle.window_laws.proofs.Agenda.{other_wake}
+use Rattle.window_laws.proofs.Lists.{filter_none, filter_every, filter_stronger, every_filter, every_passes}
+use Rattle.window_laws.proofs.Lists.{every_weaker}
 use Rattle.worker_window.specs.declared.out.WindowOut.{WindowOut}
 use Rattle.net_agenda.specs.Buckets.{Holds}
 use Rattle.net_agenda.specs.Changes.{without_wakes}
@@ -75,7 +79,7 @@ other_woken j k ne items = filter_stronger (is_wake_of j) (λ item. not (is_wake
     other (Wake t m) e = ap not (ne_eqb m k (λ f. ne (sym (eqb-true m j e) ∙ f)))
     other (Packet c) e = absurd (false≢true e)
 
-module _ (n : NetTold) (of : List ℕ) (worker from until : ℕ) (before now : Motes) (taken : List RadioCopy) (window_copies : ℕ → List RadioCopy) (placed : length n.radio.places ≡ length n.motes)
+module _ (n : NetModel) (of : List ℕ) (worker from until : ℕ) (before now : Motes) (taken : List RadioCopy) (window_copies : ℕ → List RadioCopy) (placed : length n.radio.places ≡ length n.motes)
     (short : until ≤ from + (system_of n).lookahead) (others : List ℕ) (k : ℕ) (new : is_one_of k others ≡ false) (out : WindowOut) (back : IsBack n (is_own of worker) from until before window_copies k out)
     (waits : now k ≡ before k) where
   abbrev own : ℕ → Bool

@@ -1,5 +1,6 @@
 -- A share before the motes' first turns.
-use Rattle.std.proofs.Common.{◌≡◌, ℕ, ◌+◌, ◌<◌, Bool, true, cond, ltb, List, [], ◌∷◌, ◌++◌, length, map, get_or, refl, sym, ap, ◌∙◌, subst, inl, inr, arith, add-one, zero-le, Option, Some, None}
+use Rattle.std.proofs.Common.{◌≡◌, ℕ, ◌+◌, ◌<◌, Bool, true, cond, ltb, List, [], ◌∷◌, ◌++◌, length, map, get_or, refl}
+use Rattle.std.proofs.Common.{sym, ap, ◌∙◌, subst, inl, inr, arith, add-one, zero-le, Option, Some, None}
 use Rattle.std.specs.Prelude.{Vec}
 use Rattle.std.specs.List.{filter}
 use Rattle.std.specs.declared.alloc.Global.{Global}
@@ -10,7 +11,7 @@ use Rattle.std.proofs.lemmas.Option.{slice_get_cases}
 use Rattle.trace_lines.specs.declared.line.Line.{Line}
 use Rattle.mote_node.specs.Node.{is_past}
 use Rattle.mote_node.specs.Wake.{wake_of}
-use Rattle.mote_net.specs.Net.{NetTold}
+use Rattle.mote_net.specs.Net.{NetModel}
 use Rattle.window_laws.specs.Agenda.{Wake, packets, is_wake_of, wake_items, mote_of, up_to}
 use Rattle.window_laws.specs.Windows.{NoneBefore, first_mote, is_from_sender, is_sent_by}
 use Rattle.window_laws.proofs.Agenda.{first_wakes, packets_wakes}
@@ -47,7 +48,7 @@ only_own : (own : ℕ → Bool) (k : ℕ) (wake : Option ℕ) → filter (λ ite
 only_own own k None = elim (cases_Bool (own k)) [ inl e ↦ rw e refl | inr e ↦ rw e refl ]
 only_own own k (Some t) = refl
 
-module _ (n : NetTold) (of : List ℕ) (worker : ℕ) (long : length of ≡ length n.motes) where
+module _ (n : NetModel) (of : List ℕ) (worker : ℕ) (long : length of ≡ length n.motes) where
   abbrev own : ℕ → Bool
   own = is_own of worker
 

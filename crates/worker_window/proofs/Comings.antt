@@ -1,12 +1,13 @@
 -- A worker's window: the motes that are called are lent, run, and come back one after another.
-use Rattle.std.proofs.Common.{◌≡◌, ℕ, ◌+◌, ◌<◌, ◌≤◌, ◌^◌, Bool, true, false, not, ◌&&◌, ◌||◌, eqb, List, [], ◌∷◌, ◌++◌, length, refl, sym, ap, ◌∙◌, subst, inl, inr, arith, append_assoc, Option}
+use Rattle.std.proofs.Common.{◌≡◌, ℕ, ◌+◌, ◌<◌, ◌≤◌, ◌^◌, Bool, true, false, not, ◌&&◌, ◌||◌, eqb, List, [], ◌∷◌, ◌++◌}
+use Rattle.std.proofs.Common.{length, refl, sym, ap, ◌∙◌, subst, inl, inr, arith, append_assoc, Option}
 use Rattle.std.specs.List.{filter, flat_map, AllByRecursion, AllZip}
 use Rattle.std.proofs.lemmas.Bool.{cases_eq, eq-eqb, ne_eqb, false≢true}
 use Rattle.std.proofs.lemmas.List.Elements.{filter-append}
 use Rattle.radio_packet.specs.declared.copy.RadioCopy.{RadioCopy}
 use Rattle.radio_medium.specs.Medium.{copies}
 use Rattle.radio_medium.proofs.Copies.{copies_later}
-use Rattle.mote_net.specs.Net.{NetTold}
+use Rattle.mote_net.specs.Net.{NetModel}
 use Rattle.window_laws.specs.Windows.{Alone, is_at, is_within, is_from_sender}
 use Rattle.window_laws.proofs.Lists.{every_append, every_weaker, every_filter, every_flat_map}
 use Rattle.worker_window.specs.declared.out.WindowOut.{WindowOut}
@@ -22,14 +23,14 @@ use Rattle.worker_window.proofs.Lent.{among_more, different_less}
 use Rattle.worker_window.proofs.Back.{next, at_k, elsewhere, out_more, is_back}
 
 -- what a mote of this worker gave
-pub record IsFitOwn (n : NetTold) (of : List ℕ) (worker until : ℕ) (out : WindowOut) : Type 0 where
+pub record IsFitOwn (n : NetModel) (of : List ℕ) (worker until : ℕ) (out : WindowOut) : Type 0 where
   pub number : ℕ
   pub mine : is_own of worker number ≡ true
   pub there : number < length n.motes
   pub numbered : HasNumber number out.mote
   pub sent : AllByRecursion (IsSentIn number 0 until) out.sends.items
 
-pub fits : (n : NetTold) (of : List ℕ) (worker until motes : ℕ) (out : WindowOut) → IsFitOwn n of worker until out → motes ≡ length n.motes → until ≤ 2 ^ 40 → IsOutOfMote motes out
+pub fits : (n : NetModel) (of : List ℕ) (worker until motes : ℕ) (out : WindowOut) → IsFitOwn n of worker until out → motes ≡ length n.motes → until ≤ 2 ^ 40 → IsOutOfMote motes out
 fits n of worker until motes out fit e early = record {
   number = fit.number;
   numbered = fit.numbered;
@@ -40,7 +41,7 @@ fits n of worker until motes out fit e early = record {
     le_chain : (a b c : ℕ) → a < b → b ≤ c → a ≤ c
     le_chain a b c h k = omega arith
 
-pub go_out : (n : NetTold) (of : List ℕ) (worker until : ℕ) (out : WindowOut) → length n.radio.places ≡ length n.motes → IsFitOwn n of worker until out
+pub go_out : (n : NetModel) (of : List ℕ) (worker until : ℕ) (out : WindowOut) → length n.radio.places ≡ length n.motes → IsFitOwn n of worker until out
     → AllByRecursion (IsOutgoing n of worker) (filter (is_for_others (is_own of worker)) (flat_map (copies n.radio) out.sends.items))
 go_out n of worker until out placed fit =
     every_filter _ _ (is_for_others (is_own of worker)) (λ c h e. record { sender = ap (is_own of worker) h.0 ∙ fit.mine; to = not_true (is_own of worker c.to) e; there = h.1 }) (flat_map (copies n.radio) out.sends.items)
@@ -100,7 +101,7 @@ abbrev pub IsPending : (until : ℕ) → Motes → (k : ℕ) → (wake : Option 
 IsPending until motes k wake = wake ≡ wake_from until (motes k).wake
 
 -- some motes are still lent
-pub record Coming (n : NetTold) (of : List ℕ) (worker from until : ℕ) (motes : Motes) (taken : List RadioCopy) (window_copies : ℕ → List RadioCopy) (share : Share) (outs : List WindowOut) (wakes : List (Option ℕ)) (outgoing : List RadioCopy) : Type 0 where
+pub record PendingEvent (n : NetModel) (of : List ℕ) (worker from until : ℕ) (motes : Motes) (taken : List RadioCopy) (window_copies : ℕ → List RadioCopy) (share : Share) (outs : List WindowOut) (wakes : List (Option ℕ)) (outgoing : List RadioCopy) : Type 0 where
   pub rest : List ℕ
   pub different : are_different rest ≡ true
   pub now : Motes
@@ -121,13 +122,13 @@ or_yes : (b : Bool) → (b || true) ≡ true
 or_yes true = refl
 or_yes false = refl
 
-module _ (n : NetTold) (of : List ℕ) (worker from until : ℕ) (motes : Motes) (taken : List RadioCopy) (window_copies : ℕ → List RadioCopy) (placed : length n.radio.places ≡ length n.motes)
+module _ (n : NetModel) (of : List ℕ) (worker from until : ℕ) (motes : Motes) (taken : List RadioCopy) (window_copies : ℕ → List RadioCopy) (placed : length n.radio.places ≡ length n.motes)
     (short : until ≤ from + (system_of n).lookahead) where
   abbrev mine : ℕ → Bool
   mine = is_own of worker
 
   module _ (old share : Share) (outs more : List WindowOut) (out : WindowOut) (popped : outs ≡ more ++ out ∷ []) (wakes less : List (Option ℕ)) (wake : Option ℕ) (woken : wakes ≡ less ++ wake ∷ []) (before after : List RadioCopy)
-      (coming : Coming n of worker from until motes taken window_copies old outs wakes before) (returns : (k : ℕ) → HasNumber k out.mote → MoteReturns n.radio of k wake out old share before after) where
+      (coming : PendingEvent n of worker from until motes taken window_copies old outs wakes before) (returns : (k : ℕ) → HasNumber k out.mote → MoteReturns n.radio of k wake out old share before after) where
     l : Last (IsBack n mine from until motes window_copies) coming.rest more out
     l = last_of (IsBack n mine from until motes window_copies) coming.rest more out (subst (AllZip (IsBack n mine from until motes window_copies) coming.rest) popped coming.backs)
 
@@ -189,7 +190,7 @@ module _ (n : NetTold) (of : List ℕ) (worker from until : ℕ) (motes : Motes)
         (every_append _ before _ coming.late
         (every_filter _ _ (is_for_others mine) (λ copy h e. h.late) (flat_map (copies n.radio) out.sends.items) (come_late n from until placed short k out.sends.items l.last.sent)))
 
-    pub one_back : Coming n of worker from until motes taken window_copies share more less after
+    pub one_back : PendingEvent n of worker from until motes taken window_copies share more less after
     one_back = record {
       rest = front;
       different = d.0;
@@ -208,7 +209,7 @@ module _ (n : NetTold) (of : List ℕ) (worker from until : ℕ) (motes : Motes)
       late = late_then;
     }
 
-module _ (n : NetTold) (of : List ℕ) (worker from until : ℕ) (motes : Motes) (taken : List RadioCopy) (window_copies : ℕ → List RadioCopy) where
+module _ (n : NetModel) (of : List ℕ) (worker from until : ℕ) (motes : Motes) (taken : List RadioCopy) (window_copies : ℕ → List RadioCopy) where
   abbrev all_mine : ℕ → Bool
   all_mine = is_own of worker
 
@@ -216,7 +217,7 @@ module _ (n : NetTold) (of : List ℕ) (worker from until : ℕ) (motes : Motes)
   and_yes true = refl
   and_yes false = refl
 
-  pub all_back : (share : Share) (outs : List WindowOut) (wakes : List (Option ℕ)) (outgoing : List RadioCopy) → outs ≡ [] → Coming n of worker from until motes taken window_copies share outs wakes outgoing
+  pub all_back : (share : Share) (outs : List WindowOut) (wakes : List (Option ℕ)) (outgoing : List RadioCopy) → outs ≡ [] → PendingEvent n of worker from until motes taken window_copies share outs wakes outgoing
       → ((k : ℕ) → all_mine k ≡ true → (t s : ℕ) → filter (is_from_sender s) (filter (is_at t) (window_copies k)) ≡ filter (is_at t) (filter (is_within k from until) (copies_seen (system_of n) all_mine motes taken s)))
       → RunsWindow n of worker from until motes taken share outgoing
   all_back share outs wakes outgoing e coming given_to = record {

@@ -1,5 +1,6 @@
 -- The motes that are called are the worker's, and give what motes of a net give.
-use Rattle.std.proofs.Common.{◌≡◌, ℕ, ◌<◌, ◌≤◌, Bool, true, List, [], ◌∷◌, ◌++◌, length, map, refl, sym, ap, ◌∙◌, subst, arith, zero-le, Option, Some, None, is_some, IsSome}
+use Rattle.std.proofs.Common.{◌≡◌, ℕ, ◌<◌, ◌≤◌, Bool, true, List, [], ◌∷◌, ◌++◌, length, map, refl, sym, ap, ◌∙◌}
+use Rattle.std.proofs.Common.{subst, arith, zero-le, Option, Some, None, is_some, IsSome}
 use Rattle.std.specs.List.{AllByRecursion}
 use Rattle.program_tree.specs.Code.{Tree}
 use Rattle.std.specs.Prelude.{Vec}
@@ -8,7 +9,7 @@ use Rattle.trace_lines.specs.declared.line.Line.{Line}
 use Rattle.mote_node.specs.declared.mote.Mote.{Mote}
 use Rattle.mote_node.specs.Node.{Node}
 use Rattle.radio_packet.specs.declared.copy.RadioCopy.{RadioCopy}
-use Rattle.mote_net.specs.Net.{NetTold}
+use Rattle.mote_net.specs.Net.{NetModel}
 use Rattle.window_laws.specs.Agenda.{Item, Packet, mote_of}
 use Rattle.window_laws.specs.Windows.{NoneBefore}
 use Rattle.window_laws.proofs.Lists.{every_weaker, every_append, every_map}
@@ -47,10 +48,10 @@ is_some_of : {X : Type 0} (o : Option X) → IsSome o → is_some o ≡ true
 is_some_of None h = h
 is_some_of (Some x) h = refl
 
-abbrev pub kept_of : {n : NetTold} {of : List ℕ} {until : ℕ} {share : Share} {arrived : List RadioCopy} → CanRun n of until share arrived → IsKept n of share
+abbrev pub kept_of : {n : NetModel} {of : List ℕ} {until : ℕ} {share : Share} {arrived : List RadioCopy} → CanRun n of until share arrived → IsKept n of share
 kept_of r = record { worker = r.worker; from = r.from; motes = r.motes; taken = r.taken; keeps = r.keeps }
 
-module _ (n : NetTold) (of : List ℕ) (share : Share) (kept : IsKept n of share) (arrived : List RadioCopy) (to_own : AllByRecursion (λ copy. is_own of share.worker copy.to ≡ true) arrived) (long : length of ≡ length n.motes) where
+module _ (n : NetModel) (of : List ℕ) (share : Share) (kept : IsKept n of share) (arrived : List RadioCopy) (to_own : AllByRecursion (λ copy. is_own of share.worker copy.to ≡ true) arrived) (long : length of ≡ length n.motes) where
   abbrev pub all_items : List Item
   all_items = kept.keeps.agenda.items ++ map Packet arrived
 

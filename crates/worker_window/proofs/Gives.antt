@@ -1,5 +1,7 @@
 -- What a mote gave in its window, as the net has it.
-use Rattle.std.proofs.Common.{◌≡◌, ◌⊎◌, ℕ, ◌+◌, ◌<◌, ◌≤◌, Bool, true, false, List, [], ◌∷◌, ◌++◌, length, map, refl, sym, ap, ◌∙◌, subst, inl, inr, arith, append-nil, Option, Some, None, option_map, unwrap_or, slice_get, get_or}
+use Rattle.std.proofs.Common.{◌≡◌, ◌⊎◌, ℕ, ◌+◌, ◌<◌, ◌≤◌, Bool, true, false, List, [], ◌∷◌, ◌++◌, length, map, refl}
+use Rattle.std.proofs.Common.{sym, ap, ◌∙◌, subst, inl, inr, arith, append-nil, Option, Some, None, option_map}
+use Rattle.std.proofs.Common.{unwrap_or, slice_get, get_or}
 use Rattle.std.specs.List.{flat_map, AllByRecursion}
 use Rattle.std.proofs.lemmas.Option.{slice_get_cases}
 use Rattle.trace_lines.specs.declared.line.Line.{Line}
@@ -13,7 +15,7 @@ use Rattle.mote_laws.proofs.Stamps.{turns_stamp}
 use Rattle.radio_packet.specs.declared.copy.RadioCopy.{RadioCopy}
 use Rattle.radio_medium.specs.Medium.{copies, lookahead}
 use Rattle.radio_medium.proofs.Copies.{copies_later}
-use Rattle.mote_net.specs.Net.{MoteSetup, NetTold}
+use Rattle.mote_net.specs.Net.{MoteSetup, NetModel}
 use Rattle.window_laws.specs.Forward.{IsLater}
 use Rattle.window_laws.specs.NetStep.{stamped}
 use Rattle.window_laws.specs.Windows.{LoneMote, NoneBefore, lone_turn, IsQuiet, Alone}
@@ -38,7 +40,7 @@ pub record IsSentIn (k from until : ℕ) (sent : Sent) : Type 0 where
   pub soon : sent.at < until
 
 -- a mote back from its window, in which it ran alone
-pub record IsBack (n : NetTold) (own : ℕ → Bool) (from until : ℕ) (motes : Motes) (window_copies : ℕ → List RadioCopy) (k : ℕ) (out : WindowOut) : Type 0 where
+pub record IsBack (n : NetModel) (own : ℕ → Bool) (from until : ℕ) (motes : Motes) (window_copies : ℕ → List RadioCopy) (k : ℕ) (out : WindowOut) : Type 0 where
   pub mine : own k ≡ true
   pub there : k < length n.motes
   pub last : LoneMote Node Line
@@ -54,14 +56,14 @@ pub record IsBack (n : NetTold) (own : ℕ → Bool) (from until : ℕ) (motes :
   pub sent : AllByRecursion (IsSentIn k from until) out.sends.items
 
 -- the mote that a window gave
-pub record IsTold (o : Option Node) (out : WindowOut) (last : LoneMote Node Line) : Type 0 where
+pub record IsFirstFault (o : Option Node) (out : WindowOut) (last : LoneMote Node Line) : Type 0 where
   pub node : o ≡ Some last.state
   pub wake : out.wake ≡ last.wake
   pub lines : out.lines.items ≡ last.lines
   pub sends : out.sends.items ≡ last.sends
 
 pub told_is : (o : Option Node) (out : WindowOut) (last : LoneMote Node Line)
-    → option_map (λ (x : Node). record { state = x; wake = out.wake; lines = out.lines.items; sends = out.sends.items }) o ≡ Some last → IsTold o out last
+    → option_map (λ (x : Node). record { state = x; wake = out.wake; lines = out.lines.items; sends = out.sends.items }) o ≡ Some last → IsFirstFault o out last
 told_is None out last e = cc
 told_is (Some x) out last e =
     let f : record { state = x; wake = out.wake; lines = out.lines.items; sends = out.sends.items } ≡ last = cc in record {
@@ -71,7 +73,7 @@ told_is (Some x) out last e =
       sends = ap (λ (m : LoneMote Node Line). m.sends) f;
     }
 
-mote_there : (n : NetTold) (k : ℕ) → k < length n.motes → slice_get n.motes k ≡ Some (mote_at n.motes k)
+mote_there : (n : NetModel) (k : ℕ) → k < length n.motes → slice_get n.motes k ≡ Some (mote_at n.motes k)
 mote_there n k h = of (slice_get n.motes k) refl ((slice_get_cases n.motes k).1)
   where
     of : (o : Option MoteSetup) → slice_get n.motes k ≡ o → ((x : MoteSetup) × (k < length n.motes) × (slice_get n.motes k ≡ Some x) × (get_or n.motes k x ≡ x)) ⊎ ((length n.motes ≤ k) × (slice_get n.motes k ≡ None))
@@ -84,7 +86,7 @@ mote_there n k h = of (slice_get n.motes k) refl ((slice_get_cases n.motes k).1)
     of (Some x) e w = e ∙ ap Some (sym (ap (λ o. unwrap_or o no_mote) e))
 
 -- the window of a lent mote that is a mote of the net
-pub gives_open : (n : NetTold) (until : ℕ) (r : LentMote) (out : WindowOut) (state : Node) → r.number < length n.motes → node_in (tree_at n r.number) r.mote ≡ Some state → LentMoteGives n until r out
+pub gives_open : (n : NetModel) (until : ℕ) (r : LentMote) (out : WindowOut) (state : Node) → r.number < length n.motes → node_in (tree_at n r.number) r.mote ≡ Some state → LentMoteGives n until r out
     → Gives (record { program = tree_at n r.number; until = until; copies = r.copies.items; mote = lone_node r.trace.items state }) out
 gives_open n until r out state h f g =
     let e = mote_there n r.number h in
@@ -93,11 +95,11 @@ gives_open n until r out state h f g =
     is
 
 -- and what comes to it comes after its last turn
-pub goes_open : (n : NetTold) (until : ℕ) (r : LentMote) (state : Node) → r.number < length n.motes → node_in (tree_at n r.number) r.mote ≡ Some state
+pub goes_open : (n : NetModel) (until : ℕ) (r : LentMote) (state : Node) → r.number < length n.motes → node_in (tree_at n r.number) r.mote ≡ Some state
     → IsAhead (record { program = tree_at n r.number; until = until; copies = r.copies.items; mote = lone_node r.trace.items state }) → LentMoteGoesOn n until r
 goes_open n until r state h f ahead = let e = mote_there n r.number h in rw (e, f) ahead
 
-module _ (n : NetTold) (from until : ℕ) where
+module _ (n : NetModel) (from until : ℕ) where
   later : (mote : ℕ) (state : Node) (moment : ℕ) (given : List RadioCopy) → IsLater moment ((system_of n).turn mote state moment given).wake
   unfolding system_of
   later mote state moment given = wakes_later moment (map arrival_of given) state
@@ -149,7 +151,7 @@ module _ (n : NetTold) (from until : ℕ) where
             (λ t m g h l e. every_append (IsSentIn k from until) m.sends _ e (stamps k t h l _)) quiet tt alone);
       }
         where
-          told : IsTold (node_in (tree_at n k) out.mote) out gives.last
+          told : IsFirstFault (node_in (tree_at n k) out.mote) out gives.last
           told = told_is (node_in (tree_at n k) out.mote) out gives.last gives.given
 
           alone : Alone (system_of n) k until (window_copies k) (lone_node (motes k).lines (motes k).state) gives.last

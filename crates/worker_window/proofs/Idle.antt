@@ -1,10 +1,11 @@
 -- A share stays one at later moments, up to its first pending event.
-use Rattle.std.proofs.Common.{◌≡◌, ℕ, ◌≤◌, Bool, true, false, not, ◌&&◌, ◌||◌, ltb, eqb, List, [], refl, sym, ap, ◌∙◌, subst, arith, Option, Some, None}
+use Rattle.std.proofs.Common.{◌≡◌, ℕ, ◌≤◌, Bool, true, false, not, ◌&&◌, ◌||◌, ltb, eqb, List, [], refl, sym, ap, ◌∙◌}
+use Rattle.std.proofs.Common.{subst, arith, Option, Some, None}
 use Rattle.std.specs.List.{filter, AllByRecursion}
 use Rattle.std.proofs.lemmas.Bool.{and_parts, eqb-true}
 use Rattle.std.proofs.lemmas.Bool.Decides.{nat_tests}
 use Rattle.radio_packet.specs.declared.copy.RadioCopy.{RadioCopy}
-use Rattle.mote_net.specs.Net.{NetTold}
+use Rattle.mote_net.specs.Net.{NetModel}
 use Rattle.window_laws.specs.Agenda.{Item, moment_of, mote_of, comes_at, packets, wake_items, IsLeast}
 use Rattle.window_laws.specs.Windows.{NoneBefore, is_from_sender}
 use Rattle.window_laws.proofs.Lists.{any_every, every_weaker, every_filter, filter_both, filter_every}
@@ -30,7 +31,7 @@ wakes_later : (moment k : ℕ) (wake : Option ℕ) → AllByRecursion (λ item. 
 wakes_later moment k None h = tt
 wakes_later moment k (Some t) h = h.0
 
-module _ (n : NetTold) (of : List ℕ) (worker from : ℕ) (motes : Motes) (taken : List RadioCopy) (share : Share) (keeps : Keeps n of worker from motes taken share) where
+module _ (n : NetModel) (of : List ℕ) (worker from : ℕ) (motes : Motes) (taken : List RadioCopy) (share : Share) (keeps : Keeps n of worker from motes taken share) where
   abbrev pub own : ℕ → Bool
   own = is_own of worker
 

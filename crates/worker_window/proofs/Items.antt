@@ -1,10 +1,11 @@
 -- The items of a share's agenda: wakes of the worker's motes and copies for them, none before the share's moment.
-use Rattle.std.proofs.Common.{◌≡◌, ℕ, ◌≤◌, Bool, true, false, cond, not, ◌&&◌, ltb, eqb, List, [], ◌∷◌, refl, sym, ap, subst, inl, inr, arith, Option, Some, None}
+use Rattle.std.proofs.Common.{◌≡◌, ℕ, ◌≤◌, Bool, true, false, cond, not, ◌&&◌, ltb, eqb, List, [], ◌∷◌, refl, sym, ap}
+use Rattle.std.proofs.Common.{subst, inl, inr, arith, Option, Some, None}
 use Rattle.std.specs.List.{filter, AllByRecursion}
 use Rattle.std.proofs.lemmas.Bool.{cases_Bool, eq-eqb, and_parts, le-ltb}
 use Rattle.std.proofs.lemmas.Bool.Decides.{nat_tests}
 use Rattle.radio_packet.specs.declared.copy.RadioCopy.{RadioCopy}
-use Rattle.mote_net.specs.Net.{NetTold}
+use Rattle.mote_net.specs.Net.{NetModel}
 use Rattle.window_laws.specs.Agenda.{Item, Wake, Packet, moment_of, mote_of, is_wake_of, packets, wake_items}
 use Rattle.window_laws.specs.Windows.{NoneBefore, is_from_sender}
 use Rattle.window_laws.proofs.Lists.{every_passes, every_weaker}
@@ -71,7 +72,7 @@ all_wakes own from motes quiet k = of (own k) refl
     of true e = ap (wake_items k) (wake_still from (motes k).wake (quiet k e))
     of false e = refl
 
-module _ (n : NetTold) (own : ℕ → Bool) (from : ℕ) (motes : Motes) (taken : List RadioCopy) (buckets : Buckets) (has : HasToCome n own from motes taken buckets) where
+module _ (n : NetModel) (own : ℕ → Bool) (from : ℕ) (motes : Motes) (taken : List RadioCopy) (buckets : Buckets) (has : HasToCome n own from motes taken buckets) where
   -- an item is for a mote of the worker, and not before the moment
   abbrev pub IsInside : Item → Type 0
   IsInside item = (own (mote_of item) ≡ true) × (from ≤ moment_of item)

@@ -1,5 +1,7 @@
 -- Motes are lent out of a share one after another.
-use Rattle.std.proofs.Common.{◌≡◌, ℕ, zero, suc, ◌<◌, Bool, true, false, cond, not, ◌||◌, eqb, List, [], ◌∷◌, ◌++◌, length, get_or, set, refl, sym, ap, ◌∙◌, subst, inl, inr, arith, Option, Some, None, is_some, get_or-set_same, get_or-set_other}
+use Rattle.std.proofs.Common.{◌≡◌, ℕ, zero, suc, ◌<◌, Bool, true, false, cond, not, ◌||◌, eqb, List, [], ◌∷◌, ◌++◌}
+use Rattle.std.proofs.Common.{length, get_or, set, refl, sym, ap, ◌∙◌, subst, inl, inr, arith, Option, Some, None}
+use Rattle.std.proofs.Common.{is_some, get_or-set_same, get_or-set_other}
 use Rattle.std.specs.List.{AllByRecursion, AllZip}
 use Rattle.std.proofs.lemmas.Bool.{cases_Bool, cases_eq, eq-eqb, ne_eqb, eqb-true, false≢true, and_parts}
 use Rattle.std.proofs.lemmas.List.{map-append, length-set}
@@ -9,14 +11,15 @@ use Rattle.trace_lines.specs.declared.line.Line.{Line}
 use Rattle.mote_node.specs.declared.mote.Mote.{Mote}
 use Rattle.window_laws.proofs.Lists.{every_append}
 use Rattle.radio_packet.specs.declared.copy.RadioCopy.{RadioCopy}
-use Rattle.mote_net.specs.Net.{NetTold}
+use Rattle.mote_net.specs.Net.{NetModel}
 use Rattle.worker_window.specs.declared.lent_mote.LentMote.{LentMote}
 use Rattle.worker_window.specs.declared.share.Share.{Share}
 use Rattle.worker_window.specs.declared.slot.Slot.{Slot}
 use Rattle.worker_window.specs.Slots.{IsOf}
 use Rattle.worker_window.specs.Calls.{CalledMotes, copies_for}
 use Rattle.worker_window.specs.Share.{mote_here}
-use Rattle.worker_window.specs.Lending.{is_one_of, are_different, numbers_of, IsCalled, IsWakeOf, MotesAreLent, TakesTrace}
+use Rattle.worker_window.specs.Lending.{is_one_of, are_different, numbers_of, IsCalled, IsWakeOf, MotesAreLent}
+use Rattle.worker_window.specs.Lending.{TakesTrace}
 
 -- some of the motes that are called are lent, and the rest are still to be
 pub record Lent (until : ℕ) (calls rest : CalledMotes) (old now : List (Option Mote)) (traces left : List (Vec Line Global)) (lent_motes : List LentMote) (wakes : List (Option ℕ)) : Type 0 where
@@ -245,7 +248,7 @@ all_lent until calls rest old now traces left lent_motes wakes lent none = recor
     each k false e = let h = rw e at (lent.others k) in e ∙ ap is_some (sym (none k) ∙ h)
 
 -- some of the motes that are called are lent, and these are the slots of their windows
-pub record Lends {G : Type 0} (n : NetTold) (until : ℕ) (calls rest : CalledMotes) (old now : Share) (slots : List (Slot G)) (wakes : List (Option ℕ)) : Type 0 where
+pub record Lends {G : Type 0} (n : NetModel) (until : ℕ) (calls rest : CalledMotes) (old now : Share) (slots : List (Slot G)) (wakes : List (Option ℕ)) : Type 0 where
   pub lent_motes : List LentMote
   pub lent : Lent until calls rest old.motes.items now.motes.items old.traces.items now.traces.items lent_motes wakes
   pub opened : AllZip (IsOf n until) lent_motes slots

@@ -5,7 +5,7 @@ use Rattle.trace_lines.specs.declared.line.Line.{Line}
 use Rattle.mote_node.specs.Node.{Node, new_node, is_past}
 use Rattle.mote_node.specs.Turn.{turn_of}
 use Rattle.radio_packet.specs.declared.copy.RadioCopy.{RadioCopy}
-use Rattle.mote_net.specs.Net.{NetTold}
+use Rattle.mote_net.specs.Net.{NetModel}
 use Rattle.window_laws.specs.Windows.{LoneMote, lone_turn}
 use Rattle.net_agenda.specs.NetSystem.{system_of, first_node_in}
 
@@ -19,13 +19,13 @@ pub past_later : (from moment : ℕ) → from ≤ moment → (last : Option ℕ)
 past_later from moment le None h = refl
 past_later from moment le (Some last) h = later_moment from moment last le h
 
-pub not_begun : (n : NetTold) (k moment : ℕ) → is_past moment (first_node_in n k).last ≡ false
+pub not_begun : (n : NetModel) (k moment : ℕ) → is_past moment (first_node_in n k).last ≡ false
 unfolding new_node
 not_begun n k moment = refl
 
-turn_ends : (n : NetTold) (k t : ℕ) (mote : LoneMote Node Line) (given : List RadioCopy) → (lone_turn (system_of n) t k mote given).state.last ≡ Some t
+turn_ends : (n : NetModel) (k t : ℕ) (mote : LoneMote Node Line) (given : List RadioCopy) → (lone_turn (system_of n) t k mote given).state.last ≡ Some t
 unfolding system_of turn_of
 turn_ends n k t mote given = refl
 
-pub turn_before : (n : NetTold) (k t until : ℕ) (mote : LoneMote Node Line) (given : List RadioCopy) → t < until → is_past until (lone_turn (system_of n) t k mote given).state.last ≡ false
+pub turn_before : (n : NetModel) (k t until : ℕ) (mote : LoneMote Node Line) (given : List RadioCopy) → t < until → is_past until (lone_turn (system_of n) t k mote given).state.last ≡ false
 turn_before n k t until mote given h = ap (is_past until) (turn_ends n k t mote given) ∙ not_past t until h

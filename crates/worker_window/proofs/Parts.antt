@@ -1,16 +1,18 @@
 -- The window of a worker: what its agenda has for each mote, and what stays in the share.
-use Rattle.std.proofs.Common.{◌≡◌, ℕ, ◌<◌, ◌≤◌, Bool, true, false, cond, not, ◌&&◌, ltb, eqb, List, [], ◌∷◌, ◌++◌, map, refl, sym, ap, ◌∙◌, subst, inl, inr, arith, append-nil, Option, Some, None}
+use Rattle.std.proofs.Common.{◌≡◌, ℕ, ◌<◌, ◌≤◌, Bool, true, false, cond, not, ◌&&◌, ltb, eqb, List, [], ◌∷◌, ◌++◌, map}
+use Rattle.std.proofs.Common.{refl, sym, ap, ◌∙◌, subst, inl, inr, arith, append-nil, Option, Some, None}
 use Rattle.std.specs.List.{filter, list_any, AllByRecursion}
 use Rattle.std.proofs.lemmas.Bool.{cases_Bool, cases_lt, eq-eqb, ne_eqb, eqb-true, false≢true, lt-ltb}
 use Rattle.std.proofs.lemmas.Bool.Decides.{nat_tests}
 use Rattle.std.proofs.lemmas.List.Elements.{filter-append}
 use Rattle.radio_packet.specs.declared.copy.RadioCopy.{RadioCopy}
-use Rattle.mote_net.specs.Net.{NetTold}
+use Rattle.mote_net.specs.Net.{NetModel}
 use Rattle.window_laws.specs.Order.{in_order}
 use Rattle.window_laws.specs.Agenda.{Item, Packet, moment_of, mote_of, is_wake_of, comes_at, packets, wake_items}
 use Rattle.window_laws.specs.Windows.{NoneBefore, is_at, is_from_sender, is_within, copies_by, Alone, Rests}
 use Rattle.window_laws.proofs.Agenda.{packets_filter, packets_append, packets_map, no_wake_in_packets}
-use Rattle.window_laws.proofs.Lists.{filter_filter, filter_both, filter_none, filter_every, filter_never, every_append, every_weaker, every_filter, every_map, filled_any, unfilled}
+use Rattle.window_laws.proofs.Lists.{filter_filter, filter_both, filter_none, filter_every, filter_never, every_append}
+use Rattle.window_laws.proofs.Lists.{every_weaker, every_filter, every_map, filled_any, unfilled}
 use Rattle.window_laws.proofs.Order.{sorted_rising}
 use Rattle.net_agenda.specs.NetSystem.{system_of}
 use Rattle.worker_window.specs.declared.share.Share.{Share}
@@ -61,7 +63,7 @@ late_wakes : (until k : ℕ) (wake : Option ℕ) → filter (is_not_before until
 late_wakes until k None = refl
 late_wakes until k (Some t) = elim (cases_Bool (ltb t until)) [ inl e ↦ rw e refl | inr e ↦ rw e refl ]
 
-module _ (n : NetTold) (of : List ℕ) (worker from until : ℕ) (motes : Motes) (taken arrived : List RadioCopy) (share : Share) (keeps : Keeps n of worker from motes taken share)
+module _ (n : NetModel) (of : List ℕ) (worker from until : ℕ) (motes : Motes) (taken arrived : List RadioCopy) (share : Share) (keeps : Keeps n of worker from motes taken share)
     (le : from ≤ until) (come : AllByRecursion (IsExpected of worker from) arrived) where
   abbrev pub own : ℕ → Bool
   own = is_own of worker

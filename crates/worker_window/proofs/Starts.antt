@@ -1,11 +1,12 @@
 -- The motes that are called are lent, and give what their windows say.
-use Rattle.std.proofs.Common.{◌≡◌, ℕ, ◌<◌, ◌≤◌, Bool, true, false, cond, not, ◌&&◌, ltb, eqb, List, [], ◌++◌, length, refl, sym, ap, ◌∙◌, subst, arith, append-nil, Option, None, is_some}
+use Rattle.std.proofs.Common.{◌≡◌, ℕ, ◌<◌, ◌≤◌, Bool, true, false, cond, not, ◌&&◌, ltb, eqb, List, [], ◌++◌, length}
+use Rattle.std.proofs.Common.{refl, sym, ap, ◌∙◌, subst, arith, append-nil, Option, None, is_some}
 use Rattle.std.specs.List.{filter, list_any, AllByRecursion}
 use Rattle.std.proofs.lemmas.Bool.{eqb-true, and_parts}
 use Rattle.mote_node.specs.Public.{wake_in}
 use Rattle.mote_node.specs.Wake.{wake_of}
 use Rattle.radio_packet.specs.declared.copy.RadioCopy.{RadioCopy}
-use Rattle.mote_net.specs.Net.{NetTold}
+use Rattle.mote_net.specs.Net.{NetModel}
 use Rattle.window_laws.specs.Agenda.{Item, moment_of, mote_of}
 use Rattle.window_laws.specs.Windows.{is_sent_by, NoneBefore, IsQuiet}
 use Rattle.window_laws.proofs.Lists.{any_every, every_weaker}
@@ -29,8 +30,9 @@ use Rattle.worker_window.proofs.Begins.{own_there}
 use Rattle.worker_window.proofs.NoTurnIsPast.{past_later}
 use Rattle.worker_window.proofs.Gives.{IsBack, back, gives_open, goes_open}
 use Rattle.worker_window.proofs.Lone.{quiet_alike}
-use Rattle.worker_window.proofs.Parts.{items, window_copies, window_copies_from, alike, idle_alone, all_in, later, later_wakes, later_copies, quiet_else, here_parts}
-use Rattle.worker_window.proofs.Comings.{Coming, IsPending, zip_numbers}
+use Rattle.worker_window.proofs.Parts.{items, window_copies, window_copies_from, alike, idle_alone, all_in, later}
+use Rattle.worker_window.proofs.Parts.{later_wakes, later_copies, quiet_else, here_parts}
+use Rattle.worker_window.proofs.Comings.{PendingEvent, IsPending, zip_numbers}
 
 -- what holds of the mote of each item holds of each mote that is called
 pub called_in : (P : ℕ → Type 0) (until k : ℕ) (items : List Item) → AllByRecursion (λ item. P (mote_of item)) items → list_any (calls_for until k) items ≡ true → P k
@@ -45,7 +47,7 @@ held_still {a} {b} {items} e h = subst (λ (agenda : Agenda). Holds agenda.bucke
 abbrev pub IsLeft : (old new : Share) → Type 0
 IsLeft old new = (new.worker ≡ old.worker) × (new.log.items ≡ old.log.items)
 
-module _ (n : NetTold) (of : List ℕ) (worker from until : ℕ) (motes : Motes) (taken arrived : List RadioCopy) (old new : Share) (keeps : Keeps n of worker from motes taken old)
+module _ (n : NetModel) (of : List ℕ) (worker from until : ℕ) (motes : Motes) (taken arrived : List RadioCopy) (old new : Share) (keeps : Keeps n of worker from motes taken old)
     (le : from ≤ until) (come : AllByRecursion (IsExpected of worker from) arrived) (long : length of ≡ length n.motes)
     (calls : CalledMotes) (lent_motes : List LentMote) (wakes : List (Option ℕ)) (takes_events : TakesEventsBefore until (items n of worker from until motes taken arrived old keeps le come) calls)
     (holds : Holds new.agenda.buckets (later n of worker from until motes taken arrived old keeps le come))
@@ -130,7 +132,7 @@ module _ (n : NetTold) (of : List ℕ) (worker from until : ℕ) (motes : Motes)
   pub go_on : AreGoingOn n until lent_motes
   go_on = every_weaker (IsCalled calls old.motes.items old.traces.items) (LentMoteGoesOn n until) one_goes_on lent_motes lent.called
 
-  pub starts : (outs : List WindowOut) → GivesList n until lent_motes outs → IsLeft old new → Coming n of worker from until motes (taken ++ arrived) boxes new outs wakes []
+  pub starts : (outs : List WindowOut) → GivesList n until lent_motes outs → IsLeft old new → PendingEvent n of worker from until motes (taken ++ arrived) boxes new outs wakes []
   starts outs gives same = record {
     rest = numbers_of lent_motes;
     different = lent.different;

@@ -1,5 +1,6 @@
 -- The window after a turn, from the values that the code has.
-use Rattle.std.proofs.Common.{◌≡◌, ℕ, suc, ◌≤◌, true, List, [], ◌∷◌, ◌++◌, map, drop, length, Option, Some, None, option_map, refl, sym, ap, arith}
+use Rattle.std.proofs.Common.{◌≡◌, ℕ, suc, ◌≤◌, true, List, [], ◌∷◌, ◌++◌, map, drop, length, Option, Some, None}
+use Rattle.std.proofs.Common.{option_map, refl, sym, ap, arith}
 use Rattle.std.specs.Prelude.{IfSome}
 use Rattle.std.specs.List.{filter, take_while}
 use Rattle.program_tree.specs.Code.{Tree}
@@ -9,7 +10,7 @@ use Rattle.radio_packet.specs.declared.sent.Sent.{Sent}
 use Rattle.kernel_laws.specs.Stamps.{PacketsBear}
 use Rattle.mote_node.specs.declared.mote.TurnOut.{TurnOut}
 use Rattle.mote_node.specs.Node.{Node}
-use Rattle.mote_node.specs.Public.{turn_told}
+use Rattle.mote_node.specs.Public.{turn_given}
 use Rattle.mote_node.specs.Turn.{turn_of}
 use Rattle.mote_laws.proofs.Stamps.{turns_stamp}
 use Rattle.radio_packet.specs.declared.copy.RadioCopy.{RadioCopy}
@@ -36,7 +37,7 @@ stamped_is moment number (x ∷ xs) h =
     cc
 
 pub turned : (p : Tree) (until m : ℕ) (copies rest : List RadioCopy) (given : List Arrival) (wake : Option ℕ) (lines : List Line) (sends : List Sent) (n n' : Node) (out : TurnOut)
-    → IsTaken m copies given → rest ≡ drop (length given) copies → turn_told out n' ≡ turn_of m given n
+    → IsTaken m copies given → rest ≡ drop (length given) copies → turn_given out n' ≡ turn_of m given n
     → window_over p until rest out.wake (lines ++ out.lines.items) (sends ++ out.sends.items) n' ≡ window_after_turn m (window_over p until copies wake lines sends n)
 turned p until m copies rest given wake lines sends n n' out took cut made =
     let stamp = stamped_is m (number_of n) (turn_of m given n).sends ((turns_stamp m given n).packets) in
@@ -51,12 +52,12 @@ turned p until m copies rest given wake lines sends n n' out took cut made =
 pub turns_to : (p : Tree) (until m : ℕ) (copies rest : List RadioCopy) (given : List Arrival) (wake : Option ℕ) (lines : List Line) (sends : List Sent) (old new : Option Node) (out : TurnOut)
     → (old ≡ None → ⊥) → IfSome (option_map (window_over p until copies wake lines sends) old) (HasTurn m) → is_rising copies ≡ true
     → given ≡ map arrival_of (take_while (is_at m) copies) → rest ≡ drop (length given) copies
-    → option_map (turn_told out) new ≡ option_map (turn_of m given) old
+    → option_map (turn_given out) new ≡ option_map (turn_of m given) old
     → TurnsTo m (option_map (window_over p until copies wake lines sends) old) (option_map (window_over p until rest out.wake (lines ++ out.lines.items) (sends ++ out.sends.items)) new)
 turns_to p until m copies rest given wake lines sends None new out there left rising took cut made = absurd (there refl)
 turns_to p until m copies rest given wake lines sends (Some n) None out there left rising took cut made = cc
 turns_to p until m copies rest given wake lines sends (Some n) (Some n') out there left rising took cut made =
-    let made' : turn_told out n' ≡ turn_of m given n = cc in
+    let made' : turn_given out n' ≡ turn_of m given n = cc in
     turned p until m copies rest given wake lines sends n n' out (taken m copies given rising left.next.quiet.no_copies took) cut made'
 
 -- no turn is left if the next comes at the bound or after it

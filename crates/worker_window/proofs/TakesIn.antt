@@ -2,7 +2,7 @@
 use Rattle.std.proofs.Common.{◌∙◌, ℕ, ◌++◌, List, map, arith, sym}
 use Rattle.std.specs.List.{AllByRecursion}
 use Rattle.radio_packet.specs.declared.copy.RadioCopy.{RadioCopy}
-use Rattle.mote_net.specs.Net.{NetTold}
+use Rattle.mote_net.specs.Net.{NetModel}
 use Rattle.net_agenda.specs.declared.agenda.Agenda.{Agenda}
 use Rattle.net_agenda.specs.Buckets.{Holds}
 use Rattle.window_laws.specs.Agenda.{Packet}
@@ -12,7 +12,7 @@ use Rattle.worker_window.specs.Share.{Motes, Keeps}
 use Rattle.worker_window.proofs.Items.{all_wakes}
 use Rattle.worker_window.proofs.Parts.{items, wakes_now, known_now}
 
-pub takes_in : (n : NetTold) (of : List ℕ) (worker from : ℕ) (motes : Motes) (taken arrived : List RadioCopy) (share : Share) (agenda : Agenda) (keeps : Keeps n of worker from motes taken share)
+pub takes_in : (n : NetModel) (of : List ℕ) (worker from : ℕ) (motes : Motes) (taken arrived : List RadioCopy) (share : Share) (agenda : Agenda) (keeps : Keeps n of worker from motes taken share)
     → AllByRecursion (IsExpected of worker from) arrived → Holds agenda.buckets (keeps.agenda.items ++ map Packet arrived) → Keeps n of worker from motes (taken ++ arrived) (record share { agenda = agenda })
 takes_in n of worker from motes taken arrived share agenda keeps come holds = record {
   is_worker = keeps.is_worker;

@@ -2,7 +2,7 @@
 use Rattle.std.proofs.Common.{◌≡◌, ℕ, zero, suc, ◌<◌, List, [], ◌∷◌, ◌++◌, length, get_or, subst, arith}
 use Rattle.std.proofs.Math.ListN.{set}
 use Rattle.std.specs.List.{AllZip, AllByRecursion}
-use Rattle.mote_net.specs.Net.{NetTold}
+use Rattle.mote_net.specs.Net.{NetModel}
 use Rattle.worker_window.specs.declared.lent_mote.LentMote.{LentMote}
 use Rattle.worker_window.specs.declared.slot.Slot.{Slot}
 use Rattle.worker_window.specs.Shares.{AreGoingOn}
@@ -33,7 +33,7 @@ module _ {A B C : Type 0} (R : A → B → Type 0) (S : B → C → Type 0) (T :
   zip_zip (x ∷ xs) (y ∷ ys) [] h k = absurd k
 
 -- slots of lent motes that can go on
-pub slots_go_on : {G : Type 0} (n : NetTold) (until : ℕ) (rs : List LentMote) (slots : List (Slot G)) → AllZip (IsOf n until) rs slots → AreGoingOn n until rs → SlotsGoOn slots
+pub slots_go_on : {G : Type 0} (n : NetModel) (until : ℕ) (rs : List LentMote) (slots : List (Slot G)) → AllZip (IsOf n until) rs slots → AreGoingOn n until rs → SlotsGoOn slots
 slots_go_on n until [] [] h all = tt
 slots_go_on n until (r ∷ rs) (s ∷ slots) h all = (h.0.goes_on all.0, slots_go_on n until rs slots h.1 all.1)
 slots_go_on n until [] (s ∷ slots) h all = absurd h

@@ -4,7 +4,7 @@ use Rattle.std.specs.List.{filter}
 use Rattle.std.specs.declared.alloc.Global.{Global}
 use Rattle.trace_lines.specs.declared.line.Line.{Line}
 use Rattle.radio_packet.specs.declared.copy.RadioCopy.{RadioCopy}
-use Rattle.mote_net.specs.Net.{NetTold}
+use Rattle.mote_net.specs.Net.{NetModel}
 use Rattle.window_laws.specs.Windows.{is_from_sender, is_sent_by}
 use Rattle.net_agenda.specs.NetSystem.{system_of}
 use Rattle.worker_window.specs.declared.share.Ended.{Ended}
@@ -13,7 +13,7 @@ use Rattle.worker_window.specs.Log.{packets_in, HaveFates}
 use Rattle.worker_window.specs.Share.{Motes, is_to_come}
 
 -- the traces and the packets of the worker's motes, and how many copies are still on their way to them
-pub record TellsAtEnd (n : NetTold) (of : List ℕ) (worker from : ℕ) (motes : Motes) (taken : List RadioCopy)
+pub record TellsAtEnd (n : NetModel) (of : List ℕ) (worker from : ℕ) (motes : Motes) (taken : List RadioCopy)
     (ended : Ended) : Type 0 where
   pub traces_kept : length ended.traces.items ≡ length n.motes
   pub traces : (k : ℕ) → is_own of worker k ≡ true → (d : Vec Line Global)

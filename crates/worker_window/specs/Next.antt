@@ -2,7 +2,7 @@
 use Rattle.std.specs.Prelude.{ℕ, ◌≤◌, List, Option}
 use Rattle.std.specs.List.{filter, AllByRecursion as Each}
 use Rattle.radio_packet.specs.declared.copy.RadioCopy.{RadioCopy}
-use Rattle.mote_net.specs.Net.{NetTold}
+use Rattle.mote_net.specs.Net.{NetModel}
 use Rattle.window_laws.specs.Windows.{NoneBefore}
 use Rattle.net_agenda.specs.NetSystem.{system_of}
 use Rattle.worker_cut.specs.Crossed.{is_own, copies_seen}
@@ -10,14 +10,14 @@ use Rattle.worker_window.specs.declared.share.Share.{Share}
 use Rattle.worker_window.specs.Share.{Motes, Keeps, is_to_come}
 
 -- the copies from this sender that are still on their way to the worker's motes
-abbrev pub copies_to_come : NetTold → (of : List ℕ) → (worker from : ℕ) → Motes → (taken : List RadioCopy)
+abbrev pub copies_to_come : NetModel → (of : List ℕ) → (worker from : ℕ) → Motes → (taken : List RadioCopy)
     → (sender : ℕ) → List RadioCopy
 copies_to_come n of worker from motes taken sender =
     let own = is_own of worker in filter (is_to_come own from) (copies_seen (system_of n) own motes taken sender)
 
 -- `next` is the first pending event of a share at the moment `from`: it isn't before `from`; the share is also one at
 -- each later moment up to `next`; and no copy arrives before `next`.
-pub record IsNextFrom (n : NetTold) (of : List ℕ) (worker from : ℕ) (motes : Motes) (taken : List RadioCopy)
+pub record IsNextFrom (n : NetModel) (of : List ℕ) (worker from : ℕ) (motes : Motes) (taken : List RadioCopy)
     (share : Share) (next : Option ℕ) : Type 0 where
   pub wakes : NoneBefore from next
   pub idle : (moment : ℕ) → from ≤ moment → NoneBefore moment next → Keeps n of worker moment motes taken share
@@ -26,5 +26,5 @@ pub record IsNextFrom (n : NetTold) (of : List ℕ) (worker from : ℕ) (motes :
 
 -- this is the first pending event, whichever worker's share it is, and at whatever moment
 abbrev pub TellsNext : Share → (next : Option ℕ) → Type 0
-TellsNext share next = (n : NetTold) (of : List ℕ) (worker from : ℕ) (motes : Motes) (taken : List RadioCopy)
+TellsNext share next = (n : NetModel) (of : List ℕ) (worker from : ℕ) (motes : Motes) (taken : List RadioCopy)
     → Keeps n of worker from motes taken share → IsNextFrom n of worker from motes taken share next

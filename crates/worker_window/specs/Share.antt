@@ -10,7 +10,7 @@ use Rattle.mote_node.specs.Node.{Node, is_past}
 use Rattle.mote_node.specs.Public.{node_in}
 use Rattle.mote_node.specs.Wake.{wake_of}
 use Rattle.radio_packet.specs.declared.copy.RadioCopy.{RadioCopy}
-use Rattle.mote_net.specs.Net.{NetTold}
+use Rattle.mote_net.specs.Net.{NetModel}
 use Rattle.window_laws.specs.Agenda.{Item, is_wake_of, packets, wake_items}
 use Rattle.window_laws.specs.Windows.{LoneMote, NoneBefore, is_from_sender, is_sent_by}
 use Rattle.net_agenda.specs.Buckets.{Buckets, Holds}
@@ -44,7 +44,7 @@ wake_from from (Some wake) = if nat_lt wake from then None else Some wake
 
 -- the agenda has the next wake of each of the worker's motes, unless that is before the moment, and of each sender all
 -- copies for them that arrive at the moment or later, in the order of sending
-pub record HasToCome (n : NetTold) (own : ℕ → Bool) (from : ℕ) (motes : Motes) (taken : List RadioCopy)
+pub record HasToCome (n : NetModel) (own : ℕ → Bool) (from : ℕ) (motes : Motes) (taken : List RadioCopy)
     (buckets : Buckets) : Type 0 where
   pub items : List Item
   pub holds : Holds buckets items
@@ -56,7 +56,7 @@ pub record HasToCome (n : NetTold) (own : ℕ → Bool) (from : ℕ) (motes : Mo
 -- The share of a worker at a moment, before which no event is pending, while some of its motes are in it: their nodes,
 -- wakes and lines so far, the packets of all its motes so far, and the agenda. No mote in it has failed, and the last
 -- turn of each was before that moment. `taken` are all copies that ever came from other workers.
-pub record IsShare (n : NetTold) (of : List ℕ) (worker : ℕ) (here : ℕ → Bool) (from : ℕ) (motes : Motes)
+pub record IsShare (n : NetModel) (of : List ℕ) (worker : ℕ) (here : ℕ → Bool) (from : ℕ) (motes : Motes)
     (taken : List RadioCopy) (share : Share) : Type 0 where
   pub is_worker : share.worker ≡ worker
   pub places : length share.motes.items ≡ length n.motes
@@ -74,11 +74,11 @@ pub record IsShare (n : NetTold) (of : List ℕ) (worker : ℕ) (here : ℕ → 
   pub agenda : HasToCome n (is_own of worker) from motes taken share.agenda.buckets
 
 -- with all of its motes in it, as between windows
-abbrev pub Keeps : NetTold → (of : List ℕ) → (worker from : ℕ) → Motes → (taken : List RadioCopy) → Share → Type 0
+abbrev pub Keeps : NetModel → (of : List ℕ) → (worker from : ℕ) → Motes → (taken : List RadioCopy) → Share → Type 0
 Keeps n of worker from motes taken share = IsShare n of worker (is_own of worker) from motes taken share
 
 -- the share of some worker at some moment
-pub record IsKept (n : NetTold) (of : List ℕ) (share : Share) : Type 0 where
+pub record IsKept (n : NetModel) (of : List ℕ) (share : Share) : Type 0 where
   pub worker : ℕ
   pub from : ℕ
   pub motes : Motes

@@ -5,7 +5,7 @@ use Rattle.program_tree.specs.Code.{Tree}
 use Rattle.trace_lines.specs.declared.line.Line.{Line}
 use Rattle.mote_node.specs.Public.{node_in}
 use Rattle.radio_packet.specs.declared.copy.RadioCopy.{RadioCopy}
-use Rattle.mote_net.specs.Net.{MoteSetup, NetTold}
+use Rattle.mote_net.specs.Net.{MoteSetup, NetModel}
 use Rattle.worker_window.specs.declared.out.WindowOut.{WindowOut}
 use Rattle.worker_window.specs.declared.lent_mote.LentMote.{LentMote}
 use Rattle.worker_window.specs.MoteWindow.{Window, opened}
@@ -28,20 +28,20 @@ pub record GivesNothing (program : Tree) (until : ℕ) (copies : List RadioCopy)
   pub no_sends : out.sends.items ≡ []
 
 -- a lent mote, which is this mote of the net, gives what its window's run says
-abbrev pub LentMoteGives : NetTold → (until : ℕ) → LentMote → WindowOut → Type 0
+abbrev pub LentMoteGives : NetModel → (until : ℕ) → LentMote → WindowOut → Type 0
 LentMoteGives n until lent_mote out = IfSome (slice_get n.motes lent_mote.number)
     (λ m. MatchOption (window_of until m lent_mote)
     (GivesNothing m.tree until lent_mote.copies.items lent_mote.trace.items out) (λ w. Gives w out))
 
 -- all do so, place by place
-abbrev pub GivesList : NetTold → (until : ℕ) → List LentMote → List WindowOut → Type 0
+abbrev pub GivesList : NetModel → (until : ℕ) → List LentMote → List WindowOut → Type 0
 GivesList n until lent_motes outs = AllZip (LentMoteGives n until) lent_motes outs
 
 -- a lent mote, which is this mote of the net, has not failed, and what comes to it next comes after its last turn
-abbrev pub LentMoteGoesOn : NetTold → (until : ℕ) → LentMote → Type 0
+abbrev pub LentMoteGoesOn : NetModel → (until : ℕ) → LentMote → Type 0
 LentMoteGoesOn n until lent_mote =
     IfSome (slice_get n.motes lent_mote.number) (λ m. CanGoOn (window_of until m lent_mote))
 
 -- the same of all lent motes
-abbrev pub AreGoingOn : NetTold → (until : ℕ) → List LentMote → Type 0
+abbrev pub AreGoingOn : NetModel → (until : ℕ) → List LentMote → Type 0
 AreGoingOn n until lent_motes = AllByRecursion (LentMoteGoesOn n until) lent_motes

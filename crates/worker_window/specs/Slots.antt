@@ -4,7 +4,7 @@ use Rattle.std.specs.List.{AllZip, AllByRecursion, list_all}
 use Rattle.std.specs.declared.alloc.Global.{Global}
 use Rattle.mote_node.specs.declared.mote.MoteError.{MoteError}
 use Rattle.mote_node.specs.declared.mote.MoteError.TheVariants.{Memory}
-use Rattle.mote_net.specs.Net.{NetTold}
+use Rattle.mote_net.specs.Net.{NetModel}
 use Rattle.worker_window.specs.declared.out.WindowOut.{WindowOut}
 use Rattle.worker_window.specs.declared.lent_mote.LentMote.{LentMote}
 use Rattle.worker_window.specs.declared.share.Share.{Share}
@@ -36,14 +36,14 @@ abbrev pub SlotsGoOn : {G : Type 0} → List (Slot G) → Type 0
 SlotsGoOn slots = AllByRecursion SlotGoesOn slots
 
 -- what the slot may give, the lent mote's window gives; and the slot can go on if the lent mote can
-pub record IsOf {G : Type 0} (n : NetTold) (until : ℕ) (lent_mote : LentMote) (slot : Slot G) : Type 0 where
+pub record IsOf {G : Type 0} (n : NetModel) (until : ℕ) (lent_mote : LentMote) (slot : Slot G) : Type 0 where
   pub gives : (out : WindowOut) → SlotGives slot out → LentMoteGives n until lent_mote out
   pub goes_on : LentMoteGoesOn n until lent_mote → SlotGoesOn slot
 
 -- the motes that are called are lent, these are the slots of their windows, and these their wakes; what else the share
 -- has is unchanged
-pub record AreLent {G : Type 0} (n : NetTold) (until : ℕ) (calls : CalledMotes) (old new : Share) (slots : List (Slot G))
-    (wakes : List (Option ℕ)) : Type 0 where
+pub record AreLent {G : Type 0} (n : NetModel) (until : ℕ) (calls : CalledMotes) (old new : Share)
+    (slots : List (Slot G)) (wakes : List (Option ℕ)) : Type 0 where
   pub lent_motes : List LentMote
   pub lent : MotesAreLent until calls old.motes.items new.motes.items old.traces.items new.traces.items lent_motes wakes
   pub opened : AllZip (IsOf n until) lent_motes slots

@@ -2,7 +2,7 @@
 use Rattle.std.specs.Prelude.{ℕ, ◌≡◌, ◌+◌, ◌<◌, ◌≤◌, Bool, true, false, if◌then◌else◌, List, [], ◌++◌, length}
 use Rattle.std.specs.List.{filter, AllByRecursion as Each}
 use Rattle.radio_packet.specs.declared.copy.RadioCopy.{RadioCopy}
-use Rattle.mote_net.specs.Net.{NetTold}
+use Rattle.mote_net.specs.Net.{NetModel}
 use Rattle.window_laws.specs.Windows.{Alone, copies_by, is_from_sender}
 use Rattle.net_agenda.specs.NetSystem.{system_of}
 use Rattle.worker_cut.specs.Crossed.{is_for_others, is_own, IsExpected}
@@ -12,7 +12,7 @@ use Rattle.worker_window.specs.Share.{Motes, Keeps}
 
 -- A mote runs alone on what it is given of the copies that the worker has seen: at each moment of the window, of each
 -- sender, the copies for it, in the order of sending, and nothing at other moments.
-pub record RunsOwnMote (n : NetTold) (own : ℕ → Bool) (from until : ℕ) (motes next : Motes) (taken : List RadioCopy)
+pub record RunsOwnMote (n : NetModel) (own : ℕ → Bool) (from until : ℕ) (motes next : Motes) (taken : List RadioCopy)
     (number : ℕ) : Type 0 where
   pub given : List RadioCopy
   pub is_given : IsFromSources (system_of n) own from until motes taken number given
@@ -20,14 +20,14 @@ pub record RunsOwnMote (n : NetTold) (own : ℕ → Bool) (from until : ℕ) (mo
 
 -- the outgoing copies of the packets that a mote of this worker has sent so far, in the order of sending; none if the
 -- mote is another worker's
-abbrev pub outgoing_by : NetTold → (own : ℕ → Bool) → Motes → (sender : ℕ) → List RadioCopy
+abbrev pub outgoing_by : NetModel → (own : ℕ → Bool) → Motes → (sender : ℕ) → List RadioCopy
 outgoing_by n own motes sender =
     if own sender then filter (is_for_others own) (copies_by (system_of n) motes sender) else []
 
 -- The worker's motes after the window: each ran alone, and the others are as before. The new share keeps them at the
 -- window's end; the outgoing copies are, of each sender, what it sent to other workers in the window, and none of them
 -- comes before the window's end.
-pub record RunsWindow (n : NetTold) (of : List ℕ) (worker from until : ℕ) (motes : Motes) (taken : List RadioCopy)
+pub record RunsWindow (n : NetModel) (of : List ℕ) (worker from until : ℕ) (motes : Motes) (taken : List RadioCopy)
     (new : Share) (outgoing : List RadioCopy) : Type 0 where
   pub next : Motes
   pub runs : (k : ℕ) → is_own of worker k ≡ true → RunsOwnMote n (is_own of worker) from until motes next taken k
@@ -39,7 +39,7 @@ pub record RunsWindow (n : NetTold) (of : List ℕ) (worker from until : ℕ) (m
 
 -- For each moment `from` <= `until` at which `old` was a whole share (`Keeps`): if until - from <= lookahead and each
 -- arrived copy is expected, then `new` is what the window makes of it, and `outgoing` are the outgoing copies.
-abbrev pub RunsThrough : NetTold → (of : List ℕ) → (until : ℕ) → (arrived : List RadioCopy) → (old new : Share)
+abbrev pub RunsThrough : NetModel → (of : List ℕ) → (until : ℕ) → (arrived : List RadioCopy) → (old new : Share)
     → (outgoing : List RadioCopy) → Type 0
 RunsThrough n of until arrived old new outgoing = (worker from : ℕ) (motes : Motes) (taken : List RadioCopy)
     → Keeps n of worker from motes taken old → from ≤ until → until ≤ from + (system_of n).lookahead
@@ -49,19 +49,19 @@ RunsThrough n of until arrived old new outgoing = (worker from : ℕ) (motes : M
 -- for each moment `from` at which `old` was a whole share: if each arrived copy is expected, then `new` keeps the same
 -- as `old` at `from`, with these copies among what it has taken
 abbrev pub TakesIn : (arrived : List RadioCopy) → (old new : Share) → Type 0
-TakesIn arrived old new = (n : NetTold) (of : List ℕ) (worker from : ℕ) (motes : Motes) (taken : List RadioCopy)
+TakesIn arrived old new = (n : NetModel) (of : List ℕ) (worker from : ℕ) (motes : Motes) (taken : List RadioCopy)
     → Keeps n of worker from motes taken old → Each (IsExpected of worker from) arrived
     → Keeps n of worker from motes (taken ++ arrived) new
 
 -- the copy is from a mote of this worker, to a mote of the net that isn't this worker's
-pub record IsOutgoing (n : NetTold) (of : List ℕ) (worker : ℕ) (copy : RadioCopy) : Type 0 where
+pub record IsOutgoing (n : NetModel) (of : List ℕ) (worker : ℕ) (copy : RadioCopy) : Type 0 where
   pub sender : is_own of worker copy.sender ≡ true
   pub to : is_own of worker copy.to ≡ false
   pub there : copy.to < length n.motes
 
 -- The share can run through a window up to this bound: it is that of some worker at some moment, the bound or sooner,
 -- and each copy that arrived is expected then.
-pub record CanRun (n : NetTold) (of : List ℕ) (until : ℕ) (share : Share) (arrived : List RadioCopy) : Type 0 where
+pub record CanRun (n : NetModel) (of : List ℕ) (until : ℕ) (share : Share) (arrived : List RadioCopy) : Type 0 where
   pub worker : ℕ
   pub from : ℕ
   pub motes : Motes

@@ -22,7 +22,7 @@ pub use lent_mote::LentMote;
 pub use mote_window::MoteWindow;
 pub use out::WindowOut;
 pub use own::OwnWindow;
-pub use room::{TurnRoom, copies_in};
+pub use room::{TurnBuffers, copies_in};
 pub use share::{Ended, Share};
 pub use slot::Slot;
 pub use worker::{ShareWindow, run_slots};

@@ -13,7 +13,7 @@ ghost use Rattle.worker_window.specs.Turns.{MayAnswer, TakesTurn, RestsAs, ErrsA
 use crate::gate::Gate;
 use crate::out::WindowOut;
 use crate::own::OwnWindow;
-use crate::room::TurnRoom;
+use crate::room::TurnBuffers;
 use futures::Future;
 use futures::task::{Context, Poll};
 use mote_node::{Mote, MoteError};
@@ -28,7 +28,7 @@ pub struct MoteWindow<'a, G> {
     own: Option<OwnWindow<'a>>,
     worker: u16,
     gate: &'a G,
-    room: Option<Box<TurnRoom>>,
+    room: Option<Box<TurnBuffers>>,
 }
 
 impl<G> Drop for MoteWindow<'_, G> {
@@ -81,7 +81,7 @@ impl<'a, G: Gate> MoteWindow<'a, G> {
     }
 
     /// Swaps the scratch buffers of the window's turns with these.
-    pub(crate) fn swap_room(&mut self, room: &mut Option<Box<TurnRoom>>)
+    pub(crate) fn swap_room(&mut self, room: &mut Option<Box<TurnBuffers>>)
         ensures same { self.new.own ≡ self.old.own }
     {
         mem::swap(&mut self.room, room);
@@ -91,7 +91,7 @@ impl<'a, G: Gate> MoteWindow<'a, G> {
 /// Takes the window, once no turn is left, and returns its result. A separate function, so that a turn clears no stack
 /// space for it.
 #[inline(always)]
-fn finish(own: &mut Option<OwnWindow<'_>>, room: &mut Option<Box<TurnRoom>>) -> WindowOut
+fn finish(own: &mut Option<OwnWindow<'_>>, room: &mut Option<Box<TurnBuffers>>) -> WindowOut
     requires owned { IsSome own.old }
     ensures made { IfSome own.old (λ own. IfSome (window_in own) (λ w. shown w.program result ≡ Some w.mote)) }
     ensures left { IfSome own.old (λ own. window_in own ≡ None → StaysFailed (course_in own) result) }

@@ -11,7 +11,7 @@ ghost use Rattle.worker_window.specs.MoteWindow.{Window, HasTurn, IsOver, IsNext
 
 use crate::gate::Gate;
 use crate::out::WindowOut;
-use crate::room::{TurnRoom, keep_copies, room_in};
+use crate::room::{TurnBuffers, keep_copies, room_in};
 use mote_node::{Mote, MoteError};
 use net_agenda::extend_trace;
 use process_kernel::Line;
@@ -119,7 +119,7 @@ impl<'a> OwnWindow<'a> {
         moment: u64,
         worker: u16,
         gate: &G,
-        room: &mut Option<Box<TurnRoom>>,
+        room: &mut Option<Box<TurnBuffers>>,
     ) -> Result<(), MoteError>
         requires moment_bounded { moment ≤ 2 ^ 40 }
         requires left { IfSome (window_in self.old) (HasTurn moment) }
@@ -142,7 +142,7 @@ impl<'a> OwnWindow<'a> {
     /// The result of the window, once no turn is left. If there are scratch buffers, its list of copies goes to them,
     /// for a later window.
     #[tactic(auto, unfolding(crate::specs::Own::window_in, crate::specs::Own::course_in))]
-    pub fn finish(self, room: &mut Option<Box<TurnRoom>>) -> WindowOut
+    pub fn finish(self, room: &mut Option<Box<TurnBuffers>>) -> WindowOut
         ensures made { IfSome (window_in self.entry) (λ w. shown w.program result ≡ Some w.mote) }
         ensures left { window_in self.entry ≡ None → StaysFailed (course_in self.entry) result }
     {

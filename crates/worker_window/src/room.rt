@@ -10,7 +10,7 @@ use std::alloc::{AllocError, Global};
 /// clearing both, so they are passed from turn to turn, and from mote to mote. With them are lists that held the copies
 /// of earlier windows; the contents of those lists are unspecified.
 #[derive(Drop)]
-pub struct TurnRoom {
+pub struct TurnBuffers {
     pub(crate) arrivals: Vec<Arrival>,
     pub(crate) out: Out,
     pub(crate) copies: Vec<Vec<RadioCopy>>,
@@ -22,10 +22,10 @@ const LONGEST_KEPT: usize = 32;
 /// The scratch buffers, made now if there are none.
 pub(crate) fn room_in(
     alloc: Global,
-    room: &mut Option<Box<TurnRoom>>,
-) -> Result<&mut TurnRoom, AllocError> {
+    room: &mut Option<Box<TurnBuffers>>,
+) -> Result<&mut TurnBuffers, AllocError> {
     if room.is_none() {
-        let made = TurnRoom {
+        let made = TurnBuffers {
             arrivals: Vec::new(alloc),
             out: Out::new(alloc),
             copies: Vec::new(alloc),
@@ -39,7 +39,7 @@ pub(crate) fn room_in(
 }
 
 /// An empty list for the copies of a window: that of an earlier window, if any was kept.
-pub fn copies_in(alloc: Global, room: &mut Option<Box<TurnRoom>>) -> Vec<RadioCopy>
+pub fn copies_in(alloc: Global, room: &mut Option<Box<TurnBuffers>>) -> Vec<RadioCopy>
     ensures empty { result.items ≡ [] }
 {
     let Some(room) = room else {
@@ -55,7 +55,7 @@ pub fn copies_in(alloc: Global, room: &mut Option<Box<TurnRoom>>) -> Vec<RadioCo
 }
 
 /// Keeps a list of copies for a later window. A list with a large capacity, or that can't be stored, is dropped.
-pub(crate) fn keep_copies(room: &mut Option<Box<TurnRoom>>, copies: Vec<RadioCopy>) {
+pub(crate) fn keep_copies(room: &mut Option<Box<TurnBuffers>>, copies: Vec<RadioCopy>) {
     let Some(room) = room else {
         return;
     };

@@ -2,7 +2,7 @@
 
 ghost use Rattle.std.specs.Prelude.{◌≡◌, []};
 
-use crate::room::{TurnRoom, copies_in};
+use crate::room::{TurnBuffers, copies_in};
 use radio_packet::{RadioCopy, Sent};
 use std::alloc::{AllocError, Global};
 
@@ -11,7 +11,7 @@ use std::alloc::{AllocError, Global};
 pub(crate) struct Rooms {
     alloc: Global,
     buffers: Vec<Vec<Sent>>,
-    pub(crate) turns: Option<Box<TurnRoom>>,
+    pub(crate) turns: Option<Box<TurnBuffers>>,
 }
 
 impl Drop for Rooms {

@@ -5,7 +5,7 @@ ghost use Rattle.std.specs.Prelude.{List, Some, IfOk, OnOk, if◌then◌else◌}
 ghost use Rattle.radio_packet.specs.declared.copy.RadioCopy.{RadioCopy};
 ghost use Rattle.window_laws.specs.Agenda.{Wake};
 ghost use Rattle.window_laws.specs.Windows.{first_mote};
-ghost use Rattle.mote_net.specs.Net.{NetTold};
+ghost use Rattle.mote_net.specs.Net.{NetModel};
 ghost use Rattle.mote_net.specs.Meaning.{net_of};
 ghost use Rattle.net_agenda.specs.NetSystem.{first_node_in, system_of, tree_at};
 ghost use Rattle.net_agenda.specs.Changes.{Adds};
@@ -121,7 +121,7 @@ impl Share {
     /// # Errors
     /// `AllocError` only for a number of copies above `u64::MAX`, for which no memory has room. Nothing is allocated.
     pub fn end(self) -> Result<Ended, AllocError>
-        ensures tells_at_end { (n : NetTold) (of : List ℕ) (worker from : ℕ) (motes : Motes) (taken : List RadioCopy)
+        ensures tells_at_end { (n : NetModel) (of : List ℕ) (worker from : ℕ) (motes : Motes) (taken : List RadioCopy)
             → Keeps n of worker from motes taken self
             → IfOk result (TellsAtEnd n of worker from motes taken) }
     {

@@ -14,7 +14,7 @@ use crate::lent_mote::LentMote;
 use crate::mote_window::MoteWindow;
 use crate::out::WindowOut;
 use crate::own::OwnWindow;
-use crate::room::TurnRoom;
+use crate::room::TurnBuffers;
 use futures::Future;
 use futures::task::{Context, Poll};
 use mote_net::Net;
@@ -93,7 +93,7 @@ impl<'a, G: Gate> Slot<'a, G> {
     /// Polls the window once, if it was not ready before. Its turn uses these scratch buffers.
     pub(crate) fn advance(
         &mut self,
-        room: &mut Option<Box<TurnRoom>>,
+        room: &mut Option<Box<TurnBuffers>>,
         cx: &mut Context<'_>,
     ) -> Result<(), MoteError>
         ensures same { OnOk result ((out : _) → SlotGives self.new out → SlotGives self.old out) }

@@ -9,7 +9,7 @@ ghost use Rattle.worker_window.specs.declared.out.WindowOut.{WindowOut as OutOfC
 ghost use Rattle.worker_window.specs.Slots.{MayEndAs, SlotsGive, SlotsGoOn, WorkerMayAnswer, is_done};
 
 use crate::gate::Gate;
-use crate::room::TurnRoom;
+use crate::room::TurnBuffers;
 use crate::slot::Slot;
 use fork_join::Refused;
 use futures::Future;
@@ -27,7 +27,7 @@ pub struct ShareWindow<'a, 'b, G> {
     alloc: Global,
     slots: Vec<Slot<'a, G>>,
     /// The scratch buffers of the turns, which are passed from window to window.
-    room: &'b mut Option<Box<TurnRoom>>,
+    room: &'b mut Option<Box<TurnBuffers>>,
 }
 
 impl<G> Drop for ShareWindow<'_, '_, G> {
@@ -59,7 +59,7 @@ impl<'a, G: Gate> Future for ShareWindow<'a, '_, G> {
 /// Polls each unfinished window once.
 fn advance_each<G: Gate>(
     slots: &mut Vec<Slot<'_, G>>,
-    room: &mut Option<Box<TurnRoom>>,
+    room: &mut Option<Box<TurnBuffers>>,
     cx: &mut Context<'_>,
 ) -> Result<(), MoteError>
     ensures same { OnOk result ((outs : List OutOfCode) → SlotsGive slots.new.items outs
@@ -91,7 +91,7 @@ pub fn run_slots<'a, R, G>(
     rt: &R,
     alloc: Global,
     slots: Vec<Slot<'a, G>>,
-    room: &mut Option<Box<TurnRoom>>,
+    room: &mut Option<Box<TurnBuffers>>,
 ) -> Result<Vec<Slot<'a, G>>, Refused>
 where
     R: Wait + RandomSource + AllocGlobal,

@@ -5,7 +5,7 @@ ghost use Rattle.copy_exchange.specs.Marks.{Counts};
 
 use super::push_mark;
 use super::windows::Scene;
-use copy_exchange::{MarkEndpoint, Standing};
+use copy_exchange::{MarkEndpoint, WindowPosition};
 use copy_inbox::{Inbox, InboxError, Sender};
 use fork_join::{Refused, Watch, Work, fork_join};
 use radio_packet::RadioCopy;
@@ -46,7 +46,7 @@ fn write_window<R: Wait, L: Ledger>(
     ensures counts { IfOk result
         (λ took. IsTrue took → Counts worker_2.new.marks.items worker_2.new.base.taker.state) }
 {
-    let standing = Standing {
+    let standing = WindowPosition {
         worker: 2,
         of: &OF,
         from,

@@ -5,13 +5,13 @@ use Rattle.std.proofs.lemmas.Option.{slice_get_read}
 use Rattle.program_tree.specs.Faults.{nothing_yet}
 use Rattle.program_reader.specs.Machine.{tell, from_events, fault}
 use Rattle.program_tree.specs.Program.{tree_of}
-use Rattle.program_tree.specs.Reading.{IsToldOf}
+use Rattle.program_tree.specs.Reading.{IsErrorOf}
 use Rattle.program_tree.specs.Reading.{IsTreeOfTokens}
 use Rattle.program_tree.specs.Text.{IsLexed}
 use Rattle.program_tree.specs.TokenMeaning.{token_of}
 use Rattle.program_tree.specs.declared.error.ReadError.{ReadError}
-use Rattle.program_reader.specs.declared.fault.Refusal.{Refusal}
-use Rattle.program_reader.specs.declared.fault.Refusal.TheVariants as refusal
+use Rattle.program_reader.specs.declared.fault.ReadFailure.{ReadFailure}
+use Rattle.program_reader.specs.declared.fault.ReadFailure.TheVariants as refusal
 use Rattle.program_tree.specs.declared.program.Program.{Program}
 use Rattle.program_reader.proofs.Texts.{one_tree, tree_read, told_within, line_within, told_read, told_no_memory}
 use Rattle.program_reader.proofs.Texts.{never_both}
@@ -36,7 +36,7 @@ returns-in-Ok-clause-only c = λ t h.
 
 pub overflow_sub-len : goal.overflow_sub-len
 overflow_sub-len c =
-    let q : ◌≡◌ {A = Result Program Refusal} (Err c.in-Err-Fault.field-0) (Err (refusal.Fault c.in-Err-Fault.fault)) =
+    let q : ◌≡◌ {A = Result Program ReadFailure} (Err c.in-Err-Fault.field-0) (Err (refusal.Fault c.in-Err-Fault.fault)) =
     ap Err c.in-Err-Fault.field-0-is in
     let t : tell nothing_yet (from_events ∷ []) (map token_of c.in_ok-lexed.lexed.tokens.items)
     ≡ fault c.in-Err-Fault.fault.kind c.in-Err-Fault.fault.left =
@@ -51,9 +51,9 @@ index-requires c =
     < length c.in_ok-lexed.lexed.lines.items = line_within _ _ _ c.in-Err-Fault.fault.left c.in_ok-lexed.ensures.is_lexed in
     omega arith
 
-told_here : (c : goal.After-drop-lexed-3) → IsToldOf c.args.text.now c.in-Err-Fault.fault.kind c.index.result.now
+told_here : (c : goal.After-drop-lexed-3) → IsErrorOf c.args.text.now c.in-Err-Fault.fault.kind c.index.result.now
 told_here c =
-    let q : ◌≡◌ {A = Result Program Refusal} (Err c.in-Err-Fault.field-0) (Err (refusal.Fault c.in-Err-Fault.fault)) =
+    let q : ◌≡◌ {A = Result Program ReadFailure} (Err c.in-Err-Fault.field-0) (Err (refusal.Fault c.in-Err-Fault.fault)) =
     ap Err c.in-Err-Fault.field-0-is in
     let t : tell nothing_yet (from_events ∷ []) (map token_of c.in_ok-lexed.lexed.tokens.items)
     ≡ fault c.in-Err-Fault.fault.kind c.in-Err-Fault.fault.left =
@@ -72,12 +72,12 @@ told_here c =
 pub returns-clause-told : goal.returns-clause-told
 returns-clause-told c = λ e is other.
     let same : ◌≡◌ {A = ReadError} (record { kind = c.in-Err-Fault.fault.kind; line = c.index.result.now }) e = cc is in
-    subst (λ z. IsToldOf c.args.text.now z.kind z.line) same (told_here c)
+    subst (λ z. IsErrorOf c.args.text.now z.kind z.line) same (told_here c)
 
 pub returns-clause-memory : goal.returns-clause-memory
 returns-clause-memory c = λ e is m.
     let same : ◌≡◌ {A = ReadError} (record { kind = c.in-Err-Fault.fault.kind; line = c.index.result.now }) e = cc is in
-    absurd (told_no_memory _ _ (subst (λ k. IsToldOf c.args.text.now k c.index.result.now) (ap (λ z. z.kind) same ∙ m)
+    absurd (told_no_memory _ _ (subst (λ k. IsErrorOf c.args.text.now k c.index.result.now) (ap (λ z. z.kind) same ∙ m)
     (told_here c)))
 
 pub returns-clause-accepts : goal.returns-clause-accepts

@@ -1,16 +1,17 @@
 use Rattle.std.proofs.Common.{◌≡◌, ◌++◌, ap, sym, List, map, Vec, Global}
 use Rattle.std.proofs.lemmas.Result.{err_from_is_err_and}
 use Rattle.trace_lines.specs.declared.line.Line.{Line}
-use Rattle.mote_net.specs.Net.{NetTold}
+use Rattle.mote_net.specs.Net.{NetModel}
 use Rattle.mote_net.specs.Meaning.{net_of}
 use Rattle.mote_net.specs.Report.{lines_in, report_of}
 use Rattle.mote_net.specs.declared.report.Report.{Report}
 use Rattle.trace_printer.specs.ReportText.{motes_text, medium_text, left_text, report_text}
-use Rattle.trace_printer.proofs.Written.{written_none, written_start, written_front, written_then, printed_next, stopped_before}
+use Rattle.trace_printer.proofs.Written.{written_none, written_start, written_front, written_then, printed_next}
+use Rattle.trace_printer.proofs.Written.{stopped_before}
 use Rattle.trace_printer.proofs.report.write_report.Goals as goal
 
 -- the parts of a report's text
-motes_first : (n : NetTold) (r : Report) (ts : List (Vec Line Global)) → ts ≡ r.traces.items
+motes_first : (n : NetModel) (r : Report) (ts : List (Vec Line Global)) → ts ≡ r.traces.items
     → report_text n (report_of r) ≡ motes_text 0 n.motes (map lines_in ts) ++ (medium_text (report_of r).log ++ left_text r.left)
 motes_first n r ts is = ap (λ (l : List (Vec Line Global)). motes_text 0 n.motes (map lines_in l) ++ (medium_text (report_of r).log ++ left_text r.left)) (sym is)
 

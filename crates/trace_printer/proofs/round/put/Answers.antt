@@ -3,7 +3,7 @@ use Rattle.std.proofs.Common.{◌≡◌, ◌+◌, refl}
 use Rattle.std.specs.List.{AllZip, flat_map}
 use Rattle.std.proofs.lemmas.Result.{IfOk-weaker}
 use Rattle.trace_printer.specs.TraceLines.{part_text}
-use Rattle.trace_printer.specs.Parts.{IsPut, lines_told, page_of}
+use Rattle.trace_printer.specs.Parts.{IsPut, texts_of_lines, page_of}
 use Rattle.trace_printer.proofs.Crossing.{traces_sync}
 use Rattle.trace_printer.proofs.Rounds.{adjoin_ready, put_text}
 use Rattle.trace_printer.proofs.round.put.Goals as goal
@@ -19,7 +19,7 @@ fork_join-requires-clause-ready g c κs within = adjoin_ready c.args.traces.now 
 pub returns : goal.returns
 returns g c = record {
   text =
-      IfOk-weaker c.fork_join.result (λ done. AllZip (IsPut c.args.traces.now) c.in_ok-parts.parts.items done.items) (λ parts. flat_map page_of parts.items ≡ part_text (lines_told c.args.traces.now) c.args.skip c.args.count)
+      IfOk-weaker c.fork_join.result (λ done. AllZip (IsPut c.args.traces.now) c.in_ok-parts.parts.items done.items) (λ parts. flat_map page_of parts.items ≡ part_text (texts_of_lines c.args.traces.now) c.args.skip c.args.count)
       (λ done zipped. put_text c.args.traces.now c.args.skip (c.args.skip + c.args.count) c.args.count c.in_ok-parts.parts.items done.items c.in_ok-parts.ensures.adjoin refl zipped)
       c.fork_join.ensures.makes;
 }

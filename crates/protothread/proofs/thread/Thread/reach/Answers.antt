@@ -4,7 +4,7 @@ use Rattle.program_tree.specs.Tree.{Statement, does, spawn, listed}
 use Rattle.program_tree.specs.Meaning.{expression_of, action_of}
 use Rattle.program_tree.specs.Program.{code_of}
 use Rattle.program_tree.specs.Flat.{rest_at, Branches, Loops, Leads}
-use Rattle.protothread.specs.declared.deed.Deed.{Deed}
+use Rattle.protothread.specs.declared.deed.StatementEffect.{StatementEffect}
 use Rattle.protothread.specs.Remainder.{before}
 use Rattle.protothread.specs.Step.{Reached, goes_on, deed_of, performed, statement_reached}
 use Rattle.protothread.specs.Places.{body_of_thread, callers_of}
@@ -26,7 +26,7 @@ perform-requires-clause-earlier g c =
     let leads : rest_at b old.position ≡ does a ∷ rest_at b c.in-Act.next = subst P c.in-Act.is c.requires.leads in
     let deed : c.done_by-deed.result ≡ deed_of code.number old.is_yielded vars event looks a =
     c.done_by-deed.ensures.value ∙ ap (λ (n : ℕ). deed_of n old.is_yielded vars event looks a) c.number.ensures.number in
-    let Q : Deed → Type 0 = λ d. DeedCanSpawn old.calls d in
+    let Q : StatementEffect → Type 0 = λ d. DeedCanSpawn old.calls d in
     subst Q (sym deed)
     (deed_can old.calls (does a) (deed_of code.number old.is_yielded vars event looks a) (done_by_action code.number old.is_yielded vars event looks a)
     (λ t is. spawn_there old.calls b old.position t (rest_at b c.in-Act.next) c.requires.inside.earlier (leads ∙ ap (λ s. s ∷ rest_at b c.in-Act.next) is)))

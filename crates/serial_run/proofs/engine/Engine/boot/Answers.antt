@@ -7,7 +7,7 @@ use Rattle.window_laws.specs.Agenda.{Wake, up_to}
 use Rattle.net_agenda.specs.Buckets.{Holds}
 use Rattle.net_agenda.specs.NetSystem.{system_of, first_node_in, tree_at}
 use Rattle.net_agenda.proofs.Boots.{pushed, wakes_more}
-use Rattle.mote_net.specs.Report.{told_line}
+use Rattle.mote_net.specs.Report.{line_model}
 use Rattle.serial_run.proofs.engine.Engine.boot.Goals as goal
 
 pub loop-number-preserved : goal.loop-number-preserved
@@ -35,6 +35,6 @@ returns-clause-stands c =
     record {
       nodes = λ k h d. inv.nodes k d (omega arith);
       traces = λ k h d. inv.traces k d (omega arith);
-      log = ap (map told_line) inv.log;
+      log = ap (map line_model) inv.log;
       agenda = subst (λ j. Holds c.loop-number.engine.agenda.buckets (map (λ k. Wake 0 k) (up_to j))) all inv.agenda;
     }

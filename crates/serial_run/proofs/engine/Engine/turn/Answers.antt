@@ -3,13 +3,13 @@ use Rattle.std.specs.List.{filter, flat_map}
 use Rattle.program_tree.specs.Code.{Tree}
 use Rattle.program_tree.specs.Program.{tree_of}
 use Rattle.mote_node.specs.declared.mote.Mote.{Mote}
-use Rattle.mote_node.specs.Public.{node_in, told_with, wake_in}
+use Rattle.mote_node.specs.Public.{node_in, turn_out_of, wake_in}
 use Rattle.mote_net.specs.Meaning.{net_of}
 use Rattle.radio_medium.specs.Medium.{Radio, copies}
 use Rattle.radio_packet.specs.declared.sent.Sent.{Sent}
 use Rattle.window_laws.specs.Agenda.{Item, Packet, comes_at, is_wake_of, wake_items}
 use Rattle.net_agenda.specs.Buckets.{Holds}
-use Rattle.mote_net.specs.Report.{told_line}
+use Rattle.mote_net.specs.Report.{line_model}
 use Rattle.serial_run.specs.NetRun.{packet_with_fates}
 use Rattle.window_laws.specs.NetStep.{stamped}
 use Rattle.net_agenda.proofs.Systems.{tree_is}
@@ -35,8 +35,8 @@ returns-clause-stands c = λ state at kept.
     let next = c.in_ok-next.next in
     let base : List Item = filter (λ item. not (is_wake_of m item)) (filter (λ item. not (comes_at t m item)) state.agenda) ++ wake_items m next in
     let sent = c.in_ok-send_all.ensures.agenda _ woken in
-    stands_turn n t m state c.args.self.now _ (tree_of c.program.result.now) c.deref-2.result.now (told_with c.turn_mote.new.out next) c.requires.mote_exists c.requires.is_whole.motes c.requires.is_whole.traces at
+    stands_turn n t m state c.args.self.now _ (tree_of c.program.result.now) c.deref-2.result.now (turn_out_of c.turn_mote.new.out next) c.requires.mote_exists c.requires.is_whole.motes c.requires.is_whole.traces at
     (tree_is n.motes m (tree_of c.program.result.now) c.program.ensures.tree) (c.deref-2.ensures.value ∙ c.in_ok-take_due_into.ensures.copies state.agenda at.agenda)
     takes c.in_ok-add_lines.ensures.adds_lines
     (sent_of (λ (r : Radio) (s : List Sent). Holds c.send_all.new.agenda.buckets (base ++ map Packet (flat_map (copies r) (map (stamped t m) s)))) c.medium.ensures.value c.deref-3.ensures.value sent)
-    (sent_of (λ (r : Radio) (s : List Sent). map told_line c.send_all.new.log.items ≡ map told_line c.args.self.now.log.items ++ map (packet_with_fates r) (map (stamped t m) s)) c.medium.ensures.value c.deref-3.ensures.value c.in_ok-send_all.ensures.log)
+    (sent_of (λ (r : Radio) (s : List Sent). map line_model c.send_all.new.log.items ≡ map line_model c.args.self.now.log.items ++ map (packet_with_fates r) (map (stamped t m) s)) c.medium.ensures.value c.deref-3.ensures.value c.in_ok-send_all.ensures.log)

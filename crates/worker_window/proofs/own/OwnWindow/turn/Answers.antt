@@ -2,7 +2,7 @@ use Rattle.std.proofs.Common.{rules, ◌≡◌, ◌+◌, drop, length, map, None
 use Rattle.std.specs.List.{take_while}
 use Rattle.std.proofs.lemmas.List.{drop-drop}
 use Rattle.program_tree.specs.Program.{tree_of}
-use Rattle.mote_node.specs.Public.{node_in, turn_told, told_with}
+use Rattle.mote_node.specs.Public.{node_in, turn_given, turn_out_of}
 use Rattle.mote_node.specs.Turn.{turn_of}
 use Rattle.window_laws.specs.Windows.{is_at}
 use Rattle.net_agenda.specs.Buckets.{arrival_of}
@@ -16,7 +16,7 @@ unfolding window_in
 returns-clause-ok g c =
     let s = c.args.self.now in
     let t = tree_of s.program.now in
-    let out = told_with c.turn_into.new.out c.in_ok-self.field-0 in
+    let out = turn_out_of c.turn_into.new.out c.in_ok-self.field-0 in
     let given = c.take_arrivals.new.arrivals.items in
     let front = rest_of s.next c.deref.result.now s.copies.items c.deref.ensures.value in
     let took : given ≡ map arrival_of (take_while (is_at c.args.moment) (drop s.next s.copies.items)) =
@@ -24,7 +24,7 @@ returns-clause-ok g c =
     let len : c.len.result ≡ length given = search rules in
     let cut : drop (s.next + c.len.result) s.copies.items ≡ drop (length given) (drop s.next s.copies.items) =
     ap (λ k. drop (s.next + k) s.copies.items) len ∙ sym (drop-drop (length given) s.next s.copies.items) in
-    let made : option_map (turn_told out) (node_in t c.turn_into.new.self) ≡ option_map (turn_of c.args.moment given) (node_in t s.mote) =
+    let made : option_map (turn_given out) (node_in t c.turn_into.new.self) ≡ option_map (turn_of c.args.moment given) (node_in t s.mote) =
     c.in_ok-self.ensures.ok ∙ ap (λ l. option_map (turn_of c.args.moment l) (node_in t s.mote)) c.deref-2.ensures.value in
     let there : node_in t s.mote ≡ None → ⊥ = λ gone. let failed = c.in_ok-self.ensures.failed.1 gone in cc in
     rw (c.in_ok-extend_trace.ensures.appended, c.in_ok-append.ensures.items)

@@ -1,4 +1,5 @@
-use Rattle.std.proofs.Common.{◌≡◌, ◌∙◌, ◌++◌, ◌<◌, ℕ, true, [], ◌∷◌, length, map, ap, refl, sym, subst, arith, IsSome, Vec}
+use Rattle.std.proofs.Common.{◌≡◌, ◌∙◌, ◌++◌, ◌<◌, ℕ, true, [], ◌∷◌, length, map, ap, refl, sym, subst, arith, IsSome}
+use Rattle.std.proofs.Common.{Vec}
 use Rattle.std.specs.List.{AllByRecursion, filter, flat_map, list_all}
 use Rattle.std.specs.declared.alloc.Global.{Global}
 use Rattle.std.proofs.lemmas.List.{length-append, length-set, nil_from_length}
@@ -17,7 +18,7 @@ use Rattle.worker_window.specs.Lending.{HasNumber, IsWakeOf, MoteReturns}
 use Rattle.worker_window.specs.Slots.{IsOf, SlotGives, is_done, outs_of}
 use Rattle.worker_window.proofs.Parts.{window_copies, window_copies_are}
 use Rattle.worker_window.proofs.Lent.{zip_length}
-use Rattle.worker_window.proofs.Comings.{Coming, IsFitOwn, fits, go_out, one_back, all_back}
+use Rattle.worker_window.proofs.Comings.{PendingEvent, IsFitOwn, fits, go_out, one_back, all_back}
 use Rattle.worker_window.proofs.Starts.{starts, go_on, held_still}
 use Rattle.worker_window.proofs.Fits.{kept_of, called_here, called_there, all_fit, every_split}
 use Rattle.worker_window.proofs.Workers.{done_give, outs_more, last_done}
@@ -95,7 +96,7 @@ loop-slot-init g c =
       go_out = subst (AllByRecursion (IsOutgoing n c.args.of.now c.args.self.now.worker)) (sym c.new-outgoing.ensures.items) tt;
       coming = λ worker from motes taken keeps le short come.
           let at = subst (λ l. Holds c.put_copies.new.self.buckets (keeps.agenda.items ++ map Packet l)) c.deref.ensures.value (c.in_ok-put_copies.ensures.adds keeps.agenda.items keeps.agenda.holds) in
-          subst (λ l. Coming n c.args.of.now worker from c.args.until motes (taken ++ c.args.arrived.items) (window_copies n c.args.of.now worker from c.args.until motes taken c.args.arrived.items c.args.self.now keeps le come) share outs c.lend.new.wakes.items l)
+          subst (λ l. PendingEvent n c.args.of.now worker from c.args.until motes (taken ++ c.args.arrived.items) (window_copies n c.args.of.now worker from c.args.until motes taken c.args.arrived.items c.args.self.now keeps le come) share outs c.lend.new.wakes.items l)
           (sym c.new-outgoing.ensures.items)
           (starts n c.args.of.now worker from c.args.until motes taken c.args.arrived.items c.args.self.now share keeps le come c.requires.of c.in_ok-calls.calls.copies.items lends.lent_motes c.lend.new.wakes.items
           (c.in_ok-calls.ensures.taken _ at) (held_still lends.agenda (c.in_ok-calls.ensures.rest _ at)) lent outs gives (lends.worker, ap (λ (v : Vec LogLine Global). v.items) lends.log));

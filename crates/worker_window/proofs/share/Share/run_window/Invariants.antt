@@ -8,7 +8,7 @@ use Rattle.worker_window.specs.Slots.{is_done, outs_of}
 use Rattle.worker_window.specs.Window.{IsOutgoing}
 use Rattle.worker_cut.specs.Crossed.{IsExpected}
 use Rattle.worker_window.proofs.Parts.{window_copies}
-use Rattle.worker_window.proofs.Comings.{Coming, IsFitOwn}
+use Rattle.worker_window.proofs.Comings.{PendingEvent, IsFitOwn}
 use Rattle.worker_window.proofs.share.Share.run_window.Given as goal
 
 abbrev pub invariant-loop-slot : goal.invariant-loop-slot
@@ -22,7 +22,7 @@ invariant-loop-slot g l = let n = net_of l.net in record {
   go_out : AllByRecursion (IsOutgoing n l.of l.fn.self.worker) l.outgoing.items;
   coming : (worker from : ℕ) (motes : Motes) (taken : List RadioCopy) (keeps : Keeps n l.of worker from motes taken l.fn.self) (le : from ≤ l.until) → l.until ≤ from + (system_of n).lookahead
       → (come : AllByRecursion (IsExpected l.of worker from) l.fn.arrived.items)
-      → Coming n l.of worker from l.until motes (taken ++ l.fn.arrived.items) (window_copies n l.of worker from l.until motes taken l.fn.arrived.items l.fn.self keeps le come) l.self (outs_of l.done.items) l.wakes.items l.outgoing.items;
+      → PendingEvent n l.of worker from l.until motes (taken ++ l.fn.arrived.items) (window_copies n l.of worker from l.until motes taken l.fn.arrived.items l.fn.self keeps le come) l.self (outs_of l.done.items) l.wakes.items l.outgoing.items;
 }
 
 abbrev pub decreases-loop-slot : goal.decreases-loop-slot

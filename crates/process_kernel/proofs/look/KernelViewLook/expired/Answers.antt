@@ -1,6 +1,6 @@
 use Rattle.std.proofs.Common.{arith}
 use Rattle.process_kernel.proofs.Places.{unowned_hold, unowned_past}
-use Rattle.process_kernel.proofs.look.ShownLook.expired.Goals as goal
+use Rattle.process_kernel.proofs.look.KernelViewLook.expired.Goals as goal
 
 pub returns-then-timer-self : goal.returns-then-timer-self
 returns-then-timer-self c = record {

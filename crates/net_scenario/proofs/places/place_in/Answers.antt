@@ -3,7 +3,7 @@ use Rattle.std.proofs.lemmas.Int.{ints}
 use Rattle.net_scenario.specs.declared.version.Version.TheVariants.{First}
 use Rattle.net_scenario.specs.Rules.{mote_rules}
 use Rattle.net_scenario.proofs.Keeps.{keeps_all, signed_kept}
-use Rattle.net_scenario.proofs.places.place_told.Goals as goal
+use Rattle.net_scenario.proofs.places.place_in.Goals as goal
 
 pub integer_at-requires : goal.integer_at-requires
 integer_at-requires c = record {

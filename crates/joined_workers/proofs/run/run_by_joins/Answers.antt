@@ -6,7 +6,7 @@ use Rattle.joined_workers.specs.Laws.{GroupRunsUntil}
 use Rattle.joined_workers.specs.Run.{BeginsAt, GroupRunsNext}
 use Rattle.all_workers.specs.WindowLength.{end_of_window, length_of_window}
 use Rattle.joined_workers.proofs.Runs.{begins_later, short_enough, stands_there}
-use Rattle.joined_workers.proofs.run.run_group.Goals as goal
+use Rattle.joined_workers.proofs.run.run_by_joins.Goals as goal
 
 pub windows-init : goal.windows-init
 windows-init g c = record {

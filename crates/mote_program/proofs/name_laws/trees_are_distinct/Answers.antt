@@ -1,5 +1,5 @@
 use Rattle.mote_program.proofs.Trees.{declares, undeclared, lacking}
-use Rattle.mote_program.proofs.name_laws.trees_are_told_apart.Goals as goal
+use Rattle.mote_program.proofs.name_laws.trees_are_distinct.Goals as goal
 
 pub returns-clause-trees_that_declare : goal.returns-clause-trees_that_declare
 returns-clause-trees_that_declare c = declares

@@ -9,7 +9,7 @@ use Rattle.all_workers.specs.Workers.{IsAt}
 use Rattle.all_workers.specs.WindowLength.{length_of_window}
 use Rattle.marked_workers.specs.Run.{GroupRunsMarked}
 use Rattle.marked_workers.proofs.Runs.{ended}
-use Rattle.marked_workers.proofs.run.run_marked.Goals as goal
+use Rattle.marked_workers.proofs.run.run_by_marks.Goals as goal
 
 pub returns-clause-at : goal.returns-clause-at
 returns-clause-at g c =

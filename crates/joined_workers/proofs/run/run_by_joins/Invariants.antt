@@ -6,7 +6,7 @@ use Rattle.net_agenda.specs.NetSystem.{system_of}
 use Rattle.all_workers.specs.Workers.{IsAt}
 use Rattle.joined_workers.specs.Run.{BeginsAt, GroupRunsWindows}
 use Rattle.all_workers.specs.WindowLength.{length_of_window}
-use Rattle.joined_workers.proofs.run.run_group.Given as goal
+use Rattle.joined_workers.proofs.run.run_by_joins.Given as goal
 
 abbrev pub invariant-windows : goal.invariant-windows
 invariant-windows g l = record {

@@ -1,7 +1,7 @@
 use Rattle.delivery_laws.proofs.StartsAndHalts.{others_broken}
 use Rattle.delivery_laws.proofs.Broken.{broken}
 use Rattle.delivery_laws.proofs.Whole.{pass, whole}
-use Rattle.delivery_laws.proofs.laws.traces_are_told_apart.Goals as goal
+use Rattle.delivery_laws.proofs.laws.traces_are_distinct.Goals as goal
 
 pub returns-clause-traces_that_hand_on : goal.returns-clause-traces_that_hand_on
 returns-clause-traces_that_hand_on c = whole

@@ -1,6 +1,6 @@
 use Rattle.kernel_laws.proofs.Emptied.{run_empties_ring}
 use Rattle.kernel_laws.proofs.Ring.{boot_tells_packets, calls_tell_packets, run_tells_packets}
-use Rattle.kernel_laws.proofs.laws.the_ring_is_told_of.Goals as goal
+use Rattle.kernel_laws.proofs.laws.the_ring_is_traced.Goals as goal
 
 pub returns-clause-within : goal.returns-clause-within
 returns-clause-within c = calls_tell_packets
