@@ -231,7 +231,7 @@ class Shrinks(unittest.TestCase):
             done = subprocess.run([*words, 'silent 0'], cwd=folder, capture_output=True, text=True)
             self.assertEqual(done.returncode, 0, done.stderr)
             self.assertIn('now:    2 motes, 1 loss, 1 program', done.stdout)
-            for fault, wanted in (('silent 9', 'is no MOTE'), ('lynx 0', 'there is no fault `lynx 0`'),
+            for fault, wanted in (('silent 9', 'is not a MOTE'), ('lynx 0', 'there is no fault `lynx 0`'),
                                   ('lose 0 1', 'must have the form lose SENDER RECEIVER EVERY'),
                                   ('lose 0 1 1', 'only by these faults')):
                 done = subprocess.run([*words, fault], cwd=folder, capture_output=True, text=True)
