@@ -225,7 +225,7 @@ class SweepTest(Bed):
         again = self.sweep(*self.words, '--jobs', '1')
         self.assertEqual(again.stdout, 'net.csv: 6 runs, 4 of them now, 0 with a fault\n')
         self.assertEqual((self.folder / 'net.csv').read_bytes(), before)
-        more = self.sweep(*self.words, '--vary', 'period=0..4')
+        more = self.sweep('--vary', 'period=0..4', *self.words[2:])
         self.assertEqual(more.stdout, 'net.csv: 10 runs, 4 of them now, 0 with a fault\n')
 
     def test_rows_that_others_made_are_in_the_way(self) -> None:
