@@ -76,14 +76,14 @@ class Callers:
         process = self.program.processes[it.process]
         if kind == 'thread':
             thread = name.partition('_')[2]
-            return ', since nothing ran its thread %s%s' % (thread, self.told(
+            return ', since nothing ran its thread %s%s' % (thread, self.sentence(
                 self.numbered(('spawn', 'restart'), thread, it.process), depth))
         if kind == 'callback':
             timer = self.program.timers[int(name)].name
-            return ', since its timer %s was never due%s' % (timer, self.told(
+            return ', since its timer %s was never due%s' % (timer, self.sentence(
                 self.numbered(SETS, timer, it.process), depth))
         if kind == 'onpoll':
-            return ', since nothing polled %s%s' % (process.name, self.told(
+            return ', since nothing polled %s%s' % (process.name, self.sentence(
                 self.numbered(('poll',), process.name), depth))
         if kind == 'body' and it.process not in self.program.autostart:
             is_known = not depth and process.name == self.known
@@ -93,7 +93,7 @@ class Callers:
     def starts(self, name: str, depth: int = 0) -> str:
         """The statements that would have started a process."""
         found = self.numbered(('start',), name)
-        return self.told(found, depth) if found else ': no statement starts it, and `autostart` doesn\'t name it'
+        return self.sentence(found, depth) if found else ': no statement starts it, and `autostart` doesn\'t name it'
 
     def calls(self, process: int, waits: int, since: int) -> str:
         """The statements that would have called a process that waits at a statement since a moment."""
@@ -113,7 +113,7 @@ class Callers:
                 wanted = ('poll',) if event[1] == 'poll' else ('post', 'synch')
                 found = [one for one in found if self.program.statement(one).kind in wanted and (
                     event[1] in ('poll', 'msg') or ' %s' % event[1] in self.program.statement(one).text)]
-        return self.told([one for one in found if one != waits and not any(
+        return self.sentence([one for one in found if one != waits and not any(
             here.at > since for here in self.reached(one))], 0)
 
     def of_timer(self, process: int, name: str, waits: int, since: int) -> str:
@@ -148,7 +148,7 @@ class Callers:
         return ', since %s waits at %s since %d' % (
             self.program.processes[process].name, in_words(self.program, waits), here[-1].at if here else 0)
 
-    def told(self, numbers: Sequence[int], depth: int) -> str:
+    def sentence(self, numbers: Sequence[int], depth: int) -> str:
         """Statements that call it, when each was last reached, and what kept the mote from it."""
         found = []
         for number in numbers[:MOST_CALLERS]:
