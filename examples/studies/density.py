@@ -1,4 +1,4 @@
-"""What the study of density measures beside the columns of tools/summary."""
+"""The measures of the study of density, besides the columns of tools/summary."""
 
 
 def neighbours(run):

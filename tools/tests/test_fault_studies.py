@@ -56,7 +56,7 @@ class Studies(unittest.TestCase):
         need_program(self)
         passed, failed, said = self.check(STUDY)
         self.assertEqual((passed, failed), (2, 1))
-        self.assertIn('as said study.toml: no link is needed\nwrong   study.toml: but for mote 1\n', said)
+        self.assertIn('holds   study.toml: no link is needed\nwrong   study.toml: but for mote 1\n', said)
         self.assertIn('nothing is broken any more by: mote 1 is silent\n', said)
         self.assertIn('broken, though not expected, by: mote 0 is silent\n', said)
 

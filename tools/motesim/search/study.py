@@ -93,7 +93,7 @@ def check_studies(path: Path, processes: int) -> tuple[int, int]:
             raise Fault('%s, `%s`: %s' % (path, study.get('about', 'a study'), fault)) from None
         wrong = wrong_with(study, asking, processes)
         passed, failed = passed + (not wrong), failed + bool(wrong)
-        print('%s %s: %s' % ('wrong  ' if wrong else 'as said', path.name, study.get('about', 'a study')))
+        print('%s %s: %s' % ('wrong  ' if wrong else 'holds  ', path.name, study.get('about', 'a study')))
         for row in wrong:
             print('          ' + row)
     return passed, failed

@@ -183,7 +183,7 @@ class Explainer:
         """The reason why a packet came, and its fate."""
         sent = self.source.traces.send_of(int(words[2]), int(words[3]))
         later = int(words[0]) - (self.source.traces.moment(sent) if sent else 0)
-        told = 'packet %s of mote %s came, after %s on the way' % (words[3], words[2], count(later, 'moment'))
+        told = 'packet %s of mote %s arrived after %s on the way' % (words[3], words[2], count(later, 'moment'))
         if words[1] == 'lost':
             return told + ', but eight packets were waiting already'
         if words[1] == 'collide':

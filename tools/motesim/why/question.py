@@ -237,7 +237,7 @@ class Asker:
             return Asked(inside[first - 1].where, True) if first else Lineless(True, 'there are no %s' % what)
         if inside and (admitted or count.compare in ('at most', 'fewer than')):
             spare = admitted[-1] if admitted else 0
-            return Asked(inside[spare].where, False, why + '; this is the first that is one too many')
+            return Asked(inside[spare].where, False, why + '; this is the first beyond that')
         return Lineless(False, why)
 
     def of_motes(self, it: Does) -> Answer:

@@ -21,7 +21,8 @@ function hopOf(run, line) {
     row: run.numberOf(line, mote), words: run.words(line), waited: at - before, wait, because: text};
   if (kind === RECV || kind === LOST || kind === COLLIDE) {
     hop.wait = 'medium';
-    hop.because = `packet ${run.x[line]} of mote ${run.p[line]} came, after ${count(hop.waited, 'moment')} on the way`;
+    const waited = count(hop.waited, 'moment');
+    hop.because = `packet ${run.x[line]} of mote ${run.p[line]} arrived after ${waited} on the way`;
     if (kind !== RECV) hop.because += kind === LOST ? ', when eight packets were waiting' : ', with others';
   } else if (kind === TAKE || kind === DROP) {
     hop.wait = hop.waited ? 'queue' : '';
