@@ -17,7 +17,7 @@ from motesim.analysis.crossings import Key, Runs, crossing, place
 from motesim.analysis.drawing import ticks_between
 from motesim.analysis.paired import Pair, Paired, differences, pairs_of
 from motesim.analysis.points import Wish, is_seed, shown_of
-from motesim.analysis.rows import by_net, once
+from motesim.analysis.rows import by_net, once, warnings_of
 from motesim.analysis.text import columns_of_crossing, of_crossing, of_pairs, remarks
 from motesim.experiments.results import Row, read_results
 from motesim.faults import Fault
@@ -339,6 +339,38 @@ class Rows(unittest.TestCase):
             # (two programs that a parameter selects)
             shown_of([{**it, 'period': it[column]} for it in rows], Wish('sent', 'period'))
 
+    def test_runs_that_draw_alike_are_found_in_any_rows(self) -> None:
+        rows: list[Row] = [{**row(1, seed, seed), 'chance_seeds': 'seed'} for seed in (1, 100, 258, 300, 772)]
+        self.assertEqual(warnings_of(rows), [
+            'seed = 1 to 772: with 2 of these 5 seeds, mote k draws as mote k + 1 does with the seed 257 less, so these '
+            'runs are not independent: use at most 257 seeds in a row'])
+        self.assertEqual(warnings_of(rows[1:4]), [])
+        self.assertEqual(warnings_of([{**it, 'chance_seeds': None} for it in rows]), [])
+        self.assertIn('mote k draws as mote k + 2 does with the seed 514 less', warnings_of(rows[2:])[0])
+
+    def test_warnings_in_notes_are_counted(self) -> None:
+        rows: list[Row] = [{**row(period, seed, seed), 'note': 'warning: in step' if period + seed < 4 else None}
+                           for period in (1, 2) for seed in (1, 2)]
+        self.assertEqual(warnings_of(rows), ['3 of 4 runs have a warning in the column note of the results; the first: '
+                                             'period = 1, seed = 1'])
+
+    def test_runs_of_two_builds_have_a_line_and_can_be_separated(self) -> None:
+        rows: list[Row] = [{**row(1, seed, seed), 'program_sha256': 'digest%d' % (seed > 1)} for seed in (1, 2, 3)]
+        self.assertEqual(warnings_of(rows), [
+            'these are runs of 2 builds of motesim (program_sha256 digest1 in 2, digest0 in 1): --by program_sha256 '
+            'separates them, --where program_sha256=digest0 selects some'])
+        self.assertEqual(warnings_of(rows, ['program_sha256']), [])
+        shown = shown_of(rows, Wish('sent', 'period', by='program_sha256'))
+        self.assertEqual([(it.by, it.values) for it in shown.points], [('digest0', (1,)), ('digest1', (2, 3))])
+        # (the same parameters twice: two programs, each with its own result)
+        twice: list[Row] = [{**row(1, 1, sent), 'program_sha256': 'digest%d' % sent} for sent in (1, 2)]
+        with self.assertRaisesRegex(Fault, 'select one with --where program_sha256=digest2, separate them with --by '
+                                           'program_sha256, or compare two files'):
+            once(twice, 'net.csv')
+        self.assertEqual(once(twice, 'net.csv', ['program_sha256']), (twice, []))
+        plans: list[Row] = [{**it, 'plan_sha256': it['program_sha256']} for it in rows]
+        self.assertEqual(len(shown_of(plans, Wish('sent', 'period', by='plan_sha256')).points), 2)
+
     def test_two_results_of_one_run_are_refused(self) -> None:
         with self.assertRaisesRegex(Fault, 'net.csv has two rows with period = 1, seed = 1, and they differ in sent: '
                                            'keep the rows of one plan'):
@@ -448,6 +480,32 @@ class Command(unittest.TestCase):
         self.plot('--measure', 'sent', '--against', 'period', *ONE, status=2)
         self.assertIn('net.csv has two rows with period = 1, density = thin, seed = 1, and they differ in sent',
                       self.seen)
+
+    def test_what_is_to_know_of_the_runs_is_below_tables_and_pictures(self) -> None:
+        text = 'period,seed,sent,fault,program_sha256,chance_seeds,parameters\n' + ''.join(
+            '%d,%d,%d,,%s,seed,period seed\n' % (period, seed, seed, 'aa' if period == 1 else 'bb')
+            for period in (1, 2) for seed in (1, 2, 258))
+        (self.folder / 'net.csv').write_text(text)
+        words = '--measure', 'sent', '--against', 'period'
+        alike, programs = 'seed = 1 to 258: with 1 of these 3 seeds', 'these are runs of 2 builds of motesim'
+        for more in (), ('--show', 'mean'), ('--show', 'points'), ('--by', 'program_sha256'):
+            rows = [' '.join(it) for it in self.plot(*words, *more)]
+            self.assertTrue(any(it.startswith(alike) for it in rows), rows)
+            self.assertIn('plot: ' + alike, self.seen)
+            self.assertEqual(any(it.startswith(programs) for it in rows), '--by' not in more)
+        (self.folder / 'one.csv').write_text(text.replace('bb', 'aa'))
+        rows = [' '.join(it) for it in self.plot(*words, '--compare', 'one.csv')]
+        self.assertTrue(any(it.startswith(programs) and '--by' not in it for it in rows), rows)
+        (self.folder / 'net.csv').write_text(text.replace('\n2,', '\n1,'))
+        pairs = self.plot('--measure', 'sent', '--against', 'period', '--pair', 'program_sha256=aa,bb')
+        self.assertEqual((pairs[2][1], self.seen.count(programs)), ('3', 0))
+        interpreter_with(self, 'matplotlib')
+        (self.folder / 'net.csv').write_text(text)
+        self.plot(*words, '-o', 'a.svg')
+        picture = ' '.join(re.sub('<[^>]*>', ' ', (self.folder / 'a.svg').read_text()).split())
+        for shown in alike, programs:
+            self.assertIn(shown, picture)
+            self.assertIn(shown, (self.folder / 'a.origin.csv').read_text())
 
     def test_a_logarithmic_axis_upwards(self) -> None:
         words = '--measure', 'ratio', '--against', 'period', '--by', 'density', '--log-y'

@@ -208,10 +208,31 @@ class SweepTest(Bed):
     def test_more_seeds_than_draw_apart(self) -> None:
         source = 'process a;\ncode a { var dice = 0; body { dice = ((self * 257) + ${period}); print 3; } }\n'
         (self.folder / 'a.mote').write_text(source)
-        warned = 'sweep: warning: period = 0 to 257: in a.mote, mote k draws with one seed as mote k + 1 does'
+        warned = 'sweep: warning: period = 0 to 257: with 1 of these 2 seeds, mote k draws as mote k + 1 does with '
+        note = 'warning: with period = 257 mote k draws as mote k + 1 does with period = 0, so these two runs are not ' \
+               'independent: use at most 257 seeds in a row'
         for values, is_warned in ('0,257', True), ('1,257', False):
-            done = self.sweep('--vary', 'period=' + values, '--measure', 'sent', '-o', '%s.csv' % values[0])
-            self.assertEqual((done.returncode, warned in done.stderr), (0, is_warned), done)
+            for end in '.csv', '.sqlite':
+                name = values[0] + end
+                done = self.sweep('--vary', 'period=' + values, '--measure', 'sent', '-o', name)
+                self.assertEqual((done.returncode, warned in done.stderr), (0, is_warned), done)
+                rows = read_results(self.folder / name)[1]
+                self.assertEqual([(row['note'], row['chance_seeds']) for row in rows],
+                                 [(None, 'period'), (note if is_warned else None, 'period')])
+
+    def test_seeds_of_two_commands_draw_alike(self) -> None:
+        source = 'process a;\ncode a { var dice = 0; body { dice = ((self * 257) + ${period}); print 3; } }\n'
+        (self.folder / 'a.mote').write_text(source)
+        for name, values in ('up.csv', ('0', '257')), ('down.csv', ('257', '0')), ('up.sqlite', ('0', '257')):
+            said = [self.sweep('--vary', 'period=' + it, '--measure', 'sent', '-o', name).stderr for it in values]
+            self.assertEqual(['period = 0 to 257: ' in it for it in said], [False, True], said)
+            found = {row['period']: row['note'] for row in read_results(self.folder / name)[1]}
+            self.assertIsNone(found[0])
+            self.assertIn('with period = 257 mote k draws as mote k + 1 does with period = 0', str(found[257]))
+        # (the note goes with the row that it is about)
+        (self.folder / 'a.mote').write_text(source + '// more\n')
+        self.sweep('--vary', 'period=257', '--measure', 'sent', '-o', 'up.csv', '--renew')
+        self.assertEqual([row['note'] for row in read_results(self.folder / 'up.csv')[1]], [None])
 
     def test_only_what_is_missing_is_run(self) -> None:
         self.sweep(*self.words)

@@ -6,7 +6,7 @@ from collections.abc import Sequence
 from pathlib import Path
 from typing import Any
 
-from motesim.analysis.rows import once
+from motesim.analysis.rows import once, warnings_of
 from motesim.experiments import packages
 from motesim.experiments.measures import Cell
 from motesim.experiments.results import read_results, text_of
@@ -29,6 +29,8 @@ def frame(path: str | Path, with_faults: bool = False) -> Any:
     if len(kept) < len(rows):
         lines = [*lines, '%s: left out: %d of %d runs, which have a fault; frame(.., with_faults=True) has them' % (
             path, len(rows) - len(kept), len(rows))]
+    if rows and 'parameters' in columns:
+        lines = [*lines, *('%s: %s' % (path, it) for it in warnings_of(rows))]
     for line in lines:
         print('frame: %s' % line, file=sys.stderr)
     made = pandas.DataFrame(kept, columns=columns)

@@ -22,6 +22,9 @@ REJECTED = 'rejected'
 PLACES = 'places_sha256'
 # The columns with the digests of a run's plan (with the files that it reads) and of its measures.
 MADE_BY = {'plan_sha256': 'plans, or of changed files next to one', 'measures_sha256': 'sets of measures'}
+# The column with the digest of motesim, by which runs can be separated too.
+PROGRAM = 'program_sha256'
+SEPARATES = (*MADE_BY, PROGRAM)
 # The columns of a row that is the mean of a net: its runs, those that have values, those that have none, and the net's
 # name. (No parameter has such a name.)
 RUNS, WITH, WITHOUT, NET = '(runs)', '(with a value)', '(without a value)', '(net)'
@@ -115,6 +118,7 @@ class Shown(NamedTuple):
     shared         the runs and the nets of a point of which several runs are in one net, if there is such a point
     faults_at, empty_at  the places of the omitted runs
     runs_at        of averaged nets: how many runs each point has
+    warnings       lines about the runs
     nets           of averaged nets: those in which runs have no value
     """
     points: list[Point]
@@ -128,6 +132,7 @@ class Shown(NamedTuple):
     empty_at: Mapping[Place, int] = {}
     runs_at: Mapping[Place, int] = {}
     nets: Sequence[Net] = ()
+    warnings: Sequence[str] = ()
 
     def curves(self) -> list[Curve]:
         """The runs of each value of `by`, also of one whose runs have no value."""
@@ -161,7 +166,7 @@ def _check(rows: Sequence[Row], wish: Wish) -> None:
     """Checks that the names exist."""
     parameters, measures = parameters_of(rows), measures_of(rows)
     for name in [wish.by, *wish.over.split(',')]:
-        if name and name not in [*parameters, *MADE_BY]:
+        if name and name not in [*parameters, *(it for it in SEPARATES if it in rows[0])]:
             raise Fault('there is no parameter %s; there are: %s' % (name, ', '.join(parameters)))
     if wish.against and wish.against not in [*parameters, *measures]:
         raise Fault('there is no parameter %s; there are: %s' % (wish.against, ', '.join(parameters)))
@@ -210,6 +215,8 @@ def is_repeat(name: str, over: str) -> bool:
 def check_made(rows: Sequence[Row], names: Sequence[str], wish: Wish) -> None:
     """Refuses to mix runs of several plans or sets of measures that have the same values of these names."""
     for column, what in MADE_BY.items():
+        if column == wish.by:
+            continue
         digests: dict[tuple[Cell, ...], list[Cell]] = {}
         for row in rows:
             if row.get(column) is not None:
@@ -217,8 +224,9 @@ def check_made(rows: Sequence[Row], names: Sequence[str], wish: Wish) -> None:
         mixed = next((sorted(set(its), key=order) for its in digests.values() if len(set(its)) > 1), None)
         if mixed and column not in wish.over.split(','):
             repeats = [it for it in parameters_of(rows) if is_repeat(it, wish.over)]
-            raise Fault('these are runs of %d %s: %s, --over %s mixes them' % (
-                len(mixed), what, SELECTS % (column, text_of(mixed[0])), ','.join([*repeats, column])))
+            ways = [] if wish.by else ['--by %s separates them' % column]
+            ways += [SELECTS % (column, text_of(mixed[0])), '--over %s mixes them' % ','.join([*repeats, column])]
+            raise Fault('these are runs of %d %s: %s' % (len(mixed), what, ', '.join(ways)))
 
 
 def check_pairs(rows: Sequence[Row], wish: Wish, kept: Sequence[str]) -> None:

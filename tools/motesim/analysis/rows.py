@@ -5,8 +5,9 @@ import statistics
 from collections import Counter
 from collections.abc import Sequence
 
-from motesim.analysis.points import NET, PLACES, RUNS, WITH, WITHOUT, Wish, measures_of, name_of_net, names_of_nets
-from motesim.analysis.points import number_of, parameters_of, repeats_of
+from motesim.analysis.points import MOST_VALUES, NET, PLACES, PROGRAM, RUNS, SELECTS, SEPARATES, WITH, WITHOUT, Wish
+from motesim.analysis.points import measures_of, name_of_net, names_of_nets, number_of, parameters_of, repeats_of
+from motesim.experiments.draws import WARNING, lines_of, without_alike
 from motesim.experiments.measures import Cell
 from motesim.experiments.results import Row, text_of
 from motesim.faults import Fault
@@ -21,12 +22,14 @@ def shown_key(names: Sequence[str], key: Key) -> str:
     return ', '.join('%s = %s' % (name, text_of(value)) for name, value in zip(names, key))
 
 
-def once(rows: Sequence[Row], file: str) -> tuple[list[Row], list[str]]:
+def once(rows: Sequence[Row], file: str, apart: Sequence[str] = ()) -> tuple[list[Row], list[str]]:
     """The rows, each run once, and a line about those that are left out.
 
-    Raises a fault if two rows have the same parameters and another result: they are of two plans or two programs.
+    Rows that differ in a column of `apart`, such as the digest of motesim, are two runs. Raises a fault if others have
+    the same parameters and another result: they are of two plans or two programs.
     """
-    names, compared = parameters_of(rows), [*measures_of(rows), *(it for it in DIGESTS if it in rows[0])]
+    names = [*parameters_of(rows), *(it for it in apart if it in rows[0])]
+    compared = [*measures_of(rows), *(it for it in DIGESTS if it in rows[0])]
     kept: dict[Key, Row] = {}
     more = 0
     first: Key = ()
@@ -37,8 +40,11 @@ def once(rows: Sequence[Row], file: str) -> tuple[list[Row], list[str]]:
             continue
         if not before['fault'] and not row['fault'] and any(before[name] != row[name] for name in compared):
             other = next(name for name in compared if before[name] != row[name])
-            raise Fault('%s has two rows with %s, and they differ in %s: keep the rows of one plan and one program in '
-                        'a file, and compare two files with --compare' % (file, shown_key(names, key), other))
+            by = next((it for it in SEPARATES if it not in names and before.get(it) != row.get(it)), '')
+            way = 'select one with --where %s=%s, separate them with --by %s' % (by, text_of(row[by]), by) if by else (
+                'keep the rows of one plan and one program in a file')
+            raise Fault('%s has two rows with %s, and they differ in %s: %s, or compare two files with --compare' % (
+                file, shown_key(names, key), other, way))
         more, first = more + 1, first or key
         if before['fault']:
             kept[key] = row
@@ -60,6 +66,7 @@ def by_net(rows: Sequence[Row], wish: Wish) -> list[Row]:
     varying = [name for name in parameters_of(rows) if len({row[name] for row in good}) > 1]
     repeats = repeats_of(varying, wish.over)
     fixed = [name for name in varying if name not in repeats or name in (wish.against, wish.by)]
+    fixed += [wish.by] * (wish.by in SEPARATES)
     measures = [name for name in (wish.measure, wish.against) if name in measures_of(rows)]
     groups: dict[Key, list[Row]] = {}
     for row in good:
@@ -74,6 +81,30 @@ def by_net(rows: Sequence[Row], wish: Wish) -> list[Row]:
                      RUNS: len(group) + faults[tuple(group[0][name] for name in {*fixed, *names})], WITH: len(full),
                      WITHOUT: len(group) - len(full), NET: name_of_net(group[0], names)})
     return made + [row for row in rows if row['fault']]
+
+
+def warnings_of(rows: Sequence[Row], apart: Sequence[str] = (), has_lines: bool = True) -> list[str]:
+    """Lines about runs that draw alike, about runs with a warning in their notes, and about runs of several
+    builds of motesim.
+
+    apart      the columns by which runs are separated on purpose
+    has_lines  whether `--by` can separate runs
+    """
+    good = [row for row in rows if not row.get('fault')]
+    found = lines_of(good)
+    noted = [row for row in good if WARNING in without_alike(row.get('note'))]
+    if noted:
+        names = [name for name in parameters_of(rows) if len({row[name] for row in good}) > 1]
+        found.append('%d of %d runs have a warning in the column note of the results%s' % (
+            len(noted), len(good), '; the first: ' + shown_key(names, tuple(noted[0][it] for it in names))
+            if names else ''))
+    programs = Counter(text_of(row[PROGRAM]) for row in good if row.get(PROGRAM) is not None)
+    if len(programs) > 1 and PROGRAM not in apart:
+        its = ['%s in %d' % it for it in programs.most_common(MOST_VALUES)] + ['..'] * (len(programs) > MOST_VALUES)
+        ways = ['--by %s separates them' % PROGRAM] * has_lines + [SELECTS % (PROGRAM, next(iter(programs)))]
+        found.append('these are runs of %d builds of motesim (%s %s): %s' % (
+            len(programs), PROGRAM, ', '.join(its), ', '.join(ways)))
+    return found
 
 
 def mean_of(rows: Sequence[Row], measure: str) -> float | None:

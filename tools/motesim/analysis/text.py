@@ -213,7 +213,7 @@ def remarks(shown: Shown, wish: Wish) -> list[str]:
     """The limits of the intervals' meaning."""
     has_crossing = any(it and it.low is not None for it in crossings_of(shown, wish).values())
     found = of_nets(shown.shared) if wish.show == 'mean' or wish.threshold and wish.show != 'cdf' else []
-    found += of_bars(shown, wish)
+    found += [*of_bars(shown, wish), *shown.warnings]
     if wish.show != 'mean':
         return [*(['bootstrap: %s' % DRAWN] if has_crossing else []), *found]
     found += of_intervals([it for point in shown.points for it in point.estimates], has_crossing)

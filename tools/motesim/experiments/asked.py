@@ -9,6 +9,7 @@ from collections.abc import Iterator, Mapping, Sequence
 from dataclasses import dataclass
 
 from motesim.faults import Fault
+from motesim.experiments.draws import CHANCE, seeds_of
 from motesim.experiments.measures import file_of, mote_of, read_measure
 from motesim.plan.plan import Plan
 from motesim.plan.tables import Value, optional, text_of_value, value_of_text
@@ -22,12 +23,9 @@ MOST_TRIED = 40
 SECONDS, MOST_SECONDS, MOST_BYTES = 60, 86_400, 200_000_000
 RANGE = re.compile(r'(-?[0-9]{1,9})\.\.(-?[0-9]{1,9})(?:\.\.([0-9]{1,9}))?')
 SWEEP = {'vary': optional(dict, {}), 'measure': optional(list, []), 'seconds': optional(int, SECONDS, 1, MOST_SECONDS)}
-# The pattern for chance of docs/use/EXPERIMENTS.md, with its seed: so many seeds in a row draw different numbers.
-DRAWS = re.compile(r'self\s*\*\s*257\s*\)?\s*\+\s*\$\{(\w+)\}')
-MOST_SEEDS = 257
 # The columns that say what made a row.
 MADE = ('fault', 'note', 'plan', 'plan_sha256', 'scenario_sha256', 'places_sha256', 'rejected', 'report_sha256',
-        'program', 'program_sha256', 'kit', 'measures_sha256', 'parameters')
+        'program', 'program_sha256', 'kit', 'measures_sha256', CHANCE, 'parameters')
 
 
 def values_of(words: str) -> list[Value]:
@@ -128,20 +126,13 @@ def sources_of(plan: Plan, measures: Sequence[str]) -> dict[str, str]:
         raise Fault('a file of measures is not UTF-8: %s' % fault) from None
 
 
-def alike_seeds(sweep: Sweep) -> list[str]:
-    """A line for each parameter that is the seed of the pattern for chance, and has more values than draw apart."""
-    names: dict[str, str] = {}
-    for file in sweep.plan.used_files(sweep.run_at(0)):
+def chance_seeds(plan: Plan, files: Sequence[str]) -> list[str]:
+    """The parameters that are seeds of the pattern for chance, in these files of a plan."""
+    names: dict[str, None] = {}
+    for file in files:
         with contextlib.suppress(Fault, ValueError):
-            names.update(dict.fromkeys(DRAWS.findall(sweep.plan.files.read(file).decode('utf-8', 'replace')), file))
-    found = []
-    for name, file in names.items():
-        values = [it for it in sweep.vary.get(name, []) if type(it) is int]
-        if values and max(values) - min(values) >= MOST_SEEDS:
-            found.append('%s = %d to %d: in %s, mote k draws with one seed as mote k + 1 does with the seed %d less, '
-                         'so these runs are not independent: use at most %d seeds in a row' % (
-                             name, min(values), max(values), file, MOST_SEEDS, MOST_SEEDS))
-    return found
+            names.update(dict.fromkeys(seeds_of(plan.files.read(file).decode('utf-8', 'replace'))))
+    return [name for name in plan.parameters if name in names]
 
 
 def some_runs(sweep: Sweep) -> Iterator[dict[str, Value]]:

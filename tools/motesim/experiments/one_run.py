@@ -20,6 +20,7 @@ from motesim.explain.lint import by_cause, of_losses, of_seeds, programs_of
 from motesim.faults import Fault
 from motesim.runner.batch import fault_of
 from motesim.runner.process import LimitMet, Limits, Runner
+from motesim.experiments.draws import WARNING
 from motesim.experiments.measures import Bench, Cell, name_of, read_measure
 from motesim.plan.plan import Plan
 from motesim.plan.files import Files
@@ -35,8 +36,6 @@ DIGITS = 16
 BUSY = 30
 TOO_BUSY = 'the machine is too busy'
 LONGEST_FAULT = 400
-# A note that begins so is about a run that has all its measures.
-WARNING = 'warning: '
 
 
 class Work(NamedTuple):

@@ -14,9 +14,9 @@ from motesim.analysis.estimates import AUTO, MEANS
 from motesim.analysis.estimates import quartiles as quartiles
 from motesim.analysis.origin import origin_of, origin_path
 from motesim.analysis.paired import differences, pairs_of
-from motesim.analysis.points import MEDIAN, SHOWS, Wish, check_made, check_pairs, is_repeat, measures_of, names_of_nets
-from motesim.analysis.points import order, parameters_of, shared_nets, shown_of
-from motesim.analysis.rows import by_net, once
+from motesim.analysis.points import MEDIAN, SEPARATES, SHOWS, Wish, check_made, check_pairs, is_repeat, measures_of
+from motesim.analysis.points import names_of_nets, order, parameters_of, shared_nets, shown_of
+from motesim.analysis.rows import by_net, once, warnings_of
 from motesim.experiments import packages
 from motesim.experiments.asked import values_of
 from motesim.experiments.results import Row, cell, read_results, text_of
@@ -130,16 +130,17 @@ def write_tables(picture: Path, made: Sequence[text.Row], source: Source, rows: 
             raise Fault('%s: %s' % (path, fault.strerror)) from None
 
 
-def warn(lines: Sequence[str], shared: tuple[int, int] | None) -> None:
-    """Prints the line about runs that share a net, if it is one of these, on standard error too."""
-    for line in text.of_nets(shared):
+def warn(lines: Sequence[str], shared: tuple[int, int] | None, warnings: Sequence[str]) -> None:
+    """Prints the lines about runs that aren't independent, if they are some of these, on standard error too."""
+    for line in [*text.of_nets(shared), *warnings]:
         if line in lines:
             print('plot: %s' % line, file=sys.stderr)
 
 
 def show(rows: Sequence[Row], wish: Wish, source: Source) -> bool:
     """Draws a picture or prints a table; returns whether it has the wanted form."""
-    shown = shown_of(by_net(rows, wish) if wish.nets else rows, wish)
+    shown = shown_of(by_net(rows, wish) if wish.nets else rows, wish)._replace(
+        warnings=warnings_of(rows, separated_by(wish)))
     if not shown.points:
         raise Fault('; '.join(['there is no value of %s to show' % wish.measure, *text.left_out(shown, wish)]))
     text.check_log_y(shown, wish)
@@ -149,10 +150,10 @@ def show(rows: Sequence[Row], wish: Wish, source: Source) -> bool:
         notes = [*text.crossings(shown, wish), *text.left_out(shown, wish), *text.remarks(shown, wish)]
         write_tables(picture, text.rows_of_picture(shown, wish), source, rows, [text.heading(shown, wish), *notes])
         print('\n'.join(map(str, [picture, *notes])))
-        warn(text.remarks(shown, wish), shown.shared)
+        warn(text.remarks(shown, wish), shown.shared, shown.warnings)
         return True
     print('\n'.join(text.table_of(shown, wish)))
-    warn(text.remarks(shown, wish), shown.shared)
+    warn(text.remarks(shown, wish), shown.shared, shown.warnings)
     return not wish.file
 
 
@@ -179,8 +180,10 @@ def compare(sides: Sides, wish: Wish, source: Source) -> bool:
     good = [row for row in rows if not row['fault']]
     shared = None if wish.nets else shared_nets(good, [wish.against], wish.measure)
     more = text.of_nets(shared) + text.of_intervals([it.difference for it in found])
+    warnings = warnings_of([*rows, *others], separated_by(wish), False)
+    more += warnings
     notes = text.of_pairs(paired, found, wish.against) + more
-    warn(notes, shared)
+    warn(notes, shared, warnings)
     if wish.file and packages.is_here('matplotlib'):
         picture = source.folder / wish.file
         below = text.of_pairs(paired, found, wish.against, text.MOST_BELOW) + more
@@ -233,13 +236,18 @@ def chosen(rows: Sequence[Row], where: Sequence[str]) -> list[Row]:
     return found
 
 
-def runs_of(path: Path, where: Sequence[str]) -> list[Row]:
+def separated_by(wish: Wish) -> list[str]:
+    """The digests by which a wish separates runs."""
+    return [it for it in SEPARATES if it in (wish.by, wish.pair.partition('=')[0])]
+
+
+def runs_of(path: Path, where: Sequence[str], apart: Sequence[str] = ()) -> list[Row]:
     """The runs of a file of results, each once."""
     columns, rows = read_results(path)
     rows = chosen(rows, where)
     if not rows or not {'fault', 'parameters'} <= set(columns):
         raise Fault('%s has no runs of a sweep%s' % (path, ' with these values' if where else ''))
-    rows, lines = once(rows, str(path))
+    rows, lines = once(rows, str(path), apart)
     for line in lines:
         print('plot: %s' % line, file=sys.stderr)
     return rows
@@ -264,9 +272,9 @@ def sides_of(wish: Wish, rows: list[Row], results: Path, other: Path, where: Seq
         return Sides(rows, others, names, [it for it in parameters if it in parameters_of(others)])
     name, _, values = wish.pair.partition('=')
     sides = values.split(',')
-    if name not in parameters or len(sides) != 2:
+    if name not in [*parameters, *(it for it in SEPARATES if it in rows[0])] or len(sides) != 2:
         raise Fault('--pair needs NAME=ONE,OTHER with a parameter (%s), not %r' % (', '.join(parameters), wish.pair))
-    one, two = ([row for row in rows if row[name] == cell(side)] for side in sides)
+    one, two = ([row for row in rows if text_of(row[name]) == text_of(cell(side))] for side in sides)
     if not one or not two:
         raise Fault('no run has %s = %s' % (name, sides[0] if not one else sides[1]))
     shown = '%s %s' % (name, sides[0]), '%s %s' % (name, sides[1])
@@ -277,14 +285,16 @@ def drawn(wish: Wish, asked: argparse.Namespace, read: dict[tuple[str, ...], lis
     """Shows a wish; returns whether it has the wanted form. `read` keeps the rows that were read."""
     results, where = Path(asked.results), (*asked.where, *wish.where)
     folder = results.parent if asked.plan else Path()
-    if where not in read:
-        read[where] = runs_of(results, where)
+    apart = separated_by(wish)
+    key = *where, *apart
+    if key not in read:
+        read[key] = runs_of(results, where, apart)
     other = folder / wish.compare
     files = (results, other) if wish.compare else (results,)
     source = Source(folder, files, shlex.join(['tools/plot', *sys.argv[1:]]))
     if wish.pair or wish.compare:
-        return compare(sides_of(wish, read[where], results, other, where), wish, source)
-    return show(read[where], wish, source)
+        return compare(sides_of(wish, read[key], results, other, where), wish, source)
+    return show(read[key], wish, source)
 
 
 def status_of(asked: argparse.Namespace) -> int:

@@ -13,7 +13,7 @@ import re
 import sqlite3
 import time
 from array import array
-from collections.abc import Generator, Iterable, Iterator, Mapping, Sequence
+from collections.abc import Callable, Generator, Iterable, Iterator, Mapping, Sequence
 from pathlib import Path
 from typing import IO
 
@@ -22,6 +22,9 @@ from motesim.files import write_whole
 from motesim.experiments.measures import Cell
 
 Row = dict[str, Cell]
+# The column of notes on runs, and a function from a row to its note.
+NOTE = 'note'
+NoteOf = Callable[[Row], str]
 SQLITE = ('.sqlite', '.sqlite3', '.db')
 NUMBER = re.compile(r'0|-?[1-9][0-9]*')
 # How many bits of a spot of CSV have the length of a row, and how much of a file is read at a time.
@@ -99,8 +102,8 @@ class CsvFile:
         """The rows with their spots, in the order of the file."""
         return rows_of_csv(self.path)
 
-    def keep(self, spots: Iterable[int], is_last: bool = False) -> array[int]:
-        """Keeps only the rows of these spots, in this order; returns their new spots."""
+    def keep(self, spots: Iterable[int], is_last: bool = False, note_of: NoteOf | None = None) -> array[int]:
+        """Keeps only the rows of these spots, in this order, with other notes; returns their new spots."""
         head = line_of(self.columns).encode()
         made, at = array('Q'), len(head)
 
@@ -115,6 +118,8 @@ class CsvFile:
                     if b'"' in line or b'\r' in line:
                         text = io.StringIO(line.decode('utf-8'), newline='')
                         line = line_of(next(csv.reader(text, strict=True))).encode()
+                    if note_of:
+                        line = _with_note(line, self.columns, note_of)
                     made.append(spot_of(at, at + len(line)))
                     at += len(line)
                     yield line
@@ -126,6 +131,17 @@ class CsvFile:
 
     def close(self) -> None:
         self.file.close()
+
+
+def _with_note(line: bytes, columns: Sequence[str], note_of: NoteOf) -> bytes:
+    """A line of CSV with another note."""
+    values = next(csv.reader(io.StringIO(line.decode('utf-8'), newline=''), strict=True))
+    row = {name: cell(value) for name, value in zip(columns, values)}
+    note = note_of(row)
+    if note == text_of(row[NOTE]):
+        return line
+    values[list(columns).index(NOTE)] = note
+    return line_of(values).encode()
 
 
 def quoted(name: str) -> str:
@@ -169,8 +185,11 @@ class SqliteFile:
         names = [it[0] for it in found.description][1:]
         return ((row[0], dict(zip(names, row[1:]))) for row in found)
 
-    def keep(self, spots: Iterable[int], is_last: bool = False) -> array[int]:
-        """Keeps only the rows of these spots, in this order; returns their new spots. `is_last` packs the file."""
+    def keep(self, spots: Iterable[int], is_last: bool = False, note_of: NoteOf | None = None) -> array[int]:
+        """Keeps only the rows of these spots, in this order, with other notes; returns their new spots.
+
+        `is_last` packs the file.
+        """
         made = array('Q')
         try:
             self._commit()
@@ -182,6 +201,10 @@ class SqliteFile:
                 made.append(done.lastrowid or 0)
             self.base.execute('drop table runs')
             self.base.execute('alter table kept rename to runs')
+            if note_of:
+                notes = ((note_of(row), row[NOTE], spot) for spot, row in self.rows())
+                changed = [(note or None, spot) for note, before, spot in notes if note != text_of(before)]
+                self.base.executemany('update runs set %s = ? where rowid = ?' % NOTE, changed)
             self.base.execute('commit')
             if is_last:
                 self.base.execute('vacuum')

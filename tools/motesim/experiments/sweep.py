@@ -15,13 +15,14 @@ from pathlib import Path
 from motesim.analysis.points import is_seed
 from motesim.experiments import packages
 from motesim.faults import INTERRUPTED, Fault
-from motesim.experiments.one_run import DIGITS, TOO_BUSY, WARNING, Job, Result, Work, program_digest
+from motesim.experiments.one_run import DIGITS, TOO_BUSY, Job, Result, Work, program_digest
 from motesim.output import beside
 from motesim.plan.plan import Plan
 from motesim.plan.tables import Value, text_of_value, value_of_text
 from motesim.experiments.results import CsvFile, Row, SqliteFile, open_results, text_of
 from motesim.runner.run import TOP, program_path
-from motesim.experiments.asked import Sweep, alike_seeds, columns_of, known_names, sources_of, sweep_of
+from motesim.experiments.asked import Sweep, chance_seeds, columns_of, known_names, some_runs, sources_of, sweep_of
+from motesim.experiments.draws import CHANCE, WARNING, Notes, Seeds, without_alike
 from motesim.experiments.progress import Progress
 from motesim.experiments.runs import Stopped, longest, run_by_dask, run_here
 from motesim.runner.versions import kit_version, program_version
@@ -50,6 +51,9 @@ class Sweeper:
                        for name, values in sweep.vary.items()}
         # The spot of each run's row in the file, or 0 for a missing one, and those of rows with other values.
         self.spots, self.others = array('Q', bytes(8 * sweep.runs())), array('Q')
+        # The seeds of the pattern for chance, by the files in which they are; and their values in the file.
+        self.chances: dict[tuple[str, ...], list[str]] = {}
+        self.drawn = Seeds()
         self.file: CsvFile | SqliteFile = open_results(path, self.columns)
 
     def place_of(self, row: Row) -> int | None:
@@ -96,6 +100,7 @@ class Sweeper:
             if str(row['fault'] or '').startswith(TOO_BUSY) or retries and (row['fault'] or lacks_measure(row)):
                 continue
             place = self.place_of(row)
+            self.drawn.add_row(row)
             spots.append(spot)
             places.append(OTHER if place is None else place)
         if others and not is_renewed:
@@ -138,12 +143,30 @@ class Sweeper:
                 found.append((name, self.plan.files.read(name)))
         return tuple(found)
 
+    def chance_seeds(self, given: Mapping[str, Value]) -> list[str]:
+        """The parameters that are seeds of the pattern for chance in a run."""
+        try:
+            files = tuple(self.plan.used_files(given))
+        except Fault:
+            return []
+        if files not in self.chances:
+            self.chances[files] = chance_seeds(self.plan, files)
+        return self.chances[files]
+
+    def alike(self) -> list[str]:
+        """A line for each parameter of which values draw alike, in the rows of the file and in this sweep."""
+        for given in some_runs(self.sweep):
+            for name in self.chance_seeds(given):
+                for value in (*self.sweep.vary.get(name, ()), given[name]):
+                    self.drawn.add(name, value)
+        return self.drawn.lines()
+
     def row(self, given: Mapping[str, Value], result: Result) -> Row:
         parameters = {name: text_of_value(value) if type(value) is bool else value for name, value in given.items()}
         return {**parameters, **result.measures, **self.made, 'plan_sha256': self.plan_digest(given),
                 'scenario_sha256': result.scenario, 'places_sha256': result.places or None,
                 'rejected': result.rejected, 'report_sha256': result.report, 'fault': result.fault or None,
-                'note': result.note or None}
+                'note': result.note or None, CHANCE: ' '.join(self.chance_seeds(given)) or None}
 
     def run(self, processes: int, address: str | None) -> int:
         """Makes the missing runs; returns how many."""
@@ -166,8 +189,14 @@ class Sweeper:
         return count
 
     def in_order(self) -> None:
-        """Writes the rows in the order of the sweep, and others behind them."""
-        spots = self.file.keep(itertools.chain(filter(None, self.spots), self.others), True)
+        """Writes the rows in the order of the sweep, and others behind them, with notes on those that draw alike."""
+        seeds = Seeds()
+        if self.drawn.values or any(self.chances.values()):
+            for _, row in self.file.rows():
+                seeds.add_row(row)
+        notes = Notes(seeds)
+        spots = self.file.keep(itertools.chain(filter(None, self.spots), self.others), True,
+                               notes.of if notes else None)
         first = len(self.spots) - self.left()
         left = iter(spots[:first])
         self.spots = array('Q', (next(left) if spot else 0 for spot in self.spots))
@@ -195,7 +224,7 @@ def said(sweeper: Sweeper, ran: int) -> int:
     counts: Counter[str] = Counter()
     firsts: dict[str, Row] = {}
     for row in sweeper.rows():
-        kinds = {'row': True, 'fault': bool(row['fault']), 'warned': WARNING in str(row['note'] or ''),
+        kinds = {'row': True, 'fault': bool(row['fault']), 'warned': WARNING in without_alike(row['note']),
                  'noted': lacks_measure(row)}
         for kind in (kind for kind, is_so in kinds.items() if is_so):
             counts[kind] += 1
@@ -207,7 +236,7 @@ def said(sweeper: Sweeper, ran: int) -> int:
         first = firsts['warned']
         varied = ', '.join('%s = %s' % (name, text_of(first[name])) for name in sweeper.sweep.vary)
         print('sweep: %d runs have a warning in the column note; the first (%s): %s' % (
-            counts['warned'], varied, str(first['note']).partition(WARNING)[2]), file=sys.stderr)
+            counts['warned'], varied, without_alike(first['note']).partition(WARNING)[2]), file=sys.stderr)
     if 'noted' in firsts:
         print('%d runs lack a measure; the first: %s' % (counts['noted'], firsts['noted']['note']))
     return 1 if counts['fault'] or counts['noted'] else 0
@@ -223,7 +252,7 @@ def status_of(asked: argparse.Namespace) -> int:
     sweep.most_bytes = asked.bytes
     sweeper = Sweeper(sweep, Path(asked.output) if asked.output else default_output(asked.plan))
     sweeper.keep(asked.renew, asked.retry)
-    for line in alike_seeds(sweep):
+    for line in sweeper.alike():
         print('sweep: warning: %s' % line, file=sys.stderr)
     try:
         status = said(sweeper, sweeper.run(asked.jobs, asked.dask))

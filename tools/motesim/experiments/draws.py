@@ -1,0 +1,110 @@
+"""Runs that draw alike, though their seeds differ: the limit of the pattern for chance of docs/use/EXPERIMENTS.md.
+
+A mote of the pattern draws from 257 times its number, and the seed. So with a seed that is 257 greater mote k draws as
+mote k + 1 does, and two runs whose seeds are a multiple of 257 apart aren't independent. Each row of a sweep has the
+names of its seeds of the pattern in the column CHANCE: which rows draw alike can be found from any rows, whether one
+command made them or several.
+"""
+from __future__ import annotations
+
+import re
+from collections.abc import Iterable, Mapping
+
+from motesim.experiments.measures import Cell
+from motesim.experiments.results import Row
+
+# A note that begins so is about a run that has all its measures.
+WARNING = 'warning: '
+# The column with the parameters that are seeds of the pattern, and the number of seeds in a row that draw apart.
+CHANCE, APART = 'chance_seeds', 257
+DRAWS = re.compile(r'self\s*\*\s*257\s*\)?\s*\+\s*\$\{(\w+)\}')
+ADVICE = 'use at most %d seeds in a row' % APART
+# The part of a note that this module writes; it is the last one.
+NOTE = re.compile(r'(?:; )?%swith \w+ = -?\d+ mote k draws as .*' % re.escape(WARNING), re.S)
+
+
+def seeds_of(text: str) -> list[str]:
+    """The parameters that are seeds of the pattern in a program's text."""
+    return list(dict.fromkeys(DRAWS.findall(text)))
+
+
+class Seeds:
+    """The values of seeds of the pattern, by parameter."""
+
+    def __init__(self) -> None:
+        self.values: dict[str, set[int]] = {}
+
+    def add(self, name: str, value: Cell) -> None:
+        if type(value) is int:
+            self.values.setdefault(name, set()).add(value)
+
+    def add_row(self, row: Mapping[str, Cell]) -> None:
+        for name in names_in(row):
+            self.add(name, row.get(name))
+
+    def earlier(self, name: str) -> dict[int, int]:
+        """For each value that draws as a smaller one does: the nearest of these."""
+        found: dict[int, int] = {}
+        last: dict[int, int] = {}
+        for value in sorted(self.values.get(name, ())):
+            if value % APART in last:
+                found[value] = last[value % APART]
+            last[value % APART] = value
+        return found
+
+    def lines(self) -> list[str]:
+        """A line for each parameter of which values draw alike."""
+        found = []
+        for name, values in self.values.items():
+            alike = self.earlier(name)
+            if alike:
+                found.append('%s = %d to %d: with %d of these %d seeds, mote k draws as mote k + %d does with the seed '
+                             '%d less, so these runs are not independent: %s' % (
+                                 name, min(values), max(values), len(alike), len(values), *apart(alike), ADVICE))
+        return found
+
+
+def apart(alike: Mapping[int, int]) -> tuple[int, int]:
+    """The least distance of two values that draw alike: in motes, and in seeds."""
+    least = min(value - before for value, before in alike.items())
+    return least // APART, least
+
+
+def names_in(row: Mapping[str, Cell]) -> list[str]:
+    """The parameters that are seeds of the pattern in a run."""
+    return str(row.get(CHANCE) or '').split()
+
+
+def lines_of(rows: Iterable[Row]) -> list[str]:
+    """A line for each parameter of whose values some draw alike in these rows."""
+    seeds = Seeds()
+    for row in rows:
+        seeds.add_row(row)
+    return seeds.lines()
+
+
+def without_alike(note: Cell) -> str:
+    """A note without the part on runs that draw alike."""
+    return NOTE.sub('', str(note or ''))
+
+
+class Notes:
+    """The notes of the rows of a file, with a part on rows that draw as others do."""
+
+    def __init__(self, seeds: Seeds) -> None:
+        self.alike = {name: seeds.earlier(name) for name in seeds.values}
+
+    def __bool__(self) -> bool:
+        return bool(self.alike)
+
+    def of(self, row: Mapping[str, Cell]) -> str:
+        """The note of a row: the same for the same rows, in whatever order they were made."""
+        parts = [without_alike(row.get('note'))]
+        for name in names_in(row):
+            value = row[name]
+            before = self.alike.get(name, {}).get(value) if type(value) is int else None
+            if before is not None and type(value) is int:
+                parts.append('%swith %s = %d mote k draws as mote k + %d does with %s = %d, so these two runs are not '
+                             'independent: %s' % (WARNING, name, value, (value - before) // APART, name, before,
+                                                  ADVICE))
+        return '; '.join(filter(None, parts))
