@@ -26,7 +26,7 @@ def check_lines(about: str, expected: Sequence[str], found: Sequence[str]) -> No
     """Fails with the lines that differ, unless two texts are the same."""
     if found != expected:
         lines = list(difflib.unified_diff(expected, found, 'expected', 'found', lineterm='', n=1))
-        more = ['.. and %d lines more' % (len(lines) - MOST_LINES)] if len(lines) > MOST_LINES else []
+        more = ['.. and %d more lines' % (len(lines) - MOST_LINES)] if len(lines) > MOST_LINES else []
         pytest.fail('\n'.join(['%s differs:' % about, *lines[:MOST_LINES], *more]), pytrace=False)
 
 

@@ -1,8 +1,8 @@
 """Runs the built program on the cases of tests/cases and compares what it writes: tools/dev/run_cases [NAME ..]
 
 NAME is a case, `nets/two_senders`, or a folder of cases, `nets`; without a name all are run. tests/cases/README.md
-describes the files of a case. Shows of each case that fails the first run that does, with the lines that differ; a
-case with nothing to expect fails too, and so does a file that belongs to no case.
+describes the files of a case. For each case that fails it shows the first run that fails, with the lines that differ.
+A case without an expected output fails too, and so does a file that belongs to no case.
 """
 from __future__ import annotations
 

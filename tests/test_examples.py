@@ -1,8 +1,8 @@
 """Checks the statements on each example: tools/dev/check_examples
 
-For each scenario of examples/ the sentences of NAME.expect.toml have to hold, as tools/expect tells them; what
+For each scenario of examples/ the sentences of NAME.expect.toml have to hold, as tools/expect finds; the lines that
 README.md and the pages of docs/ quote of an example must be in it or in its report. For each task of examples/lesson
-the solution has to meet the expectations, and what students begin with must not.
+the solution has to meet the expectations, and the scenario that students begin with must not.
 """
 from __future__ import annotations
 

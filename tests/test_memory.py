@@ -1,13 +1,13 @@
-"""Refuses each request for memory of a run in turn: tools/dev/refuse_memory [FILE [-- WORD ..]]
+"""Refuses each request for memory of a run, one in each run: tools/dev/refuse_memory [FILE [-- WORD ..]]
 
 The program simulates a scenario, and is refused its first request, in the next run its second, and so on until a run
-needs no more of them. The start of a thread is a request too, for its stack. Each run has to end with the whole
-report and status 0, or with `motesim: out of memory`, status 1 and a beginning of the report, or, with workers, with
-`motesim: run fault 5`, status 1 and no report; and each has to end. The words after FILE are the program's, as
-`-- --workers 2 --sync marks`. Without FILE small scenarios are tried, on one thread and with two and three workers of
-both kinds: packets that meet and are heard, a full ring, a full queue, a refused timer, and a scenario with a fault.
-So is a test of crates/part_tests, as `rt ci` builds it, which calls kernels and motes once they are out of memory: it
-has to pass, or to end with an error of its own if it has no kernel or mote to call.
+needs no more of them. The start of a thread is a request too, for its stack. Each run has to end with the whole report
+and status 0, or with `motesim: out of memory`, status 1 and a beginning of the report, or, with workers, with
+`motesim: run fault 5`, status 1 and no report; and each has to end. The words after FILE are the arguments of motesim,
+as in `-- --workers 2 --sync marks`. Without FILE small scenarios are tried, on one thread and with two and three
+workers of both kinds: packets that meet and are heard, a full ring, a full queue, a refused timer, and a scenario with
+a fault. So is a test of crates/part_tests, as `rt ci` builds it, which calls kernels and motes once they are out of
+memory: it has to pass, or to end with an error of its own if it has no kernel or mote to call.
 
 A library in C that is loaded before the C library refuses. `cc` compiles it, or, if there is no `cc`, the compiler of
 the Rattle kit.
@@ -51,7 +51,7 @@ def may_be(found: Answer, whole: Answer, words: list[str]) -> bool:
 def refuses(tmp_path_factory: pytest.TempPathFactory) -> Path:
     """The library that refuses."""
     if not (shutil.which('cc') or shutil.which('rt')):
-        pytest.fail('nothing is tried, since there is no C compiler here, neither cc nor the Rattle kit', pytrace=False)
+        pytest.fail('nothing is tried: there is no C compiler here, neither cc nor the Rattle kit', pytrace=False)
     library = tmp_path_factory.mktemp('refuses') / 'refuses.so'
     compiler = ['cc'] if shutil.which('cc') else kit.c_compiler()
     subprocess.run([*compiler, '-O1', '-shared', '-fPIC', '-fno-builtin', '-o', library, REFUSES], check=True)

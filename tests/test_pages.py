@@ -48,7 +48,7 @@ def printed_by(commands: str, folder: Path, program: Path) -> str:
                           stdin=subprocess.DEVNULL, stdout=subprocess.PIPE, stderr=subprocess.STDOUT)
     text = done.stdout.decode('utf-8', 'backslashreplace')
     if done.returncode == TIMED_OUT:
-        text += '\nno end in %d seconds' % SECONDS
+        text += '\nnot finished after %d seconds' % SECONDS
     return text if text.endswith('\n') or not text else text + '\n'
 
 

@@ -1,7 +1,7 @@
 """Compares runs with workers to the run on one thread: tools/dev/compare_workers [FILE or FOLDER ..]
 
-Each scenario is run on one thread, and then with 1, 2, 3, 7 and 16 workers with both cuts, joined after each window and
-with marks; status, report and fault line have to be the same. A folder means all its files NAME.toml, also in its
+Each scenario is run on one thread, and then with 1, 2, 3, 7 and 16 workers with both partitions and both kinds of
+synchronisation; status, report and fault line have to be the same. A folder means all its files NAME.toml, also in its
 folders, except the files NAME.expect.toml of tools/expect; without a name, the examples are run, and a net of beacons
 with so many lines that workers write them in several rounds. If there is a file NAME.expected next to NAME.toml, the
 run on one thread has to return its text: a report, or the one line of a fault.

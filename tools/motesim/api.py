@@ -74,7 +74,7 @@ def run(scenario: str | Path | bytes | Plan, parameters: Mapping[str, Value] | N
 
 
 def expect(found: Run, sentences: Sequence[str] | str) -> list[Kept]:
-    """Which sentences hold of a run: docs/use/EXPECTATIONS.md has their forms.
+    """Checks which sentences hold for a run: docs/use/EXPECTATIONS.md has their forms.
 
     Raises a `Fault` for a sentence that can't be read, and for a run whose scenario isn't known.
     """

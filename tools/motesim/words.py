@@ -9,5 +9,5 @@ from motesim.faults import OF_ALL
 def words_of(about: str | None, prog: str | None = None) -> argparse.ArgumentParser:
     """The words of a tool, whose help begins with its module's text."""
     words = argparse.ArgumentParser(prog=prog, description=about, formatter_class=argparse.RawDescriptionHelpFormatter)
-    words.add_argument('--version', action='version', version=OF_ALL, help='say which version this is, and end')
+    words.add_argument('--version', action='version', version=OF_ALL, help='print the version, and exit')
     return words

@@ -18,7 +18,7 @@ def check(module: Path) -> NoReturn:
     words = words_of(ast.get_docstring(ast.parse(module.read_text('utf-8'))))
     take_program(words)
     words.add_argument('names', nargs='*', metavar='NAME', help='what to test (all)')
-    words.epilog = 'Other options are those of pytest, each in one word: -x, -kWORD.'
+    words.epilog = 'Other options are passed on to pytest, each in one word: -x, -kWORD.'
     asked, others = words.parse_known_args()
     called = [*pytest(together='group'), str(module), *others, *('--name=' + it for it in asked.names)]
     os.execve(called[0], called, {**os.environ, 'MOTESIM': program_of(asked.program)})

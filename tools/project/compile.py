@@ -1,7 +1,7 @@
-"""Compiles the program without proving it: tools/compile [--fast]
+"""Compiles `motesim` without proving it: tools/compile [--fast]
 
 ./run calls this if no program of these sources is built. The first program is ready within a minute, but isn't
-optimized. --fast makes an optimized one, and uses what the first has left, if anything; ./run starts it in the
+optimized. --fast makes an optimized one, and reuses the results of the first, if there are any; ./run starts it in the
 background. Both are kept in out/programs by a digest of the sources, and nothing is done if they are there already.
 """
 from __future__ import annotations
@@ -34,7 +34,7 @@ LEVELS = {FIRST: 0, FAST: 2}
 # The files of the first build from which the fast one is made, and the note that the fast one can't be made, with the
 # seconds until it is tried again.
 PARTS, FAILED, SECONDS_TO_RETRY = 'parts', 'fast.failed', 600
-COMPILING = 'no program is built yet: compiling one, without proving it; this needs about a minute'
+COMPILING = 'motesim is not built yet: compiling it, without a proof; this needs about a minute'
 WORK = {FIRST: COMPILING, FAST: 'compiling the optimized program'}
 # The megabytes that compiling needs on the disk.
 MEGABYTES = 100

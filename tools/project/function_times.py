@@ -33,7 +33,8 @@ def seconds_of(lines: Iterable[str], clock: Callable[[], float] = time.monotonic
 def main() -> int:
     words = words_of(__doc__)
     words.add_argument('crate', metavar='CRATE')
-    words.add_argument('number', metavar='HOW MANY', nargs='?', type=int, default=20, help='so many functions (20)')
+    words.add_argument('number', metavar='HOW MANY', nargs='?', type=int, default=20,
+                       help='how many functions to list (20)')
     words.add_argument('--test', action='store_true', help='check the tests too')
     asked = words.parse_args()
     crate = kit.crate_named(asked.crate, TOP)

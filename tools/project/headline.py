@@ -5,9 +5,9 @@
     tools/dev/headline_files --check    ends with status 1 if the page has another list
 
 The headline is the contract of `simulate`, crates/simulation/specs/Simulation*.antt. A file rests on each file of
-specs/ that it imports, and on what those rest on. The list goes from the top down: the crates from the last of
-crates.txt to the first, and within a crate a file before those that it imports. Each file is listed with its lines and
-its own first comment.
+specs/ that it imports, and on the files on which those rest. The list goes from the top down: the crates from the last
+of crates.txt to the first, and within a crate a file before those that it imports. Each file is listed with its lines
+and its own first comment.
 """
 from __future__ import annotations
 

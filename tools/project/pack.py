@@ -1,12 +1,12 @@
 """Makes one archive for a classroom: tools/pack [-o FILE]
 
-The archive motesim-VERSION.tar.gz has the program, the tools and pages for users, the examples, and the terms under
+The archive motesim-VERSION.tar.gz has `motesim`, the tools and pages for users, the examples, and the terms under
 which all of it may be passed on. It runs on any Linux for x86-64, the tools with Python 3.11 or newer, from any
 folder: nothing is installed, and nothing is fetched from a network.
 
     tar xzf motesim-VERSION.tar.gz && cd motesim-VERSION && ./run examples/flooding.toml
 
-The archive has the program that the environment variable MOTESIM names, or without it the proved `motesim` of these
+The archive has the binary that the environment variable MOTESIM names, or without it the proved `motesim` of these
 sources, if ./prove has built it; the page PROVED.md then describes the proof and the kit. Otherwise it has one that is
 compiled without a proof; tools/pack and the archive's ./run say so. The same tree and binary yield the same archive,
 byte for byte.

@@ -123,7 +123,7 @@ def program_for(asked: Asked) -> Path:
 
 
 def run(program: Path, asked: Asked) -> NoReturn:
-    """Runs the program, with the lines more of a terminal."""
+    """Runs the program, with the further lines for a terminal."""
     words = [NAME, *asked.words]
     if asked.file is None and not asked.wants_help and os.isatty(0):
         say('%s: waiting for a scenario on standard input, which ends with Ctrl-D (./run FILE reads a file)' % NAME)

@@ -1,9 +1,9 @@
-"""Tries mutants of the crates' functions, many in one check: the prover must refuse each for what it does.
+"""Tries mutants of the crates' functions, many in one check: the prover must refuse each because of its effect.
 
 A mutant is a file NAME.edit of crates/CRATE/must-fail, gate-bodies or wrong-bodies (docs/proof/WRONG_BODIES.md). It is
 refused for its meaning if a goal of a contract fails. If only an answer by hand no longer fits, or the prover stops at
-a limit, it says little of the contract: such a mutant is reported as open, and counts as skipped, until it is written
-so that the contract decides. A control comes first: the crate without an edit has to be proved.
+a limit, it says little about the contract: such a mutant is reported as open, and counts as skipped, until it is
+written so that the contract decides. A control comes first: the crate without an edit has to be proved.
 
 The libraries below are those in crates/*/out; missing or outdated ones are built first. With --built they are used
 unchanged: rt ci has just built them. The verdicts are noted in log/wrong_bodies.tsv, with a digest of all that the
@@ -153,7 +153,7 @@ def report(found: dict[str, Verdict]) -> int:
     print("refused for a goal of a contract: %d; for a loop's invariant: %d" % (
         len(of_kind[CONTRACT]), len(of_kind[INVARIANT])))
     if still:
-        print('skipped: open, since only an answer by hand no longer fits, or at a limit: %s' % ' '.join(still))
+        print('skipped: open, because only an answer by hand no longer fits, or at a limit: %s' % ' '.join(still))
     if failed:
         print('not refused: %s' % ' '.join(failed))
     print('%d passed, %d failed, %d skipped' % (len(found) - len(still) - len(failed), len(failed), len(still)))

@@ -194,7 +194,7 @@ Before it, the last packets and events of mote 2:
 The first difference in a trace is at moment 9, in the trace of mote 1:
   A, line 12: 9 recv 2 0 7
       (packet 0 of mote 2 was sent at 6 with value 7)
-  B has no line more of it
+  B has no further line of it
 ''', text)
 
     def test_motes_and_programs_may_differ(self) -> None:
@@ -270,7 +270,7 @@ every = 2
         self.assertEqual(scenario_differences.in_words(a, a, 5), ['The scenarios are the same.'])
         self.assertEqual(scenario_differences.in_words(a, b, 1), [
             'The scenarios differ:', '  end is 20 in A and 21 in B',
-                                                              '  and 1 lines more'])
+                                                              '  and 1 more lines'])
 
 
 class Command(unittest.TestCase):

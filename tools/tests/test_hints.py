@@ -274,7 +274,7 @@ class Warnings(unittest.TestCase):
         report = ''.join('mote %d source\n0 start a\n0 halt\n' % it for it in range(Scenario.parse(text).motes))
         found = warnings(Scenario.parse(text), Report.parse(report + 'medium\nleft 0\n'))
         self.assertEqual([it.text for it in found if 'halt' in it.text], [
-            'a loop without an end, in which nothing waits: the mote halts when its work is used up (motes 0, 1, 2, '
+            'an endless loop in which nothing waits: the mote halts when its work is used up (motes 0, 1, 2, '
             '3)'])
 
     def test_many_places_of_one_cause_are_counted(self) -> None:

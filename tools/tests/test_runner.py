@@ -256,7 +256,7 @@ class Batches(Room):
                     pass
             return item
         found = {it.item: (it.result, it.fault) for it in run_each(work, range(40), workers=2, seconds=0.5)}
-        self.assertEqual(found, {n: (n, '') if n != 3 else (None, 'no end in 0.5 seconds') for n in range(40)})
+        self.assertEqual(found, {n: (n, '') if n != 3 else (None, 'not finished after 0.5 seconds') for n in range(40)})
 
     def test_a_worker_that_dies_costs_one_item(self) -> None:
         def work(item: int) -> int:

@@ -143,7 +143,7 @@ class MeasuresTest(unittest.TestCase):
     def test_a_function_that_fails_is_told_with_its_line(self) -> None:
         with self.assertRaisesRegex(MeasureFault, 'wrong of mine.py: line 8: ZeroDivisionError: division by zero'):
             read_measure('python: mine.py:wrong', self.names, {'mine.py': MINE}).of(bench())
-        with self.assertRaisesRegex(MeasureFault, 'returns no number'):
+        with self.assertRaisesRegex(MeasureFault, 'must return a number'):
             read_measure('python: mine.py:listed', self.names, {'mine.py': MINE}).of(bench())
         with self.assertRaisesRegex(MeasureFault, 'mine.py: line 1: SyntaxError'):
             read_measure('python: mine.py:x', self.names, {'mine.py': 'def :'})
@@ -352,7 +352,7 @@ class SweepTest(Bed):
     def test_a_run_that_the_machine_has_no_time_for_is_run_again(self) -> None:
         fault = self.fault_of_one('wait', 2, 0.5)
         self.assertEqual(fault, 'the machine is too busy: no answer in 1 seconds, though it used less processor time '
-                                'than it may; the same command runs it again')
+                                'than its limit; the same command runs it again')
         words = '--vary', 'name=a,refuse', '--measure', 'prints', '-o', 'busy.csv'
         (self.folder / 'refuse.mote').write_text(MOTE + '// refuse\n')
         self.sweep(*words)
@@ -388,7 +388,7 @@ class SweepTest(Bed):
 
     def test_what_is_told_before_anything_is_run(self) -> None:
         for words, seen in [
-            (('--measure', 'speed'), "no measure: 'speed'"),
+            (('--measure', 'speed'), "'speed' is not a measure"),
             ((), 'there is nothing to measure'),
             (('--measure', 'moment: mote 0 prints b'), 'a process (etimer, ctimer, radio, a)'),
             (('--measure', 'sent', '--measure', 'sent'), 'two columns would have the name sent'),
@@ -556,7 +556,7 @@ class SweepTest(Bed):
         done = self.sweep('--vary', 'motes=1..3', '--measure', 'python: mine.py:lines', '--seconds', '0.3')
         self.assertEqual((done.returncode, [bool(row['fault']) for row in self.rows()]), (1, [False, True, False]),
                          done.stderr)
-        self.assertRegex(self.rows()[1]['fault'], 'no end in [0-9.]+ seconds')
+        self.assertRegex(self.rows()[1]['fault'], 'not finished after [0-9.]+ seconds')
 
     def test_progress_is_on_standard_error(self) -> None:
         source = '''import sys, time

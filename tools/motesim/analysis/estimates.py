@@ -1,10 +1,10 @@
 """Estimates from a few runs: means with confidence intervals, medians with quartiles.
 
-An interval by Student's t treats the runs as independent draws of something near to normal. One by the bootstrap takes
-no form for granted: the runs are drawn again with replacement, and the interval has the middle part of the means. The
+An interval by Student's t treats the runs as independent draws of something near to normal. One by the bootstrap
+assumes no form: the runs are drawn again with replacement, and the interval has the middle part of the means. The
 bootstrap of Student's t (Efron, 1981) draws in the same way, and counts each mean in its standard errors. The draws
-come from a fixed seed, so the same runs give the same interval anywhere. The middle part is a little larger than
-the confidence (`part_of_draws`), since few runs spread less than what they are drawn from.
+come from a fixed seed, so the same runs give the same interval anywhere. The middle part is a little larger than the
+confidence (`part_of_draws`), since few runs spread less than what they are drawn from.
 
 The interval of a share stays between 0 and 1: by Wilson's score if the runs are 0 or 1 each. Otherwise, if Student's t
 would pass 0 or 1, it is cut there, or comes from the bootstrap if there are enough runs. Runs that are all the same

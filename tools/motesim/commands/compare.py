@@ -2,8 +2,8 @@
 
 A and B are reports, or scenarios, which are run. The first difference is the one at the earliest moment, not the one
 on the first line. It is shown with the mote, the moment, the line of each side, and the last packets and events of
-that mote before it. Differences between two scenarios are listed too. Then come the first collision that only one of
-the two has, and how many lines differ, by mote and by kind. `--html FILE` writes a page with one timeline above the
+that mote before it. Differences between two scenarios are listed too. Then it shows the first collision that only one
+of the two has, and how many lines differ, by mote and by kind. `--html FILE` writes a page with one timeline above the
 other.
 
 Ends with status 0 if the reports are the same, 1 if they differ, and 2 if one can't be read.

@@ -54,7 +54,7 @@ def arguments() -> argparse.Namespace:
     words.add_argument('-o', dest='output', action='append', default=[], metavar='FILE', type=Path,
                        help='write the marks: NAME.csv, NAME.toml or NAME.html')
     words.add_argument('--anonymous', action='store_true',
-                       help='show numbers instead of the names of solutions, other ones in each marking')
+                       help='show numbers instead of the names of solutions, drawn again in each marking')
     words.add_argument('--csv', action='store_true', help='print the marks for a spreadsheet')
     words.add_argument('--why', metavar='NAME', help='show what breaks the sentences in one solution')
     asked = words.parse_args()

@@ -12,9 +12,9 @@ RESULTS is a file that tools/sweep wrote. Each point represents the runs that di
 that end in `_seed`), or in the parameters of --over; runs with other differences aren't mixed. --show selects the
 statistic: median (with quartiles), mean (with an interval by --interval auto, t, bootstrap or bootstrap-t), points (all
 runs), cdf (the share of the runs with at most this value) or heat (a map of --against and --by). --where seed=3 selects
-some of the runs. A picture is SVG, PDF or PNG, by its name. Next to it are written the table behind it, NAME.table.csv,
-and its origin, NAME.origin.csv: the command and the digests of what made the results. Pictures need matplotlib (on
-Debian: apt-get install python3-matplotlib); without it there is a table, and a line that says so.
+some of the runs. A picture is SVG, PDF or PNG, by its name. Next to it the tool writes the table behind it,
+NAME.table.csv, and its origin, NAME.origin.csv: the command and the digests of what made the results. Pictures need
+matplotlib (on Debian: apt-get install python3-matplotlib); without it there is a table, and a line that says so.
 docs/use/EXPERIMENTS.md shows all of it at work.
 
 Ends with status 0, with 1 if there is a table instead of a picture, or with 2 if there is nothing to show.

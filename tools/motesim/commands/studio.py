@@ -1,4 +1,4 @@
-"""Opens a page in which a protocol is written, run and seen at once: tools/studio [FILE.toml]
+"""Opens a page on which you write a protocol and see its run at once: tools/studio [FILE.toml]
 
 The page is served on this machine only. Without FILE it opens the first of the examples. Ctrl-C ends it.
 docs/use/STUDIO.md describes the page.

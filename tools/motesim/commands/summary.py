@@ -26,7 +26,7 @@ For a link
 which began with the first packet of that value, at the mote that sent it. In `--flow "print source -> print sink"`
 messages begin with a print. For an origin, and for the net
   sent      messages that began there
-  delivered those that arrived at another mote at least once, and ratio, their part
+  delivered those that arrived at another mote at least once, and ratio, their share
   reached   how many motes a message reached, on average
   copies    deliveries in all; duplicates are those to a mote that had the message already
   hops      least hops to the motes reached, on average, if the scenario is known

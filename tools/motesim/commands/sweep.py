@@ -3,9 +3,9 @@
   tools/sweep net.plan.toml --vary period=10,20,40 --vary seed=1..30 --measure sent --measure ratio -o net.csv
 
 Each combination becomes a row of net.csv (CSV, or SQLite if the name ends in .sqlite), with its parameters. The same
-command again makes only the missing runs. Ctrl-C keeps what is finished. A run with an error is a row with it; a
-measure that fails is an empty cell with a note. Options that the plan's table `sweep` sets aren't needed; --plot draws
-what its `plot` describes.
+command again makes only the missing runs. Ctrl-C keeps what is finished. A run with an error has a row with the error;
+a measure that fails has an empty cell and a note. Options that the plan's table `sweep` sets aren't needed; --plot
+draws what its `plot` describes.
 
 Values are 10,20,40 or 1..30 or 0..100..25 (in steps of 25). Measures are
   sent, ratio, collided, ..     the columns of tools/summary, for the net; `sent of mote 3`
@@ -13,7 +13,7 @@ Values are 10,20,40 or 1..30 or 0..100..25 (in steps of 25). Measures are
   flow most: print sink         the columns of tools/summary --flow, for the net
   holds: no mote halts          1 if a sentence of tools/expect holds, otherwise 0
   moment: every mote prints flood 1
-                                the first moment at which each has done so
+                                the first moment at which each mote has printed it
   last:, count:, motes:         the last moment, how many lines, how many motes
   delay: mote 0 sends 1 -> every mote but 0 prints flood 1
                                 from one moment to the other

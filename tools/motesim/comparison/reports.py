@@ -107,7 +107,7 @@ def joined(texts: list[str]) -> str:
 def collision_in_words(found: Collision, reports: Pair, first: Difference) -> list[str]:
     """The packets of a collision, and whether it is the first difference or a later one."""
     sides = [side for side in (0, 1) if found.packets[side]]
-    whose = 'only %s has' % LETTERS[sides[0]] if len(sides) == 1 else 'is another in A than in B'
+    whose = 'only %s has' % LETTERS[sides[0]] if len(sides) == 1 else 'differs between A and B'
     is_first = (found.at, found.mote) == (first.at, first.mote)
     lines = ['The first collision that %s%s:' % (whose, ', which is the first difference' if is_first else '')]
     for side in sides:
@@ -141,7 +141,7 @@ def side_in_words(letter: str, report: Report, it: Difference) -> list[str]:
     if lines is None:
         return ['  %s has no such mote' % letter]
     if it.place >= len(lines):
-        return ['  %s has no line more of it' % letter]
+        return ['  %s has no further line of it' % letter]
     line = lines[it.place]
     shown = ['  %s, line %d: %s' % (letter, row_of(report, it.mote, it.place), line)]
     why = origin(line, report)
@@ -263,7 +263,7 @@ def compared(a: Run, b: Run, most: int) -> tuple[list[str], Difference | None, b
     lines += ['', 'The reports differ.']
     lines += ['  ' + it for it in others[:most]]
     if len(others) > most:
-        lines += ['  and %d motes more' % (len(others) - most)]
+        lines += ['  and %d more motes' % (len(others) - most)]
     if found:
         lines += ['', *first_in_words(reports, found)]
     met = tuple(map(collisions, reports))

@@ -76,5 +76,5 @@ def in_words(a: Scenario, b: Scenario, most: int) -> list[str]:
     lines = differences(a, b)
     if not lines:
         return ['The scenarios are the same.']
-    more = ['  and %d lines more' % (len(lines) - most)] if len(lines) > most else []
+    more = ['  and %d more lines' % (len(lines) - most)] if len(lines) > most else []
     return ['The scenarios differ:', *('  ' + it for it in lines[:most]), *more]

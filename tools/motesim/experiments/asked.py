@@ -90,7 +90,7 @@ def sweep_of(plan: Plan, vary: Sequence[str], measures: Sequence[str], seconds: 
         if not sign:
             raise Fault('--vary needs NAME=VALUES, not %r' % words)
         if name in named:
-            raise Fault('--vary names %s twice: write all its values behind one, such as %s=10,20' % (name, name))
+            raise Fault('--vary names %s twice: write all its values in one, such as %s=10,20' % (name, name))
         named.add(name)
         asked[name] = values_of(text)
     plan.with_given({name: values[0] for name, values in asked.items()})

@@ -36,7 +36,7 @@ OF_PYTHON = re.compile(r'python\s*:\s*([^:]+?)\s*:\s*([A-Za-z_]\w*)')
 
 
 class MeasureFault(Fault):
-    """Words that are no measure, or a measure that can't be taken."""
+    """Words that aren't a measure, or a measure that can't be taken."""
 
 
 class Bench:
@@ -140,7 +140,7 @@ def _plain(sentence: Sentence, words: str) -> Does:
     """A sentence that has a moment: motes that have lines of a form."""
     kinds = 'each', 'together', 'some'
     if not isinstance(sentence, Does) or sentence.deed.way != 'any' or sentence.than or sentence.relation:
-        raise MeasureFault('%r has no moment: such are `mote 3 prints flood 1` and `every mote sends`' % words)
+        raise MeasureFault('%r has no moment, unlike `mote 3 prints flood 1` and `every mote sends`' % words)
     if sentence.motes.kind not in kinds or sentence.count.compare in ('at most', 'fewer than'):
         raise MeasureFault('%r has no moment: it says what must not happen' % words)
     return sentence
@@ -195,7 +195,7 @@ def _checked(value: object, name: str) -> Cell:
     if callable(item):
         # (a number of numpy)
         return _checked(item(), name)
-    raise MeasureFault('%s returns no number, text or None, but %s' % (name, type(value).__name__))
+    raise MeasureFault('%s must return a number, a text or None, and returns %s' % (name, type(value).__name__))
 
 
 def _of_python(file: str, function: str, sources: Mapping[str, str]) -> Callable[[Bench], Cell]:
@@ -276,5 +276,5 @@ def read_measure(words: str, names: Names = Names(), sources: Mapping[str, str] 
     plain = OF_SUMMARY.fullmatch(text)
     if plain and plain[1] in SUMMARY:
         return Measure(name, text, _of_summary(plain[1], plain[2]))
-    raise MeasureFault('no measure: %r. It is one of %s, or begins with %s, python: or flow NAME:' % (
+    raise MeasureFault('%r is not a measure. A measure is one of %s, or begins with %s, python: or flow NAME:' % (
         text, ', '.join((*SUMMARY, REACHABLE)), ', '.join(kind + ':' for kind in KINDS)))

@@ -107,7 +107,7 @@ def program_here(work: Work) -> Path:
     path = Path(os.environ.get('MOTESIM') or work.program)
     try:
         if program_digest(path) != work.program_digest:
-            raise ProgramFault('%s is another program than the sweep\'s' % path)
+            raise ProgramFault('%s differs from the motesim of the sweep' % path)
     except OSError as fault:
         raise ProgramFault('%s: %s' % (path, fault.strerror)) from None
     return path
@@ -121,7 +121,7 @@ def limited(seconds: float) -> Iterator[None]:
         return
 
     def stop(signal_number: int, frame: FrameType | None) -> None:
-        raise TimeoutError('no end in %g seconds of processor time' % seconds)
+        raise TimeoutError('not finished after %g seconds of processor time' % seconds)
 
     before = signal.signal(signal.SIGPROF, stop)
     signal.setitimer(signal.ITIMER_PROF, seconds)
@@ -141,7 +141,7 @@ def one_line(text: str) -> str:
 def reason_of(failure: BaseException) -> str:
     """The reason of a failure, in one line."""
     if isinstance(failure, LimitMet) and failure.limit == 'seconds':
-        return '%s: %s, though it used less processor time than it may; the same command runs it again' % (
+        return '%s: %s, though it used less processor time than its limit; the same command runs it again' % (
             TOO_BUSY, failure)
     return one_line(str(failure) if isinstance(failure, Fault | TimeoutError) else fault_of(failure))
 

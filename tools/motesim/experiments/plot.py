@@ -214,7 +214,7 @@ def wishes(asked: argparse.Namespace) -> list[Wish]:
     if asked.pair and asked.compare:
         raise Fault('--pair and --compare are two comparisons: leave out one')
     if asked.show == 'heat' and not asked.by:
-        raise Fault('--show heat needs --by: the parameter from below upwards')
+        raise Fault('--show heat needs --by: the parameter of the axis upwards')
     drawing.size_of(asked.size)
     return [Wish(asked.measure, asked.against or '', asked.by or '', asked.output or '', asked.title, asked.x, asked.y,
                  log=asked.log, show=asked.show or MEDIAN, interval=asked.interval, confidence=asked.confidence,
@@ -306,5 +306,5 @@ def status_of(asked: argparse.Namespace) -> int:
     # (a list, so that each is shown)
     if all([drawn(wish, asked, read) for wish in wanted]):
         return 0
-    print('plot: tables instead of pictures, since %s' % packages.how_to_install('matplotlib'), file=sys.stderr)
+    print('plot: tables instead of pictures, because %s' % packages.how_to_install('matplotlib'), file=sys.stderr)
     return 1

@@ -44,7 +44,7 @@ WISHES = {
     'printf': 'A program prints numbers: `print x;`.',
     'println': 'A program prints numbers: `print x;`.',
     'random': 'There is no chance in a mote: each run is the same. A generator with a seed serves, as '
-              '`dice = ((dice * 25173) + 13849); if (dice < 6554) { .. }`, which is so 1 time in 10. At the start of '
+              '`dice = ((dice * 25173) + 13849); if (dice < 6554) { .. }`, which is true 1 time in 10. At the start of '
               '`body` mix its seed, otherwise motes draw in step: `dice = ((self * 257) + 1); dice = (dice * ((2 * '
               'dice) + 1)); dice = (dice + (dice / 256)); dice = (dice * ((2 * dice) + 1));`. This is for at most 255 '
               'motes.',
@@ -57,15 +57,15 @@ WISHES = {
     'value': 'The value of a packet or an event is `data`.',
 }
 WISHES.update({word: WISHES['random'] for word in ('rand', 'rnd')})
-# Python's messages on texts that are no TOML, and the most likely intentions.
+# Python's messages on texts that aren't TOML, and the most likely intentions.
 NO_TOML = {
-    "']'": 'A table is named in brackets, `[medium]`; of motes and losses each is a table in two, `[[mote]]`.',
+    "']'": 'A table is named in brackets, `[medium]`; each mote and each loss has one in two, `[[mote]]`.',
     "']]'": 'Each mote and each loss is a table of its own, named in two brackets: `[[mote]]`, `[[loss]]`.',
     "'='": 'A key and its value are on one line: `end = 5`.',
     'newline': 'Each key and its value have a line of their own.',
     'twice': 'A table is there once; only motes and losses are many, and each of them is a table `[[mote]]`, '
     '`[[loss]]`.',
-    'overwrite': 'A key is only once in its table.',
+    'overwrite': 'A key may be only once in its table.',
     MANY_PARTS: 'A dot between two words of a key makes a table in a table. A scenario needs two parts at most: '
                 '`medium.range = 10`.',
     TOO_DEEP: 'A scenario needs no bracket in more than two others. Is a `]` or a `}` missing?',
@@ -126,7 +126,7 @@ def _of_capital(text: str, here: Token) -> str | None:
 def _of_sign(here: Token, behind: Token) -> str | None:
     word = here.text
     if word in ('"', "'"):
-        return 'There are no texts: a program prints numbers, `print 1;`. Who prints is in the line anyway.'
+        return 'There are no texts: a program prints numbers, `print 1;`. The report names the process anyway.'
     if word == '#':
         return 'A comment begins with `//`.'
     if word == '&' or word == '|':
@@ -176,7 +176,8 @@ def _of_unexpected(before: list[Token], here: Token, behind: Token, may: list[st
     if word == 'timer' and '`etimer`' in may:
         return 'There are two kinds: an `etimer` posts an event to its process, a `ctimer` has a block that it calls.'
     if word == 'to' and '`;`' in may:
-        return 'A packet goes to all who hear it: its value may say for whom it is, as `send ((1 * 256) + x);`.'
+        return 'A packet goes to all motes that hear it: its value may say for which one it is, as in ' \
+               '`send ((1 * 256) + x);`.'
     if word == 'var':
         return 'Variables are declared at the head of `code`, before its timers, threads and handlers.'
     if word in ('event', 'semaphore'):

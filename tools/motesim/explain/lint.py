@@ -13,11 +13,11 @@ from motesim.notation.faults import WAITS, Token, tokens_of
 from motesim.report import Report
 from motesim.scenario import Scenario
 
-ENDLESS = 'a loop without an end, in which nothing waits: the mote halts when its work is used up'
+ENDLESS = 'an endless loop in which nothing waits: the mote halts when its work is used up'
 # The word that passes at once if its test is already true; the tests that stay true within a call; and the word that
 # waits for another call first.
 AT_ONCE, OF_EVENT, LATER = 'wait_until', ('is', 'fired', 'gone'), 'yield_until'
-STILL_TRUE = ('a loop without an end, in which only `%s` waits: its test is about the event of this call, and stays '
+STILL_TRUE = ('an endless loop in which only `%s` waits: its test is about the event of this call, and stays '
               'true until the next call, so the loop turns until the mote\'s work is used up, and the mote halts; `%s` '
               'waits for the next call first' % (AT_ONCE, LATER))
 LOOPS = ENDLESS, STILL_TRUE
@@ -129,7 +129,7 @@ def of_program(program: Program) -> Iterator[Warned]:
                 yield Warned('the process `%s` is never started' % process.text, name, process)
     packet = program.first('is', '(', 'packet', ')')
     if packet and not program.receivers:
-        yield Warned('packets are waited for, and no process is the `receiver`: they are dropped', name, packet)
+        yield Warned('the program waits for packets, but no process is the `receiver`: they are dropped', name, packet)
     for text, token in program.endless_loops():
         yield Warned(text, name, token, instead=LATER if text == STILL_TRUE else '')
     for token in program.awaited_ctimers():

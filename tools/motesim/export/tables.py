@@ -34,7 +34,7 @@ TABLES = {'lines': (LINES, lines), 'packets': (PACKETS, packets), 'copies': (COP
 
 
 def table(report: Report, name: str) -> Iterator[str]:
-    """A table in CSV, line by line; what there is no value of is empty."""
+    """A table in CSV, line by line; a cell without a value is empty."""
     columns, rows = TABLES[name]
     yield line_of(columns)
     for row in rows(report):

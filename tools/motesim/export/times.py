@@ -33,7 +33,7 @@ def turns(mote: Mote) -> Iterator[Turn]:
 
 
 class CopyTime(NamedTuple):
-    """A copy's way: who sent it and who was to get it, when, and what became of it."""
+    """A copy's path: its sender and its receiver, when, and its fate."""
     sender: int
     number: int
     value: int

@@ -77,7 +77,7 @@ def _entries(folder: Path, top: Path, depth: int) -> Iterator[Entry]:
 
 
 def entries_of(folder: Path) -> list[Entry]:
-    """All entries of a folder, by name. Hidden ones, files of expectations and marks are none."""
+    """All entries of a folder, by name. Hidden files, expectations and marks are left out."""
     if not folder.is_dir():
         raise Fault('%s is not a folder' % folder)
     found: list[Entry] = []

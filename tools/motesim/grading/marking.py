@@ -1,4 +1,4 @@
-"""The marks of one solution: which sentences hold of it, in each net, within limits."""
+"""The marks of one solution: which sentences hold for it, in each net, within limits."""
 from __future__ import annotations
 
 import re

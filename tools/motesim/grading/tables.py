@@ -26,7 +26,7 @@ def required_of(marked: Sequence[Marks]) -> list[int]:
 
 
 def count_of(marks: Marks, count: int) -> str:
-    """The number of sentences that hold of a solution."""
+    """The number of sentences that hold for a solution."""
     return '- of %d' % count if marks.is_open else '%d of %d' % (marks.held, count)
 
 
@@ -93,7 +93,7 @@ def quoted(text: str) -> str:
 
 
 def holds(marks: Marks, number: int) -> bool:
-    """True if a sentence holds of a solution. If the solution has no run, no sentence holds."""
+    """True if a sentence holds for a solution. If the solution has no run, no sentence holds."""
     return len(marks.marks) >= number and marks.marks[number - 1].holds
 
 

@@ -419,7 +419,7 @@ class Judge:
             rows = (str(packet).split(' ') for packet in self.report.log)
             if any(tuple(words[:len(it.words)]) == it.words for words in rows):
                 return None
-            return Broken('no line of the medium is so', self.report.medium_row)
+            return Broken('the medium has no such line', self.report.medium_row)
         if isinstance(it, Hears):
             wrong = [mote for mote in sorted(it.motes) if self.hears(mote, it.other) != it.can]
             return Broken('in the scenario mote %d %s' % (wrong[0], 'cannot' if it.can else 'can')) if wrong else None

@@ -118,7 +118,7 @@ class Builder:
         return name
 
     def program_text(self, file: str, path: Path) -> str:
-        """The program's text with the parameters filled in; a text that is no program is a fault."""
+        """The program's text with the parameters filled in; a text that isn't a program is a fault."""
         source = self.read_file(file, path).removeprefix(MARK)
         try:
             text = filled(source, self.tables.parameters)

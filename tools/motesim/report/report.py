@@ -3,7 +3,7 @@
 A report is read strictly: each line has to be one of docs/use/REPORT.md, with names and numbers that it can have.
 Moments don't fall in a trace, packets and their receivers are in order, and there is nothing after `left K`.
 It isn't checked that the traces agree with the log of the medium. `Report.text()` returns the same text, byte for
-byte. A text that is no report is a `ReportFault`, which has its line.
+byte. Any other text raises a `ReportFault`, which has its line.
 """
 from __future__ import annotations
 
@@ -80,7 +80,7 @@ class Report:
 
     @classmethod
     def parse(cls, text: str | bytes) -> Report:
-        """Reads a report; a text that is none has a `ReportFault`."""
+        """Reads a report; any other text raises a `ReportFault`."""
         data = text.encode('utf-8', 'surrogatepass') if isinstance(text, str) else text
         found = fast.read(data)
         if found is not None:

@@ -196,7 +196,7 @@ class _Reader:
         return lines
 
     def bad_line(self, at: int, words: list[str]) -> NoReturn:
-        """The fault of a line that is none of a trace."""
+        """The fault of a line that isn't one of a trace."""
         if len(words) > 1 and words[1] in FIELDS:
             self.fault(' '.join(['MOMENT', words[1], *FIELDS[words[1]].upper().split()]), at)
         if at == len(self.rows) - 1:
@@ -257,5 +257,5 @@ class _Reader:
 
 
 def read(text: str) -> Read:
-    """Reads a report; a text that is none has a `ReportFault`."""
+    """Reads a report; any other text raises a `ReportFault`."""
     return _Reader(text).read()

@@ -230,7 +230,7 @@ class _Batch(Generic[Item, Result]):
                     yield self.done(number, result, fault)
             late = time.monotonic() - self.seconds
             for worker in [it for it in self.workers if it.given and it.since < late]:
-                yield self.drop(worker, 'no end in %g seconds' % self.seconds)
+                yield self.drop(worker, 'not finished after %g seconds' % self.seconds)
 
     def end(self) -> None:
         for worker in self.workers:

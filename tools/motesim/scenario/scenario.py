@@ -1,4 +1,4 @@
-"""Reads scenarios: docs/use/SCENARIO.md says what a scenario is. A text that is none is a `ScenarioFault`."""
+"""Reads scenarios: docs/use/SCENARIO.md says what a scenario is. Any other text raises a `ScenarioFault`."""
 from __future__ import annotations
 
 from functools import cached_property
@@ -67,7 +67,7 @@ class Scenario:
 
     @classmethod
     def parse(cls, text: str | bytes) -> Scenario:
-        """Reads a scenario, which may begin with a byte order mark; a text that is none has a `ScenarioFault`."""
+        """Reads a scenario, which may begin with a byte order mark; any other text raises a `ScenarioFault`."""
         try:
             if isinstance(text, bytes):
                 text = text.decode('utf-8')

@@ -10,7 +10,7 @@
     prepare.py         the checks before a search
     work.py            one run of a set of faults
     one_program.py     runs of the program one after the other, at little cost
-    quick_judge.py     which sentences hold of a report, as motesim.judge says it, in a fraction of its time
+    quick_judge.py     which sentences hold for a report, as motesim.judge finds, in a fraction of its time
     runner.py          many runs by several processes; by_dask.py by a cluster
     kept.py            what was tried, for --resume
     found.py           the files and tables of what was found

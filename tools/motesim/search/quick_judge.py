@@ -1,4 +1,4 @@
-"""Finds which sentences hold of a report, from the report's bytes.
+"""Finds which sentences hold for a report, from the report's bytes.
 
 `QuickJudge(sentences).broken(report, scenario, wanted)` returns the numbers of the sentences that are broken, as
 `motesim.judge` finds them. Only the lines that the sentences speak of are read. It doesn't say why a sentence is
@@ -26,7 +26,7 @@ Span = tuple[int, int | None]
 
 
 class NotReached(Exception):
-    """There are no hops to a mote, since no links lead there."""
+    """There are no hops to a mote, because no links lead there."""
 
 
 class Hops:

@@ -136,7 +136,7 @@ def table(rows: list[Row], names: list[str]) -> Iterator[str]:
 
 
 def write_csv(rows: list[Row], names: list[str]) -> None:
-    """The rows, with the names of the columns above them; what there is no value of is empty."""
+    """The rows, with the names of the columns above them; a cell without a value is empty."""
     writer = csv.DictWriter(sys.stdout, names, lineterminator='\n')
     writer.writeheader()
     writer.writerows(rows)
