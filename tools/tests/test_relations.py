@@ -2,6 +2,7 @@
 import ast
 import inspect
 import re
+import time
 import unittest
 
 import here  # noqa: F401
@@ -162,6 +163,19 @@ class Sentences(unittest.TestCase):
             with self.subTest(sentence):
                 broken = judge.broken(read_sentence(sentence, names))
                 self.assertEqual((broken.why, broken.row) if broken else (None, None), (why, row))
+
+    def test_many_lines_of_one_moment(self) -> None:
+        """Eight thousand packets come and go in one moment: square work would need 15 s."""
+        count = 8000
+        report = Report.parse('\n'.join([
+            'mote 0 p', *('3 recv 1 %d 1\n3 send %d 1' % (it, it) for it in range(count)),
+            'mote 1 p', '0 start a', 'mote 2 p', '0 start a', 'mote 3 p', '0 start a', 'medium', 'left 0\n']))
+        judge, names = Judge(report, self.scenario), names_of(self.scenario)
+        begun = time.process_time()
+        for sentence, number in ('receives exactly %d within 0 of sending', count - 1), (
+                'sends within 0 of each time it receives%.0s', 0):
+            self.assertIsNone(judge.broken(read_sentence('mote 0 ' + sentence % number, names)))
+        self.assertLess(time.process_time() - begun, 3)
 
     def test_what_is_refused(self) -> None:
         for sentence, seen in REFUSED:

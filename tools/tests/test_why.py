@@ -4,6 +4,7 @@ import os
 import subprocess
 import sys
 import tempfile
+import time
 import unittest
 from pathlib import Path
 from types import SimpleNamespace
@@ -17,11 +18,11 @@ from motesim.faults import Fault
 from motesim.runner.run import answer
 from motesim.scenario import Scenario
 from motesim.why.callers import Callers
-from motesim.why.chain import as_json, cause_of, chain, path_of, places
+from motesim.why.chain import MOST_CALLS, Explainer, as_json, cause_of, chain, path_of, places
 from motesim.why.diverge import diverged
 from motesim.why.fate import fate_of
 from motesim.why.lines_of_file import ScenarioFile
-from motesim.why.miss import misses
+from motesim.why.miss import _Misses, misses
 from motesim.why.question import Asked, Asker, Missing, Unasked
 from motesim.why.replay import Parted, Reached, Replay
 from motesim.why.source import At, Source
@@ -469,6 +470,51 @@ code p {
         fates = [fate_of(found, row, line.split(' '), 1) for row, line in list(found.traces.packets())[1:]]
         self.assertEqual([it.how for it in fates], ['lost', 'collided', 'collided', 'ring', 'halted', 'late'])
         self.assertEqual([it.row for it in fates], [28, 21, 20, 22, 23, 33])
+
+    def test_many_collisions(self) -> None:
+        """Six thousand packets that meet at one mote are looked up in linear work: square work would need 20 s."""
+        count = 6000
+        packets = range(count)
+        text = '\n'.join([
+            'mote 0 talker', *('0 send %d 7' % it for it in packets),
+            'mote 1 hearer', *('0 start %s' % it for it in ('etimer', 'ctimer', 'radio', 'h')),
+            *('4 collide 0 %d' % it for it in packets),
+            'medium', *('0 0 %d 7 1@4' % it for it in packets), 'left 0\n'])
+        asker = Asker(source(report=text))
+        missing = asker.about('mote 1 prints h 7')
+        assert isinstance(missing, Missing)
+        begun = time.process_time()
+        words = [it.words for _, its in misses(asker, missing) for it in its]
+        self.assertLess(time.process_time() - begun, 4)
+        self.assertIn('packet 5999 of mote 0, with the value 7, was sent at 0: it collided at 4 with 5999 other packets',
+                      words)
+        self.assertIn('together with 5999 other packets', Explainer(asker.source, 1).of_copy(
+            4, '4 collide 0 0'.split(' ')))
+
+    def test_many_polls(self) -> None:
+        """A process that polls itself has as many calls without a line as polls: the reasons name a few of them."""
+        program = 'process p; autostart p; code p { body { poll p; while 1 { yield_until is(poll); poll p; send 1; } } }'
+        head = SCENARIO[:SCENARIO.index('talker')] + 'talker = "%s"\n[[mote]]\nx = 0\ny = 0\nprogram = "talker"\n' % program
+        starts = ['0 start %s' % it for it in ('etimer', 'ctimer', 'radio', 'p')]
+        text = '\n'.join(['mote 0 talker', *starts, *('%d send %d 1' % (it // 64, it) for it in range(64 * 20)),
+                          'medium', *('%d 0 %d 1' % (it // 64, it) for it in range(64 * 20)), 'left 0\n'])
+        found = Source('polls', text.encode(), Scenario.parse(head.replace('end = 20', 'end = 19')))
+        words = because(found, At(0, 1000)).split('; ')
+        self.assertEqual(len(words), 1 + MOST_CALLS + 1)
+        self.assertEqual(words[-1], 'and so on, by more such calls')
+        self.assertEqual(because(found, At(0, 4)), 'p, line 1: `send 1`; p was polled by p in line 1: `poll p`')
+
+    def test_lines_at_another_time_are_looked_up_in_linear_work(self) -> None:
+        count = 20_000
+        text = '\n'.join(['mote 0 talker', *('%d send %d 7' % (4 + it // 2000, it) for it in range(count)),
+                          'mote 1 hearer', '0 start etimer', 'medium', 'left 0\n'])
+        asker = Asker(source(report=text))
+        missing = asker.about('mote 0 sends 7 by 3')
+        assert isinstance(missing, Missing)
+        begun = time.process_time()
+        first = next(_Misses(asker, missing, 0).outside())
+        self.assertLess(time.process_time() - begun, 2)
+        self.assertEqual(first.words, '`send 0 7`, at 4: 1 moment too late')
 
     def test_the_first_point_at_which_chains_diverge(self) -> None:
         other = source(SCENARIO + '[[loss]]\nfrom = 0\nto = 1\nevery = 1\n',

@@ -36,6 +36,8 @@ class Found(Protocol):
 # The reason why a sentence is broken, and the row that shows it.
 Why = tuple[str, int | None]
 By = Callable[[Found], tuple[int, int]]
+# Before and after each row.
+FIRST, LAST = -1, 1 << 62
 
 
 def in_time(event: Found) -> tuple[int, int]:
@@ -61,23 +63,23 @@ class Order:
 
     def last_before(self, line: Found) -> Found | None:
         """The last event that is not after a line: of other motes, one of the same moment counts."""
-        place = bisect.bisect_right(self.keys, (line.line.at, 1 << 62))
-        while place:
-            event = self.events[place - 1]
-            if event.line.at < line.line.at or event.line.mote != line.line.mote or event.row < line.row:
-                return event
-            place -= 1
-        return None
+        place = bisect.bisect_right(self.keys, (line.line.at, LAST))
+        if place and self.is_of(self.events[place - 1], line):
+            # (the rows of a mote are next to each other, so the events before these are earlier than the line)
+            place = bisect.bisect_left(self.keys, in_time(line))
+        return self.events[place - 1] if place else None
 
     def first_from(self, event: Found) -> Found | None:
         """The first of these that is not before an event."""
-        place = bisect.bisect_left(self.keys, (event.line.at, -1))
-        while place < len(self.events):
-            it = self.events[place]
-            if it.line.at > event.line.at or it.line.mote != event.line.mote or it.row > event.row:
-                return it
-            place += 1
-        return None
+        place = bisect.bisect_left(self.keys, (event.line.at, FIRST))
+        if place < len(self.events) and self.is_of(self.events[place], event):
+            place = bisect.bisect_right(self.keys, in_time(event))
+        return self.events[place] if place < len(self.events) else None
+
+    @staticmethod
+    def is_of(it: Found, other: Found) -> bool:
+        """True if two lines are of the same moment and mote."""
+        return (it.line.at, it.line.mote) == (other.line.at, other.line.mote)
 
 
 def _holds(relation: Relation, line: Found, order: Order) -> bool:

@@ -12,6 +12,10 @@ from motesim.why.translate import Program
 # The uses of a chain's time.
 WAITS = ('timer', 'full', 'medium', 'queue')
 WIDEST = 60
+# The reason for a collision with more packets names only their number.
+MOST_MET = 3
+# Calls that have a line of their own; of those that have none, a reason names so many.
+HAVE_LINES, MOST_CALLS = ('take', 'init', 'boot'), 8
 
 
 class Hop(NamedTuple):
@@ -65,6 +69,16 @@ def places(source: Source, where: At) -> list[At]:
     return found
 
 
+def others(source: Source, where: At) -> str:
+    """The packets with which the packet of a line collides."""
+    traces = source.traces
+    met = traces.collisions(where.mote, traces.text(where).partition(' ')[0])
+    if len(met) > MOST_MET + 1:
+        return count(len(met) - 1, 'other packet')
+    rest = [traces.text(At(where.mote, place)).split(' ') for place in met if place != where.place]
+    return ' and '.join('packet %s of mote %s' % (it[3], it[2]) for it in rest) or 'another packet'
+
+
 def in_words(program: Program, number: int) -> str:
     """A statement of a program, with its line."""
     it = program.statement(number)
@@ -110,8 +124,11 @@ class Explainer:
         return '%s %d' % (frame.event, frame.word)
 
     def calls(self, frame: Frame | None) -> Iterator[str]:
-        """The calls that have no line, from the inner one out."""
-        while frame and frame.how not in ('take', 'init', 'boot'):
+        """The calls that have no line, from the inner one out. (Of a process that polls itself, there are as many as it
+        has had polls.)"""
+        for _ in range(MOST_CALLS):
+            if not frame or frame.how in HAVE_LINES:
+                return
             by = self.name(frame.made_by.process) if frame.made_by else 'the kernel'
             place = ' in %s' % self.statement(frame.row) if frame.row else ''
             if frame.how == 'callback':
@@ -125,6 +142,8 @@ class Explainer:
             else:
                 yield '%s was called by %s with %s%s' % (self.name(frame.process), by, self.event(frame), place)
             frame = frame.made_by
+        if frame and frame.how not in HAVE_LINES:
+            yield 'and so on, by more such calls'
 
     def of_call(self, kind: str, link: Link) -> str:
         """The reason for a line that was written in a call."""
@@ -176,10 +195,10 @@ class Explainer:
             return 'event %s was next in the queue%s' % (
                 words[2], ', %s after it was posted' % count(later, 'moment') if later else '')
         if link.how == 'medium':
-            return self.of_copy(words)
+            return self.of_copy(at, words)
         return self.of_call(kind, link)
 
-    def of_copy(self, words: list[str]) -> str:
+    def of_copy(self, at: int, words: list[str]) -> str:
         """The reason why a packet came, and its fate."""
         sent = self.source.traces.send_of(int(words[2]), int(words[3]))
         later = int(words[0]) - (self.source.traces.moment(sent) if sent else 0)
@@ -187,9 +206,7 @@ class Explainer:
         if words[1] == 'lost':
             return told + ', but eight packets were waiting already'
         if words[1] == 'collide':
-            others = [line.split(' ') for line in self.replay.trace if line.startswith('%s collide ' % words[0])]
-            met = ['%s of mote %s' % (it[3], it[2]) for it in others if it[2:] != words[2:]]
-            return told + ', together with %s' % ' and '.join(met)
+            return told + ', together with %s' % others(self.source, At(self.mote, at))
         return told
 
 

@@ -3,7 +3,7 @@ from __future__ import annotations
 
 from typing import NamedTuple
 
-from motesim.why.chain import count
+from motesim.why.chain import others
 from motesim.why.replay import RING
 from motesim.why.source import At, Source
 
@@ -93,13 +93,5 @@ def of_arrival(source: Source, sender: int, number: int, to: int, at: int, row: 
     if kind == 'recv':
         return after_recv(source, where)
     words = 'it arrived at %d, when %d packets were waiting' % (at, RING) if kind == 'lost' else (
-        'it collided at %d with %s' % (at, others(lines, lines[place])))
+        'it collided at %d with %s' % (at, others(source, where)))
     return Fate('ring' if kind == 'lost' else 'collided', words, at, where, source.traces.row(where))
-
-
-def others(lines: list[str], line: str) -> str:
-    """The packets with which one collided."""
-    met = [it.split(' ') for it in lines if it.startswith(line.split(' ')[0] + ' collide ') and it != line]
-    if len(met) > 3:
-        return count(len(met), 'other packet')
-    return ' and '.join('packet %s of mote %s' % (it[3], it[2]) for it in met) or 'another packet'

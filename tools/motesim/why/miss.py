@@ -14,7 +14,7 @@ from motesim.judge.sentences import Does, Value
 from motesim.why.callers import Callers, times
 from motesim.why.chain import count, in_words
 from motesim.why.fate import Fate, fate_of
-from motesim.why.question import ENDLESS, Asker, Missing, within
+from motesim.why.question import ENDLESS, Asker, Missing
 from motesim.why.replay import Reached, Replay
 from motesim.why.source import At, Found, Source
 from motesim.why.translate import Program
@@ -64,12 +64,11 @@ class _Misses:
     def outside(self) -> Iterator[Miss]:
         """The line, at another moment."""
         own = [it for it in self.missing.found if it.where.mote == self.mote]
-        rest = [it for it in own if it not in within(own, self.missing.span)]
-        late = [it for it in rest if it.at > self.end]
+        late = [it for it in own if it.at > self.end]
         for it in late[:1]:
             yield Miss('late', '%s, at %d: %s too late' % (self.deed(it), it.at, count(it.at - self.end, 'moment')),
                        self.source.traces.row(it.where))
-        early = [it for it in rest if it.at < self.begin]
+        early = [it for it in own if it.at < self.begin]
         for it in early[-1:]:
             yield Miss('early', '%s, at %d: %s too early' % (self.deed(it), it.at, count(self.begin - it.at,
                                                                                          'moment')),

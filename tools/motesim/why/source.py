@@ -46,6 +46,7 @@ class Traces:
         self.kept: dict[int, list[str]] = {}
         self.sends: dict[int, list[int]] = {}
         self.came: dict[int, dict[tuple[int, int], int]] = {}
+        self.collided: dict[int, dict[str, list[int]]] = {}
 
     def read_heads(self) -> None:
         """The bounds of each trace. A text that is not a report raises the strict reader's error."""
@@ -155,6 +156,16 @@ class Traces:
                 if words[1] in ('recv', 'lost', 'collide'):
                     found[int(words[2]), int(words[3])] = place
         return self.came[mote]
+
+    def collisions(self, mote: int, at: str) -> list[int]:
+        """The places of the packets that collide at a mote at a moment. (A million of them are looked up in turn.)"""
+        if mote not in self.collided:
+            found = self.collided[mote] = {}
+            for place, line in enumerate(self.lines(mote)):
+                moment, kind, *_ = line.split(' ', 2)
+                if kind == 'collide':
+                    found.setdefault(moment, []).append(place)
+        return self.collided[mote].get(at, [])
 
     def matching(self, mote: int, pattern: bytes) -> list[Found]:
         """The lines of a mote that have this pattern behind the moment."""
