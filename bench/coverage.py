@@ -1,8 +1,11 @@
 #!/usr/bin/env python3
 """Measures how often intervals of means near 1 contain the true mean: bench/coverage.py [SWEEPS]
 
-Each sweep has 10, 20 or 30 runs, whose shares are drawn from a skewed distribution near 1 with a known mean. The draws
-have fixed seeds, so the same count of sweeps (400 unless given) prints the same table. docs/use/EXPERIMENTS.md has it.
+Each sweep has 5 to 30 runs, whose shares are drawn from a distribution near 1 with a known mean. The draws have fixed
+seeds, so the same count of sweeps (400 unless given) prints the same table. docs/use/EXPERIMENTS.md has it. Names of
+distributions after the count select some: bench/coverage.py 400 lognormal. Sweeps whose runs are all equal have no
+interval, and don't count; the column `none` has their share. The last columns have the share of the intervals by
+bootstrap-t of which an end is that of Wilson's score, and the mean width of all of these.
 """
 from __future__ import annotations
 
@@ -14,10 +17,10 @@ from pathlib import Path
 
 sys.path.insert(0, str(Path(__file__).resolve().parents[1] / 'tools'))
 
-from motesim.analysis.estimates import mean_of
+from motesim.analysis.estimates import BOUNDED, mean_of
 from motesim.plan.chance import Chance
 
-SWEEPS, RUNS, METHODS = 400, (10, 20, 30), ('auto', 't', 'bootstrap', 'bootstrap-t')
+SWEEPS, RUNS, METHODS = 400, (5, 10, 20, 30), ('auto', 't', 'bootstrap', 'bootstrap-t')
 NORMAL = statistics.NormalDist()
 
 
@@ -47,30 +50,54 @@ def partition(chance: Chance) -> float:
     return 1 - part(chance) / 2 if chance.below(5) == 0 else 1 - part(chance) / 100
 
 
+def few_packets(chance: Chance) -> float:
+    """Runs of 20 packets, of which each is lost with the chance 0.01."""
+    return sum(chance.below(100) > 0 for _ in range(20)) / 20
+
+
+def rare(chance: Chance) -> float:
+    """Runs that lose nothing, but one of twenty loses 0 to 100 %."""
+    return 1 - part(chance) if chance.below(20) == 0 else 1.0
+
+
 SHARES: list[tuple[str, Callable[[Chance], float], float]] = [
     ('exponential', exponential, 0.98), ('lognormal', lognormal, 0.97), ('40 packets', packets, 0.95),
-    ('one of five', partition, 1 - 0.2 * 0.25 - 0.8 * 0.005)]
+    ('one of five', partition, 1 - 0.2 * 0.25 - 0.8 * 0.005), ('20 packets', few_packets, 0.99),
+    ('one of twenty', rare, 0.975)]
 
 
-def covered(draw: Callable[[Chance], float], true: float, runs: int, sweeps: int) -> dict[str, float]:
-    """The share of the sweeps whose interval of 95 % contains the true mean, by each method."""
+def covered(draw: Callable[[Chance], float], true: float, runs: int, sweeps: int) -> tuple[list[float], list[float]]:
+    """The share of the intervals of 95 % that contain the true mean, by each method.
+
+    With it the share of the sweeps without an interval, that of the intervals by bootstrap-t with an end of Wilson's
+    score, and the mean width of those by bootstrap-t.
+    """
     held = dict.fromkeys(METHODS, 0)
+    made = bounded = 0
+    width = 0.0
     for sweep in range(sweeps):
         chance = Chance(sweep, runs)
         values = [draw(chance) for _ in range(runs)]
+        if len(set(values)) == 1:
+            continue
+        made += 1
         for method in METHODS:
             found = mean_of(values, 0.95, method, 'share')
-            held[method] += found.low is not None and found.high is not None and found.low <= true <= found.high
-    return {method: count / sweeps for method, count in held.items()}
+            assert found.low is not None and found.high is not None
+            held[method] += found.low <= true <= found.high
+            if method == 'bootstrap-t':
+                bounded += found.method == BOUNDED
+                width += found.high - found.low
+    return [count / made for count in held.values()], [1 - made / sweeps, bounded / made, width / made]
 
 
 def main() -> None:
     sweeps = int(sys.argv[1]) if len(sys.argv) > 1 else SWEEPS
-    print('losses       runs  ' + '  '.join('%11s' % it for it in METHODS))
+    print('losses        runs  ' + '  '.join('%11s' % it for it in (*METHODS, 'none', 'Wilson', 'width')))
     for name, draw, true in SHARES:
-        for runs in RUNS:
-            found = covered(draw, true, runs, sweeps)
-            print('%-12s %4d  %s' % (name, runs, '  '.join('%11.2f' % it for it in found.values())), flush=True)
+        for runs in RUNS if name in (sys.argv[2:] or name) else ():
+            held, more = covered(draw, true, runs, sweeps)
+            print('%-13s %4d  %s' % (name, runs, '  '.join('%11.2f' % it for it in held + more)), flush=True)
 
 
 if __name__ == '__main__':

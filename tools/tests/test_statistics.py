@@ -90,12 +90,34 @@ class Estimates(unittest.TestCase):
     def test_the_bootstrap_of_t_has_no_end_for_runs_that_are_nearly_equal(self) -> None:
         values = [1.0] * 9 + [0.9]
         self.assertEqual(estimates.mean_of(values, 0.95, 'bootstrap-t').method, 'too alike')
+        # (a share has that of Wilson's score: 0.99 of 10 runs have 0.7083 to 0.9998)
         found = estimates.mean_of(values, 0.95, 'bootstrap-t', 'share')
-        self.assertEqual((found.low, found.method), (0.0, 'bootstrap-t, open'))
-        rows: list[Row] = [{**row(1, seed, value), 'ratio': value} for seed, value in enumerate(values)]
-        wish = Wish('ratio', 'period', show='mean', interval='bootstrap-t')
-        shown = remarks(shown_of(rows, wish), wish)
-        self.assertTrue(any('an end of 1 interval by bootstrap-t is only that of the scale' in it for it in shown))
+        self.assertEqual((found.method, round(found.low or 0, 4)), ('bootstrap-t, Wilson', 0.7083))
+        for factor, seen in (1, "an end of 1 interval by bootstrap-t is that of Wilson's score"), (
+                3, 'no interval for 1 mean by bootstrap-t: too many of its draws have equal runs'):
+            rows: list[Row] = [{**row(1, seed, value), 'ratio': factor * value} for seed, value in enumerate(values)]
+            wish = Wish('ratio', 'period', show='mean', interval='bootstrap-t')
+            shown = remarks(shown_of(rows, wish), wish)
+            self.assertTrue(any(it.startswith(seen) for it in shown), shown)
+
+    def test_the_bootstrap_of_t_of_shares_is_informative_and_holds_the_mean(self) -> None:
+        # (few runs of few packets, of which each arrives with the same chance: most draws of some sweeps have equal
+        # runs; bench/coverage.py measures more of them)
+        for packets, percent, runs in (20, 99, 10), (5, 95, 10), (40, 95, 5), (20, 99, 5):
+            held = made = 0
+            for sweep in range(60):
+                chance = Chance(sweep, runs)
+                values = [sum(chance.below(100) < percent for _ in range(packets)) / packets for _ in range(runs)]
+                found = estimates.mean_of(values, 0.95, 'bootstrap-t', 'share')
+                if found.low is None or found.high is None:
+                    self.assertEqual(found.method, 'alike')
+                    continue
+                made += 1
+                held += found.low <= percent / 100 <= found.high
+                self.assertLess(found.high - found.low, 0.5 if runs == 10 else 0.62)
+                self.assertLessEqual(found.high, 1)
+            with self.subTest(packets=packets, percent=percent, runs=runs):
+                self.assertGreaterEqual(held, 0.92 * made)
 
     def test_means_of_few_skewed_runs_near_1_have_a_line(self) -> None:
         skewed = [1.0, 1.0, 0.99, 1.0, 1.0, 0.98, 1.0, 0.8, 1.0, 1.0]
@@ -150,13 +172,24 @@ class Crossings(unittest.TestCase):
         assert found
         self.assertEqual([(round(it.at, 3), it.is_rising, it.gap) for it in found.places],
                          [(0.5, True, (0, 1)), (1.5, False, (1, 2)), (3, True, (2, 4))])
-        self.assertEqual((found.low, found.high), (None, None))
+        self.assertEqual((found.low, found.high, found.last), (0, 1, (2, 4)))
         shown = of_crossing(found, Wish('m', 'x', show='mean', threshold='0.6'))
-        self.assertEqual(shown, 'the mean crosses 0.6 3 times, so no crossing has an interval:\n'
+        self.assertEqual(shown, 'the mean crosses 0.6 3 times:\n'
                                 '  rises above 0.6 at x 0.5, between the points 0 and 1\n'
                                 '  falls below 0.6 at x 1.5, between the points 1 and 2\n'
-                                '  rises above 0.6 at x 3, between the points 2 and 4')
-        self.assertEqual(columns_of_crossing(found)['crossings'], 3)
+                                '  rises above 0.6 at x 3, between the points 2 and 4\n'
+                                '  with 95 %, by the bootstrap of 2 runs: the first crossing at 0 to 1, and the last '
+                                'at 2 to 4\n'
+                                '  how often the true curve crosses isn\'t known: report the range 0 to 4, or make '
+                                'more runs there')
+        columns = columns_of_crossing(found)
+        self.assertEqual((columns['crossings'], round(columns['last crossing'], 3), columns['last crossing low'],
+                          columns['last crossing high']), (3, 3, 2, 4))
+        one = crossing(curve_of([(x, [y]) for x, y in ((0, 0.0), (1, 1.0), (2, 0.0), (4, 1.0))]), 0.6, 0.95)
+        assert one
+        self.assertEqual((one.low, one.last), (None, None))
+        self.assertIn('at x 3.2, between the points 2 and 4; one run for each point shows no interval',
+                      of_crossing(one, Wish('m', 'x', show='mean', threshold='0.6')))
         open_end = columns_of_crossing(found._replace(low=1.5, high=math.inf))
         self.assertEqual((open_end['crossing low'], open_end['crossing high']), (1.5, math.inf))
 
@@ -217,6 +250,38 @@ class Crossings(unittest.TestCase):
         self.assertEqual(crossing(curve_of(values, one), 0.5, 0.95), crossing(curve_of(turned, two), 0.5, 0.95))
         for keys in (), ([(1,), (2,)], [(3,), (4,)]), ([(1,), (1,)], [(1,), (1,)]):
             self.assertEqual(crossing(curve_of(values, keys), 0.5, 0.95), crossing(curve_of(values), 0.5, 0.95))
+
+    def test_noise_at_a_threshold_has_a_range_that_holds_the_true_place(self) -> None:
+        # A curve that rises slowly through 0.5 at 5.3, with runs that differ so much that some sweeps cross it several
+        # times. The range from the first to the last crossing contains the true one.
+        held = several = 0
+        for sweep in range(120):
+            chance = Chance(sweep, 3)
+            values = [(float(x), [0.5 + (x - 5.3) / 50 + (chance.below(2_001) - 1_000) / 5_000 for _ in range(8)])
+                      for x in range(12)]
+            found = crossing(curve_of(values), 0.5, 0.95)
+            if found is None or len(found.places) == 1:
+                continue
+            assert found.low is not None and found.last is not None
+            several += 1
+            held += found.low <= 5.3 <= found.last[1]
+        self.assertGreater(several, 20)
+        self.assertGreaterEqual(held, 0.95 * several)
+
+    def test_the_first_and_the_last_crossing_are_held_as_often_as_they_say(self) -> None:
+        # A curve that rises above 0.5 at 2.5 and at 8.5, and falls below it at 5.5, in nets that each differ along
+        # the whole curve.
+        held = [0, 0]
+        for sweep in range(60):
+            chance = Chance(sweep, 4)
+            nets = [(chance.below(2_001) - 1_000) / 5_000 for _ in range(10)]
+            values = [(float(x), [0.5 + 0.3 * math.sin((x - 2.5) * math.pi / 3) + net
+                                  + (chance.below(2_001) - 1_000) / 10_000 for net in nets]) for x in range(11)]
+            found = crossing(curve_of(values, [list(range(10))] * 11), 0.5, 0.95)
+            assert found and found.low is not None and found.high is not None and found.last is not None
+            held[0] += found.low <= 2.5 <= found.high
+            held[1] += found.last[0] <= 8.5 <= found.last[1]
+        self.assertGreaterEqual(min(held), 56)
 
     def test_sweeps_on_different_grids_hold_the_true_place(self) -> None:
         # A curve that bends, as of slotted ALOHA, in nets that each differ along the whole curve. It crosses 0.8 at

@@ -8,6 +8,9 @@ the runs of each point are drawn by themselves.
 
 Nobody has measured between two neighbouring points, so each drawn curve only shows between which points it crosses.
 The interval contains all of that gap: it reaches from the left ends of the gaps to their right ends.
+
+If a curve crosses several times, the first and the last crossing have intervals, from the first and the last crossing
+of each drawn curve in the same direction. Between them no drawn curve shows which of its crossings belongs to which.
 """
 from __future__ import annotations
 
@@ -44,8 +47,8 @@ class Crossing(NamedTuple):
 
     gap        the neighbouring points between which it crosses
     low, high  the interval, which is infinite on a side if too many drawn curves cross beyond that end of the axis;
-               None if each point has one run, or if the curve crosses more than once: then no drawn curve shows which
-               of its crossings belongs to which
+               None if each point has one run
+    last       the interval of the last crossing, if the curve crosses more than once
     share      the part of the drawn curves that cross
     draws      how many independent draws the bootstrap has: the seeds, or the runs of a point
     sizes      the least and the greatest number of runs of a point
@@ -59,6 +62,7 @@ class Crossing(NamedTuple):
     draws: int
     places: tuple[Place, ...] = ()
     sizes: tuple[int, int] = (0, 0)
+    last: tuple[float, float] | None = None
 
 
 def places_of(line: Line, threshold: float, is_log: bool = False, is_log_y: bool = False) -> list[Place]:
@@ -77,11 +81,14 @@ def place(line: Line, threshold: float, is_rising: bool | None = None, is_log: b
     return next((it for it in places_of(line, threshold, is_log) if is_rising in (None, it.is_rising)), None)
 
 
-def gap_of(line: Line, threshold: float, is_rising: bool) -> tuple[float, float]:
-    """The points between which a line crosses. If it doesn't, it crosses before its first point or behind its last."""
-    found = place(line, threshold, is_rising)
+def gap_of(line: Line, threshold: float, is_rising: bool, is_last: bool = False) -> tuple[float, float]:
+    """The points between which a line first crosses in that direction, or last.
+
+    If it doesn't, it crosses before its first point or behind its last.
+    """
+    found = [it for it in places_of(line, threshold) if it.is_rising == is_rising]
     if found:
-        return found[2]
+        return found[-1 if is_last else 0].gap
     is_above = line[-1][1] >= threshold
     return (BEFORE, BEFORE) if is_above == is_rising else (BEHIND, BEHIND)
 
@@ -123,11 +130,23 @@ def crossing(curve: Sequence[Runs], threshold: float, confidence: float, middle:
     at, is_rising, gap = places[0]
     draws = len({key for it in curve for key in it.keys}) if by_key(curve) else min(len(it.ys) for it in curve)
     sizes = min(len(it.ys) for it in curve), max(len(it.ys) for it in curve)
-    if draws < 2 or len(places) > 1:
+    if draws < 2:
         return Crossing(at, is_rising, gap, None, None, 1.0, draws, places, sizes)
-    gaps = [gap_of(it, threshold, is_rising) for it in drawn_lines(curve, middle, DRAWS)]
+    lines = list(drawn_lines(curve, middle, DRAWS))
     part = part_of_draws(confidence, draws)
-    low, high = between([left for left, _ in gaps], part)[0], between([right for _, right in gaps], part)[1]
+    gaps = [gap_of(it, threshold, is_rising) for it in lines]
+    low, high = _around(gaps, gap, part)
+    last = None
+    if len(places) > 1:
+        ends = [gap_of(it, threshold, places[-1].is_rising, True) for it in lines]
+        last = _around(ends, places[-1].gap, part)
+        # (a drawn curve has both or lacks one)
+        gaps = [min(its) for its in zip(gaps, ends)]
     share = sum(math.isfinite(left) for left, _ in gaps) / len(gaps)
-    # (the gap of the curve itself is always within)
-    return Crossing(at, is_rising, gap, min(low, gap[0]), max(high, gap[1]), share, draws, places, sizes)
+    return Crossing(at, is_rising, gap, low, high, share, draws, places, sizes, last)
+
+
+def _around(gaps: Sequence[tuple[float, float]], gap: tuple[float, float], part: float) -> tuple[float, float]:
+    """The interval of a crossing from those of drawn curves; the gap of the curve itself is always within."""
+    low, high = between([left for left, _ in gaps], part)[0], between([right for _, right in gaps], part)[1]
+    return min(low, gap[0]), max(high, gap[1])

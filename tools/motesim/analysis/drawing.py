@@ -288,10 +288,12 @@ def _draw_threshold(axes: Any, shown: Shown, wish: Wish) -> None:
     axes.axhline(threshold, color='#555555', linewidth=0.8, linestyle=(0, (6, 3)))
     first, last = min(it.x for it in shown.points), max(it.x for it in shown.points)
     for number, found in enumerate(crossings_of(shown, wish).values()):
-        if found and found.low is not None and found.high is not None:
+        for ends in [(found.low, found.high), found.last or (None, None)] if found else ():
+            if None in ends:
+                continue
             # (an end that is beyond the axis is drawn up to its first or last point)
-            ends = [end if math.isfinite(end) else min(max(end, first), last) for end in (found.low, found.high)]
-            axes.plot(ends, [threshold, threshold], linewidth=5, alpha=0.4, color=_look(number)['color'],
+            drawn = [end if math.isfinite(end) else min(max(end, first), last) for end in ends if end is not None]
+            axes.plot(drawn, [threshold, threshold], linewidth=5, alpha=0.4, color=_look(number)['color'],
                       solid_capstyle='butt')
         if found and (found.low is not None or len(found.places) > 1):
             axes.plot([it.at for it in found.places], [threshold] * len(found.places), color=_look(number)['color'],

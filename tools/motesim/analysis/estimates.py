@@ -7,8 +7,9 @@ come from a fixed seed, so the same runs give the same interval anywhere. The mi
 confidence (`part_of_draws`), since few runs spread less than what they are drawn from.
 
 The interval of a share stays between 0 and 1: by Wilson's score if the runs are 0 or 1 each. Otherwise, if Student's t
-would pass 0 or 1, it is cut there, or comes from the bootstrap if there are enough runs. Runs that are all the same
-have no interval: they don't show how far others would spread.
+would pass 0 or 1, it is cut there, or comes from the bootstrap if there are enough runs. That of the bootstrap of
+Student's t is never wider than Wilson's score, which is the widest that shares with this mean can need. Runs that are
+all the same have no interval: they don't show how far others would spread.
 """
 from __future__ import annotations
 
@@ -158,7 +159,8 @@ def mean_by_bootstrap_t(values: Sequence[float], confidence: float) -> Estimate:
         drawn = resampled(gaps, chance)
         gap = sum(drawn) / runs
         if min(drawn) == max(drawn):
-            found.append(math.copysign(math.inf, gap) if gap else 0.0)
+            # (a run may be the mean of all, but for its last digit)
+            found.append(math.copysign(math.inf, gap) if abs(gap) > error / 1e9 else 0.0)
         else:
             squares = sum(map(operator.mul, drawn, drawn)) / runs - gap * gap
             found.append(gap / math.sqrt(squares / (runs - 1)))
@@ -188,7 +190,11 @@ def median_with_quartiles(values: Sequence[float], confidence: float) -> Estimat
 
 def mean_by_wilson(values: Sequence[float], confidence: float) -> Estimate:
     """The share of runs that are 1, among runs that are 0 or 1, with Wilson's score interval."""
-    share, runs = statistics.fmean(values), len(values)
+    return wilson(statistics.fmean(values), len(values), confidence)
+
+
+def wilson(share: float, runs: int, confidence: float) -> Estimate:
+    """Wilson's score interval for a share of some runs."""
     z = statistics.NormalDist().inv_cdf((1 + confidence) / 2)
     middle = (share + z * z / (2 * runs)) / (1 + z * z / runs)
     room = z / (1 + z * z / runs) * math.sqrt(share * (1 - share) / runs + z * z / (4 * runs * runs))
@@ -216,11 +222,27 @@ def mean_of(values: Sequence[float], confidence: float, interval: str = AUTO, me
     found = METHODS[method_of(values, confidence, interval, measure)](values, confidence)
     if found.method != 'bootstrap-t' or found.low is None or found.high is None:
         return found
-    low, high = (max(0.0, found.low), min(1.0, found.high)) if measure == 'share' else (found.low, found.high)
-    if math.isfinite(low) and math.isfinite(high):
-        is_open = not (math.isfinite(found.low) and math.isfinite(found.high))
-        return found._replace(low=low, high=high, method=OPEN if is_open else found.method)
+    if measure == 'share':
+        return _within_wilson(found, found.low, found.high, confidence)
+    if math.isfinite(found.low) and math.isfinite(found.high):
+        return found
     return found._replace(low=None, high=None, method='too alike')
+
+
+def _within_wilson(found: Estimate, low: float, high: float, confidence: float) -> Estimate:
+    """An interval of shares, within Wilson's score interval of as many runs with the same mean if it is too wide.
+
+    It is too wide if it has no end on a side, or if its end on the far side of the mean, from 0 or 1, is beyond
+    Wilson's. An end that passes the nearer one of 0 and 1 is cut there.
+    No shares vary more than ones that are 0 or 1 each and have their mean: the variance of numbers between 0 and 1 is
+    at most m (1 - m) for the mean m (Bhatia and Davis, The American Mathematical Monthly 107 (4), 2000).
+    """
+    _, _, least, most, _ = wilson(found.middle, found.runs, confidence)
+    least, most = least or 0.0, 1.0 if most is None else most
+    is_low = low < least and (math.isinf(low) or found.middle > 0.5)
+    is_high = high > most and (math.isinf(high) or found.middle < 0.5)
+    return found._replace(low=least if is_low else max(0.0, low), high=most if is_high else min(1.0, high),
+                          method=BOUNDED if is_low or is_high else found.method)
 
 
 def measured(values: Sequence[float]) -> Measured:
@@ -236,14 +258,14 @@ METHODS: dict[str, Callable[[Sequence[float], float], Estimate]] = {
 # The methods that can be wished for.
 MEANS = (AUTO, 't', 'bootstrap', 'bootstrap-t')
 # Each method in a heading, and in a row.
-# The method bootstrap-t if an end of the interval is only that of the scale, 0 or 1.
-OPEN = 'bootstrap-t, open'
+# The method bootstrap-t if an end of the interval is that of Wilson's score.
+BOUNDED = 'bootstrap-t, Wilson'
 NAMES = {'t': 'Student\'s t', 'bootstrap': 'the bootstrap', 'bootstrap-t': 'the bootstrap of Student\'s t',
-         OPEN: 'the bootstrap of Student\'s t',
+         BOUNDED: 'the bootstrap of Student\'s t within Wilson\'s score',
          'wilson': 'Wilson\'s score',
          'within': 'Student\'s t cut at 0 and 1', 'within pairs': 'Student\'s t cut at -1 and 1',
          'newcombe': 'Newcombe\'s method 10'}
-OF_ROW = {'t': 't', 'bootstrap': 'bootstrap', 'bootstrap-t': 'bootstrap-t', OPEN: OPEN, 'wilson': 'Wilson',
+OF_ROW = {'t': 't', 'bootstrap': 'bootstrap', 'bootstrap-t': 'bootstrap-t', BOUNDED: BOUNDED, 'wilson': 'Wilson',
           'within': 't, cut at 0 and 1', 'within pairs': 't, cut at -1 and 1', 'newcombe': 'Newcombe 10',
           'one': 'none: one run', 'alike': 'none: equal runs',
           'too alike': 'none: nearly equal runs', 'quartiles': 'quartiles'}

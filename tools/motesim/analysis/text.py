@@ -8,7 +8,7 @@ from functools import lru_cache
 from typing import Any
 
 from motesim.analysis.crossings import Crossing, Middle, Runs, crossing
-from motesim.analysis.estimates import DRAWN, ENOUGH_RUNS, LEAST_RUNS, NAMES, OF_ROW, OPEN, Estimate
+from motesim.analysis.estimates import BOUNDED, DRAWN, ENOUGH_RUNS, LEAST_RUNS, NAMES, OF_ROW, Estimate
 from motesim.analysis.estimates import is_skewed_near_an_end, measured
 from motesim.analysis.paired import Difference, Paired, reasons
 from motesim.analysis.points import Curve, Net, Place, Point, Shown, Wish, order
@@ -23,7 +23,7 @@ Row = dict[str, Any]
 NETS, MOST_BELOW = 'nets with missing runs', 6
 
 # The methods that draw runs again.
-DRAWING = ('bootstrap', 'bootstrap-t', OPEN)
+DRAWING = ('bootstrap', 'bootstrap-t', BOUNDED)
 # The methods whose intervals of few skewed runs are too narrow.
 NARROW = ('t', 'within', 'bootstrap')
 # (a picture, its table and the lines on the terminal need the same crossings)
@@ -256,11 +256,15 @@ def of_intervals(estimates: Sequence[Estimate], is_drawn: bool = False) -> list[
     if few:
         lines.append('the bootstrap of %d runs is too narrow: use --interval t, or %d runs or more' % (
             min(few), LEAST_RUNS))
-    is_open = sum(it.method == OPEN for it in estimates)
-    if is_open:
-        lines.append('an end of %s by bootstrap-t is only that of the scale, 0 or 1, because too many draws have equal '
-                     'runs: it says nothing about that side; make more runs, or ask for less confidence' % some(
-                         is_open, 'interval'))
+    bounded = sum(it.method == BOUNDED for it in estimates)
+    if bounded:
+        lines.append('an end of %s by bootstrap-t is that of Wilson\'s score, the widest that shares with this mean can '
+                     'need, because too many draws have nearly equal runs: such an interval is rather too wide; more '
+                     'runs make it narrower' % some(bounded, 'interval'))
+    too_alike = sum(it.method == 'too alike' for it in estimates)
+    if too_alike:
+        lines.append('no interval for %s by bootstrap-t: too many of its draws have equal runs, and so no standard '
+                     'error; make more runs, or use --interval t' % some(too_alike, 'mean'))
     alike = sum(it.method == 'alike' for it in estimates)
     if alike:
         lines.append('no interval for %d mean%s: equal runs don\'t show how far others would spread' % (
@@ -314,24 +318,47 @@ def of_crossing(found: Crossing | None, wish: Wish) -> str:
     ways = ['%s %g at %s %.4g, between the points %.4g and %.4g' % (
         'rises above' if it.is_rising else 'falls below', threshold, wish.against, it.at, *it.gap)
         for it in found.places]
-    if len(ways) > 1:
-        return '\n  '.join(['the %s crosses %g %d times, so no crossing has an interval:' % (
-            middle, threshold, len(ways)), *ways])
-    at = 'the %s %s' % (middle, ways[0])
     if found.low is None or found.high is None:
-        return at + '; one run for each point shows no interval'
-    ends = 'before the first point' if math.isinf(found.low) else '%.4g' % found.low, (
-        'behind the last point' if math.isinf(found.high) else '%.4g' % found.high)
+        ways[-1] += '; one run for each point shows no interval'
+    if len(ways) == 1:
+        lines = ['the %s %s' % (middle, ways[0])]
+    else:
+        lines = ['the %s crosses %g %d times:' % (middle, threshold, len(ways)), *ways]
+    if found.low is None or found.high is None:
+        return '\n  '.join(lines)
     share = '' if found.share > 0.995 else '; %d %% of the drawn curves cross' % round(100 * found.share)
     few = ', %d to %d at a point' % found.sizes if found.sizes[0] < found.sizes[1] else ''
-    return '%s\n  with %g %%, by the bootstrap of %d %s%s: %s to %s%s' % (
-        at, wish.confidence, found.draws, counted(wish), few, *ends, share)
+    by = 'with %g %%, by the bootstrap of %d %s%s: ' % (wish.confidence, found.draws, counted(wish), few)
+    if found.last is None:
+        return '\n  '.join([*lines, '%s%s to %s%s' % (by, *_ends(found.low, found.high), share)])
+    return '\n  '.join([*lines, '%sthe first crossing at %s to %s, and the last at %s to %s%s' % (
+        by, *_ends(found.low, found.high), *_ends(*found.last), share.replace('cross', 'cross in both directions')
+        if found.is_rising != found.places[-1].is_rising else share), _range(found)])
+
+
+def _ends(low: float, high: float) -> tuple[str, str]:
+    """The ends of the interval of a crossing."""
+    return ('before the first point' if math.isinf(low) else '%.4g' % low,
+            'behind the last point' if math.isinf(high) else '%.4g' % high)
+
+
+def _range(found: Crossing) -> str:
+    """The range of an axis that contains all crossings of a curve that crosses several times."""
+    return 'how often the true curve crosses isn\'t known: report the range %s to %s, or make more runs there' % _ends(
+        found.low or 0, found.last[1] if found.last else 0)
 
 
 def columns_of_crossing(found: Crossing | None) -> Row:
-    """A curve's first crossing, and how many it has, as columns: an end of the interval beyond the axis is infinite."""
+    """A curve's first and last crossing, and how many it has, as columns.
+
+    An end of an interval beyond the axis is infinite.
+    """
     at, low, high = (found.at, found.low, found.high) if found else (None, None, None)
-    return {'crossings': len(found.places) if found else 0, 'crossing': at, 'crossing low': low, 'crossing high': high}
+    is_several = found is not None and len(found.places) > 1
+    last = found.last if found and found.last else (None, None)
+    return {'crossings': len(found.places) if found else 0, 'crossing': at, 'crossing low': low, 'crossing high': high,
+            'last crossing': found.places[-1].at if found and is_several else None, 'last crossing low': last[0],
+            'last crossing high': last[1]}
 
 
 def rows_of_differences(found: Sequence[Difference], against: str, one: str, other: str,
