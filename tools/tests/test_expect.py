@@ -324,7 +324,7 @@ class Files(unittest.TestCase):
         self.scenario.write_text(self.scenario.read_text().replace('end = 100', 'end = 2000000'))
         out, _, code = self.said('expect = ["some mote halts", "no mote halts"]')
         self.assertEqual(out.splitlines()[-2:], [
-            'tools/explain %s shows where the error is, and what you may write there' % self.scenario,
+            'tools/explain %s shows the place of the error, and what you may write there' % self.scenario,
             '0 passed, 2 failed'])
         self.assertEqual(code, 1)
         out, _, code = self.said('expect = ["the scenario is refused with \'scenario fault 5\'"]')

@@ -209,8 +209,8 @@ class SweepTest(Bed):
         source = 'process a;\ncode a { var dice = 0; body { dice = ((self * 257) + ${period}); print 3; } }\n'
         (self.folder / 'a.mote').write_text(source)
         warned = 'sweep: warning: period = 0 to 257: with 1 of these 2 seeds, mote k draws as mote k + 1 does with '
-        note = 'warning: with period = 257 mote k draws as mote k + 1 does with period = 0, so these two runs are not ' \
-               'independent: use at most 257 seeds in a row'
+        note = 'warning: with period = 257 mote k draws as mote k + 1 does with period = 0, so these two runs are ' \
+               'not independent: use at most 257 seeds in a row'
         for values, is_warned in ('0,257', True), ('1,257', False):
             for end in '.csv', '.sqlite':
                 name = values[0] + end

@@ -486,15 +486,17 @@ code p {
         begun = time.process_time()
         words = [it.words for _, its in misses(asker, missing) for it in its]
         self.assertLess(time.process_time() - begun, 4)
-        self.assertIn('packet 5999 of mote 0, with the value 7, was sent at 0: it collided at 4 with 5999 other packets',
-                      words)
+        collided = 'it collided at 4 with 5999 other packets'
+        self.assertIn('packet 5999 of mote 0, with the value 7, was sent at 0: ' + collided, words)
         self.assertIn('together with 5999 other packets', Explainer(asker.source, 1).of_copy(
             4, '4 collide 0 0'.split(' ')))
 
     def test_many_polls(self) -> None:
         """A process that polls itself has as many calls without a line as polls: the reasons name a few of them."""
-        program = 'process p; autostart p; code p { body { poll p; while 1 { yield_until is(poll); poll p; send 1; } } }'
-        head = SCENARIO[:SCENARIO.index('talker')] + 'talker = "%s"\n[[mote]]\nx = 0\ny = 0\nprogram = "talker"\n' % program
+        body = 'body { poll p; while 1 { yield_until is(poll); poll p; send 1; } }'
+        program = 'process p; autostart p; code p { %s }' % body
+        mote = '[[mote]]\nx = 0\ny = 0\nprogram = "talker"\n'
+        head = SCENARIO[:SCENARIO.index('talker')] + 'talker = "%s"\n%s' % (program, mote)
         starts = ['0 start %s' % it for it in ('etimer', 'ctimer', 'radio', 'p')]
         text = '\n'.join(['mote 0 talker', *starts, *('%d send %d 1' % (it // 64, it) for it in range(64 * 20)),
                           'medium', *('%d 0 %d 1' % (it // 64, it) for it in range(64 * 20)), 'left 0\n'])

@@ -258,9 +258,9 @@ def of_intervals(estimates: Sequence[Estimate], is_drawn: bool = False) -> list[
             min(few), LEAST_RUNS))
     bounded = sum(it.method == BOUNDED for it in estimates)
     if bounded:
-        lines.append('an end of %s by bootstrap-t is that of Wilson\'s score, the widest that shares with this mean can '
-                     'need, because too many draws have nearly equal runs: such an interval is rather too wide; more '
-                     'runs make it narrower' % some(bounded, 'interval'))
+        lines.append('an end of %s by bootstrap-t is that of Wilson\'s score, the widest that shares with this mean '
+                     'can need, because too many draws have nearly equal runs: such an interval is rather too wide; '
+                     'more runs make it narrower' % some(bounded, 'interval'))
     too_alike = sum(it.method == 'too alike' for it in estimates)
     if too_alike:
         lines.append('no interval for %s by bootstrap-t: too many of its draws have equal runs, and so no standard '

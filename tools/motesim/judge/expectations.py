@@ -226,5 +226,5 @@ def expect(scenario: Path, expectations: Path, is_quiet: bool = False) -> tuple[
                 print('\n          '.join(['broken  %s' % it.sentence, *it.more]))
         has_fault |= not part.replace and any(it.is_refused and not it.holds for it in verdicts)
     if has_fault:
-        print('tools/explain %s shows where the error is, and what you may write there' % scenario)
+        print('tools/explain %s shows the place of the error, and what you may write there' % scenario)
     return passed, failed

@@ -1,4 +1,4 @@
-"""Faults of program texts: where the fault is, the rule in plain words, and the allowed words.
+"""Faults of program texts: the place of the fault, the rule in plain words, and the allowed words.
 
 `find_fault(text)` reads a program text by the grammar of docs/use/NOTATION.md and returns its first `ProgramError`, or
 None; motesim tells the same kind and line.

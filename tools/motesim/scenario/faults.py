@@ -1,4 +1,4 @@
-"""Faults of scenarios: where the fault is, the rule in plain words, and the allowed values.
+"""Faults of scenarios: the place of the fault, the rule in plain words, and the allowed values.
 
 `find_fault(bytes)` checks a scenario by the rules of docs/use/SCENARIO.md, in their order, and returns the first
 `ScenarioError`, or None; motesim tells the same line. `place_of(text, path)` finds a table or a key in the text.
