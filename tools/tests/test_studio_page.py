@@ -498,6 +498,81 @@ class Page(unittest.TestCase):
         self.value('m.editor().replace("never_ends", "ends")')
         self.wait('document.getElementById("notice").hidden && !document.body.classList.contains("stale")')
 
+    def tab(self, name: str) -> Any:
+        """The label of a tab, and how it is marked."""
+        return self.value('(it => [it.textContent, it.className])(document.getElementById("tab-%s"))' % name)
+
+    def test_results_of_an_earlier_text_are_marked(self) -> None:
+        """While a new run goes on, or its text has an error, no tab is green and the panels say so."""
+        (self.room / 'net.expect.toml').write_text('expect = ["mote 1 prints talker 1"]')
+        self.open(Limits(seconds=30))
+        self.assertEqual(self.tab('checks'), ['Checks 1/1', 'good'])
+        for name in 'checks', 'sums':
+            self.value('document.getElementById("tab-%s").click()' % name)
+            self.assertNotIn('earlier text', self.shown(name))
+        for typed in 'never_ends', 'never_ends again':
+            self.value('m.editor().replace("# Two", "# Two %s")' % typed)
+            self.assertEqual(self.tab('checks'), ['Checks', ''])
+            self.wait('document.getElementById("state").textContent === "running"')
+            self.assertEqual(self.tab('checks'), ['Checks', ''])
+        self.assertEqual(self.shown('sums').count('These results are of an earlier text.'), 1)
+        self.value('document.getElementById("tab-checks").click()')
+        self.assertEqual(self.shown('checks').count('These results are of an earlier text.'), 1)
+        self.value('m.editor().replace(text, %s)' % json.dumps(NET.replace('print 1;', 'prin 1;')))
+        self.wait('!document.getElementById("fault").hidden')
+        self.assertEqual(self.tab('checks'), ['Checks', ''])
+        self.value('m.editor().replace(text, %s)' % json.dumps(NET))
+        self.wait('m.studio.judged === m.studio.number && document.getElementById("state").dataset.is === "good"')
+        self.assertEqual(self.tab('checks'), ['Checks 1/1', 'good'])
+        self.assertNotIn('earlier text', self.shown('checks'))
+
+    def test_faults_are_ticked_only_if_all_were_searched(self) -> None:
+        (self.room / 'net.expect.toml').write_text('expect = ["mote 0 sends 5"]')
+        self.open()
+        self.value('document.getElementById("tab-faults").click()')
+        self.value('document.querySelectorAll("#faults-kinds input").forEach('
+                   'it => { it.checked = it.value === "links"; })')
+        self.value('document.getElementById("faults-search").click()')
+        self.wait('m.faults.found')
+        self.assertEqual(self.tab('faults'), ['Faults ✓', 'good'])
+        self.type_behind('print 1;', ' print 7;')
+        self.assertEqual(self.tab('faults'), ['Faults', ''])
+        self.assertIn('These results are of an earlier text.', self.shown('faults'))
+        self.wait('m.studio.judged === m.studio.number && document.getElementById("state").dataset.is === "good"')
+        self.value('m.editor().replace("x = 8", "x = 80")')
+        self.wait('m.studio.judged === m.studio.number && document.getElementById("state").dataset.is === "good"')
+        self.value('document.getElementById("faults-search").click()')
+        self.wait('m.faults.found && !m.faults.found.runs')
+        self.assertEqual(self.tab('faults'), ['Faults', ''])
+        self.assertIn('Nothing was searched', self.shown('faults'))
+        self.assertNotIn('earlier text', self.shown('faults'))
+
+    def test_a_label_stays_next_to_its_menu(self) -> None:
+        self.open()
+        self.value('document.getElementById("tab-faults").click()')
+        for width in range(900, 1401, 50):
+            self.browser.size(width, 900)
+            self.browser.settle()
+            for name in 'faults-most', 'open', 'now':
+                apart = self.value('(it => it.labels[0].getBoundingClientRect().height - '
+                                   'it.getBoundingClientRect().height)(document.getElementById("%s"))' % name)
+                self.assertLess(apart, 12, (name, width))
+                self.assertTrue(self.value('document.getElementById("%s").labels[0].matches(":has(*)")' % name))
+
+    def test_a_plain_text_area_has_the_numbers_of_lines(self) -> None:
+        self.open(codemirror=None)
+        numbers = 'document.getElementById("numbers")'
+        self.assertEqual(self.value('%s.textContent.trim().split("\\n").length' % numbers), NET.count('\n') + 1)
+        self.value('m.editor().replace("print 1;", "print 1;\\n")')
+        self.assertEqual(self.value('%s.textContent.trim().split("\\n").length' % numbers), NET.count('\n') + 2)
+        self.browser.size(1280, 400)
+        self.browser.settle()
+        self.value('m.editor().area.scrollTop = 1e6')
+        self.browser.settle()
+        self.assertEqual(*self.value('[%s.scrollTop, m.editor().area.scrollTop]' % numbers))
+        box = self.value('(it => [it.x, it.right])(%s.getBoundingClientRect())' % numbers)
+        self.assertLessEqual(box[1], self.value('m.editor().area.getBoundingClientRect().x'))
+
     def test_a_newer_text_stops_the_run_before(self) -> None:
         self.open(Limits(seconds=30))
         self.value('m.editor().replace("# Two", "# never_ends Two")')

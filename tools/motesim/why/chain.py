@@ -124,8 +124,7 @@ class Explainer:
         return '%s %d' % (frame.event, frame.word)
 
     def calls(self, frame: Frame | None) -> Iterator[str]:
-        """The calls that have no line, from the inner one out. (Of a process that polls itself, there are as many as it
-        has had polls.)"""
+        """The calls that have no line, from the inner one out: if a process polls itself, only the last few of them."""
         for _ in range(MOST_CALLS):
             if not frame or frame.how in HAVE_LINES:
                 return

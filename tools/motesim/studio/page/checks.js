@@ -6,7 +6,7 @@ import {panes} from '../../timeline/page/stage.js';
 import {count} from '../../timeline/page/words.js';
 import {reactions} from './running.js';
 import {studio} from './state.js';
-import {labelTab, showTab} from './tabs.js';
+import {labelTab, markEarlier, showTab} from './tabs.js';
 import {askQuestion} from './whys.js';
 
 /** Shows warnings about what is legal but probably not meant. A click leads to its place. */
@@ -19,8 +19,15 @@ function showWarnings(warnings) {
   studio.editor.refresh();
 }
 
+/** Marks the results as those of an earlier text, until those of the present one are there. */
+function outdateChecks() {
+  labelTab('checks', 'Checks');
+  for (const box of [byId('checks'), byId('sums')]) if (box.querySelector('li, table')) markEarlier(box);
+}
+
 function showChecks(checks) {
   const box = byId('checks');
+  box.classList.remove('earlier');
   if (!checks) {
     labelTab('checks', 'Checks');
     box.replaceChildren(element('p', 'There are no expectations for this scenario. Write sentences such as "mote 6 ' +
@@ -79,6 +86,7 @@ function sumTable([names, ...rows]) {
 
 function showSums(sums) {
   const box = byId('sums');
+  box.classList.remove('earlier');
   const plots = element('div');
   if (panes.length) showSeries(panes[0].run, plots);
   box.replaceChildren(sumTable(sums.motes), plots, sumTable(sums.links));
@@ -87,6 +95,7 @@ function showSums(sums) {
 
 /** Shows the results of runs from now on. */
 export function beginChecks() {
+  reactions.outdated.push(outdateChecks);
   reactions.judged.push(({sums, warnings, checks}) => {
     showSums(sums);
     showWarnings(warnings);

@@ -15,7 +15,11 @@ export class Editor {
     if (window.CodeMirror) this.begin(changed, words);
     else {
       byId('no-editor').hidden = false;
-      this.area.addEventListener('input', changed);
+      this.area.addEventListener('input', () => {
+        this.number();
+        changed();
+      });
+      this.area.addEventListener('scroll', () => { byId('numbers').scrollTop = this.area.scrollTop; });
     }
     // (a panel below the text, such as that of an error, makes it lower)
     new ResizeObserver(() => this.keepLine()).observe(byId('editor'));
@@ -37,6 +41,16 @@ export class Editor {
     this.mirror.on('change', () => { if (!this.isQuiet) changed(); });
   }
 
+  /** Numbers the lines of the plain text area. */
+  number() {
+    const count = this.area.value.split('\n').length, box = byId('numbers');
+    if (this.lines === count) return;
+    this.lines = count;
+    // (more lines than there are leave room to scroll as far as the text)
+    box.textContent = `${Array.from({length: count}, (_, i) => i + 1).join('\n')}\n\n\n`;
+    box.scrollTop = this.area.scrollTop;
+  }
+
   get text() { return this.mirror ? this.mirror.getValue('\n') : this.area.value; }
 
   /** Replaces the text by another one, and clears the history of undo. */
@@ -44,7 +58,7 @@ export class Editor {
     this.clear();
     if (!this.mirror) {
       this.area.value = text;
-      return;
+      return this.number();
     }
     this.isQuiet = true;
     this.mirror.setValue(text);

@@ -7,7 +7,7 @@ import {ask, attempt} from './link.js';
 import {say, unsay} from './notices.js';
 import {pin, runNow, unpin} from './running.js';
 import {studio} from './state.js';
-import {labelTab} from './tabs.js';
+import {labelTab, markEarlier} from './tabs.js';
 
 const POLL = 300, SHOWN_SETS = 12;
 export const faults = {number: 0, found: null, isGoing: false, timer: 0, shown: ''};
@@ -86,14 +86,25 @@ export function stopSearch(why) {
 
 function forgetFaults() {
   faults.found = null;
+  labelTab('faults', 'Faults');
+  byId('faults-found').classList.remove('earlier');
   byId('faults-found').replaceChildren();
 }
 
+/** Marks what was found as that of an earlier text. */
+export function outdateFaults() {
+  if (!faults.found) return;
+  labelTab('faults', 'Faults');
+  markEarlier(byId('faults-found'));
+}
+
 /** Shows the coverage of the search, and a table of the broken and the kept expectations. */
-function showFound({covered_lines: lines, notes, holds, broken, found}) {
-  const box = byId('faults-found');
+function showFound({covered_lines: lines, covered, runs, notes, holds, broken, found}) {
+  const box = byId('faults-found'), isWhole = runs > 0 && Object.values(covered).every(it => it.all);
   box.replaceChildren(...[...notes, ...lines].map(line => element('p', line)));
-  if (broken.length) labelTab('faults', `Faults ${broken.length}`, 'bad'); else labelTab('faults', 'Faults ✓', 'good');
+  if (broken.length) labelTab('faults', `Faults ${broken.length}`, 'bad');
+  else if (isWhole) labelTab('faults', 'Faults ✓', 'good');
+  if (!runs) return box.append(element('p', 'Nothing was searched: choose other kinds of faults.'));
   const rows = broken.flatMap(sentence => rowsOf(sentence, found));
   for (const sentence of holds) {
     rows.push(element('tr', '', [element('td', '✓ holds'), element('td', sentence)]));

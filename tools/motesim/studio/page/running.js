@@ -12,8 +12,12 @@ import {Lost, Refused, ask, attempt} from './link.js';
 import {say, showState, unsay} from './notices.js';
 import {studio} from './state.js';
 
-/** Functions of other modules, which are called when a run or its results are shown. */
-export const reactions = {shown: [], judged: []};
+/** Functions of other modules: `outdated` ones are called when the results that are shown become those of an earlier
+    text, since the text was changed or a run begins; the others when a run or its results are shown. */
+export const reactions = {outdated: [], shown: [], judged: []};
+
+/** Marks the results that are shown as those of an earlier text. */
+export function outdate() { for (const react of reactions.outdated) react(); }
 
 /** Runs the text, or another one, and shows the result unless a newer run was asked for meanwhile. */
 export async function runNow(other) {
@@ -22,6 +26,7 @@ export async function runNow(other) {
   const asked = ++studio.asked, {changedAt} = studio;
   if (!isOther) unsay('shown');
   if (!studio.document) return;
+  outdate();
   showState('busy', 'running');
   let got;
   try {

@@ -6,14 +6,14 @@ import {chosen, page} from '../../timeline/page/stage.js';
 import {beginChecks} from './checks.js';
 import {beginDifferences, differs} from './difference.js';
 import {Editor} from './editor.js';
-import {beginFaults, faults, stopSearch} from './faults.js';
+import {beginFaults, faults, outdateFaults, stopSearch} from './faults.js';
 import {exportPage, fillOpen, lookedAt, nameDocument, openChosen, opening, save, saveAs, take} from './files.js';
 import {showGuide} from './guide.js';
 import {ask, beat, connection} from './link.js';
 import {beginLog} from './log.js';
 import {beginMotes, ground} from './motes.js';
 import {showState} from './notices.js';
-import {pin, runNow} from './running.js';
+import {outdate, pin, runNow} from './running.js';
 import {beginSplits} from './split.js';
 import {isDirty, studio} from './state.js';
 import {states} from './states.js';
@@ -30,7 +30,9 @@ function typed() {
   clearTimeout(studio.timer);
   studio.timer = setTimeout(() => runNow(), PAUSE);
   showState('busy', 'typing');
+  outdate();
   stopSearch('The text was changed, so the search was stopped.');
+  outdateFaults();
   nameDocument();
 }
 

@@ -1,5 +1,5 @@
 // The tabs below the lanes.
-import {byId, makeButton} from '../../timeline/page/dom.js';
+import {byId, element, makeButton} from '../../timeline/page/dom.js';
 import {redraw} from '../../timeline/page/draw.js';
 import {drawLegend} from '../../timeline/page/forms.js';
 import {studio} from './state.js';
@@ -23,6 +23,13 @@ export function labelTab(id, words, className = '') {
   const tab = byId(`tab-${id}`);
   tab.textContent = words;
   tab.className = className;
+}
+
+/** Marks what is shown in a panel as the results of an earlier text. */
+export function markEarlier(box) {
+  if (box.classList.contains('earlier')) return;
+  box.classList.add('earlier');
+  box.prepend(Object.assign(element('p', 'These results are of an earlier text.'), {className: 'of-earlier'}));
 }
 
 export function beginTabs() {

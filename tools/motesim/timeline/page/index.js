@@ -184,8 +184,9 @@ function findGroups(run) {
     const list = group.motes, name = list.length === 1 ? `mote ${list[0]}` :
       list[list.length - 1] - list[0] === list.length - 1
       ? `motes ${list[0]} to ${list[list.length - 1]}` : `${list.length} motes`;
-    group.name = group.alone ? `${name} that hear nobody` : several ? `Island ${g + 1}: ${name}` :
-      name[0].toUpperCase() + name.slice(1);
+    const head = name[0].toUpperCase() + name.slice(1);
+    group.name = group.alone ? `${head}, which ${list.length === 1 ? 'hears' : 'hear'} nobody` :
+      several ? `Island ${g + 1}: ${name}` : head;
   });
 }
 
