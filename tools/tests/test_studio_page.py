@@ -457,7 +457,7 @@ class Page(unittest.TestCase):
         self.browser.settle()
         self.assertIn('Mote 1 at moment 13', self.shown('step-at'))
         buttons = {name: 'document.querySelector(\'#steps button[aria-label="%s"]\').click()' % name
-                   for name in ('The next line', 'The line before', 'The next moment', 'On to the next stop')}
+                   for name in ('The next line', 'The previous line', 'The next moment', 'On to the next stop')}
         self.value(buttons['The next line'])
         self.browser.settle()
         self.assertIn('13 post 0 talker packet 5', self.shown('step-at'))
@@ -604,7 +604,7 @@ class Page(unittest.TestCase):
         self.value('document.getElementById("save").click()')
         self.wait('document.getElementById("question").open')
         self.assertIn('was changed elsewhere', self.shown('question'))
-        self.value('document.querySelector(\'#question button[value="Read the other"]\').click()')
+        self.value('document.querySelector(\'#question button[value="Load the other"]\').click()')
         self.wait('text.endsWith("# of another\\n")')
         self.assertEqual(self.file.read_text(), NET + '# of another\n')
 

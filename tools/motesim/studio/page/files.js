@@ -101,10 +101,10 @@ function wrote({stamp, name, where}, text) {
 
 async function askOver(words) {
   const [answer] = await question(`${words}. Which text do you want to keep?`,
-    ['Write mine over it', 'Read the other', 'Neither']);
-  if (answer === 'Write mine over it') return save(true);
+    ['Overwrite it with mine', 'Load the other', 'Neither']);
+  if (answer === 'Overwrite it with mine') return save(true);
   const {where, name} = studio.document;
-  if (answer === 'Read the other') await attempt(async () => take(await ask('open', {where, name})));
+  if (answer === 'Load the other') await attempt(async () => take(await ask('open', {where, name})));
 }
 
 /** Writes the document under a new name. */

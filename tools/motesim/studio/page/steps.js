@@ -40,8 +40,8 @@ function stepCall(by) {
 function runToStop(by) {
   const pane = panes[0], {run} = pane, {order} = orderOf(run), out = byId('stopped');
   const searches = searchesOf(byId('stop-at').value), [places, unknown] = placesOf(run, searches);
-  if (!places) return void (out.textContent = `No kind, process or event is called ${unknown}.`);
-  if (!places.length) return void (out.textContent = searches.length ? 'No line of this run is such a stop.' : '');
+  if (!places) return void (out.textContent = `No kind, process or event has the name ${unknown}.`);
+  if (!places.length) return void (out.textContent = searches.length ? 'No line of this run matches.' : '');
   const next = nextPlace(placeNow(run), by);
   const index = by > 0 ? lowerBound(places, next) : lowerBound(places, next + 1) - 1;
   if (index < 0 || index >= places.length) {
@@ -115,13 +115,13 @@ export function beginSteps() {
     placeholder: 'mote 3 prints'});
   stop.addEventListener('keydown', event => { if (event.key === 'Enter') runToStop(event.shiftKey ? -1 : 1); });
   const label = Object.assign(element('label', 'Stop when'), {htmlFor: 'stop-at'});
-  const stops = element('span', '', [label, stop, button('‹', 'Back to the stop before', () => runToStop(-1)),
+  const stops = element('span', '', [label, stop, button('‹', 'Back to the previous stop', () => runToStop(-1)),
     button('On ›', 'On to the next stop', () => runToStop(1))]);
   stops.className = 'pair';
-  bar.append(button('« moment', 'The moment before', () => stepMoment(-1)),
-    button('‹ event', 'The line before', () => stepLine(-1)), button('event ›', 'The next line', () => stepLine(1)),
+  bar.append(button('« moment', 'The previous moment', () => stepMoment(-1)),
+    button('‹ event', 'The previous line', () => stepLine(-1)), button('event ›', 'The next line', () => stepLine(1)),
     button('moment »', 'The next moment', () => stepMoment(1)),
-    button('‹ call', 'The start of the call before', () => stepCall(-1)),
+    button('‹ call', 'The start of the previous call', () => stepCall(-1)),
     button('call ›', 'The start of the next call', () => stepCall(1)), of, stops,
     Object.assign(element('output'), {id: 'stopped'}));
   box.append(bar, Object.assign(element('p'), {id: 'step-at'}), Object.assign(element('div'), {id: 'cards'}));

@@ -35,8 +35,8 @@ export function find(text) {
     byId('matches').hidden = true;
     return redraw();
   }
-  if (unknown && !search.total) out.textContent = `No kind, process or event is called ${unknown}.`;
-  else if (!search.total) out.textContent = 'No line fits.';
+  if (unknown && !search.total) out.textContent = `No kind, process or event has the name ${unknown}.`;
+  else if (!search.total) out.textContent = 'No line matches.';
   else return goTo(firstFrom(play.now));
   byId('matches').hidden = true;
   redraw();
