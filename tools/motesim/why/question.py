@@ -360,8 +360,8 @@ class Asker:
                 name, ' or '.join(map(str, sorted(allowed))) or 'any value')
             return Asked(inside[-1].where, not remark, remark)
         if count.most is not None and len(inside) > max(count.most, 0):
-            return Asked(inside[max(count.most, 0)].where, False, '%s; wanted: %s; this is the first that is one too '
-                                                                  'many' % (has_lines(name, len(inside)), count))
+            return Asked(inside[max(count.most, 0)].where, False, '%s; wanted: %s; this is the first beyond that' % (
+                has_lines(name, len(inside)), count))
         if not count.admits(len(inside)) or it.deed.way == 'finally':
             return Missing(it, motes, span, tuple(lines), '%s; wanted: %s' % (has_lines(name, len(inside)), count))
         if not inside:
