@@ -96,6 +96,31 @@ class Hints(unittest.TestCase):
             with self.subTest(body):
                 self.assertIn(wanted, self.hint(text))
 
+    def test_a_name_that_is_not_declared(self) -> None:
+        """It says so, whatever other mistakes follow, with the declaration."""
+        for body, declared in (
+                ('print total;\nbreak;', 'var total = 0;'), ('seq = (seq + step);\nx[0] = 1;', 'var step = 0;'),
+                ('while (i < 3) { }', 'var i = 0;'), ('send n;\nseq = 1.5;', 'var n = 0;'),
+                ('if (data > best)\n  print 1;\nbreak;', 'var best = 0;'), ('print counter;', 'var counter = 0;'),
+                ('print go;', 'var go = 0;'), ('set beat 4;\nbreak;', 'etimer beat;')):
+            with self.subTest(body):
+                hint = self.hint(CODE.replace('body {', '\n  body {\n') % body)
+                self.assertTrue(hint.startswith('No '), hint)
+                self.assertIn('has this name. Declare it at the head of `code a`', hint)
+                self.assertIn(declared, hint)
+        for body, declared in (('acquire lock;\nbreak;', 'semaphore lock = 0;'), ('post a go 1;\nbreak;', 'event go;'),
+                               ('spawn work;\nbreak;', 'thread work')):
+            self.assertIn(declared, self.hint(CODE % body))
+        for body, guess, declared in (('print dat;', 'Did you mean `data`?', 'var dat = 0;'),
+                                      ('print value;', 'is `data`', 'var value = 0;'),
+                                      ('print sen;', 'Did you mean `seen`?', 'var sen = 0;')):
+            hint = self.hint(CODE % body)
+            self.assertIn(guess, hint)
+            self.assertIn('If you want a variable of this name, declare it at the head of `code a`: `%s`' % declared, hint)
+        self.assertIn('Did you mean `fired`?', self.hint(CODE % 'if fird(t) { }'))
+        for body in 'print count;', 'if (count > 3) { }':
+            self.assertIn('`count` is a word of the notation', self.hint(CODE % body))
+
     def test_letters_in_a_number(self) -> None:
         for written, meant in ('1O', '10'), ('1o', '10'), ('l0', '10'), ('3I', '31'), ('2l', '21'):
             text = CODE % ('print %s;' % written)

@@ -63,12 +63,16 @@ def advice(source: str, fault: ProgramError) -> Advice | None:
     if found and found.line and small and small[1] in found.line:
         return Advice(small[0], found.line, found.first, found.last, found.above)
     if found is None:
-        return Advice(hint) if hint else _declared(source, fault)
+        return Advice(hint + names.otherwise(source, fault)) if hint else _declared(source, fault)
     reasons = ' '.join(found.reasons) or hint or OF_PARENTHESES
     if found.line is None:
         # (the reason may be about a later line, and the variable that is assigned here needs its declaration first)
-        return _declared(source, fault) if _is_assigned(source, fault) else Advice(reasons)
-    return Advice(reasons, found.line, found.first, found.last, found.above)
+        if _is_assigned(source, fault):
+            return _declared(source, fault)
+        is_misspelt = hint in [hints.MEANT % it for it in ('fired', 'expired', 'running')]
+        return Advice(hint if hint and is_misspelt else reasons)
+    own = '' if found.above else names.otherwise(source, fault)
+    return Advice(reasons + own, found.line, found.first, found.last, found.above)
 
 
 def _is_assigned(source: str, fault: ProgramError) -> bool:

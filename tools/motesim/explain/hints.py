@@ -79,6 +79,11 @@ OF_PROGRAM = ('A scenario has it under `[programs]`, between three quotes: `p = 
 OF_PLAN = '%s is a plan, not a scenario: tools/scenario %s -o NAME.toml makes a scenario of it.'
 QUOTES = '\u2018\u2019\u201a\u201b\u201c\u201d\u201e\u201f\u00ab\u00bb\u00b4`'
 OF_QUOTES = 'These are quotes of another kind, as word processors make them: write plain ones, `"` or `\'`.'
+OF_WORD = '`%s` is a word of the notation%s. A variable needs another name, such as `my_%s`, declared at the head of ' \
+          'its `code`.'
+MEANT = 'Did you mean `%s`?'
+# Words that a name in parentheses follows.
+CALLED = {'is', 'fired', 'expired', 'gone', 'running', 'count'}
 # Letters that look like digits.
 DIGITS = str.maketrans('OoIl', '0011')
 
@@ -94,7 +99,7 @@ def of_program(text: str, fault: ProgramError) -> str | None:
     if fault.kind == 2:
         return _of_unexpected(before, here, behind, fault.may) or _of_operator(tokens, at, fault.may)
     if fault.kind == 3:
-        return _of_unknown(before, here, fault.may)
+        return _of_unknown(before, here, behind, fault.may)
     if fault.kind == 5:
         return TOO_LARGE
     if fault.kind == 6:
@@ -153,6 +158,8 @@ def _of_unexpected(before: list[Token], here: Token, behind: Token, may: list[st
         return OF_PARAMETERS
     if word == '(' and named == 'spawn':
         return OF_ARGUMENTS
+    if last and last.text in CALLED and may == ['`(`']:
+        return OF_WORD % (last.text, ', which a name in parentheses follows', last.text)
     if last and last.text == 'else' and word == 'if':
         return 'A block follows `else`: put the `if` into it, `else { if .. { .. } }`.'
     if word in ('+', '-') and behind.text == word or last and last.text == word and word in ('+', '-'):
@@ -171,6 +178,8 @@ def _of_unexpected(before: list[Token], here: Token, behind: Token, may: list[st
         return 'A packet, an event and a print have one number. Two small ones make one: `((a * 256) + b)`.'
     if 'a new name' in may and here.kind == 'keyword':
         return '`%s` is a word of the notation: another name is needed here, such as `my_%s`.' % (word, word)
+    if here.kind == 'keyword' and word not in WISHES and any(it.startswith('a variable (') for it in may):
+        return OF_WORD % (word, '', word)
     if word == ';' and may == ['`=`']:
         return 'A variable begins with a number: `var x = 0;`.'
     if word == 'timer' and '`etimer`' in may:
@@ -214,8 +223,8 @@ def _of_operator(tokens: list[Token], at: int, may: list[str]) -> str | None:
     return None
 
 
-def _of_unknown(before: list[Token], here: Token, may: list[str]) -> str | None:
-    """A name that nothing has: one that was misspelt, or a wish."""
+def _of_unknown(before: list[Token], here: Token, behind: Token, may: list[str]) -> str | None:
+    """A name that nothing has: one that was misspelt, or a wish. (A single letter is hardly misspelt.)"""
     begins = not before or before[-1].text in ('{', '}', ';')
     if here.text in WISHES:
         return WISHES[here.text]
@@ -224,9 +233,11 @@ def _of_unknown(before: list[Token], here: Token, may: list[str]) -> str | None:
     wanted = {name for it in may if '(' in it for name in it[it.index('(') + 1:].rstrip(')').split(', ')}
     ticked = {it.strip('`') for it in may if it.startswith('`')}
     known = (wanted | (set(STATEMENTS) if begins else ticked)) - {'none is declared here'}
+    if behind.text != '(':
+        known -= CALLED
     like = nearest(here.text, known) or nearest(here.text, declared & known)
-    if like:
-        return 'Did you mean `%s`?' % like
+    if like and len(here.text) > 1:
+        return MEANT % like
     return None
 
 

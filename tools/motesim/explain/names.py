@@ -10,6 +10,8 @@ from motesim.notation.faults import ARTICLES, ProgramError, Token, find_fault, t
 DECLARES = {'event': 'event', 'semaphore': 'semaphore', 'process': 'process', 'var': 'variable', 'etimer': 'timer',
             'ctimer': 'timer', 'thread': 'thread'}
 HEAD = {'variable': 'var %s = 0;', 'timer': 'etimer %s;'}
+# Words of other languages that name no variable.
+NO_VARIABLES = ('true', 'false', 'and', 'or', 'not', 'random', 'rand', 'rnd', 'sleep', 'printf')
 TOP = {'semaphore': 'semaphore %s = 0;', 'event': 'event %s;'}
 
 
@@ -93,6 +95,16 @@ def _of_thread(own: Declared, here: Token) -> str:
     return 'A thread is declared above what spawns it: move `thread %s` up.' % own.token.text
 
 
+def otherwise(text: str, fault: ProgramError) -> str:
+    """What is written if a name that something else was guessed for is a variable of its own, or nothing."""
+    tokens = tokens_of(text)
+    called = [it.text for it in tokens[tokens.index(fault.token) + 1:][:1]] == ['('] if fault.token in tokens else True
+    if fault.kind != 3 or called or _wanted(fault.may) != 'variable' or fault.token.text in NO_VARIABLES:
+        return ''
+    return ' If you want a variable of this name, declare it at the head of `code %s`: `%s`.' % (
+        _code_at(tokens, fault.token), HEAD['variable'] % fault.token.text)
+
+
 def undeclared(text: str, fault: ProgramError) -> tuple[str, Correction | None] | None:
     """A hint on a name that nothing has, with the declaration that it needs."""
     wanted, name, lines = _wanted(fault.may), fault.token.text, text.split('\n')
@@ -109,7 +121,7 @@ def undeclared(text: str, fault: ProgramError) -> tuple[str, Correction | None] 
         after = find_fault(made.applied(text))
         is_better = after is None or (after.token.line, after.token.column) > (fault.token.line + 1,
                                                                                fault.token.column)
-        return hint, made if is_better else None
+        return (hint, made) if is_better else ('%s: `%s`.' % (hint[:-1], declared), None)
     if wanted in TOP:
         return 'No %s has this name. Declare it above the `process` line: `%s`.' % (wanted, TOP[wanted] % name), None
     if wanted == 'thread':

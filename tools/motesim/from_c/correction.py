@@ -86,6 +86,13 @@ def _structural(text: str) -> Correction | None:
     return None
 
 
+def _is_only_named(text: str, fault: ProgramError) -> bool:
+    """True if a fault is an unknown name that is neither assigned nor called: what follows has nothing to do with it."""
+    tokens = tokens_of(text)
+    at = next((at for at, it in enumerate(tokens) if it == fault.token), None)
+    return fault.kind == 3 and at is not None and tokens[at + 1].text not in ('(', '[', '=')
+
+
 def correction(text: str, fault: ProgramError) -> Correction | None:
     """The lines that repair a fault, or, without a line, what to do; None if nothing is known."""
     if len(text) > LONGEST_TEXT:
@@ -97,7 +104,7 @@ def correction(text: str, fault: ProgramError) -> Correction | None:
     whole = _structural(text)
     if whole:
         return whole
-    advice = ''
+    advice, is_only_named = '', _is_only_named(text, fault)
     for first, last in _spans(text, fault):
         source = '\n'.join(lines[first - 1:last])
         if len(source) > LONGEST_LINES:
@@ -107,7 +114,8 @@ def correction(text: str, fault: ProgramError) -> Correction | None:
             try:
                 written = reader.written()
             except NoCounterpart as said:
-                advice = advice or (str(said) if first <= fault.token.line <= last else '')
+                if first <= fault.token.line <= last and not (is_only_named and last > fault.token.line):
+                    advice = advice or str(said)
                 continue
             above = (reader.place.head, ' '.join(reader.declares)) if reader.declares else None
             made = Correction(first, last, written, tuple(reader.writer.reasons[:MOST_REASONS]), above)
