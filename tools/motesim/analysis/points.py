@@ -208,7 +208,7 @@ def check_mixture(rows: Sequence[Row], mixed: Sequence[str], repeats: Sequence[s
 
 
 def is_repeat(name: str, over: str) -> bool:
-    """Returns whether a parameter only repeats runs: one that is named, or else a seed."""
+    """Returns whether a parameter only repeats runs: one that is named, or if none is named, a seed."""
     return name in over.split(',') if over else is_seed(name)
 
 

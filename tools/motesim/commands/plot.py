@@ -39,7 +39,7 @@ def arguments() -> argparse.Namespace:
     words.add_argument('--show', choices=SHOWS,
                        help='the statistic of the runs at each point (median)')
     words.add_argument('--interval', choices=MEANS, default='auto',
-                       help='how intervals of means are found (auto: by t, or what fits a share)')
+                       help='the method for intervals of means (auto: t, or one for shares)')
     words.add_argument('--confidence', type=float, default=95, metavar='PERCENT',
                        help='the confidence of the intervals (95)')
     words.add_argument('--threshold', metavar='VALUE', help='report where each curve crosses this value')

@@ -16,7 +16,7 @@ Values are 10,20,40 or 1..30 or 0..100..25 (in steps of 25). Measures are
                                 the first moment at which each mote has printed it
   last:, count:, motes:         the last moment, how many lines, how many motes
   delay: mote 0 sends 1 -> every mote but 0 prints flood 1
-                                from one moment to the other
+                                the time from the first moment to the second
   python: measures.py:energy    a function in a file of yours, next to the plan, which has the run as argument
 and `name = MEASURE` names its column.
 

@@ -217,7 +217,7 @@ class Judge:
         left = list(deed.values)
         for event in events:
             if event.line.value not in left:
-                return Broken('%s a value that is no more in the list' % verb(self.name(motes), 'print'), event.row)
+                return Broken('%s a value that is not left in the list' % verb(self.name(motes), 'print'), event.row)
             left.remove(event.line.value)
         never = verb(self.name(motes), 'print', 'never ')
         return Broken('%s %s' % (never, ', '.join(map(str, left)))) if left else None
@@ -333,7 +333,7 @@ class Judge:
 
     def part_of_motes(self, count: Count, doing: list[int], chosen: tuple[int, ...],
                       broken: dict[int, Broken | None]) -> Broken:
-        """The reason why a part of the motes is too small or too great, with the first mote that doesn't do it."""
+        """The reason why the share of the motes is too small or too great, with the first mote that doesn't do it."""
         why = '%d of %d motes do; wanted: %s' % (len(doing), len(chosen), count)
         first = next((mote for mote in chosen if mote not in doing), None)
         more = broken[first] if first is not None and count.least else None
