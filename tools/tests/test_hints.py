@@ -116,7 +116,8 @@ class Hints(unittest.TestCase):
                                       ('print sen;', 'Did you mean `seen`?', 'var sen = 0;')):
             hint = self.hint(CODE % body)
             self.assertIn(guess, hint)
-            self.assertIn('If you want a variable of this name, declare it at the head of `code a`: `%s`' % declared, hint)
+            self.assertIn('If you want a variable of this name, declare it at the head of `code a`: `%s`' % declared,
+                          hint)
         self.assertIn('Did you mean `fired`?', self.hint(CODE % 'if fird(t) { }'))
         for body in 'print count;', 'if (count > 3) { }':
             self.assertIn('`count` is a word of the notation', self.hint(CODE % body))

@@ -96,7 +96,7 @@ def _of_thread(own: Declared, here: Token) -> str:
 
 
 def otherwise(text: str, fault: ProgramError) -> str:
-    """What is written if a name that something else was guessed for is a variable of its own, or nothing."""
+    """The advice for a name that may be a variable of its own, though another name was guessed; or an empty text."""
     tokens = tokens_of(text)
     called = [it.text for it in tokens[tokens.index(fault.token) + 1:][:1]] == ['('] if fault.token in tokens else True
     if fault.kind != 3 or called or _wanted(fault.may) != 'variable' or fault.token.text in NO_VARIABLES:
