@@ -18,7 +18,7 @@ from motesim.runner import Answer
 from motesim.runner.programs import is_compiled
 
 CASES = Path(__file__).parent / 'cases'
-INPUTS, EXPECTED = ('.toml', '.make', '.args', '.runs'), ('.expected', '.stderr', '.status')
+INPUTS, EXPECTED = ('.toml', '.make', '.runs'), ('.expected', '.stderr', '.status')
 KINDS = (*INPUTS, *EXPECTED, '.stack')
 NO_SCENARIO = b'this is not a scenario\n'
 
@@ -50,7 +50,6 @@ class Case:
             'the file belongs to no case': self.path.is_file(),
             'there is nothing to run': not kinds & set(INPUTS),
             'there are both .toml and .make': {'.toml', '.make'} <= kinds,
-            'there are both .args and .runs': {'.args', '.runs'} <= kinds,
             'there is no expectation': not has_expectation and not self.made.keys() & {'expected', 'table'},
             'a table has to tell all that is expected':
                 'table' in self.made and (has_expectation or not self.made['table']()),
@@ -61,9 +60,7 @@ class Case:
 
     def runs(self) -> list[list[str]]:
         """The arguments of each run."""
-        if '.runs' in self.files:
-            return [line.split() for line in self.read('.runs').decode().splitlines()]
-        return [self.read('.args').decode().splitlines()]
+        return [line.split() for line in self.read('.runs').decode().splitlines()] or [[]]
 
     def scenarios(self) -> Iterator[tuple[str, bytes, Answer]]:
         """Each scenario with its name and the expected answer."""

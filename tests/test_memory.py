@@ -9,8 +9,7 @@ workers of both kinds: packets that meet and are heard, a full ring, a full queu
 a fault. So is a test of crates/part_tests, as `rt ci` builds it, which calls kernels and motes once they are out of
 memory: it has to pass, or to end with an error of its own if it has no kernel or mote to call.
 
-A library in C that is loaded before the C library refuses. `cc` compiles it, or, if there is no `cc`, the compiler of
-the Rattle kit.
+A library in C that is loaded before the C library refuses; `cc` compiles it.
 """
 from __future__ import annotations
 
@@ -23,7 +22,6 @@ import pytest
 from differences import answer
 from motesim.runner import Answer, LimitMet
 from motesim.runner.programs import TOP
-from project import kit
 
 FILES = ['tests/cases/nets/two_senders.toml', 'tests/cases/nets/ring_overflows.toml',
          'tests/cases/queues/full_queue.toml', 'tests/cases/queues/refused_timer_waits.toml', 'examples/wrong.toml']
@@ -50,11 +48,10 @@ def may_be(found: Answer, whole: Answer, words: list[str]) -> bool:
 @pytest.fixture(scope='session')
 def refuses(tmp_path_factory: pytest.TempPathFactory) -> Path:
     """The library that refuses."""
-    if not (shutil.which('cc') or shutil.which('rt')):
-        pytest.fail('nothing is tried: there is no C compiler here, neither cc nor the Rattle kit', pytrace=False)
+    if not shutil.which('cc'):
+        pytest.fail('nothing is tried: there is no C compiler `cc` here', pytrace=False)
     library = tmp_path_factory.mktemp('refuses') / 'refuses.so'
-    compiler = ['cc'] if shutil.which('cc') else kit.c_compiler()
-    subprocess.run([*compiler, '-O1', '-shared', '-fPIC', '-fno-builtin', '-o', library, REFUSES], check=True)
+    subprocess.run(['cc', '-O1', '-shared', '-fPIC', '-fno-builtin', '-o', library, REFUSES], check=True)
     return library
 
 

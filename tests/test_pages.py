@@ -1,4 +1,4 @@
-"""Checks that the commands of the pages print what the pages show: tools/dev/check_tutorial [--write] [PAGE ..]
+"""Checks that the commands of the pages print what the pages show: tools/dev/check_tutorial [PAGE ..]
 
 The pages are those of docs/use/. Their blocks of commands begin with ```sh, and the output of these is in the block
 right after, which begins with ```. If there is no such block, they print nothing. A block that begins with ```console
@@ -6,8 +6,7 @@ has commands that open a window, and is not run. A block that begins with ```tom
 is a file that the reader saves under that name. The commands of a page are run in a folder of their own, in which
 ./run, tools/ and examples/ are found.
 
-Shows the difference of each block that fails. With `--write` it writes the output of the commands into the pages: read
-it before you keep it.
+Shows the difference of each block that fails.
 """
 from __future__ import annotations
 
@@ -71,19 +70,6 @@ def outputs_of(page: str, program: Path) -> list[str]:
     return outputs
 
 
-def with_outputs(page: str, program: Path) -> str:
-    """The page with the outputs of its commands instead of those that it shows."""
-    outputs = iter(outputs_of(page, program))
-
-    def renewed(block: re.Match[str]) -> str:
-        if not has_commands(block):
-            return block[0]
-        output = next(outputs)
-        return '```%s\n%s```' % (block['info'], block['text']) + ('\n\n```\n%s```' % output if output else '')
-
-    return BLOCK.sub(renewed, page)
-
-
 def pytest_generate_tests(metafunc: pytest.Metafunc) -> None:
     """Has a test for each block of commands. Those of a page run in one process, one after the other."""
     names, tests = metafunc.config.getoption('name'), []
@@ -91,14 +77,10 @@ def pytest_generate_tests(metafunc: pytest.Metafunc) -> None:
         page = path.read_text('utf-8')
         for number, block in enumerate(filter(has_commands, blocks_of(page))):
             line = page.count('\n', 0, block.start('text')) + 1
-            tests.append(pytest.param(path, page, number, block['shown'] or '', id='%s, line %d' % (path.name, line),
+            tests.append(pytest.param(page, number, block['shown'] or '', id='%s, line %d' % (path.name, line),
                                       marks=pytest.mark.xdist_group(path.name)))
-    metafunc.parametrize(('path', 'page', 'number', 'shown'), tests)
+    metafunc.parametrize(('page', 'number', 'shown'), tests)
 
 
-def test_commands(path: Path, page: str, number: int, shown: str, program: Path, pytestconfig: pytest.Config) -> None:
-    printed = outputs_of(page, program)[number]
-    if pytestconfig.getoption('write'):
-        path.write_text(with_outputs(page, program), 'utf-8')
-    else:
-        check_lines('the output of the commands', shown.split('\n'), printed.split('\n'))
+def test_commands(page: str, number: int, shown: str, program: Path) -> None:
+    check_lines('the output of the commands', shown.split('\n'), outputs_of(page, program)[number].split('\n'))

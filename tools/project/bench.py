@@ -1,14 +1,10 @@
-"""Measures the program: tools/dev/bench [NAME ..] [--against PROGRAM] [--host] [--rounds N]
+"""Measures the program: tools/dev/bench [NAME ..] [--against PROGRAM] [--rounds N]
 
 Runs the program on the scenarios of bench/, on one thread and with workers of both kinds, each alternating with an
 earlier program if --against names one, and prints for each way to run: the seconds of the processor (user time, the
 best round), the seconds of the clock, and the most memory; and the instructions on one thread, if valgrind is
 installed. A ratio is the middle one of the rounds' own ratios of this program to the earlier one, with the least and
-the greatest. Each report is compared with the first one of its scenario. --small runs scenarios of a tenth of the
-length. With --host, one thread is also compared with the C programs that tools/export makes from the scenario and the
-simulator in C that runs them (tools/contiki_host), compiled with -O2.
-
-Ends with status 0, or with 1 if a report differs.
+the greatest. Each report is compared with the first one of its scenario: the status is 1 if one differs.
 """
 from __future__ import annotations
 
@@ -19,7 +15,6 @@ import re
 import shutil
 import statistics
 import subprocess
-import sys
 import tempfile
 import time
 from collections.abc import Sequence
@@ -28,7 +23,8 @@ from typing import NamedTuple
 
 from motesim.faults import Fault, command
 from motesim.words import words_of
-from project.tree import TOP, program_of, take_program
+from motesim.runner.programs import TOP
+from project.tree import program_of, take_program
 
 # Each scenario with its arguments, and those of one of a tenth of the length.
 SCENARIOS: dict[str, tuple[list[int], list[int]]] = {
@@ -88,15 +84,6 @@ def cell(name: str, ours: Sequence[float], others: Sequence[float]) -> str:
     return '%s %s%s' % (name, best, ': %.2f%s' % (statistics.median(ratios), spread) if ratios else '')
 
 
-def built_host(scenario: Path, folder: Path) -> str:
-    """The host of a scenario: its programs in C with the simulator that runs them."""
-    export = [sys.executable, str(TOP / 'tools/export'), str(scenario), '--form', 'contiki', '--host']
-    for words in [*export, '-o', str(folder)], ['make', '-s', '-C', str(folder), 'host', 'HOSTFLAGS=-O2']:
-        if subprocess.run(words).returncode:
-            raise Fault('the host can\'t be built')
-    return str(folder / 'host')
-
-
 def measure(title: str, programs: Sequence[str], words: Sequence[str | Path], rounds: int) -> set[str]:
     """Runs programs alternately, prints the costs in a line, and returns the digests of the reports."""
     turns = [[cost_of([program, *words]) for program in programs] for _ in range(rounds)]
@@ -109,16 +96,13 @@ def measure(title: str, programs: Sequence[str], words: Sequence[str | Path], ro
 def measure_scenario(name: str, programs: Sequence[str], asked: argparse.Namespace) -> bool:
     """Measures one scenario in all ways, and returns whether all its reports are the same."""
     whole, tenth = SCENARIOS[name]
-    sizes, reports = tenth if asked.small else whole, set[str]()
-    print('%s %s' % (name, ' '.join(map(str, sizes))), flush=True)
+    reports = set[str]()
+    print('%s %s' % (name, ' '.join(map(str, whole))), flush=True)
     with tempfile.TemporaryDirectory() as folder:
         scenario = Path(folder) / 'scenario.toml'
-        scenario.write_bytes(generated(name, sizes))
+        scenario.write_bytes(generated(name, whole))
         for way in WAYS:
             reports |= measure(way or 'one thread', programs, [*way.split(), scenario], asked.rounds)
-        if asked.host:
-            both = [programs[0], built_host(scenario, Path(folder) / 'host')]
-            reports |= measure('one thread, and the host', both, [scenario], asked.rounds)
         if asked.counts:
             scenario.write_bytes(generated(name, tenth))
             ours, *others = [instructions(program, scenario) for program in programs]
@@ -131,18 +115,13 @@ def measure_scenario(name: str, programs: Sequence[str], asked: argparse.Namespa
 @command('bench')
 def main() -> int:
     words = words_of(__doc__)
-    words.add_argument('names', nargs='*', metavar='NAME',
+    words.add_argument('names', nargs='*', metavar='NAME', choices=SCENARIOS,
                        help='scenarios: %s; without one, all' % ', '.join(SCENARIOS))
     take_program(words)
     words.add_argument('--against', metavar='PROGRAM', help='an earlier motesim, which runs alternately with this one')
     words.add_argument('--rounds', type=int, default=5, metavar='N', help='N runs of each (5)')
-    words.add_argument('--small', action='store_true', help='a tenth of the length')
-    words.add_argument('--host', action='store_true', help='compare one thread with the host in C')
     words.add_argument('--no-instructions', action='store_false', dest='counts', help='count no instructions')
     asked = words.parse_args()
-    for name in asked.names:
-        if name not in SCENARIOS:
-            raise Fault('there is no scenario %s; there are: %s' % (name, ', '.join(SCENARIOS)))
     if asked.counts and not shutil.which('valgrind'):
         print('Instructions are not counted: on Debian `apt-get install valgrind` installs what counts them.')
         asked.counts = False

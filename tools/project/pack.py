@@ -19,8 +19,6 @@ import importlib
 import io
 import os
 import re
-import subprocess
-import sys
 import tarfile
 from pathlib import Path
 
@@ -28,12 +26,12 @@ from motesim.faults import Fault, command
 from motesim.runner.programs import COMPILED, TOP, is_proved, program_of_sources, program_path
 from motesim.version import KIT, VERSION
 from motesim.words import words_of
-from project import compile as compiling
 from project import kit
+from project.compile import compile_program
+from project.tree import commit
 
 # The contents of the archive besides the program: files, and folders with all files in them that git knows.
 PARTS = ('CHANGES.md', 'CITATION.cff', 'LICENSE', 'docs/use', 'examples', 'tools/contiki_host', 'tools/motesim')
-NAMED = 'The maker of the archive chose the program by its path: no proof of it is known.'
 
 
 def template(name: str) -> str:
@@ -41,28 +39,9 @@ def template(name: str) -> str:
     return Path(__file__).with_name('archive').joinpath(name + '.txt').read_text('utf-8')
 
 
-def commit() -> str:
-    """The commit of this tree, if it is a clone."""
-    try:
-        done = subprocess.run(['git', '-C', str(TOP), 'rev-parse', 'HEAD'], capture_output=True, text=True, check=True)
-        return done.stdout.strip()
-    except (OSError, subprocess.CalledProcessError):
-        return 'not known'
-
-
 def program() -> Path:
-    """The program that MOTESIM names, or the proved one of these sources, or the fast one, compiled without a proof."""
-    if os.environ.get('MOTESIM'):
-        return program_path()
-    found = program_of_sources()
-    if found is None or found.name == compiling.FIRST:
-        print('pack: the optimized program is being compiled first, which lasts some minutes',
-              file=sys.stderr, flush=True)
-        compiling.make_fast()
-        found = program_of_sources()
-    if found is None or found.name == compiling.FIRST:
-        raise Fault('the program is being compiled in the background: try again in a minute')
-    return found
+    """The program that MOTESIM names, or the proved one of these sources, or one that is compiled without a proof."""
+    return program_path() if os.environ.get('MOTESIM') else program_of_sources() or compile_program()
 
 
 def licenses() -> dict[str, bytes]:
@@ -100,14 +79,21 @@ def is_for_students(file: Path) -> bool:
     return file.is_file() and '__pycache__' not in file.parts and not is_for_teachers
 
 
+def about_proof(program: Path) -> str:
+    """A sentence on the proof of a program."""
+    if is_proved(program):
+        return 'PROVED.md says what was proved of the program.'
+    if os.environ.get('MOTESIM'):
+        return 'The maker of the archive chose the program by its path: no proof of it is known.'
+    return 'The program is compiled, not proved.'
+
+
 def files(program: Path) -> dict[str, tuple[bytes, int]]:
     """The contents of the archive: for each name, its bytes and its mode."""
     tools, built = user_commands(), program.read_bytes()
-    about = {'version': VERSION, 'commit': commit(), 'kit': kit_at_hand(), 'compiled': COMPILED,
-             'digest': hashlib.sha256(built).hexdigest(),
-             'tools': '\n'.join('- `tools/%s`: %s' % it for it in tools.items()),
-             'proof': 'PROVED.md says what was proved of this program.' if is_proved(program) else
-                      NAMED if os.environ.get('MOTESIM') else 'The program is compiled, not proved.'}
+    about = {'version': VERSION, 'commit': commit() or 'not known', 'kit': kit_at_hand(), 'compiled': COMPILED,
+             'digest': hashlib.sha256(built).hexdigest(), 'proof': about_proof(program),
+             'tools': '\n'.join('- `tools/%s`: %s' % it for it in tools.items())}
     pages = {'README.md': (template('readme') % about).encode(), **licenses()}
     if is_proved(program):
         pages['PROVED.md'] = (template('proved') % about).encode()
@@ -142,9 +128,6 @@ def main() -> int:
     path = asked.output or Path(folder + '.tar.gz')
     data = archive(folder, packed)
     path.write_bytes(data)
-    which = 'the proved program' if is_proved(packed) else (
-        'the program that MOTESIM names, of which no proof is known here' if os.environ.get('MOTESIM') else
-        'a program that is compiled, not proved (./prove proves it)')
-    print('%s: %.1f MB, with %s' % (path, len(data) / 1e6, which))
+    print('%s: %.1f MB. %s' % (path, len(data) / 1e6, about_proof(packed)))
     print('Students unpack it by: tar xzf %s && cd %s && ./run examples/flooding.toml' % (path.name, folder))
     return 0

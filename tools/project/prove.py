@@ -9,56 +9,29 @@ gate, which also proves and runs all tests.
 """
 from __future__ import annotations
 
-import contextlib
-import fcntl
-import json
 import os
 import re
 import shutil
-import signal
 import sys
 import time
-from collections.abc import Iterator, Sequence
+from collections.abc import Sequence
 from pathlib import Path
-from typing import NoReturn
 
 from motesim.faults import Fault, command
-from motesim.runner.programs import crates_of_program, proved_program
+from motesim.runner.programs import PROVED, TOP, crates_of_program, proved_program
 from motesim.words import words_of
 from project import kit
 from project.compile import clear_others
-from project.tree import PROGRAM, SECONDS, TOP
+from project.running import end_on_signals, locked, started
 
 COPY, LOG, LOCK = TOP / 'out/proof', TOP / 'out/proof.log', TOP / 'out/proof.lock'
 # The folders of a crate that the proof of the program doesn't need.
 LEFT_OUT = shutil.ignore_patterns('out', 'must-fail', '*-bodies')
 RESULT = re.compile(r'rt: (\w+) (proved|is kept|NOT PROVED)')
-# The seconds of a crate whose proof wasn't measured, and the part of the processors that is busy on average.
-UNKNOWN_SECONDS, BUSY = 60, 0.75
 
 
 def say(text: str) -> None:
     print('prove: ' + text, file=sys.stderr, flush=True)
-
-
-def minutes_for(crates: Sequence[str], processors: int) -> int:
-    """The minutes, at least one, that the proofs of these crates need, by the processor seconds that were measured."""
-    measured: dict[str, int] = json.loads(SECONDS.read_text('utf-8')) if SECONDS.is_file() else {}
-    seconds = sum(measured.get(it, UNKNOWN_SECONDS) for it in crates)
-    return max(1, round(seconds / 60 / max(1, BUSY * processors)))
-
-
-@contextlib.contextmanager
-def alone() -> Iterator[None]:
-    """Waits for another ./prove here, and keeps others out."""
-    LOCK.parent.mkdir(exist_ok=True)
-    with open(LOCK, 'w', encoding='ascii') as lock:
-        try:
-            fcntl.flock(lock, fcntl.LOCK_EX | fcntl.LOCK_NB)
-        except BlockingIOError:
-            say('another ./prove is at work here; this one waits for it')
-            fcntl.flock(lock, fcntl.LOCK_EX)
-        yield
 
 
 def copy_crates(top: Path, crates: Sequence[str], copy: Path) -> None:
@@ -78,9 +51,8 @@ def copy_crates(top: Path, crates: Sequence[str], copy: Path) -> None:
 def prove_copy(number: int) -> bool:
     """Proves the crates of the copy, so many, and builds the program there. Returns whether all are proved."""
     proved, said, began = 0, '', time.monotonic()
-    with open(LOG, 'w', buffering=1, encoding='utf-8') as log, kit.started(['rt', 'ci'], cwd=COPY) as running:
-        assert running.stdout
-        for line in running.stdout:
+    with open(LOG, 'w', buffering=1, encoding='utf-8') as log, started(['rt', 'ci'], cwd=COPY) as (running, lines):
+        for line in lines:
             log.write(line)
             said = line if line.startswith('== ') else said + line
             result = RESULT.match(line)
@@ -93,39 +65,40 @@ def prove_copy(number: int) -> bool:
     return not running.returncode
 
 
-def stop(number: int) -> NoReturn:
-    """Ends at once, and the provers with it."""
-    kit.end_children()
-    say('interrupted; ./prove continues with the crates that are left')
-    os._exit(128 + number)
+def prove() -> None:
+    """Proves the program of these sources, and moves it to its place."""
+    crates, began = crates_of_program(TOP), time.time()
+    say('proving %d crate%s: 20 to 40 minutes from nothing, on four processors; interrupt it at any time, ./prove '
+        'resumes' % (len(crates), 's' * (len(crates) > 1)))
+    copy_crates(TOP, crates, COPY)
+    made = COPY / PROVED.relative_to(TOP)
+    if not prove_copy(len(crates)) or not made.is_file():
+        raise Fault('not everything is proved; the lines above and %s say why' % LOG)
+    # (a source that is edited during this proof is newer than what it built)
+    os.utime(made, (began, began))
+    PROVED.parent.mkdir(exist_ok=True)
+    os.replace(made, PROVED)
+    shutil.rmtree(COPY)
+    if not proved_program():
+        raise Fault('everything was proved, but a source has changed meanwhile: ./prove proves what depends on it')
 
 
 @command('prove')
 def main() -> int:
     words_of(__doc__, './prove').parse_args()
-    for number in signal.SIGINT, signal.SIGTERM, signal.SIGHUP:
-        signal.signal(number, lambda number, _: stop(number))
-    if kit.another():
-        say(str(kit.another()))
+    for line in kit.warnings():
+        say(line)
+    end_on_signals()
     os.nice(5)
-    with alone():
-        if proved_program():
-            say('the proved program of these sources is built already')
-            return 0
-        crates, processors, began = crates_of_program(TOP), len(os.sched_getaffinity(0)), time.time()
-        say('proving %d crate%s: in about %d min from nothing, with %d processors; interrupt it at any time, ./prove '
-            'resumes' % (len(crates), 's' * (len(crates) > 1), minutes_for(crates, processors), processors))
-        copy_crates(TOP, crates, COPY)
-        made = COPY / PROGRAM.relative_to(TOP)
-        if not prove_copy(len(crates)) or not made.is_file():
-            raise Fault('not everything is proved; the lines above and %s say why' % LOG)
-        # (a source that is edited during this proof is newer than what it built)
-        os.utime(made, (began, began))
-        PROGRAM.parent.mkdir(exist_ok=True)
-        os.replace(made, PROGRAM)
-        shutil.rmtree(COPY)
-    if not proved_program():
-        raise Fault('everything was proved, but a source has changed meanwhile: ./prove proves what depends on it')
+    try:
+        with locked(LOCK, 'prove: another ./prove is at work here; this one waits for it'):
+            if proved_program():
+                say('the proved program of these sources is built already')
+                return 0
+            prove()
+    except SystemExit:
+        say('interrupted; ./prove continues with the crates that are left')
+        raise
     clear_others()
     say('everything is proved; ./run and the tools now run the proved program')
     return 0

@@ -7,22 +7,22 @@ learn why there is no report. With --help the options of ./run come below the pr
 """
 from __future__ import annotations
 
+import argparse
 import contextlib
 import os
 import shutil
-import stat
+import signal
 import subprocess
 import sys
+from collections.abc import Sequence
 from pathlib import Path
-from typing import NoReturn
+from typing import NamedTuple, NoReturn
 
 from motesim.faults import OF_ALL, Fault
-from motesim.runner.programs import NOT_PROVED, hold, is_compiled, is_program, program_of_sources
+from motesim.runner.programs import NOT_PROVED, is_compiled, is_program, note_use, program_of_sources
 from motesim.version import VERSION
-from project.asked import Asked, asked_by
-from project.attended import as_another_program, attend
-from project.compile import FIRST, start_fast
-from project.tree import TOP
+from project.compile import compile_program
+from project.running import ends_with_parent
 
 NAME = 'motesim'
 # (the program's own text, for which it needn't be built)
@@ -32,6 +32,39 @@ Options of ./run itself, which compiles the program if none is built:
       --unproved     Runs a program that is compiled without a proof, even if a proved one is built
       --version      Says which version this is, and which kit it was proved with"""
 FAILED, MISUSED = 1, 2
+
+
+class Request(NamedTuple):
+    """The program's arguments and its file; the options of ./run; and the program's refusal of its arguments."""
+    words: list[str]
+    file: str | None
+    wants_help: bool
+    is_unproved: bool
+    refusal: str | None
+
+
+class Reader(argparse.ArgumentParser):
+    def error(self, message: str) -> NoReturn:
+        raise Fault(message)
+
+
+def request_of(given: Sequence[str]) -> Request:
+    """Reads the arguments of ./run; none after `--` is an option."""
+    reader = Reader(add_help=False, allow_abbrev=False)
+    reader.add_argument('--workers', type=int, choices=range(1, 17))
+    reader.add_argument('--cut', choices=['block', 'stripe'])
+    reader.add_argument('--sync', choices=['joins', 'marks'])
+    reader.add_argument('--help', '-h', action='store_true')
+    reader.add_argument('file', nargs='?')
+    end = given.index('--') if '--' in given else len(given)
+    options = set(given[:end])
+    words = [*(it for it in given[:end] if it != '--unproved'), *given[end:]]
+    file = refusal = None
+    try:
+        file = reader.parse_args(words).file
+    except Fault as fault:
+        refusal = str(fault)
+    return Request(words, file, bool(options & {'--help', '-h'}), '--unproved' in options, refusal)
 
 
 def say(line: str) -> None:
@@ -44,13 +77,6 @@ def can_be_read(file: str) -> bool:
     return os.access(file, os.R_OK) and not os.path.isdir(file)
 
 
-def is_piped() -> bool:
-    """Returns whether standard output is a pipe, which may be closed."""
-    with contextlib.suppress(OSError):
-        return stat.S_ISFIFO(os.fstat(1).st_mode)
-    return False
-
-
 def has_error(file: str) -> bool:
     """Returns whether a scenario has an error."""
     # (it is needed only after an error)
@@ -61,11 +87,11 @@ def has_error(file: str) -> bool:
 
 
 def say_more(file: str | None) -> None:
-    """Says on a terminal how to learn why there is no report, unless the pipe of the report may be the reason."""
+    """Says on a terminal how to learn why there is no report, if the scenario is the reason."""
     if file and os.isatty(2):
         if not can_be_read(file):
             say('%s: there is no file %s that can be read' % (NAME, file))
-        elif not is_piped() or has_error(file):
+        elif has_error(file):
             say('%s: tools/explain %s says more' % (NAME, file))
 
 
@@ -75,79 +101,70 @@ def say_help_of_run() -> None:
     print(HELP_OF_RUN, file=sys.stdout if os.isatty(1) else sys.stderr)
 
 
-def check_arguments(asked: Asked) -> None:
+def check_arguments(request: Request) -> None:
     """Ends if `motesim` would refuse the arguments, or couldn't read the file."""
-    if asked.refusal:
-        say("error: %s\n\nFor more information, try '--help'." % asked.refusal)
+    if request.refusal:
+        say("error: %s\n\nFor more information, try '--help'." % request.refusal)
         sys.exit(MISUSED)
-    if asked.file and not can_be_read(asked.file):
+    if request.file and not can_be_read(request.file):
         say('%s: read fault' % NAME)
-        say_more(asked.file)
+        say_more(request.file)
         sys.exit(FAILED)
 
 
-def new_program() -> Path:
-    """The program once it is compiled."""
-    if not shutil.which('rt'):
-        raise Fault("the program isn't built, and compiling it needs the Rattle kit: there is no command rt here")
-    # (standard input is the program's)
-    if attend(TOP / 'tools/compile', [NAME], subprocess.DEVNULL):
-        sys.exit(FAILED)
-    found = program_of_sources(may_be_proved=False)
-    if found is None:
-        raise Fault('a source has changed while the program was compiled: try again')
-    return found
-
-
-def program_for(asked: Asked) -> Path:
+def program_for(request: Request) -> Path:
     """The binary for the arguments: one that exists handles them itself."""
     named = os.environ.get('MOTESIM')
-    if named and not asked.is_unproved:
+    if named and not request.is_unproved:
         if not is_program(Path(named)):
             raise Fault('there is no program %s (the environment variable MOTESIM names it)' % named)
         return Path(named).resolve()
-    found = program_of_sources(may_be_proved=not asked.is_unproved)
+    found = program_of_sources(may_be_proved=not request.is_unproved)
     if found is None:
-        if asked.wants_help:
+        if request.wants_help:
             print(HELP.read_text('utf-8'), end='', flush=True)
             say_help_of_run()
             sys.exit(0)
-        check_arguments(asked)
-        found = new_program()
-    if is_compiled(found) and not asked.wants_help:
+        check_arguments(request)
+        if not shutil.which('rt'):
+            raise Fault("the program isn't built, and compiling it needs the Rattle kit: there is no command rt here")
+        found = compile_program()
+    if is_compiled(found) and not request.wants_help:
         say('%s: %s' % (NAME, NOT_PROVED))
-    hold(found)
-    if found.name == FIRST and shutil.which('rt'):
-        start_fast()
+    note_use(found)
     return found
 
 
-def run(program: Path, asked: Asked) -> NoReturn:
+def run(program: Path, request: Request) -> NoReturn:
     """Runs the program, with the further lines for a terminal."""
-    words = [NAME, *asked.words]
-    if asked.file is None and not asked.wants_help and os.isatty(0):
+    words = [NAME, *request.words]
+    if request.file is None and not request.wants_help and os.isatty(0):
         say('%s: waiting for a scenario on standard input, which ends with Ctrl-D (./run FILE reads a file)' % NAME)
     try:
-        if not (asked.wants_help or asked.file and os.isatty(2)):
+        if not (request.wants_help or request.file and os.isatty(2)):
             os.execv(program, words)
-        status = attend(program, words)
+        status = subprocess.call(words, executable=program, preexec_fn=ends_with_parent(signal.SIGTERM))
     except OSError as fault:
         raise Fault('%s: %s' % (program, fault.strerror)) from None
-    if status == 0 and asked.wants_help:
+    if status == 0 and request.wants_help:
         say_help_of_run()
     if status == FAILED:
-        say_more(asked.file)
-    sys.exit(status)
+        say_more(request.file)
+    sys.exit(status if status >= 0 else 128 - status)
 
 
 def main() -> NoReturn:
-    as_another_program()
-    asked = asked_by(sys.argv[1:])
-    if asked.words == ['--version']:
-        print('motesim %s, compiled without a proof' % VERSION if asked.is_unproved else OF_ALL)
+    # (Python ignores signals that the program should not ignore, and has a traceback for an interrupt)
+    for number in signal.SIGPIPE, signal.SIGXFSZ:
+        signal.signal(number, signal.SIG_DFL)
+    if signal.getsignal(signal.SIGINT) == signal.default_int_handler:
+        signal.signal(signal.SIGINT, signal.SIG_DFL)
+    request = request_of(sys.argv[1:])
+    if request.words == ['--version']:
+        print('motesim %s, compiled without a proof' % VERSION if request.is_unproved else OF_ALL)
         sys.exit(0)
     try:
-        run(program_for(asked), asked)
+        run(program_for(request), request)
     except Fault as fault:
         say('%s: %s' % (NAME, fault))
         sys.exit(FAILED)

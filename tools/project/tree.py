@@ -1,17 +1,17 @@
-"""The places of the repository's parts, and the binary that its checks try."""
+"""The commit of this tree, and the binary that its checks try."""
 from __future__ import annotations
 
 import argparse
+import subprocess
 from pathlib import Path
 
 from motesim.faults import Fault
-from motesim.runner.programs import ALL_PARTS as PARTS
-from motesim.runner.programs import PROVED as PROGRAM
 from motesim.runner.programs import TOP, is_program, program_path
 
-__all__ = ['PARTS', 'PROGRAM', 'SECONDS', 'TOP', 'program_of', 'take_program']
-# The processor seconds of each crate's proof, which tools/dev/gate_times writes.
-SECONDS = TOP / 'tools/project/crate_seconds.json'
+
+def commit() -> str:
+    """The commit of this tree; an empty text if it isn't a clone."""
+    return subprocess.run(['git', '-C', str(TOP), 'rev-parse', 'HEAD'], capture_output=True, text=True).stdout.strip()
 
 
 def take_program(words: argparse.ArgumentParser) -> None:

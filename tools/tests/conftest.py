@@ -1,7 +1,10 @@
-"""The set-up of pytest for the tests of the tools: tools/dev/test_tools calls it.
+"""Runs the tests of the tools with pytest: tools/dev/test_tools [NAME ..]
 
-A test that lacks a program or a package is skipped, and the line says which. One that lacks the browser fails, unless
-`--may-skip browser` allows that. A file without tests fails. The last line is `N passed, M failed, K skipped`.
+NAME is a file of tools/tests, test_report, or a part of its name; without one all are run. Prints each test that
+fails, with its error, and each that is skipped, with the reason: the program or the package that it lacks. One that
+lacks the browser fails, unless `--may-skip browser` allows that, and so does a file without tests. The last line is
+`N passed, M failed, K skipped`. With pytest-xdist as many tests run in parallel as there are processors. After 30
+minutes the tests are ended.
 """
 from __future__ import annotations
 
@@ -9,7 +12,9 @@ import signal
 from collections.abc import Generator
 from typing import Any
 
+import here  # (it puts tools/ on the path)
 import pytest
+from project.counts import pytest_terminal_summary, reason_of  # noqa: F401
 
 # Programs that some tests need: if one is missing, the reason for skipping the test begins with its name.
 NEEDED = ('browser',)
@@ -27,12 +32,6 @@ def pytest_configure(config: pytest.Config) -> None:
             signal.signal(one, signal.default_int_handler if one == signal.SIGINT else signal.SIG_DFL)
 
 
-def reason_of(report: pytest.TestReport) -> str:
-    """The reason why a test is skipped."""
-    seen = report.longrepr
-    return str(seen[2] if isinstance(seen, tuple) else seen).removeprefix('Skipped: ')
-
-
 @pytest.hookimpl(hookwrapper=True)  # type: ignore[misc]
 def pytest_runtest_makereport(item: pytest.Item) -> Generator[None, Any, None]:
     report = (yield).get_result()
@@ -47,13 +46,3 @@ def pytest_make_collect_report(collector: pytest.Collector) -> Generator[None, A
     report = (yield).get_result()
     if isinstance(collector, pytest.Module) and report.passed and 'def test_' not in collector.path.read_text('utf-8'):
         report.outcome, report.longrepr = 'failed', '%s has no test' % collector.name
-
-
-@pytest.hookimpl(trylast=True)  # type: ignore[misc]
-def pytest_terminal_summary(terminalreporter: Any) -> None:
-    found = terminalreporter.stats
-    for report in found.get('skipped', []):
-        terminalreporter.write_line('skipped: %s: %s' % (report.nodeid, reason_of(report)))
-    failed = len({it.nodeid for kind in ('failed', 'error') for it in found.get(kind, [])})
-    terminalreporter.write_line('%d passed, %d failed, %d skipped' % (
-        len(found.get('passed', [])), failed, len(found.get('skipped', []))))

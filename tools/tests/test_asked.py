@@ -2,28 +2,28 @@
 import unittest
 
 import here
-from project.asked import asked_by
+from project.run_program import request_of
 
 
-class Words(unittest.TestCase):
+class Arguments(unittest.TestCase):
     def test_they_are_the_programs_but_for_unproved(self) -> None:
-        asked = asked_by(['--unproved', 'a.toml', '--cut', 'stripe', '--sync=marks', '--workers', '+016'])
+        asked = request_of(['--unproved', 'a.toml', '--cut', 'stripe', '--sync=marks', '--workers', '+016'])
         self.assertEqual(asked.words, ['a.toml', '--cut', 'stripe', '--sync=marks', '--workers', '+016'])
         self.assertEqual((asked.file, asked.is_unproved, asked.wants_help, asked.refusal), ('a.toml', True, False,
                                                                                             None))
-        self.assertEqual(asked_by([]), ([], None, False, False, None))
+        self.assertEqual(request_of([]), ([], None, False, False, None))
 
     def test_nothing_after_two_dashes_is_an_option(self) -> None:
-        asked = asked_by(['--', '--unproved'])
+        asked = request_of(['--', '--unproved'])
         self.assertEqual((asked.words, asked.file, asked.is_unproved), (['--', '--unproved'], '--unproved', False))
-        self.assertEqual(asked_by(['--workers', '2', '--', '-x']).file, '-x')
-        self.assertEqual(asked_by(['-']).file, '-')
+        self.assertEqual(request_of(['--workers', '2', '--', '-x']).file, '-x')
+        self.assertEqual(request_of(['-']).file, '-')
 
     def test_help_is_asked_for_by_either_word(self) -> None:
         for word in '--help', '-h':
-            asked = asked_by(['a.toml', word])
+            asked = request_of(['a.toml', word])
             self.assertEqual((asked.wants_help, asked.file, asked.words), (True, 'a.toml', ['a.toml', word]))
-        self.assertFalse(asked_by(['--', '-h']).wants_help)
+        self.assertFalse(request_of(['--', '-h']).wants_help)
 
     def test_what_the_program_would_refuse(self) -> None:
         for words, why in [
@@ -34,11 +34,11 @@ class Words(unittest.TestCase):
             (['--workers='], "argument --workers: invalid int value: ''"),
             (['--work', '2'], '--work'), (['a', 'b', '--cut', 'x', '--y'], 'argument --cut'),
         ]:
-            refusal = asked_by(words).refusal
+            refusal = request_of(words).refusal
             self.assertIsNotNone(refusal, words)
             self.assertIn(why, str(refusal), words)
         for number in '0', '17', '-1', '++1', '100':
-            self.assertIsNotNone(asked_by(['--workers', number]).refusal, number)
+            self.assertIsNotNone(request_of(['--workers', number]).refusal, number)
 
 
 if __name__ == '__main__':

@@ -11,7 +11,6 @@ from pathlib import Path
 from unittest import mock
 
 from here import TOP
-from skips import need_command
 from motesim.notation.faults import find_fault
 from motesim.scenario import Scenario
 from project import bench
@@ -51,7 +50,7 @@ class Command(unittest.TestCase):
             program = Path(room) / 'motesim'
             program.write_text(PROGRAM.replace('ODD', odd))
             program.chmod(0o755)
-            words = ['bench', '--program', str(program), '--rounds', '1', '--no-instructions', '--small', *asked]
+            words = ['bench', '--program', str(program), '--rounds', '1', '--no-instructions', *asked]
             with mock.patch.object(sys, 'argv',
                                    words), contextlib.redirect_stdout(said), contextlib.redirect_stderr(said):
                 with self.assertRaises(SystemExit) as end:
@@ -62,7 +61,7 @@ class Command(unittest.TestCase):
         said, code = self.said('none', 'timers')
         self.assertEqual(code, 0)
         self.assertEqual([line.split('user')[0].strip() for line in said.splitlines()], [
-            'timers 64 20000', 'one thread', '--workers 2 --sync joins', '--workers 4 --sync joins',
+            'timers 64 200000', 'one thread', '--workers 2 --sync joins', '--workers 4 --sync joins',
             '--workers 2 --sync marks',
             '--workers 4 --sync marks'])
 
@@ -71,16 +70,8 @@ class Command(unittest.TestCase):
         self.assertEqual(code, 1)
         self.assertIn('THE REPORTS DIFFER', said)
 
-    def test_the_host_is_run_too(self) -> None:
-        for name in 'cc', 'make':
-            need_command(self, name, 'build-essential')
-        said, code = self.said('none', 'timers', '--host')
-        self.assertRegex(said, r'(?m)^  one thread, and the host +user .+ s, .+ s.*; clock ')
-        self.assertIn('THE REPORTS DIFFER', said)      # the stand-in's isn't that of the scenario
-        self.assertEqual(code, 1)
-
     def test_another_name_is_told(self) -> None:
-        self.assertIn('there is no scenario x', self.said('none', 'x')[0])
+        self.assertIn("invalid choice: 'x' (choose from 'beacons'", self.said('none', 'x')[0])
 
 
 if __name__ == '__main__':

@@ -17,7 +17,7 @@ from motesim.report import Report
 from motesim.runner import Answer
 from motesim.runner.run import Run
 from motesim.scenario import Scenario
-from project import check
+from project import testing
 
 # (no test here is worth several processes)
 IN_ONE_PROCESS = '-n0'
@@ -63,10 +63,10 @@ class Commands(Check):
 
     def test_without_pytest_they_say_what_to_install(self) -> None:
         self.put_program('true')
-        with mock.patch('project.unit_tests.has', lambda module, python: False), mock.patch.object(
+        with mock.patch('project.testing.has', lambda module, python: False), mock.patch.object(
                 sys, 'argv', ['run_cases', '--program', str(self.program)]):
             with self.assertRaisesRegex(Fault, 'apt-get install python3-pytest'):
-                check.check(TOP / 'tests/test_cases.py')
+                testing.check(TOP / 'tests/test_cases.py')
 
     def test_a_program_that_does_not_end_is_reported(self) -> None:
         source = module('differences.py')
@@ -100,7 +100,6 @@ class Cases(Check):
         for names, why in [
             ({'a.expected': ''}, 'nothing to run'), ({'a.toml': ''}, 'no expectation'),
             ({'a.toml': '', 'a.make': '', 'a.status': '1'}, 'both .toml and .make'),
-            ({'a.args': '', 'a.runs': '', 'a.status': '1'}, 'both .args and .runs'),
             ({'a.make': 'def table(): return []'}, 'a table'),
             ({'a.make': 'def table(): return [1]', 'a.status': '1'}, 'a table'),
         ]:
@@ -194,21 +193,14 @@ class Pages(Check):
         super().setUp()
         self.put_program('echo "ran $(cat "$1")"')
 
-    def test_another_output_fails_and_can_be_written(self) -> None:
+    def test_another_output_fails(self) -> None:
+        page = self.put('PAGE.md', PAGE)
+        self.assertEqual(self.check('check_tutorial', page)[1:], ('2 passed, 0 failed, 0 skipped', 0))
         for changed in PAGE.replace('\ndone\n', '\nover\n'), PAGE.replace('\n```\nran end = 5\ndone\n```\n', ''):
-            page = self.put('PAGE.md', changed)
-            said, last, status = self.check('check_tutorial', page)
+            said, last, status = self.check('check_tutorial', self.put('PAGE.md', changed))
             self.assertEqual((last, status), ('1 passed, 1 failed, 0 skipped', 1))
             self.assertIn('PAGE.md, line 12', said)
             self.assertIn('\n+done\n', said)
-            self.assertEqual(self.check('check_tutorial', '--write', page)[2], 0)
-            self.assertEqual(page.read_text('utf-8'), PAGE)
-            self.assertEqual(self.check('check_tutorial', page)[1:], ('2 passed, 0 failed, 0 skipped', 0))
-
-    def test_commands_that_print_nothing_more_lose_their_block(self) -> None:
-        page = self.put('PAGE.md', '```sh\ntrue\n```\n\n```\nonce\n```\nend\n')
-        self.check('check_tutorial', '--write', page)
-        self.assertEqual(page.read_text('utf-8'), '```sh\ntrue\n```\nend\n')
 
     def test_a_block_needs_its_end(self) -> None:
         for text in 'text\n```sh\ntrue\n', '```sh\n```sh\n```\n':

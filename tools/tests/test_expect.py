@@ -373,7 +373,7 @@ class Files(unittest.TestCase):
         self.assertEqual(str(raised.exception).split('\n')[0], 'sentence 2 is not known')
 
     def test_a_program_that_is_not_compiled_is_no_fault_of_the_expectations(self) -> None:
-        with mock.patch.dict(os.environ), mock.patch.object(programs, '_program_here', return_value=None):
+        with mock.patch.dict(os.environ), mock.patch.object(programs, 'program_of_sources', return_value=None):
             del os.environ['MOTESIM']
             out, err, code = self.said('expect = ["mote 0 sends"]')
         self.assertEqual((out, code), ('', 2))

@@ -82,7 +82,7 @@ class Ends(unittest.TestCase):
 class Tools(unittest.TestCase):
     def test_the_version_is_told(self) -> None:
         seen = 'motesim %s, proved with %s\n' % (VERSION, KIT)
-        for command in TOOLS / 'compare', TOOLS / 'dev/check_format', TOP / 'run':
+        for command in TOOLS / 'compare', TOOLS / 'dev/spec_lists', TOP / 'run':
             done = subprocess.run([str(command), '--version'], stdin=subprocess.DEVNULL, capture_output=True,
                                   text=True)
             self.assertEqual((done.returncode, done.stdout, done.stderr), (0, seen, ''))

@@ -10,13 +10,12 @@ import unittest
 from pathlib import Path
 from unittest import mock
 
-from here import TOP
+from here import TOOLS, TOP
 from motesim.faults import Fault
-from project import unit_tests
+from project import testing
 
-TOOLS = ['run_cases', 'check_examples', 'check_tutorial', 'spoil_bytes', 'compare_workers', 'refuse_memory',
-         'headline_files',
-         'test_tools', 'gate_times', 'wrong_bodies', 'check_format']
+STEPS = ['run_cases', 'check_examples', 'check_tutorial', 'spoil_bytes', 'compare_workers', 'refuse_memory',
+         'test_tools', 'wrong_bodies']
 
 
 class Gate(unittest.TestCase):
@@ -25,11 +24,11 @@ class Gate(unittest.TestCase):
         self.addCleanup(room.cleanup)
         self.room = Path(room.name)
         shutil.copy(TOP / 'test', self.room / 'test')
-        for name in TOOLS:
+        for name in STEPS:
             self.put('tools/dev/' + name, 'echo "2 passed, 0 failed"')
         self.put('tools/differential', 'echo "2 passed, 0 failed"')
-        for name in 'rt', 'nproc':
-            self.put('bin/' + name, 'echo 1')
+        self.put('bin/rt', 'echo "2 passed, 0 failed"')
+        self.put('bin/nproc', 'echo 1')
         self.put('crates/motesim/out/motesim', 'true')
 
     def put(self, name: str, text: str) -> None:
@@ -45,24 +44,25 @@ class Gate(unittest.TestCase):
 
     def test_all_steps_are_added_up(self) -> None:
         lines, status = self.run_it()
-        self.assertEqual((lines[-1], status), ('22 passed, 0 failed, 0 skipped', 0))
+        self.assertEqual((lines[-1], status), ('20 passed, 0 failed, 0 skipped', 0))
+        self.assertEqual(len([it for it in lines if it.startswith('== it needed 0m')]), 10)
         lines, status = self.run_it('--quick')
-        self.assertEqual((lines[-1], status), ('12 passed, 0 failed, 0 skipped', 0))
+        self.assertEqual((lines[-1], status), ('8 passed, 0 failed, 0 skipped', 0))
 
     def test_what_fails_and_what_is_skipped_counts(self) -> None:
         self.put('tools/dev/test_tools',
                  'echo "skipped: test_a.B.c: no browser"; echo "5 passed, 1 failed, 3 skipped"; exit 1')
-        self.put('tools/dev/headline_files', 'exit 1')
+        self.put('tools/dev/run_cases', 'exit 1')
         self.put('tools/dev/spoil_bytes', 'echo "2 passed, 0 failed"; exit 3')
         lines, status = self.run_it()
-        self.assertEqual((lines[-1], status), ('23 passed, 3 failed, 3 skipped', 1))
+        self.assertEqual((lines[-1], status), ('21 passed, 3 failed, 3 skipped', 1))
 
     def test_what_can_not_be_run_fails_unless_it_may_be_skipped(self) -> None:
         (self.room / 'tools/dev/refuse_memory').unlink()
         number = re.findall(r'refuse_memory program (\d+)', (TOP / 'test').read_text('utf-8'))[0]
-        self.assertEqual(self.run_it()[0][-1], '20 passed, %s failed, 0 skipped' % number)
+        self.assertEqual(self.run_it()[0][-1], '18 passed, %s failed, 0 skipped' % number)
         lines, status = self.run_it('--may-skip', 'refuse_memory')
-        self.assertEqual((lines[-1], status), ('20 passed, 0 failed, %s skipped' % number, 0))
+        self.assertEqual((lines[-1], status), ('18 passed, 0 failed, %s skipped' % number, 0))
         self.assertIn('== skipped: tools/dev/refuse_memory: it is not here', lines)
 
     def test_without_python_and_compiler_the_steps_fail(self) -> None:
@@ -141,8 +141,9 @@ class UnitTests(unittest.TestCase):
         with tempfile.TemporaryDirectory() as room:
             shutil.copy(TOP / 'tools/tests/conftest.py', room)
             (Path(room) / 'test_page.py').write_text(text)
-            words = [*unit_tests.pytest(may_skip), 'test_page.py']
-            done = subprocess.run(words, cwd=room, capture_output=True, text=True, timeout=60)
+            words = [*testing.pytest('scope'), *('--may-skip=' + it for it in may_skip), 'test_page.py']
+            done = subprocess.run(words, cwd=room, env={**os.environ, 'PYTHONPATH': str(TOOLS / 'tests')},
+                                  capture_output=True, text=True, timeout=60)
         return done.stdout.splitlines(), done.returncode
 
     def test_a_class_that_is_skipped_counts_as_all_its_tests(self) -> None:
@@ -162,9 +163,9 @@ class UnitTests(unittest.TestCase):
             self.assertEqual((lines[-1], status != 0), ('0 passed, 1 failed, 0 skipped', True), text)
 
     def test_without_pytest_it_says_what_to_install(self) -> None:
-        with mock.patch.object(unit_tests, 'has', lambda module, python: False):
+        with mock.patch.object(testing, 'has', lambda module, python: False):
             with self.assertRaisesRegex(Fault, 'apt-get install python3-pytest'):
-                unit_tests.interpreter()
+                testing.pytest('scope')
 
 
 if __name__ == '__main__':

@@ -10,39 +10,46 @@ from unittest import mock
 import here
 from motesim.faults import Fault
 from motesim.version import KIT, LOGIC
-from project import kit, tree
+from motesim.runner import programs
+from project import kit
 
 
 @unittest.skipUnless(shutil.which('rt'), 'the command rt of the Rattle kit is not here')
 class AtHand(unittest.TestCase):
     def test_it_has_the_logic_that_is_named(self) -> None:
-        self.assertIsNone(kit.another())
+        self.assertEqual(kit.warnings(), [])
 
     def test_the_readme_names_it(self) -> None:
         self.assertIn('`%s`' % LOGIC.split()[-1], (here.TOP / 'README.md').read_text('utf-8'))
 
     def test_it_has_all_that_is_taken(self) -> None:
-        self.assertEqual(kit.lacking_in(kit.rt(), kit.TAKEN + kit.OF_MUTANTS), [])
+        kit.check_parts(kit.rt())
 
     def test_a_check_reads_the_parts_that_the_tools_know(self) -> None:
-        self.assertEqual(kit.rtlib().PARTS, tree.PARTS)
+        self.assertEqual(kit.rtlib().PARTS, programs.ALL_PARTS)
 
     def test_the_program_stands_on_the_crates_that_the_tools_find(self) -> None:
-        from motesim.runner.programs import crates_of_program
         program = kit.crate_named('motesim', here.TOP)
-        self.assertEqual(sorted(it.name for it in [*program.below(), program]), crates_of_program(here.TOP))
+        self.assertEqual(sorted(it.name for it in [*program.below(), program]), programs.crates_of_program(here.TOP))
+
+
+class Format(unittest.TestCase):
+    def test_all_sources_definitions_and_proofs_have_the_format_of_the_kit(self) -> None:
+        self.assertEqual(kit.badly_formatted(here.TOP), '', '`rt fmt` in a folder of a crate formats its files')
 
 
 class Others(unittest.TestCase):
     def test_another_kit_is_told(self) -> None:
         said = 'the kit here is another kit, and this tree was proved with %s' % KIT
-        for at_hand, seen in (KIT, None), ('rattle-kit-x %s' % LOGIC, None), ('another kit', said):
+        for at_hand, seen in (KIT, []), ('rattle-kit-x %s' % LOGIC, []), ('another kit', [said + ': proofs may fail']):
             with mock.patch.object(kit, 'version', lambda: at_hand):
-                self.assertEqual(bool(kit.another()), bool(seen))
-                self.assertIn(seen or 'None', str(kit.another()))
+                self.assertEqual(kit.warnings(), seen)
 
     def test_a_kit_that_lacks_a_part_is_told(self) -> None:
-        self.assertIn('rtlib.guarded', kit.lacking_in(types.SimpleNamespace(rtlib=types.SimpleNamespace(PARTS=())), kit.TAKEN))
+        lacking = types.SimpleNamespace(checked=None)
+        with mock.patch.object(kit, 'version', lambda: 'another kit'):
+            with self.assertRaisesRegex(Fault, "the kit here is another kit, and lacks .* attribute 'edited'"):
+                kit.check_parts(lacking)
 
     def test_no_kit_is_told(self) -> None:
         with mock.patch('project.kit.shutil.which', lambda name: None):

@@ -1,5 +1,4 @@
 """The archive for a classroom: what it holds, and that its program and tools run from any folder."""
-import contextlib
 import hashlib
 import io
 import os
@@ -15,7 +14,6 @@ from unittest import mock
 from here import TOP
 from motesim.faults import Fault
 from motesim.version import VERSION
-from project import compile as compiling
 from project import pack
 from stub import write_stub
 
@@ -84,11 +82,11 @@ class Pack(unittest.TestCase):
             done = subprocess.run([str(top / 'run'), '--version'], capture_output=True, text=True)
             self.assertEqual((done.stdout, done.stderr), ('motesim %s, compiled without a proof\n' % VERSION, ''))
 
-    def test_the_proved_program_is_packed_if_it_is_there(self) -> None:
-        with mock.patch.object(pack, 'program_of_sources', lambda: TOP / 'proved-x/motesim'), mock.patch.object(
-                compiling, 'make_fast') as made:
-            self.assertEqual(pack.program(), TOP / 'proved-x/motesim')
-            made.assert_not_called()
+    def test_the_program_of_the_sources_is_packed_or_compiled_first(self) -> None:
+        for found, packed, times in [(TOP / 'proved-x/motesim',) * 2 + (0,), (None, TOP / 'compiled-x/motesim', 1)]:
+            with mock.patch.object(pack, 'program_of_sources', lambda: found), mock.patch.object(
+                    pack, 'compile_program', return_value=TOP / 'compiled-x/motesim') as compiled:
+                self.assertEqual((pack.program(), compiled.call_count), (packed, times))
 
     def test_the_program_that_the_environment_names_is_packed(self) -> None:
         with tempfile.TemporaryDirectory() as room:
@@ -97,20 +95,9 @@ class Pack(unittest.TestCase):
                 self.assertEqual(pack.program(), program)
                 with mock.patch.object(pack, 'licenses', dict):
                     readme = pack.files(program)['README.md'][0].decode()
-                self.assertIn(pack.NAMED, readme)
+                self.assertIn('no proof of it is known', readme)
             with mock.patch.dict(os.environ, {'MOTESIM': str(program) + '.gone'}), self.assertRaisesRegex(
                     Fault, 'there is no program .* MOTESIM names it'):
-                pack.program()
-
-    def test_without_one_the_fast_program_is_made_and_packed(self) -> None:
-        found = [TOP / 'compiled-x/first', TOP / 'compiled-x/fast']
-        with mock.patch.object(pack, 'program_of_sources', lambda: found.pop(0)), mock.patch.object(
-                compiling, 'make_fast') as made, contextlib.redirect_stderr(io.StringIO()) as seen:
-            self.assertEqual(pack.program().name, 'fast')
-            made.assert_called_once()
-            self.assertIn('is being compiled first', seen.getvalue())
-        with mock.patch.object(pack, 'program_of_sources', lambda: None), mock.patch.object(compiling, 'make_fast'):
-            with self.assertRaisesRegex(Fault, 'in the background'):
                 pack.program()
 
     def test_it_has_what_students_need_and_no_solution(self) -> None:

@@ -1,10 +1,8 @@
-"""That ./prove proves a copy of the program's crates, reports each, and can be interrupted; and its estimate."""
+"""That ./prove proves a copy of the program's crates, reports each, and can be interrupted."""
 from __future__ import annotations
 
 import contextlib
 import io
-import json
-import re
 import shutil
 import signal
 import subprocess
@@ -14,29 +12,10 @@ from pathlib import Path
 from typing import Any
 from unittest import mock
 
-from here import TOP
-from motesim.runner.programs import crates_of_program
-from project import kit, progress, prove
-from project.tree import SECONDS
+import here  # (it puts tools/ on the path)
+from project import prove
+from project.running import started
 from unbuilt_tree import Tree, until
-
-
-class Estimate(unittest.TestCase):
-    def test_three_of_four_processors_are_busy(self) -> None:
-        with tempfile.NamedTemporaryFile('w') as file, mock.patch.object(prove, 'SECONDS', Path(file.name)):
-            json.dump({'low': 600, 'high': 1200}, file)
-            file.flush()
-            self.assertEqual(prove.minutes_for(['low', 'high'], 4), 10)
-            self.assertEqual(prove.minutes_for(['low'], 1), 10)
-            self.assertEqual(prove.minutes_for(['other'], 4), 1)
-
-    def test_a_build_from_nothing_needs_what_the_readme_says(self) -> None:
-        numbers = re.search(r'(\d+) to (\d+) minutes\s+on\s+four', (TOP / 'README.md').read_text('utf-8'))
-        assert numbers
-        self.assertTrue(int(numbers[1]) <= prove.minutes_for(crates_of_program(TOP), 4) <= int(numbers[2]))
-
-    def test_all_crates_of_the_program_are_measured(self) -> None:
-        self.assertEqual(set(crates_of_program(TOP)) - set(json.loads(SECONDS.read_text('utf-8'))), set())
 
 
 class Copies(unittest.TestCase):
@@ -63,12 +42,11 @@ class Copies(unittest.TestCase):
 
     def proved(self, said: str, status: int) -> tuple[bool, str]:
         """Returns whether all is proved if rt says this, and what ./prove says."""
-        def started(words: list[str], cwd: Path) -> Any:
-            return subprocess.Popen(['sh', '-c', 'printf "$0"; exit %d' % status, said], stdout=subprocess.PIPE,
-                                    text=True)
+        def started_rt(words: list[str], cwd: Path) -> Any:
+            return started(['sh', '-c', 'printf "$0"; exit %d' % status, said])
 
         seen = io.StringIO()
-        with mock.patch.object(kit, 'started', started), mock.patch.object(prove, 'LOG', self.room / 'log'), \
+        with mock.patch.object(prove, 'started', started_rt), mock.patch.object(prove, 'LOG', self.room / 'log'), \
                 contextlib.redirect_stderr(seen):
             return prove.prove_copy(2), seen.getvalue()
 
@@ -130,24 +108,6 @@ class Proof(Tree):
         self.assertEqual(done.returncode, 2)
         self.assertIn('motesim is not proved', done.stderr)
         self.assertEqual(self.kept(), [])
-
-
-class Lines(unittest.TestCase):
-    def test_a_line_of_a_terminal_is_renewed_and_fits(self) -> None:
-        said = io.StringIO()
-        with mock.patch.object(said, 'isatty', lambda: True), mock.patch.dict('os.environ', TERM='xterm', COLUMNS='20'):
-            line = progress.Line(said)
-            line.renew('3 of 33 crates are proved')
-            line.end()
-        self.assertEqual(said.getvalue(), progress.RENEW + 'motesim: 3 of 33 cr' + progress.RENEW)
-
-    def test_a_file_has_no_line_that_is_renewed(self) -> None:
-        said = io.StringIO()
-        line = progress.Line(said)
-        line.renew('3 of 33 proved')
-        line.say('low is proved')
-        line.end()
-        self.assertEqual(said.getvalue(), 'motesim: low is proved\n')
 
 
 if __name__ == '__main__':

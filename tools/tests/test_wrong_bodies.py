@@ -4,12 +4,14 @@ from __future__ import annotations
 import re
 import tempfile
 import unittest
+from dataclasses import replace
 from pathlib import Path
 from types import SimpleNamespace
 from typing import Any
 from unittest import mock
 
 import here  # (it puts tools/ on the path)
+from motesim.faults import Fault
 from project import wrong_bodies
 from project.mutants import checks, log
 from project.mutants.checks import ANSWER, CONTRACT, INVARIANT, LIMIT, Verdict, function_of, refused_in, verdict_of
@@ -125,9 +127,18 @@ class Edits(unittest.TestCase):
 
     def test_edits_are_applied_one_after_another_if_they_can(self) -> None:
         edits = self.read('n == 3 -> n == 7', '        5 -> 9', 'result = n -> 99', '= n } -> 98')
-        text = together(edits, self.crate)['src/lib.rt']
+        text = together(edits)['src/lib.rt']
         self.assertEqual([it in text for it in ('n == 7', '\n9\n', '99', '98')], [True, True, True, False])
-        self.assertEqual(together([], self.crate), {})
+        self.assertEqual(together([]), {})
+
+
+def edit_of(name: str) -> Edit:
+    crate, _, file = name.partition('/')
+    return Edit(CRATES[crate], Path(file), 'one', True, None)
+
+
+# (an edit of a crate is one of the very same crate)
+CRATES: Any = {name: SimpleNamespace(name=name) for name in ('low', 'gone')}
 
 
 def crate_at(room: Path, files: dict[str, str]) -> Any:
@@ -182,8 +193,8 @@ class WhatACheckSays(unittest.TestCase):
 
 
 class Trials(unittest.TestCase):
-    ONE = Edit('low/a', Path('a'), 'one', True, None)
-    TWO = Edit('low/b', Path('b'), 'two', True, None)
+    LOW: Any = SimpleNamespace(name='low')
+    ONE, TWO = Edit(LOW, Path('a'), 'one', True, None), Edit(LOW, Path('b'), 'two', True, None)
     GOOD, BAD = 'fn c::a::%s: proved\n', 'fn c::a::%s: no proof: `search` did not prove `returns`\n'
 
     def verdicts(self, said: dict[str, str], *edits: Edit) -> dict[str, str]:
@@ -195,9 +206,9 @@ class Trials(unittest.TestCase):
         with mock.patch.object(checks, 'checked', checked), \
                 mock.patch.object(checks, 'linked', lambda kept, to: to), \
                 mock.patch.object(checks, 'says_nothing', lambda lines, texts: False), \
-                mock.patch.object(checks, 'together', lambda group, crate: {str(it.file): '' for it in group}):
+                mock.patch.object(checks, 'together', lambda group: {str(it.file): '' for it in group}):
             found = self.trial(Path('kept'), *edits).verdicts(edits)
-        return {name: it.kind for name, it in found.items()}
+        return {edit.name: it.kind for edit, it in found.items()}
 
     def test_a_check_judges_many(self) -> None:
         said = {'a b': self.BAD % 'one' + self.BAD % 'two'}
@@ -214,7 +225,7 @@ class Trials(unittest.TestCase):
 
     def trial(self, kept: Path | None, *edits: Edit) -> checks.Trial:
         """A trial whose control keeps this, or isn't proved."""
-        trial = checks.Trial(SimpleNamespace(), edits or [self.ONE])
+        trial = checks.Trial(edits or [self.ONE])
         with mock.patch.object(checks, 'kept_by_check', lambda crate, flags: kept):
             trial.control(1)
         return trial
@@ -224,14 +235,14 @@ class Trials(unittest.TestCase):
         self.assertEqual([it.kind for it in found.values()], [checks.UNKNOWN] * 2)
 
     def test_the_control_checks_the_changed_functions_or_the_whole_crate(self) -> None:
-        whole, tried = self.ONE._replace(name='low/c', may_share=False), []
+        whole, tried = replace(self.ONE, file=Path('c'), may_share=False), []
 
         def kept(crate: Any, flags: list[str]) -> Path | None:
             tried.append(flags[2:])
             return None
         for edits in [self.ONE, self.TWO], [self.ONE, whole]:
             with mock.patch.object(checks, 'kept_by_check', kept):
-                checks.Trial(SimpleNamespace(), edits).control(1)
+                checks.Trial(edits).control(1)
         self.assertEqual(tried, [['--only', 'one', '--only', 'two'], [], []])
 
     def test_what_the_control_keeps_is_deleted(self) -> None:
@@ -255,14 +266,17 @@ class Log(unittest.TestCase):
 
     def test_the_last_try_is_noted(self) -> None:
         first, last = Verdict(CONTRACT, 'c::f', 'returns'), Verdict(ANSWER, '', 'an\terror ' + 'x' * 999)
-        names = 'low/a', 'low/b', 'gone/c'
-        log.note(dict.fromkeys(names, first), dict.fromkeys(names, '1'))
-        log.note({'low/b': last}, {'low/b': '2'})
+        a, b, gone = (edit_of(name) for name in ('low/a', 'low/b', 'gone/c'))
+        self.note({a: first, b: first, gone: first}, '1')
+        self.note({b: last}, '2')
         found = log.noted()
         self.assertEqual((list(found), found['low/a'].verdict, found['low/b'].digest), (['low/a', 'low/b'], first,
                                                                                         '2'))
         self.assertTrue(found['low/b'].verdict.why.startswith('an error xxx'))
-        self.assertEqual(log.counts(['low/a', 'low/b', 'low/c', 'low/d']), 'not noted 2, contract 1, answer 1')
+
+    def note(self, found: dict[Edit, Verdict], digest: str) -> None:
+        with mock.patch.object(log, 'digest', lambda edit: digest):
+            log.note(found)
 
     def test_a_digest_has_all_that_a_verdict_depends_on(self) -> None:
         below = crate_at(self.room / 'low', {'src/lib.rt': 'fn a() {}\n', 'specs/A.antt': '', 'proofs/P.antt': ''})
@@ -290,29 +304,39 @@ class Log(unittest.TestCase):
 
     def digest(self, crate: Any) -> str:
         log.sum_of.cache_clear()
-        return log.digest(crate, self.room / 'high/a.edit', self.room)
+        log.digest.cache_clear()
+        return log.digest(Edit(crate, self.room / 'high/a.edit', None, False, None), self.room)
 
     def test_what_is_noted_over_the_same_is_not_tried_again(self) -> None:
-        kinds = {'low/a': CONTRACT, 'low/b': ANSWER, 'low/c': checks.NOT_REFUSED, 'low/d': CONTRACT}
-        log.note({name: Verdict(kind, 'f', 'g') for name, kind in kinds.items()}, dict.fromkeys(kinds, '1'))
-        chosen = {'low': [Trials.ONE._replace(name=name) for name in [*kinds, 'low/e']]}
-        found = wrong_bodies.changed(chosen, {**dict.fromkeys(kinds, '1'), 'low/d': '2', 'low/e': '1'})
-        self.assertEqual(found, {'low/c', 'low/d', 'low/e'})
+        kinds = {'low/a': CONTRACT, 'low/b': ANSWER, 'low/c': checks.NOT_REFUSED}
+        self.note({edit_of(name): Verdict(kind, 'f', 'g') for name, kind in kinds.items()}, '1')
+        self.note({edit_of('low/d'): Verdict(CONTRACT, 'f', 'g')}, '2')
+        chosen = [edit_of(name) for name in [*kinds, 'low/d', 'low/e']]
+        with mock.patch.object(log, 'digest', lambda edit: '1'):
+            self.assertEqual([it.name for it in log.changed(chosen)], ['low/c', 'low/d', 'low/e'])
 
 
-class Tenth(unittest.TestCase):
-    CHOSEN = {name: [Edit('%s/%d' % (name, at), Path('x'), 'f%d' % (at % 20), True, None)
-                     for at in range(40)] for name in ('low', 'high', 'other')}
+class Choice(unittest.TestCase):
+    CRATES: Any = [SimpleNamespace(name=name) for name in ('low', 'high', 'other')]
+    EVERY = [Edit(crate, Path('%d.edit' % at), 'f%d' % (at % 20), True, None) for crate in CRATES for at in range(40)]
 
-    def test_it_is_about_a_tenth_by_whole_batches(self) -> None:
-        found = wrong_bodies.tenth(self.CHOSEN, 'one')
+    def test_a_tenth_has_whole_batches(self) -> None:
+        found = wrong_bodies.tenth(self.EVERY, 'one')
         self.assertTrue(12 <= len(found) < 24, found)
-        self.assertEqual(found, wrong_bodies.tenth(self.CHOSEN, 'one'))
-        self.assertNotEqual(found, wrong_bodies.tenth(self.CHOSEN, 'two'))
+        self.assertEqual(found, wrong_bodies.tenth(self.EVERY, 'one'))
+        self.assertNotEqual(found, wrong_bodies.tenth(self.EVERY, 'two'))
 
     def test_each_is_tried_in_the_end(self) -> None:
-        self.assertEqual(len({name for seed in range(200) for name in wrong_bodies.tenth(self.CHOSEN, str(seed))}),
-                         120)
+        found = {edit.name for seed in range(200) for edit in wrong_bodies.tenth(self.EVERY, str(seed))}
+        self.assertEqual(len(found), 120)
+
+    def test_names_are_those_of_mutants_and_crates(self) -> None:
+        self.assertEqual([it.name for it in wrong_bodies.named(self.EVERY, ['low/3', 'high/7'])], ['low/3', 'high/7'])
+        self.assertEqual(wrong_bodies.named(self.EVERY, ['high', 'high/1']), self.EVERY[40:80])
+        self.assertEqual(wrong_bodies.named(self.EVERY, []), self.EVERY)
+        for name in 'lower', 'low/40':
+            with self.assertRaisesRegex(Fault, 'there is no mutant ' + name):
+                wrong_bodies.named(self.EVERY, [name])
 
 
 if __name__ == '__main__':

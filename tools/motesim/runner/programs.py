@@ -4,24 +4,21 @@
 one that was compiled without a proof, and then says so. Binaries are kept in out/programs by a digest of what
 they were made of:
 
-    proved-DIGEST/motesim    built by `./prove` or `./test`; the digest is of the sources, the contracts and the proofs
-    compiled-DIGEST/fast     compiled without a proof, and optimized; the digest is of the sources
-    compiled-DIGEST/first    the same, compiled within the first minute: slow, and used until `fast` is there
+    proved-DIGEST/motesim      built by `./prove` or `./test`; the digest is of the sources, contracts and proofs
+    compiled-DIGEST/motesim    compiled without a proof; the digest is of the sources
 
-A file that is there is whole, and never changes. A process that has asked for the program holds it: it isn't deleted
-while that process lives.
+A file that is there is whole, and never changes.
 """
 from __future__ import annotations
 
 import contextlib
-import fcntl
 import functools
 import hashlib
 import os
 import shutil
 import sys
 import time
-from collections.abc import Iterator, Sequence
+from collections.abc import Sequence
 from pathlib import Path
 
 from motesim.faults import Fault
@@ -110,9 +107,9 @@ def _same(one: Path, other: Path) -> bool:
 
 
 @functools.cache
-def compiled_folder(top: Path = TOP) -> Path:
-    """The folder of the binaries that are compiled from these sources without a proof."""
-    return top / 'out/programs' / ('compiled-' + digest(top))
+def compiled_kept(top: Path = TOP) -> Path:
+    """The place of the binary that is compiled from these sources without a proof."""
+    return top / 'out/programs' / ('compiled-' + digest(top)) / PROVED.name
 
 
 @functools.cache
@@ -138,11 +135,8 @@ def proved_program() -> Path | None:
 
 
 def compiled_program() -> Path | None:
-    """The program that was compiled from these sources without a proof, the fast one if it is there."""
-    if not any(PROGRAMS.glob('compiled-*')):
-        return None
-    found = (compiled_folder() / name for name in ('fast', 'first'))
-    return next((it for it in found if is_program(it)), None)
+    """The program that was compiled from these sources without a proof."""
+    return compiled_kept() if any(PROGRAMS.glob('compiled-*')) and is_program(compiled_kept()) else None
 
 
 def program_of_sources(may_be_proved: bool = True) -> Path | None:
@@ -171,23 +165,10 @@ def is_compiled(program: Path) -> bool:
 
 
 @functools.cache
-def hold(program: Path) -> None:
-    """Keeps a program from being deleted for as long as this process lives, and notes that it is used."""
+def note_use(program: Path) -> None:
+    """Notes that a program is used: those that were used last are kept."""
     with contextlib.suppress(OSError):
-        number = os.open(program, os.O_RDONLY)
-        fcntl.flock(number, fcntl.LOCK_SH)
         os.utime(program.parent)
-
-
-@contextlib.contextmanager
-def unless_held(program: Path) -> Iterator[bool]:
-    """Yields whether no process holds a binary; none can take hold of it until the block ends."""
-    try:
-        with open(program, 'rb') as file:
-            fcntl.flock(file, fcntl.LOCK_EX | fcntl.LOCK_NB)
-            yield True
-    except OSError:
-        yield False
 
 
 def is_said_today() -> bool:
@@ -220,26 +201,17 @@ def program_path() -> Path:
         if not is_program(Path(named)):
             raise ProgramFault('there is no program %s (the environment variable MOTESIM names it)' % named)
         return Path(named)
-    found = _program_here()
+    return _program_here()
+
+
+@functools.cache
+def _program_here() -> Path:
+    """The program of these sources, which a process keeps to when they change."""
+    found = program_of_sources()
     if found is None:
         raise ProgramFault('motesim isn\'t compiled yet: ./run FILE.toml compiles it within a minute or so, once; '
                            'or name a compiled one by the environment variable MOTESIM')
     if is_compiled(found):
         say_not_proved()
-    hold(found)
+    note_use(found)
     return found
-
-
-class _Here:
-    """The program that this process found first, and the better ones that may come while it runs."""
-    found: Path | None = None
-
-
-def _program_here() -> Path | None:
-    """The program of these sources. A process that runs for long keeps to the sources that it began with, and uses
-    the fast program once it exists."""
-    if _Here.found is None or not is_program(_Here.found):
-        _Here.found = program_of_sources()
-    elif _Here.found.name == 'first' and is_program(_Here.found.with_name('fast')):
-        _Here.found = _Here.found.with_name('fast')
-    return _Here.found

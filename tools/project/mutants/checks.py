@@ -13,7 +13,7 @@ from collections.abc import Sequence
 from pathlib import Path
 from typing import NamedTuple
 
-from project.kit import Crate, checked, kept_by_check, linked, says_nothing
+from project.kit import checked, kept_by_check, linked, says_nothing
 from project.mutants.edits import Edit, together
 
 # The verdicts on a mutant. The prover refuses it for a goal of a contract; only for a loop's invariant; only because
@@ -116,8 +116,8 @@ def only(edits: Sequence[Edit]) -> list[str]:
 class Trial:
     """The checks of mutants of a crate."""
 
-    def __init__(self, crate: Crate, edits: Sequence[Edit]):
-        self.crate = crate
+    def __init__(self, edits: Sequence[Edit]):
+        self.crate = edits[0].crate
         self.only = only(edits)
         self.kept: Path | None = None
 
@@ -134,34 +134,34 @@ class Trial:
         if self.kept:
             shutil.rmtree(self.kept)
 
-    def verdicts(self, group: Sequence[Edit]) -> dict[str, Verdict]:
+    def verdicts(self, group: Sequence[Edit]) -> dict[Edit, Verdict]:
         """The verdict on each mutant of a group."""
         if self.kept is None:
-            return {it.name: Verdict(UNKNOWN, '', "the crate without an edit isn't proved") for it in group}
+            return dict.fromkeys(group, Verdict(UNKNOWN, '', "the crate without an edit isn't proved"))
         found = self.verdicts_together(group, self.kept) if len(group) > 1 else {}
-        return {it.name: found.get(it.name) or self.verdict_alone(it, self.kept) for it in group}
+        return {it: found.get(it) or self.verdict_alone(it, self.kept) for it in group}
 
-    def check(self, edits: Sequence[Edit], texts: dict[str, str], kept: Path) -> tuple[list[str], int]:
-        """The lines and the status of a check with these edits, over a copy of what the control has kept."""
-        words = only(edits) if self.only else []
+    def check(self, edits: Sequence[Edit], kept: Path) -> tuple[list[str], int, bool]:
+        """The lines and the status of a check with these edits, over a copy of what the control has kept; and whether
+        it ended before the proofs."""
+        texts, words = together(edits), only(edits) if self.only else []
         with tempfile.TemporaryDirectory(prefix='mutants-') as room:
             ran = checked(self.crate, texts, ['--jobs', '1', *words], linked(kept, Path(room, 'kept')))
-        return ran.stdout.rstrip('\n').split('\n'), ran.returncode
+        lines = ran.stdout.rstrip('\n').split('\n')
+        return lines, ran.returncode, says_nothing(lines, texts)
 
-    def verdicts_together(self, group: Sequence[Edit], kept: Path) -> dict[str, Verdict]:
+    def verdicts_together(self, group: Sequence[Edit], kept: Path) -> dict[Edit, Verdict]:
         """The verdicts on those mutants of a group that one check with all their edits decides."""
-        texts = together(group, self.crate)
-        lines, _ = self.check(group, texts, kept)
-        if says_nothing(lines, texts) or not lines[-1].startswith(VERDICTS):
+        lines, _, is_void = self.check(group, kept)
+        if is_void or not lines[-1].startswith(VERDICTS):
             return {}
         refused = refused_in(lines)
-        found = {it.name: best(it, refused) for it in group}
-        return {name: verdict for name, verdict in found.items() if verdict.kind != NOT_REFUSED}
+        found = {it: best(it, refused) for it in group}
+        return {edit: verdict for edit, verdict in found.items() if verdict.kind != NOT_REFUSED}
 
     def verdict_alone(self, edit: Edit, kept: Path) -> Verdict:
         """The verdict on a mutant by a check with its edit only."""
-        texts = together([edit], self.crate)
-        lines, status = self.check([edit], texts, kept)
+        lines, status, is_void = self.check([edit], kept)
         found = best(edit, refused_in(lines))
         if found.kind != NOT_REFUSED or status == 0:
             return found
@@ -170,4 +170,4 @@ class Trial:
         if status == 3 or limit:
             return Verdict(LIMIT, '', limit or lines[-1])
         is_of_proofs = status == 1 and not edit.function and error.removeprefix('./').startswith('proofs/')
-        return Verdict(ANSWER if is_of_proofs and not says_nothing(lines, texts) else UNKNOWN, '', error)
+        return Verdict(ANSWER if is_of_proofs and not is_void else UNKNOWN, '', error)

@@ -5,8 +5,8 @@ import os
 import re
 from collections import Counter
 from collections.abc import Sequence
+from dataclasses import dataclass
 from pathlib import Path
-from typing import NamedTuple
 
 from project.kit import Crate, edited
 
@@ -16,14 +16,25 @@ MOST = 12
 HEAD = re.compile(r'( *)(?:pub(?:\([\w ]+\))? |const |unsafe |extern "C" )*fn (\w+)')
 
 
-class Edit(NamedTuple):
-    """A mutant: its name CRATE/NAME and its file; the name of the function that has to be refused, None if any may be;
-    whether a check may judge it with others; and why it can't be applied."""
-    name: str
+@dataclass(frozen=True, eq=False)
+class Edit:
+    """A mutant: its crate and its file; the name of the function that has to be refused, None if any may be; whether a
+    check may judge it with others; and why it can't be applied."""
+    crate: Crate
     file: Path
     function: str | None
     may_share: bool
     trouble: str | None
+
+    @property
+    def name(self) -> str:
+        """Its name CRATE/NAME."""
+        return '%s/%s' % (self.crate.name, self.file.stem)
+
+    def fits(self, group: Sequence[Edit]) -> bool:
+        """Returns whether one check can judge it with these: mutants of other functions of its crate."""
+        return self.may_share and len(group) < MOST and all(
+            it.may_share and it.crate is self.crate and it.function != self.function for it in group)
 
 
 def body_of(lines: Sequence[str], at: int, indent: str) -> range:
@@ -55,7 +66,7 @@ def read(file: Path, crate: Crate, functions: Counter[str]) -> Edit:
     named = re.findall(r'(?m)^refused: (?:\S*::)?(\w+)$', text)
     function = around[0] if len(around) == 1 else None
     may_share = function is not None and functions[function] == 1
-    return Edit('%s/%s' % (crate.name, file.stem), file, function or (named[0] if named else None), may_share, trouble)
+    return Edit(crate, file, function or (named[0] if named else None), may_share, trouble)
 
 
 def edits_of(crate: Crate) -> list[Edit]:
@@ -67,25 +78,24 @@ def edits_of(crate: Crate) -> list[Edit]:
 
 
 def groups(edits: Sequence[Edit]) -> list[list[Edit]]:
-    """Lists of mutants that one check can judge: no two of a list change one function."""
-    shared: list[dict[str, Edit]] = []
-    alone = [[it] for it in edits if not it.may_share and not it.trouble]
+    """Lists of mutants that one check can judge, without those that can't be applied."""
+    found: list[list[Edit]] = []
     for edit in edits:
-        if edit.function and edit.may_share and not edit.trouble:
-            group = next((it for it in shared if len(it) < MOST and edit.function not in it), None)
+        if not edit.trouble:
+            group = next((it for it in found if edit.fits(it)), None)
             if group is None:
-                group = {}
-                shared.append(group)
-            group[edit.function] = edit
-    return [list(group.values()) for group in shared] + alone
+                found.append([edit])
+            else:
+                group.append(edit)
+    return found
 
 
-def together(group: Sequence[Edit], crate: Crate) -> dict[str, str]:
+def together(group: Sequence[Edit]) -> dict[str, str]:
     """The texts of a crate's files with the edits of a group, without those that can't be applied after others."""
     all_edits, texts = '', {}
     for edit in group:
         longer = all_edits + edit.file.read_text('utf-8') + '\n'
-        changed, trouble = edited(longer, crate.folder)
+        changed, trouble = edited(longer, edit.crate.folder)
         if not trouble:
             all_edits, texts = longer, changed
     return texts

@@ -8,15 +8,15 @@ from __future__ import annotations
 
 import hashlib
 import time
-from collections import Counter
 from collections.abc import Iterable, Mapping
 from functools import cache
 from pathlib import Path
 from typing import NamedTuple
 
-from project.kit import Crate, version
-from project.mutants.checks import Verdict
-from project.tree import PARTS, TOP
+from project.kit import version
+from project.mutants.checks import OPEN, REFUSED, Verdict
+from project.mutants.edits import Edit
+from motesim.runner.programs import ALL_PARTS, TOP
 
 KEPT = TOP / 'log/wrong_bodies.tsv'
 HEAD = '# written by tools/dev/wrong_bodies: mutant, day, what it came to, function, goals or error, digest\n'
@@ -48,11 +48,12 @@ def sum_of(folder: Path, parts: Iterable[str]) -> bytes:
     return found.digest()
 
 
-def digest(crate: Crate, edit: Path, top: Path = TOP) -> str:
+@cache
+def digest(edit: Edit, top: Path = TOP) -> str:
     """A digest of a mutant and of all that its verdict depends on."""
-    found = hashlib.sha256(edit.read_bytes() + version().encode())
-    for it in [crate, *sorted(crate.below(), key=lambda it: it.name)]:
-        found.update(it.name.encode() + sum_of(Path(it.folder), PARTS))
+    found = hashlib.sha256(edit.file.read_bytes() + version().encode())
+    for it in [edit.crate, *sorted(edit.crate.below(), key=lambda it: it.name)]:
+        found.update(it.name.encode() + sum_of(Path(it.folder), ALL_PARTS))
     found.update(sum_of(top, ('crates.txt',)) + sum_of(top / 'tools/project', ('kit.py', 'mutants')))
     return found.hexdigest()[:16]
 
@@ -64,26 +65,25 @@ def noted() -> dict[str, Tried]:
     return {name: Tried(day, Verdict(*verdict), digest) for name, day, *verdict, digest in cells}
 
 
+def changed(edits: Iterable[Edit]) -> list[Edit]:
+    """The mutants whose verdict over the texts of now isn't known, or is that they weren't refused."""
+    kept = noted()
+    return [it for it in edits if it.name not in kept or kept[it.name].verdict.kind not in REFUSED + OPEN
+            or kept[it.name].digest != digest(it)]
+
+
 def is_there(name: str) -> bool:
     """Returns whether there is a mutant of this name."""
     crate, _, edit = name.partition('/')
     return any((TOP / 'crates' / crate).glob('*/%s.edit' % edit))
 
 
-def note(found: Mapping[str, Verdict], digests: Mapping[str, str]) -> None:
-    """Notes what mutants came to today, and the digests of what they were tried over. Mutants that are gone are
-    forgotten."""
+def note(found: Mapping[Edit, Verdict]) -> None:
+    """Notes what mutants came to today. Mutants that are gone are forgotten."""
     today = time.strftime('%Y-%m-%d')
     kept = {name: it for name, it in noted().items() if is_there(name)}
-    kept |= {name: Tried(today, verdict, digests[name]) for name, verdict in found.items()}
+    kept |= {it.name: Tried(today, verdict, digest(it)) for it, verdict in found.items()}
     rows = ['\t'.join([name, day, kind, function, ' '.join(why[:MOST_LETTERS].split()), digest]) + '\n'
             for name, (day, (kind, function, why), digest) in sorted(kept.items())]
     KEPT.parent.mkdir(exist_ok=True)
     KEPT.write_text(HEAD + ''.join(rows), 'utf-8')
-
-
-def counts(names: Iterable[str]) -> str:
-    """The number of these mutants with each verdict, when they were last tried."""
-    kept = noted()
-    found = Counter(kept[name].verdict.kind if name in kept else 'not noted' for name in names)
-    return ', '.join('%s %d' % it for it in found.most_common())

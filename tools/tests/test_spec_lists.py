@@ -1,4 +1,4 @@
-"""Which files the headline rests on, and in which order they are listed."""
+"""The lists of definitions: all of them, and those on which the headline rests, in their order."""
 from __future__ import annotations
 
 import contextlib
@@ -10,9 +10,11 @@ from pathlib import Path
 from unittest import mock
 
 import here  # (it puts tools/ on the path)
-from project import headline
+from project import spec_lists
 
+MARKS = '<!-- written by tools/dev/spec_lists -->\n<!-- end -->\n'
 FILES = {
+    'crates/low/specs/Lib.antt': 'pub mod Near\n',
     'crates.txt': '# Each crate.\nlow: std\nother:\nsimulation may_wait=1: low\n',
     'crates/simulation/specs/Simulation.antt': '''-- What a simulation answers. It has a second sentence.
 use Rattle.std.specs.Prelude.{List}
@@ -33,12 +35,13 @@ use Rattle.low.specs.declared.place.TheConstants.{MOST}
 ''',
     'crates/low/specs/Near.antt': '-- What is near.\nuse lib.ListN.{get}\n',
     'crates/low/src/place.rt': '',
-    'docs/proof/HEADLINE.md': 'before\n%s\n%s\nbehind\n' % headline.MARKS,
+    'docs/proof/HEADLINE.md': 'before\n%sbehind\n' % MARKS,
+    'docs/dev/SPECS.md': 'before\n%sbehind\n' % MARKS,
 }
 
 LIST = '''
 The list has 5 files with 14 lines, in 2 crates.
-All `specs/` together have 6 files.
+All `specs/` together have 7 files.
 
 **[crates/simulation/specs](../../crates/simulation/specs)**: 3 files, 9 lines
 
@@ -74,57 +77,62 @@ class Lists(unittest.TestCase):
         path.parent.mkdir(parents=True, exist_ok=True)
         path.write_text(text, 'utf-8')
 
-    def run_with(self, *words: str) -> tuple[str, str]:
-        """The output of the command, and its messages if it fails, otherwise an empty text."""
+    def run_it(self) -> str:
+        """What the command says."""
         said, seen = io.StringIO(), io.StringIO()
-        with mock.patch.object(headline, 'TOP', self.top), mock.patch.object(sys, 'argv', ['headline_files', *words]):
+        with mock.patch.object(spec_lists, 'TOP', self.top), mock.patch.object(sys, 'argv', ['spec_lists']):
             with contextlib.redirect_stdout(said), contextlib.redirect_stderr(seen):
                 with self.assertRaises(SystemExit) as end:
-                    headline.main()
-        return said.getvalue(), (seen.getvalue() or said.getvalue()) if end.exception.code else ''
+                    spec_lists.main()
+        self.assertEqual(end.exception.code, 2 if seen.getvalue() else 0)
+        return said.getvalue() + seen.getvalue()
 
     def test_what_is_imported_is_listed_from_the_top_down(self) -> None:
-        self.assertEqual(headline.listed(self.top), LIST)
+        self.assertEqual(spec_lists.headline(self.top), LIST)
 
-    def test_the_page_is_written_between_its_marks(self) -> None:
-        self.assertIn('another list', self.run_with('--check')[1])
-        self.assertEqual(self.run_with('--write'), ('', ''))
-        page = (self.top / 'docs/proof/HEADLINE.md').read_text('utf-8')
-        marked = '%s\n%s%s' % (headline.MARKS.begin, headline.listed(self.top), headline.MARKS.end)
-        self.assertEqual(page, 'before\n' + marked + '\nbehind\n')
-        self.assertEqual(self.run_with('--check')[1], '')
+    def test_all_definitions_are_listed(self) -> None:
+        self.assertIn('**[low](../../crates/low/specs)**\n\n- `Near`: What is near.\n- `Ways/Far`: How far it is.\n\n',
+                      spec_lists.index(self.top))
+
+    def test_the_pages_are_written_between_their_marks(self) -> None:
+        pages = [self.top / 'docs/dev/SPECS.md', self.top / 'docs/proof/HEADLINE.md']
+        self.assertEqual(sorted(spec_lists.outdated(self.top)), pages)
+        self.assertEqual(self.run_it().count('has another list now'), 2)
+        self.assertEqual(pages[1].read_text('utf-8'),
+                         'before\n%sbehind\n' % MARKS.replace('<!-- end', spec_lists.headline(self.top) + '<!-- end'))
+        self.assertEqual((spec_lists.outdated(self.top), self.run_it()), ({}, ''))
 
     def test_a_page_grows_old_where_a_file_has_a_line_more(self) -> None:
-        self.run_with('--write')
+        self.run_it()
         self.put('crates/low/specs/Near.antt', FILES['crates/low/specs/Near.antt'] + '\n')
-        self.assertIn('another list', self.run_with('--check')[1])
+        self.assertEqual([*spec_lists.outdated(self.top)], [self.top / 'docs/proof/HEADLINE.md'])
 
     def test_an_import_of_no_file_is_told(self) -> None:
         self.put('crates/low/specs/Near.antt', '-- What is near.\nuse Rattle.low.specs.Gone.{x}\n')
-        self.assertIn('imports Rattle.low.specs.Gone, of which there is no file', self.run_with('--check')[1])
+        self.assertIn('imports Rattle.low.specs.Gone, of which there is no file', self.run_it())
 
     def test_an_import_of_another_form_is_told(self) -> None:
         self.put('crates/low/specs/Near.antt', '-- What is near.\nuse {x} from Rattle\n')
-        self.assertIn('an import of a form', self.run_with('--check')[1])
+        self.assertIn('an import of a form', self.run_it())
 
     def test_a_file_without_a_comment_is_told(self) -> None:
         self.put('crates/low/specs/Near.antt', 'abbrev near : Type 0\n')
-        self.assertIn('begins with no comment', self.run_with('--check')[1])
-
-    def test_files_that_import_each_other_are_told(self) -> None:
-        self.put('crates/low/specs/Near.antt', '-- What is near.\nuse Rattle.low.specs.Ways.Far.{far}\n')
-        self.assertIn('import each other', self.run_with('--check')[1])
+        self.assertIn('begins with no comment', self.run_it())
 
     def test_a_page_without_marks_is_told(self) -> None:
         self.put('docs/proof/HEADLINE.md', 'a page\n')
-        self.assertIn('lacks the marks', self.run_with('--write')[1])
+        self.assertIn('lacks the marks', self.run_it())
 
 
 class ThisTree(unittest.TestCase):
+    def test_its_pages_are_up_to_date(self) -> None:
+        outdated = [str(it) for it in spec_lists.outdated(here.TOP)]
+        self.assertEqual(outdated, [], 'these pages have other lists; tools/dev/spec_lists writes them')
+
     def test_the_headline_rests_on_files_that_come_behind_it(self) -> None:
-        rests = headline.Rests(here.TOP)
+        rests = spec_lists.Rests(here.TOP)
         self.assertGreater(len(rests.files), 20)
-        places = {path: rests.crates.index(headline.crate_of(here.TOP, path)) for path in rests.files}
+        places = {path: rests.crates.index(spec_lists.crate_of(here.TOP, path)) for path in rests.files}
         for path, below in rests.files.items():
             for it in below:
                 self.assertLessEqual(places[it], places[path])

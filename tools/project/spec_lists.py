@@ -1,0 +1,181 @@
+"""Writes the lists of definitions into their pages: tools/dev/spec_lists
+
+docs/dev/SPECS.md lists all files of specs/, in the order of crates.txt. docs/proof/HEADLINE.md lists those on which
+the headline rests, the contract of `simulate` in crates/simulation/specs/Simulation*.antt: a file rests on each file
+of specs/ that it imports, and on the files on which those rest. That list goes from the top down: the crates from the
+last of crates.txt to the first, and within a crate a file before those that it imports. Each file is listed with the
+first sentence of its own first comment. `./test` checks that both pages are up to date.
+"""
+from __future__ import annotations
+
+import re
+import textwrap
+from collections import defaultdict
+from graphlib import TopologicalSorter
+from pathlib import Path
+
+from motesim.faults import Fault, command
+from motesim.words import words_of
+from motesim.runner.programs import TOP
+
+HEADLINE = 'crates/simulation/specs/Simulation*.antt'
+CONSTANTS = 'TheConstants'
+# An import, with its name if that is of a form that is known.
+IMPORT = re.compile(r'^(?:pub )?use (?:([\w.]+?)(?:\.\{| as |\.?$))?', re.M)
+# The part of a page that this tool writes, between two marks.
+BETWEEN = re.compile(r'(?<=<!-- written by tools/dev/spec_lists -->\n).*(?=<!-- end -->)', re.S)
+
+
+def crates_of(top: Path) -> list[str]:
+    """The crates of crates.txt, the lowest first."""
+    return re.findall(r'(?m)^\s*(\w+)', (top / 'crates.txt').read_text('utf-8'))
+
+
+def crate_of(top: Path, path: Path) -> str:
+    """The crate of a file."""
+    return path.relative_to(top / 'crates').parts[0]
+
+
+def about(path: Path) -> str:
+    """The first sentence of a file's own first comment."""
+    comment = re.match(r'(?:--.*\n)+', path.read_text('utf-8'))
+    if not comment:
+        raise Fault('%s begins with no comment' % path)
+    text = ' '.join(it[2:].strip() for it in comment[0].splitlines())
+    return re.split(r'(?<=[.])\s+(?=[A-Z])', text, maxsplit=1)[0]
+
+
+def item(text: str) -> str:
+    """One item of a list, in lines that are not too long."""
+    return textwrap.fill('- ' + text, 112, subsequent_indent='  ', break_long_words=False, break_on_hyphens=False)
+
+
+# All definitions.
+
+def index(top: Path) -> str:
+    """The list of all definitions."""
+    rows = []
+    for crate in crates_of(top):
+        folder = top / 'crates' / crate / 'specs'
+        # (Lib.antt only names the other files)
+        files = [it for it in sorted(folder.rglob('*.antt')) if it != folder / 'Lib.antt']
+        if files:
+            rows += ['**[%s](../../crates/%s/specs)**' % (crate, crate), '']
+            rows += [item('`%s`: %s' % (it.relative_to(folder).with_suffix('').as_posix(), about(it))) for it in files]
+            rows.append('')
+    return '\n'.join(rows) + '\n'
+
+
+# The definitions of the headline.
+
+def modules_of(top: Path) -> dict[str, Path]:
+    """The files of specs/ and src/ of all crates, by the names under which a file of specs/ imports them."""
+    found = {}
+    for path in [*top.glob('crates/*/specs/**/*.antt'), *top.glob('crates/*/src/**/*.rt')]:
+        crate, folder, *words = path.relative_to(top / 'crates').with_suffix('').parts
+        words = [it for it in words if it != 'mod']
+        found['.'.join(['Rattle', crate, 'specs', *(['declared'] if folder == 'src' else []), *words])] = path
+    return found
+
+
+class Rests:
+    """The files on which the headline rests, each with those that it imports; libraries; the types of each source."""
+
+    def __init__(self, top: Path):
+        self.crates, self.modules = crates_of(top), modules_of(top)
+        self.files: dict[Path, list[Path]] = {}
+        self.libraries: set[str] = set()
+        self.types: dict[Path, set[str]] = defaultdict(set)
+        left = sorted(top.glob(HEADLINE))
+        if not left:
+            raise Fault('there is no %s' % HEADLINE)
+        while left:
+            path = left.pop()
+            if path not in self.files:
+                self.files[path] = []
+                for name in IMPORT.findall(path.read_text('utf-8')):
+                    self.note_import(path, name)
+                left += self.files[path]
+
+    def note_import(self, path: Path, name: str) -> None:
+        """Notes what a file imports: another one of specs/, a type of a source, or a library."""
+        if not name:
+            raise Fault('%s has an import of a form that is not known' % path)
+        library, *words = name.split('.')
+        if library != 'Rattle' or words[0] not in self.crates:
+            self.libraries.add(words[0] if library == 'Rattle' else library)
+            return
+        # (the last words may name parts of the file)
+        prefixes = ['.'.join(['Rattle', *words[:end]]) for end in range(len(words), 0, -1)]
+        module = next((it for it in prefixes if it in self.modules), None)
+        if module is None:
+            raise Fault('%s imports %s, of which there is no file' % (path, name))
+        file, part = self.modules[module], name[len(module) + 1:].partition('.')[0]
+        if file.suffix == '.rt':
+            self.types[file].add(part)
+        elif file not in self.files[path]:
+            self.files[path].append(file)
+
+
+def from_the_top(files: dict[Path, list[Path]]) -> list[Path]:
+    """The files of one crate, each before those that it imports."""
+    importers = {path: [it for it in sorted(files) if path in files[it]] for path in sorted(files)}
+    return [*TopologicalSorter(importers).static_order()]
+
+
+def counted(number: int, name: str) -> str:
+    return '1 ' + name if number == 1 else '{:,} {}s'.format(number, name)
+
+
+def lines_of(*paths: Path) -> int:
+    return sum(it.read_bytes().count(b'\n') for it in paths)
+
+
+def headline(top: Path) -> str:
+    """The list of the definitions on which the headline rests."""
+    rests, by_crate = Rests(top), defaultdict[str, dict[Path, list[Path]]](dict)
+    for path, below in rests.files.items():
+        by_crate[crate_of(top, path)][path] = below
+    rows = ['', 'The list has %s with %s, in %s.' % (
+        counted(len(rests.files), 'file'), counted(lines_of(*rests.files), 'line'), counted(len(by_crate), 'crate')),
+        'All `specs/` together have %d files.' % len(list(top.glob('crates/*/specs/**/*.antt'))), '']
+    crates = rests.crates[::-1]
+    for crate in sorted(by_crate, key=crates.index):
+        folder, order = 'crates/%s/specs' % crate, from_the_top(by_crate[crate])
+        rows += ['**[%s](../../%s)**: %s, %s' % (folder, folder, counted(len(order), 'file'),
+                                                counted(lines_of(*order), 'line')), '']
+        rows += [item('`%s` (%d): %s' % (it.relative_to(top / folder).as_posix(), lines_of(it), about(it)))
+                 for it in order]
+        rows.append('')
+    rows += ['**Types of sources** that these files name: %d, in %d sources' % (
+        sum(len(names - {CONSTANTS}) for names in rests.types.values()), len(rests.types)), '']
+    for path in sorted(rests.types, key=lambda path: (crates.index(crate_of(top, path)), path)):
+        names = ['its constants' if it == CONSTANTS else '`%s`' % it for it in sorted(rests.types[path])]
+        rows.append(item('`%s`: %s' % (path.relative_to(top / 'crates').as_posix(), ', '.join(names))))
+    libraries = ', '.join('`%s`' % it for it in sorted(rests.libraries)) or 'none'
+    return '\n'.join([*rows, '', '**Libraries** of the kit that these files import: %s.' % libraries, '', ''])
+
+
+# The pages.
+
+LISTS = {'docs/proof/HEADLINE.md': headline, 'docs/dev/SPECS.md': index}
+
+
+def outdated(top: Path) -> dict[Path, str]:
+    """The pages whose lists are outdated, each with the text that it should have."""
+    found = {}
+    for name, listed in LISTS.items():
+        page, text = (top / name).read_text('utf-8'), listed(top)
+        if not BETWEEN.search(page):
+            raise Fault('%s lacks the marks around the list' % name)
+        found[top / name] = BETWEEN.sub(lambda _: text, page)
+    return {page: text for page, text in found.items() if page.read_text('utf-8') != text}
+
+
+@command('spec_lists')
+def main() -> int:
+    words_of(__doc__).parse_args()
+    for page, text in outdated(TOP).items():
+        page.write_text(text, 'utf-8')
+        print('%s has another list now' % page)
+    return 0

@@ -1,0 +1,73 @@
+"""The commands of tools/dev that call pytest, and become its process."""
+from __future__ import annotations
+
+import ast
+import os
+import sys
+from pathlib import Path
+from typing import NoReturn
+
+from motesim.experiments.packages import SYSTEM, has
+from motesim.faults import Fault, command
+from motesim.words import words_of
+from motesim.runner.programs import TOP
+from project.tree import program_of, take_program
+
+TESTS = TOP / 'tools/tests'
+MINUTES = 30
+NO_PYTEST = ('the tests need pytest: on Debian `apt-get install python3-pytest python3-pytest-xdist` installs it '
+             'for %s (.ci/run installs all that the tests need)' % SYSTEM)
+# No file is written into the tree; each line says which test failed, and why.
+FLAGS = ['-qq', '--no-header', '--tb=short', '-rN', '-p', 'no:cacheprovider', '-W',
+         'ignore::pytest.PytestUnhandledThreadExceptionWarning']
+
+
+def pytest(together: str) -> list[str]:
+    """The words that call pytest. The tests of a class, or of another `scope` or `group`, run in one process."""
+    python = next((it for it in (sys.executable, SYSTEM) if has('pytest', it)), None)
+    if python is None:
+        raise Fault(NO_PYTEST)
+    parallel = ['-n', str(os.cpu_count()), '--dist', 'load' + together] if has('xdist', python) else []
+    return [python, '-B', '-m', 'pytest', *FLAGS, *parallel]
+
+
+def become(called: list[str], **environment: str) -> NoReturn:
+    """Becomes another process."""
+    os.execvpe(called[0], called, {**os.environ, 'PYTHONDONTWRITEBYTECODE': '1', **environment})
+
+
+def about(module: Path) -> str | None:
+    """The text at the top of a module, which is the help of the command that calls pytest for it."""
+    return ast.get_docstring(ast.parse(module.read_text('utf-8')))
+
+
+def check(module: Path) -> NoReturn:
+    """Tests the program with a module of tests/."""
+    words = words_of(about(module))
+    take_program(words)
+    words.add_argument('names', nargs='*', metavar='NAME', help='what to test (all)')
+    words.epilog = 'Other options are passed on to pytest, each in one word: -x, -kWORD.'
+    asked, others = words.parse_known_args()
+    become([*pytest('group'), str(module), *others, *('--name=' + it for it in asked.names)],
+           MOTESIM=program_of(asked.program))
+
+
+def check_with(module: str) -> NoReturn:
+    """Runs the command of a module of tests/."""
+    command(Path(sys.argv[0]).name)(lambda: check(TOP / 'tests' / module))()
+
+
+@command('test_tools')
+def test_tools() -> NoReturn:
+    words = words_of(about(TESTS / 'conftest.py'))
+    words.add_argument('--may-skip', action='append', default=[], choices=['browser'],
+                       help='skip the tests that need it; without this option they fail')
+    words.add_argument('names', nargs='*', metavar='NAME', help='a file of tools/tests, or a part of its name')
+    asked = words.parse_args()
+    chosen = [it for it in sorted(TESTS.glob('test_*.py'))
+              if not asked.names or any(name in it.stem for name in asked.names)]
+    if not chosen:
+        raise Fault('no file of tests has a name with %s' % ', '.join(asked.names))
+    os.chdir(TESTS)
+    become(['timeout', '--kill-after=10s', '%dm' % MINUTES, *pytest('scope'),
+            *('--may-skip=' + it for it in asked.may_skip), *(it.name for it in chosen)])
