@@ -122,6 +122,20 @@ class Hints(unittest.TestCase):
         for body in 'print count;', 'if (count > 3) { }':
             self.assertIn('`count` is a word of the notation', self.hint(CODE % body))
 
+    def test_handlers_and_callbacks_of_contiki(self) -> None:
+        head = 'process a;\nautostart a;\ncode a {\n  %s\n  body {\n    send 1;\n  }\n}'
+        for written, wanted in (
+                ('PROCESS_EXITHANDLER(print 3;)', 'onexit { print 3; }'),
+                ('PROCESS_POLLHANDLER(print 3; send 4)', 'onpoll { print 3; send 4; }'),
+                ('PROCESS_POLLHANDLER(handle_poll());', 'Put what `handle_poll()` does into it.'),
+                ('PROCESS_EXITHANDLER(broadcast_close(&broadcast);)', 'No connection is opened, so none is closed')):
+            with self.subTest(written):
+                self.assertIn(wanted, self.hint(head % written))
+        for function in ('static void broadcast_recv(struct broadcast_conn *c, const rimeaddr_t *from)',
+                         'static const struct broadcast_callbacks broadcast_call = {broadcast_recv};'):
+            hint = self.hint('process a;\nautostart a;\n%s\n%s' % (function, head.split('\n', 2)[2] % ''))
+            self.assertIn('it is the event `packet` of the process that `receiver P;` names', hint)
+
     def test_letters_in_a_number(self) -> None:
         for written, meant in ('1O', '10'), ('1o', '10'), ('l0', '10'), ('3I', '31'), ('2l', '21'):
             text = CODE % ('print %s;' % written)
@@ -262,9 +276,22 @@ class Warnings(unittest.TestCase):
             ('process a; autostart a; code a { ctimer c { print 1; } body { set c 5; yield_until fired(c); } }', 5,
              'so `fired(c)` is never true here'),
             (CODE % 'send 1;', 50, 'nobody hears it'),
+            (CODE % 'set t 1; while (seq >= 0) { pause; }', 5, 'no number is below 0, so this test is always true'),
+            (CODE % 'set t 1; if (0 <= seq) { pause; }', 5, 'this test is always true'),
+            (CODE % 'set t 1; if (seq < 0) { pause; }', 5, 'this test is never true'),
+            (CODE % 'yield_until fired(t); set t 4;', 5, '`t` is set only behind this wait for it'),
+            (CODE % 'while 1 { yield_until fired(t); print 1; reset t; }', 5, '`t` is set only behind this wait'),
         ]:
             with self.subTest(wanted):
                 self.assertTrue(any(wanted in it for it in self.seen(program, x)))
+
+    def test_a_timer_that_something_else_may_set(self) -> None:
+        for body in ('set t 4; yield_until fired(t); set t 4;', 'yield_until (fired(t) || (seq > 3)); set t 4;',
+                     'while 1 { if seen { yield_until fired(t); } set t 4; seen = 1; }', 'if (0 < seq) { set t 4; }',
+                     'while (seq > 0) { yield_until fired(t); } set t 4;'):
+            self.assertEqual(self.seen(CODE % body), [], body)
+        handler = CODE.replace('body', 'onpoll { set t 3; } body')
+        self.assertEqual(self.seen(handler % 'yield_until fired(t); set t 4;'), [])
 
     def test_a_timer_of_another_code_is_no_ctimer(self) -> None:
         text = ('process a, b; autostart a, b; code a { ctimer c { if fired(c) { print 1; } } body { set c 5; yield; } '

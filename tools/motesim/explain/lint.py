@@ -28,6 +28,10 @@ FACTOR, MOST_DRAWING = '257', 255
 SAME_DRAWS = ('in a net of more than 255 motes, mote k + 255 draws with one seed as mote k does with the seed before '
               '(255 * 257 is -1 in 16 bits), so that runs of neighbouring seeds are not independent: use at most 255 '
               'motes')
+NATURAL = ('no number is below 0, so this test is %s true: values are 0 to 65,535, and 0 - 1 is 65,535; a loop that '
+           'counts down ends by `while (x > 0)`')
+BEHIND = 'the timer `%s` is set only behind this wait for it, so the wait never ends: set it before'
+FOR_TIMER, SETS = ('yield_until', 'wait_until'), ('set', 'restart_timer', 'reset')
 # How many other places are named.
 MOST_PLACES = 8
 
@@ -102,6 +106,44 @@ class Program:
                     yield STILL_TRUE, self.tokens[at + 2 + waits[0]]
 
 
+    def tests_of_sign(self) -> Iterator[tuple[str, Token]]:
+        """Each test whether a value is at least 0, or below it, with the warning: both are decided."""
+        for at in range(1, len(self.words) - 1):
+            sign = self.words[at]
+            if sign in ('>=', '<') and self.words[at + 1] == '0':
+                yield NATURAL % ('always' if sign == '>=' else 'never'), self.tokens[at]
+            elif sign in ('<=', '>') and self.words[at - 1] == '0' and self.words[at - 2] in ('(', '!', '&&', '||'):
+                yield NATURAL % ('always' if sign == '<=' else 'never'), self.tokens[at]
+
+    def bodies(self) -> Iterator[tuple[range, range]]:
+        """The places of each code, and of its body."""
+        for at, word in enumerate(self.words):
+            if word == 'code':
+                code = range(at, self.end_of_block(at + 2))
+                for here in code:
+                    if self.words[here] == 'body':
+                        yield code, range(here + 1, self.end_of_block(here + 1))
+
+    def waits_before_set(self) -> Iterator[Token]:
+        """Each timer in the first wait for it that nothing skips, if it is only set behind that wait."""
+        for code, body in self.bodies():
+            # (of the blocks around a place, whether each is always entered)
+            around: list[bool] = []
+            done: set[str] = set()
+            for at in body:
+                word = self.words[at]
+                if word == '{':
+                    around.append(at == body.start or self.words[at - 2] == 'while' and self.words[at - 1].isdigit()
+                                  and self.words[at - 1] != '0')
+                elif word == '}':
+                    around.pop()
+                elif word in FOR_TIMER and self.words[at + 1] == 'fired' and self.words[at + 5] == ';':
+                    timer = self.words[at + 3]
+                    sets = [it for it in code if self.words[it] in SETS and self.words[it + 1] == timer]
+                    if timer not in done and all(around) and sets and sets[0] > at and sets[-1] < body.stop:
+                        yield self.tokens[at + 3]
+                    done.add(timer)
+
     def awaited_ctimers(self) -> Iterator[Token]:
         """Each name of a `ctimer` in `fired(..)` in its own code, outside the blocks of callback timers."""
         for at, word in enumerate(self.words):
@@ -134,11 +176,15 @@ def of_program(program: Program) -> Iterator[Warned]:
         yield Warned(text, name, token, instead=LATER if text == STILL_TRUE else '')
     for token in program.awaited_ctimers():
         yield Warned(OF_CTIMER % (token.text, token.text), name, token)
+    for text, token in program.tests_of_sign():
+        yield Warned(text, name, token)
+    for token in program.waits_before_set():
+        yield Warned(BEHIND % token.text, name, token)
     for kind in 'etimer', 'ctimer':
         for at, word in enumerate(program.words[:-1]):
             if word == kind and program.tokens[at + 1].kind == 'name':
                 timer = program.tokens[at + 1]
-                if not any(program.first(it, timer.text) for it in ('set', 'restart_timer', 'reset')):
+                if not any(program.first(it, timer.text) for it in SETS):
                     yield Warned('the timer `%s` is never set' % timer.text, name, timer)
 
 

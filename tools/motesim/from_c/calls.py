@@ -119,12 +119,6 @@ class Calls(Lines):
             head = 'code' if name == 'process_thread' else 'thread'
             inner = call.parts[0].text
             return '%s %s {' % (head, self.of_process(inner) if head == 'code' else allowed(inner))
-        if name in ('process_pollhandler', 'process_exithandler'):
-            self.accept(';')
-            head, called = 'onpoll' if 'poll' in name else 'onexit', call.parts[0].text if call.parts else 'it'
-            self.why('The handler is a block of the `code`, below its timers and threads: put what `%s` does into '
-                     'it.' % called)
-            return head + ' { }'
         return self.end(self.of_call(call))
 
     def of_process(self, name: str) -> str:

@@ -87,7 +87,7 @@ def _structural(text: str) -> Correction | None:
 
 
 def _is_only_named(text: str, fault: ProgramError) -> bool:
-    """True if a fault is an unknown name that is neither assigned nor called: what follows has nothing to do with it."""
+    """True if a fault is an unknown name that is neither assigned nor called: what follows isn't about it."""
     tokens = tokens_of(text)
     at = next((at for at, it in enumerate(tokens) if it == fault.token), None)
     return fault.kind == 3 and at is not None and tokens[at + 1].text not in ('(', '[', '=')

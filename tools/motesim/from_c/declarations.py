@@ -11,6 +11,11 @@ from motesim.from_c.scope import allowed
 ORDER = ('event', 'semaphore', 'process', 'autostart', 'receiver', 'var', 'etimer', 'ctimer', 'thread')
 CALLBACK = ('There are no functions. What a callback timer calls is its own block: `ctimer c { .. }` at the head of '
             '`code`; other steps go into a `thread`, which is run by `spawn`.')
+# A function with such a parameter is called for each packet.
+CONNECTION = re.compile(r'\w+_conn|rimeaddr_t|linkaddr_t|uip_ipaddr_t')
+OF_PACKETS = ('No function is called when a packet arrives: it is the event `packet` of the process that `receiver P;` '
+              'names, above the first `code`. That process waits for it by `yield_until is(packet);`, and what the '
+              'function would do follows: `data` is the value, and `from` the sender.')
 MOST_MEMBERS = 8
 NO_PLACE = 'Variables are declared at the head of `code`, before its timers, threads and `body`: `var %s = 0;`.'
 
@@ -68,6 +73,8 @@ class Declarations(Lines):
         kind = self.token.text
         if 'struct' in words and kind in ('etimer', 'ctimer', 'timer', 'stimer', 'rtimer', 'pt_sem', 'pt'):
             return self.of_struct(kind)
+        if 'struct' in words and words[-1] == 'struct' and kind.endswith('_callbacks'):
+            raise NoCounterpart(OF_PACKETS)
         if 'struct' in words:
             raise NoCounterpart(NO_FIELDS)
         if self.ahead(1).text == '(':
@@ -113,6 +120,8 @@ class Declarations(Lines):
         """A function: a thread, without parameters."""
         name = allowed(self.token.text)
         self.at += 1
+        if any(CONNECTION.fullmatch(it.text) for it in self.tokens[self.at:]):
+            raise NoCounterpart(OF_PACKETS)
         self.why('There are no functions: a `thread` serves as one, without parameters, and `spawn %s;` runs it. What '
                  'a callback timer calls is its own block, `ctimer c { .. }`.' % name)
         self.parameters(self.place.is_head)

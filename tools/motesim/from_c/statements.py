@@ -31,6 +31,8 @@ LEDS = {'leds_on': '1', 'leds_off': '0', 'leds_toggle': '1'}
 OF_LEDS = 'A mote has no LEDs: a `print` shows the moment in the report.'
 OPENS = ('broadcast_open', 'abc_open', 'unicast_open', 'runicast_open', 'nullnet_set_input_callback',
          'simple_udp_register')
+CLOSES = re.compile(r'(broadcast|abc|unicast|runicast|mesh|collect)_close\b')
+OF_HANDLER = 'The handler is a block of the `code`, `%s { .. }`, below its timers and threads and above its `body`.'
 WAIT = ('A process waits by an event timer: `set t 5; yield_until fired(t);`, with `etimer t;` at the head of its '
         '`code`.')
 # Words without a counterpart, each with what to do instead.
@@ -165,11 +167,12 @@ class Statements(Declarations, Calls, Control):
             return self.end('spawn ' + word)
         if lower in ADVICE and not (word in self.scope.kinds and behind == '='):
             raise NoCounterpart(ADVICE[lower])
+        if lower in ('process_pollhandler', 'process_exithandler') and behind == '(':
+            return self.of_handler('onpoll' if 'poll' in lower else 'onexit')
         if word in STATEMENTS or lower in PRINTS and behind in ('(', '"'):
             return self.own()
         if lower in CALLS or lower in ('process_begin', 'process_end', 'process', 'autostart_processes',
-                                       'process_thread', 'pt_begin', 'pt_end', 'process_name', 'pt_thread',
-                                       'process_pollhandler', 'process_exithandler'):
+                                       'process_thread', 'pt_begin', 'pt_end', 'process_name', 'pt_thread'):
             return self.macro()
         if behind in ('=', '==', ':=') or behind in ('+', '-', '*', '/', '%', '&', '|') and self.ahead(2).text == '=':
             return self.assignment()
@@ -193,6 +196,35 @@ class Statements(Declarations, Calls, Control):
         self.why('Did you mean `%s`?' % like)
         self.tokens[self.at] = Token('name', like)
         return self.statement()
+
+    def of_handler(self, head: str) -> str:
+        """What a process does when it is polled, or when it is ended: a block of its code."""
+        inner: list[str] = []
+        level = 0
+        while level or not inner:
+            self.at += 1
+            level += (self.token.text == '(') - (self.token.text == ')')
+            inner.append(self.token.text)
+            if self.token.kind == 'end':
+                raise NoCounterpart
+        self.at += 1
+        self.accept(';')
+        does = ' '.join(inner[1:-1])
+        if CLOSES.match(does):
+            self.why('No connection is opened, so none is closed: nothing is needed here.')
+            return ''
+        if not self.place.is_head:
+            raise NoCounterpart(OF_HANDLER % head)
+        reader = Statements(does, self.scope, self.place._replace(is_head=False))
+        try:
+            text = reader.written()
+        except NoCounterpart:
+            self.why('%s Put what `%s` does into it.' % (OF_HANDLER % head, does.replace(' ', '').rstrip(';')))
+            return head + ' { }'
+        self.why(OF_HANDLER % head)
+        for reason in reader.writer.reasons:
+            self.why(reason)
+        return '%s { %s }' % (head, text)
 
     def of_semaphore(self, name: str) -> str:
         """A semaphore whose count is one more or one less."""
