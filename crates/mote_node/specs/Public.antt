@@ -3,7 +3,7 @@ use Rattle.std.specs.Prelude.{ℕ, Bool, false, if◌then◌else◌, Option, Som
 use Rattle.program_tree.specs.Code.{Tree}
 use Rattle.trace_lines.specs.declared.out.Out.{Out}
 use Rattle.process_kernel.specs.Mote.{Mote}
-use Rattle.process_kernel.specs.Public.{mote_in, held_in}
+use Rattle.process_kernel.specs.Public.{mote_in}
 use Rattle.mote_node.specs.declared.mote.Mote.{Mote as MoteOfCode}
 use Rattle.mote_node.specs.declared.mote.TurnOut.{TurnOut}
 use Rattle.mote_node.specs.Node.{Node, is_past}
@@ -12,10 +12,6 @@ use Rattle.mote_node.specs.Turn.{TurnGiven}
 
 abbrev pub node_over : (last : Option ℕ) → (collides : Bool) → Mote → Node
 node_over last collides m = record { mote = m; last = last; collides = collides }
-
--- The node of a `Mote` with this program, whether or not it has failed.
-unfoldable pub node_held : Tree → MoteOfCode → Node
-node_held t m = node_over m.last m.collide (held_in t m.kernel.value)
 
 -- The node of a `Mote` with this program, unless it has failed.
 unfoldable pub node_in : Tree → MoteOfCode → Option Node

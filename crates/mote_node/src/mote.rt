@@ -115,7 +115,7 @@ fn is_past(moment: u64, last: Option<u64>) -> bool
 impl Mote {
     ghost use Rattle.mote_node.specs.Node.{new_node};
     ghost use Rattle.mote_node.specs.Turn.{turn_of};
-    ghost use Rattle.mote_node.specs.Public.{node_in, node_held, wake_in, is_past_in, turn_given};
+    ghost use Rattle.mote_node.specs.Public.{node_in, wake_in, is_past_in, turn_given};
     ghost use Rattle.mote_node.specs.Node.{with_collide};
     ghost use Rattle.mote_node.specs.Public.{turn_out_of};
 
@@ -148,19 +148,17 @@ impl Mote {
     }
 
     /// The number of the mote.
-    #[tactic(auto, unfolding(crate::specs::Public::node_in, crate::specs::Public::node_held))]
+    #[tactic(auto, unfolding(crate::specs::Public::node_in))]
     pub fn number(&self) -> u16
         ensures node { (t : Tree) → IfSome (node_in t self.now) (λ n. result ≡ n.mote.state.mote) }
-        ensures held { (t : Tree) → result ≡ (node_held t self.now).mote.state.mote }
     {
         self.kernel.number()
     }
 
     /// Sets whether packets that arrive together are lost. They aren't, before this is called.
-    #[tactic(auto, unfolding(crate::specs::Public::node_in, crate::specs::Public::node_held))]
+    #[tactic(auto, unfolding(crate::specs::Public::node_in))]
     pub fn set_collide(&mut self, collide: bool)
         ensures node { (t : Tree) → node_in t self.new ≡ option_map (with_collide collide) (node_in t self.old) }
-        ensures held { (t : Tree) → node_held t self.new ≡ with_collide collide (node_held t self.old) }
     {
         self.collide = collide;
     }

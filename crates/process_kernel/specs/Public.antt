@@ -16,12 +16,8 @@ use Rattle.process_kernel.specs.Mote.{Mote}
 use Rattle.process_kernel.specs.Given.{Given}
 use Rattle.process_kernel.specs.Views.{mote_of}
 
--- The mote that a kernel with this program holds, even after the kernel has failed. The remainders of its threads
+-- The mote that a kernel with this program is; a kernel that ran out of memory is none. The remainders of its threads
 -- follow from the program.
-unfoldable pub held_in : Tree → Kernel → Mote
-held_in program k = mote_of program k.machine k.booted k.halted
-
--- The mote that a kernel with this program is; a kernel that ran out of memory is none.
 unfoldable pub mote_in : Tree → Kernel → Option Mote
 mote_in program k = if k.failed then None else Some (mote_of program k.machine k.booted k.halted)
 

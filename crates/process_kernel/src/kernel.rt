@@ -49,7 +49,8 @@ impl Error for KernelError {}
 /// The process kernel of a mote (`process.c`, `etimer.c` and `ctimer.c` of Contiki). It is booted once and then run,
 /// always with the same program. All its memory is allocated by `new`, except for the lines and packets of its runs,
 /// and for the thread of a process that is called for the first time since its start. If such an allocation fails,
-/// `out` keeps what it had, perhaps with more appended, and the kernel fails from then on.
+/// `out` keeps what it had, perhaps with more appended, and the kernel fails from then on: nothing is promised about
+/// the processes, events and timers that a failed kernel still has.
 pub struct Kernel {
     booted: bool,
     halted: bool,
@@ -70,7 +71,7 @@ impl Drop for Kernel {
 }
 
 impl Kernel {
-    ghost use Rattle.process_kernel.specs.Public.{mote_in, held_in, Tells, FailsAs, BeginsWith};
+    ghost use Rattle.process_kernel.specs.Public.{mote_in, Tells, FailsAs, BeginsWith};
     ghost use Rattle.process_kernel.specs.Given.{boot_given, run_given};
     ghost use Rattle.process_kernel.specs.Public.{Closes};
     ghost use Rattle.process_kernel.specs.GoesOn.{GoesOn};
@@ -216,68 +217,59 @@ impl Kernel {
     }
 
     /// Asks for a poll of a process, if it is running or called.
-    #[tactic(auto, unfolding(crate::specs::Public::mote_in, crate::specs::Public::held_in, crate::specs::Mote::with_poll, crate::specs::Posts::poll_of, crate::specs::Processes::with_needs_poll))]
+    #[tactic(auto, unfolding(crate::specs::Public::mote_in, crate::specs::Mote::with_poll, crate::specs::Posts::poll_of, crate::specs::Processes::with_needs_poll))]
     pub fn poll(&mut self, process: Proc)
         ensures mote { (t : Tree) → mote_in t self.new ≡ option_map (λ m. with_poll m process) (mote_in t self.old) }
-        ensures held { (t : Tree) → held_in t self.new ≡ with_poll (held_in t self.old) process }
     {
         self.machine.poll(process);
     }
 
     /// Returns true if an event is queued or a poll is requested.
-    #[tactic(auto, unfolding(crate::specs::Public::mote_in, crate::specs::Public::held_in))]
+    #[tactic(auto, unfolding(crate::specs::Public::mote_in))]
     pub fn pending(&self) -> bool
         ensures mote { (t : Tree) → IfSome (mote_in t self.now) (λ m. result ≡ is_pending m) }
-        ensures held { (t : Tree) → result ≡ is_pending (held_in t self.now) }
     {
         self.machine.queue.len() > 0 || self.machine.poll_requested
     }
 
     /// The earliest moment at which a timer on the timer list is due; none for an empty list.
-    #[tactic(auto, unfolding(crate::specs::Public::mote_in, crate::specs::Public::held_in))]
+    #[tactic(auto, unfolding(crate::specs::Public::mote_in))]
     pub fn next_expiration(&self) -> Option<u64>
         ensures mote { (t : Tree) → IfSome (mote_in t self.now) (λ m. result ≡ next_expiration_of m.state.timers) }
-        ensures held { (t : Tree) → result ≡ next_expiration_of (held_in t self.now).state.timers }
     {
         self.machine.shown.timers.next_expiration()
     }
 
     /// Appends a packet to the receive ring, and returns whether it had room; a full ring is unchanged.
-    #[tactic(auto, unfolding(crate::specs::Public::mote_in, crate::specs::Public::held_in, crate::specs::Mote::with_packet))]
+    #[tactic(auto, unfolding(crate::specs::Public::mote_in, crate::specs::Mote::with_packet))]
     pub fn accept_packet(&mut self, packet: Arrival) -> bool
         ensures room { (t : Tree) → IfSome (mote_in t self.old) (λ m. result ≡ has_room m) }
         ensures after { (t : Tree) → mote_in t self.new
             ≡ option_map (λ m. if has_room m then with_packet m packet else m) (mote_in t self.old) }
-        ensures held_room { (t : Tree) → result ≡ has_room (held_in t self.old) }
-        ensures held_after { (t : Tree)
-            → held_in t self.new ≡ (if result then with_packet (held_in t self.old) packet else held_in t self.old) }
     {
         self.machine.accept_packet(packet)
     }
 
     /// The number of the kernel's mote.
-    #[tactic(auto, unfolding(crate::specs::Public::mote_in, crate::specs::Public::held_in))]
+    #[tactic(auto, unfolding(crate::specs::Public::mote_in))]
     pub fn number(&self) -> u16
         ensures mote { (t : Tree) → IfSome (mote_in t self.now) (λ m. result ≡ m.state.mote) }
-        ensures held { (t : Tree) → result ≡ (held_in t self.now).state.mote }
     {
         self.machine.shown.mote
     }
 
     /// Returns whether the mote was booted.
-    #[tactic(auto, unfolding(crate::specs::Public::mote_in, crate::specs::Public::held_in))]
+    #[tactic(auto, unfolding(crate::specs::Public::mote_in))]
     pub fn is_booted(&self) -> bool
         ensures mote { (t : Tree) → IfSome (mote_in t self.now) (λ m. result ≡ m.booted) }
-        ensures held { (t : Tree) → result ≡ (held_in t self.now).booted }
     {
         self.booted
     }
 
     /// Returns whether the mote has halted. It runs no more then.
-    #[tactic(auto, unfolding(crate::specs::Public::mote_in, crate::specs::Public::held_in))]
+    #[tactic(auto, unfolding(crate::specs::Public::mote_in))]
     pub fn is_halted(&self) -> bool
         ensures mote { (t : Tree) → IfSome (mote_in t self.now) (λ m. result ≡ m.halted) }
-        ensures held { (t : Tree) → result ≡ (held_in t self.now).halted }
     {
         self.halted
     }
