@@ -1,20 +1,26 @@
 """Refuses each request for memory of a run, one in each run: tools/dev/refuse_memory [FILE [-- WORD ..]]
 
 The program simulates a scenario, and is refused its first request, in the next run its second, and so on until a run
-needs no more of them. The start of a thread is a request too, for its stack. Each run has to end with the whole report
-and status 0, or with `motesim: out of memory`, status 1 and a beginning of the report, or, with workers, with
-`motesim: run fault 5`, status 1 and no report; and each has to end. The words after FILE are the arguments of motesim,
-as in `-- --workers 2 --sync marks`. Without FILE small scenarios are tried, on one thread and with two and three
-workers of both kinds: packets that meet and are heard, a full ring, a full queue, a refused timer, and a scenario with
-a fault. So is a test of crates/part_tests, as `rt ci` builds it, which calls kernels and motes once they are out of
-memory: it has to pass, or to end with an error of its own if it has no kernel or mote to call.
+needs no more of them. The start of a thread is a request too, for its stack. Each run has to end with the whole
+report and status 0, or, unless a start was refused, with `motesim: out of memory`, status 1 and a beginning of the
+report, or, with workers, with `motesim: run fault 5`, status 1 and no report; and each has to end. If the threads of
+workers are refused memory, some of these runs end as out of memory: only an executor reports it as a failed thread.
+If a report has so many lines that threads format it, a refused start of one of them leads to the whole report.
+
+The words after FILE are the arguments of motesim, as in `-- --workers 2 --sync marks`. Without FILE small scenarios
+are tried, on one thread and with two and three workers of both kinds: packets that meet and are heard, a full ring, a
+full queue, a refused timer, and a scenario with a fault; and two motes with many lines, by two workers of both kinds.
+So is a test of crates/part_tests, as `rt ci` builds it, which calls kernels and motes once they are out of memory: it
+has to pass, or to end with an error of its own if it has no kernel or mote to call.
 
 A library in C that is loaded before the C library refuses; `cc` compiles it.
 """
 from __future__ import annotations
 
+import runpy
 import shutil
 import subprocess
+from collections import Counter
 from itertools import count
 from pathlib import Path
 
@@ -26,23 +32,46 @@ from motesim.runner.programs import TOP
 FILES = ['tests/cases/nets/two_senders.toml', 'tests/cases/nets/ring_overflows.toml',
          'tests/cases/queues/full_queue.toml', 'tests/cases/queues/refused_timer_waits.toml', 'examples/wrong.toml']
 WAYS = ['', *('--workers %s --sync %s' % (workers, sync) for sync in ('joins', 'marks') for workers in '23')]
+# A report that is formatted by threads.
+MANY_LINES = 'tests/cases/nets/many_lines.make'
 CALLS = ['crates/part_tests/out/part_tests_tests', 'tests::refused::once_out_of_memory']
 # Each run: a scenario and the program's arguments, or a program of tests and the name of one. (The last file has a
 # fault, which is found before there are workers.)
 RUNS: list[list[str]] = [
-    *([file, *way.split()] for way in WAYS for file in (FILES if way in WAYS[:2] else FILES[:-1])), CALLS]
+    *([file, *way.split()] for way in WAYS for file in (FILES if way in WAYS[:2] else FILES[:-1])),
+    *([MANY_LINES, *way.split()] for way in WAYS if way.startswith('--workers 2')), CALLS]
 REFUSES = Path(__file__).with_name('refuses.c')
+OUT_OF_MEMORY, NO_THREAD = b'motesim: out of memory\n', b'motesim: run fault 5\n'
+# The requests, in the words of the library: the start of a thread, and memory for a thread that isn't the first.
+START, OF_WORKER = 'start', 'other'
 # The status of a test that returns an error; one whose assertion fails is stopped by a signal.
 RETURNED_ERROR = 101
 
 
-def may_be(found: Answer, whole: Answer, words: list[str]) -> bool:
-    """Returns whether a run that was refused a request may answer so; `whole` is the answer if none is refused."""
+def scenario_in(file: Path) -> bytes:
+    """The scenario in a file, or the one that NAME.make makes."""
+    if file.suffix == '.make':
+        made: str = runpy.run_path(str(file))['scenario']()
+        return made.encode()
+    return file.read_bytes()
+
+
+def may_be(found: Answer, whole: Answer, words: list[str], refused: str) -> bool:
+    """Returns whether a run may answer so that was refused this; `whole` is the answer if nothing is refused."""
     if words == CALLS:
         return whole.status == 0 and (found.status == RETURNED_ERROR or found == whole)
-    if (found.status, found.fault) == (1, b'motesim: out of memory\n'):
-        return whole.report.startswith(found.report)
-    return found == whole or '--workers' in words and found == Answer(1, b'', b'motesim: run fault 5\n')
+    if (found.status, found.fault) == (1, OUT_OF_MEMORY):
+        return refused != START and whole.report.startswith(found.report)
+    return found == whole or '--workers' in words and found == Answer(1, b'', NO_THREAD)
+
+
+def lacks(faults: Counter[tuple[str, bytes]], words: list[str]) -> str | None:
+    """Names a result that none of the refused requests had; `faults` counts the kinds of requests with the lines."""
+    if faults[OF_WORKER, NO_THREAD] and not faults[OF_WORKER, OUT_OF_MEMORY]:
+        return 'all memory that was refused to workers is reported as a failed thread'
+    if words[0] == MANY_LINES and not faults[START, b'']:
+        return 'no thread for the lines of the report was refused its start'
+    return None
 
 
 @pytest.fixture(scope='session')
@@ -63,9 +92,10 @@ def pytest_generate_tests(metafunc: pytest.Metafunc) -> None:
 
 def test_each_request_is_refused(words: list[str], program: Path, refuses: Path) -> None:
     file, *arguments = words
-    tested, scenario = (TOP / file, b'') if words == CALLS else (program, (TOP / file).read_bytes())
+    tested, scenario = (TOP / file, b'') if words == CALLS else (program, scenario_in(TOP / file))
     assert tested.is_file(), '%s is not built: rt ci builds it' % file
     whole, done = answer(tested, scenario, *arguments), refuses.with_name('done')
+    faults: Counter[tuple[str, bytes]] = Counter()
     for number in count(1):
         refusing = ['LD_PRELOAD=%s' % refuses, 'REFUSED=%d' % number, 'DONE=%s' % done, str(tested)]
         try:
@@ -75,7 +105,11 @@ def test_each_request_is_refused(words: list[str], program: Path, refuses: Path)
         if not done.exists():
             # (the library doesn't reach a program that asks for no memory at all)
             assert number > 1, 'the program makes no request that can be refused'
-            return
+            break
+        refused = done.read_text('ascii')
         done.unlink()
-        if not may_be(found, whole, words):
+        faults[refused, found.fault] += 1
+        if not may_be(found, whole, words, refused):
             pytest.fail('request %d refused: status %d, %r' % (number, found.status, found.fault[:100]), pytrace=False)
+    if lacks(faults, words):
+        pytest.fail(str(lacks(faults, words)), pytrace=False)

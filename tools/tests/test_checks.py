@@ -7,6 +7,7 @@ import subprocess
 import sys
 import tempfile
 import unittest
+from collections import Counter
 from pathlib import Path
 from typing import Any
 from unittest import mock
@@ -318,22 +319,37 @@ class Memory(Check):
         for found, words in [(whole, one), (Answer(1, b'', out_of_memory), one),
                              (Answer(1, b'mote 0 p\n', out_of_memory), workers), (Answer(1, b'', no_thread), workers),
                              (whole, calls), (Answer(101, b'', b'error: Memory\n'), calls)]:
-            self.assertTrue(may_be(found, whole, words), found)
+            self.assertTrue(may_be(found, whole, words, 'first'), found)
         for found, words in [(Answer(0, b'mote 0 p\n', b''), one), (Answer(0, b'', out_of_memory), one),
                              (Answer(1, b'left 0\n', out_of_memory), one), (Answer(1, b'', no_thread), one),
                              (Answer(1, b'mote 0 p\n', no_thread), workers),
                              (Answer(1, b'', b'motesim: run fault 6\n'), workers), (Answer(-11, b'', b''), workers),
                              (Answer(0, b'', b''), calls), (Answer(1, b'', out_of_memory), calls),
                              (Answer(-6, b'', b'assertion failed'), calls)]:
-            self.assertFalse(may_be(found, whole, words), found)
+            self.assertFalse(may_be(found, whole, words, 'first'), found)
         # (a test that returns an error if nothing is refused: no such test, say)
-        self.assertFalse(may_be(Answer(101, b'', b''), Answer(101, b'', b''), calls))
+        self.assertFalse(may_be(Answer(101, b'', b''), Answer(101, b'', b''), calls, 'first'))
+        # (a refused start isn't reported as memory)
+        for found in whole, Answer(1, b'', no_thread):
+            self.assertTrue(may_be(found, whole, workers, 'start'), found)
+        self.assertFalse(may_be(Answer(1, b'', out_of_memory), whole, workers, 'start'))
+
+    def test_what_no_request_has_shown(self) -> None:
+        names = module('test_memory.py')
+        lacks, workers, many = names['lacks'], ['a.toml', '--workers', '2'], [names['MANY_LINES'], '--workers', '2']
+        out_of_memory, no_thread = b'motesim: out of memory\n', b'motesim: run fault 5\n'
+        memory = Counter({('other', out_of_memory): 1, ('other', no_thread): 2})
+        self.assertIsNone(lacks(Counter({('first', out_of_memory): 1}), ['a.toml']))
+        self.assertIsNone(lacks(memory, workers))
+        self.assertIsNone(lacks(memory + Counter({('start', b''): 1}), many))
+        self.assertIn('as a failed thread', lacks(Counter({('other', no_thread): 3}), workers))
+        self.assertIn('refused its start', lacks(memory + Counter({('start', no_thread): 2}), many))
 
     def test_the_runs_without_a_name(self) -> None:
         names = module('test_memory.py')
         ways = [' '.join(words) for _, *words in names['RUNS'] if [_, *words] != names['CALLS']]
-        for wanted, number in [('', 5), ('--workers 2 --sync joins', 5), ('--workers 3 --sync joins', 4),
-                               ('--workers 2 --sync marks', 4), ('--workers 3 --sync marks', 4)]:
+        for wanted, number in [('', 5), ('--workers 2 --sync joins', 6), ('--workers 3 --sync joins', 4),
+                               ('--workers 2 --sync marks', 5), ('--workers 3 --sync marks', 4)]:
             self.assertEqual(ways.count(wanted), number)
         self.assertIn('tools/dev/refuse_memory program %d\n' % len(names['RUNS']), (TOP / 'test').read_text('utf-8'))
         folder, _, test = names['CALLS'][1].rpartition('::')
@@ -358,8 +374,8 @@ class Memory(Check):
 
     @unittest.skipUnless(shutil.which('cc'), 'there is no C compiler cc here')
     def test_each_start_is_refused(self) -> None:
-        # (a start asks for a stack, and for memory of the thread's own; the second one uses those of a thread that has
-        # ended)
+        # (a start asks for a stack, and for memory of the thread's own; the second one is refused a stack too, though
+        # it could use that of a thread that has ended)
         for joins in 0, 1:
             passed = self.refused(STARTS, '--workers', '2', JOINS=joins, FAULT=NO_THREAD)
             self.assertEqual(passed[1:], ('1 passed, 0 failed, 0 skipped', 0))
