@@ -220,6 +220,11 @@ class Trials(unittest.TestCase):
         said['a'] = self.GOOD % 'one'
         self.assertEqual(self.verdicts(said, self.ONE, self.TWO), {'low/a': checks.NOT_REFUSED, 'low/b': CONTRACT})
 
+    def test_an_open_one_of_many_is_tried_alone(self) -> None:
+        # (the answer may be that of another edit's function)
+        said = {'a b': 'fn c::a::one: no proof: an answer is gone\n' + self.BAD % 'two', 'a': self.BAD % 'one'}
+        self.assertEqual(self.verdicts(said, self.ONE, self.TWO), {'low/a': CONTRACT, 'low/b': CONTRACT})
+
     def test_a_check_without_a_verdict_on_the_function_is_unknown(self) -> None:
         self.assertEqual(self.verdicts({'a': 'x.rt:1:1: error: no proof\n'}, self.ONE), {'low/a': checks.UNKNOWN})
 

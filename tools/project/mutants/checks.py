@@ -151,13 +151,15 @@ class Trial:
         return lines, ran.returncode, says_nothing(lines, texts)
 
     def verdicts_together(self, group: Sequence[Edit], kept: Path) -> dict[Edit, Verdict]:
-        """The verdicts on those mutants of a group that one check with all their edits decides."""
+        """The verdicts on those mutants of a group that one check with all their edits refuses for their meaning. If
+        only an answer no longer fits, it may be that of another mutant's function: of one in the same cycle of calls,
+        or of one that is called."""
         lines, _, is_void = self.check(group, kept)
         if is_void or not lines[-1].startswith(VERDICTS):
             return {}
         refused = refused_in(lines)
         found = {it: best(it, refused) for it in group}
-        return {edit: verdict for edit, verdict in found.items() if verdict.kind != NOT_REFUSED}
+        return {edit: verdict for edit, verdict in found.items() if verdict.kind in REFUSED}
 
     def verdict_alone(self, edit: Edit, kept: Path) -> Verdict:
         """The verdict on a mutant by a check with its edit only."""
