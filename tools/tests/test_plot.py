@@ -100,7 +100,7 @@ class PlotTest(unittest.TestCase):
         done = subprocess.run([sys.executable, '-B', '-I', '-S', '-c', source], cwd=self.folder, text=True,
                               env={**os.environ, packages.HANDED_ON: '1'}, capture_output=True)
         self.assertEqual((done.returncode, ' '.join(done.stdout.split())), (1, ' '.join(TABLE.split())), done)
-        self.assertEqual(done.stderr, 'plot: tables instead of pictures, since matplotlib is not installed: on '
+        self.assertEqual(done.stderr, 'plot: tables instead of pictures, because matplotlib is not installed: on '
                          'Debian `apt-get install python3-matplotlib` installs it, for /usr/bin/python3\n')
         self.assertFalse((self.folder / 'a.svg').exists())
 
@@ -137,18 +137,22 @@ class PlotTest(unittest.TestCase):
         (self.folder / 'net.csv').write_text(text)
         (self.folder / 'other.csv').write_text(text.replace(',5,', ',6,'))
         (self.folder / 'a.plan.toml').write_text('end = 9\n' + ''.join((
-            plot % 'a.svg' + 'where = { density = "thin", seed = "1..3" }\nshow = "mean"\nlog_y = true\n',
+            plot % 'a.svg' + 'where = { density = "thin", seed = "1..3" }\nshow = "mean"\nlog_y = true\n'
+            'by = "density"\nlabels = { thin = "sparse" }\nsize = "column"\n',
             plot % 'b.svg' + 'pair = "density=thin,dense"\nwhere = { seed = [1, 2] }\n',
             plot % 'c.svg' + 'compare = "other.csv"\nwhere = { density = "thin" }\n')))
         done = self.plot('--plan', 'a.plan.toml')
         self.assertEqual((done.returncode, done.stdout.split('\n')[0]), (0, 'a.svg'), done)
         found = [[line.split(',') for line in (self.folder / name).read_text().splitlines()]
                  for name in ('a.table.csv', 'b.table.csv', 'c.table.csv')]
-        self.assertEqual(found[0][1][:3], ['1', '3', '12.0'])
+        self.assertEqual(found[0][1][:4], ['thin', '1', '3', '12.0'])
+        self.assertIn('>sparse<', (self.folder / 'a.svg').read_text())
         self.assertEqual((found[1][0][1], found[1][1][1]), ('pairs', '2'))
         self.assertIn('sent against period: other less net, run by run', (self.folder / 'c.svg').read_text())
         for words, seen in (('pair = "a=1,2"\ncompare = "b.csv"\n', 'A plot has one comparison.'),
                             ('pair = "a=1,2"\nshow = "mean"\n', 'a plot without `show`'),
+                            ('labels = { thin = "a" }\n', 'Labels are the texts of the lines of `by`.'),
+                            ('by = "density"\nlabels = { thin = 3 }\n', 'A label is a text.'),
                             ('where = { seed = 1.5 }\n', 'These are not values.'),
                             ('show = "cdf"\nlog_y = true\n', 'no measure upwards')):
             (self.folder / 'a.plan.toml').write_text('end = 9\n' + plot % 'a.svg' + words)

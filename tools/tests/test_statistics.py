@@ -13,6 +13,7 @@ from pathlib import Path
 
 from here import TOOLS
 from motesim.analysis import estimates
+from motesim.analysis.around import dodged, labelled
 from motesim.analysis.crossings import Key, Runs, crossing, place
 from motesim.analysis.drawing import ticks_between
 from motesim.analysis.paired import Pair, Paired, differences, pairs_of
@@ -255,7 +256,7 @@ class Crossings(unittest.TestCase):
         # A curve that rises slowly through 0.5 at 5.3, with runs that differ so much that some sweeps cross it several
         # times. The range from the first to the last crossing contains the true one.
         held = several = 0
-        for sweep in range(120):
+        for sweep in range(25):
             chance = Chance(sweep, 3)
             values = [(float(x), [0.5 + (x - 5.3) / 50 + (chance.below(2_001) - 1_000) / 5_000 for _ in range(8)])
                       for x in range(12)]
@@ -265,14 +266,14 @@ class Crossings(unittest.TestCase):
             assert found.low is not None and found.last is not None
             several += 1
             held += found.low <= 5.3 <= found.last[1]
-        self.assertGreater(several, 20)
-        self.assertGreaterEqual(held, 0.95 * several)
+        self.assertGreater(several, 10)
+        self.assertEqual(held, several)
 
     def test_the_first_and_the_last_crossing_are_held_as_often_as_they_say(self) -> None:
         # A curve that rises above 0.5 at 2.5 and at 8.5, and falls below it at 5.5, in nets that each differ along
         # the whole curve.
         held = [0, 0]
-        for sweep in range(60):
+        for sweep in range(20):
             chance = Chance(sweep, 4)
             nets = [(chance.below(2_001) - 1_000) / 5_000 for _ in range(10)]
             values = [(float(x), [0.5 + 0.3 * math.sin((x - 2.5) * math.pi / 3) + net
@@ -281,7 +282,7 @@ class Crossings(unittest.TestCase):
             assert found and found.low is not None and found.high is not None and found.last is not None
             held[0] += found.low <= 2.5 <= found.high
             held[1] += found.last[0] <= 8.5 <= found.last[1]
-        self.assertGreaterEqual(min(held), 56)
+        self.assertGreaterEqual(min(held), 19)
 
     def test_sweeps_on_different_grids_hold_the_true_place(self) -> None:
         # A curve that bends, as of slotted ALOHA, in nets that each differ along the whole curve. It crosses 0.8 at
@@ -460,6 +461,15 @@ class Shown(unittest.TestCase):
                            for seed in (1, 2)]
         with self.assertRaisesRegex(Fault, r'differ in seeders \(1, 2\) \(repetitions are: seed\)'):
             shown_of(rows, Wish('sent', 'period'))
+
+    def test_over_says_that_a_parameter_in_seed_is_a_treatment(self) -> None:
+        rows: list[Row] = [{**row(1, seed, seed), 'poppy_seed': poppy, 'parameters': 'period seed poppy_seed'}
+                           for seed in (1, 2) for poppy in (1, 2)]
+        self.assertEqual(shown_of(rows, Wish('sent', 'period')).points[0].values, (1, 1, 2, 2))
+        with self.assertRaisesRegex(Fault, r'differ in poppy_seed \(1, 2\) \(repetitions are: seed\): --by poppy_seed'):
+            shown_of(rows, Wish('sent', 'period', over='seed'))
+        shown = shown_of(rows, Wish('sent', 'period', by='poppy_seed', over='seed'))
+        self.assertEqual([it.values for it in shown.points], [(1, 2), (1, 2)])
 
     def test_a_measure_on_either_axis(self) -> None:
         rows = [row(period, seed, 10 * period + seed) for period in (1, 2) for seed in (1, 2, 3)]
@@ -928,6 +938,109 @@ class Command(unittest.TestCase):
         self.assertGreater(other.count('a long sentence'), 2)
         for size in 'big', '1x1', '200x20':
             self.plot(*words, '--size', size, status=2)
+
+    def test_the_footer_of_a_narrow_picture_is_within_it_or_left_to_the_caption(self) -> None:
+        interpreter_with(self, 'matplotlib')
+        words = '--measure', 'ratio', '--against', 'period', '--by', 'density', '--show', 'mean', '-o', 'a.svg'
+        foot = 'mean, and intervals of 95 % by Student\'s t over seed (5 runs)'
+
+        def shown() -> list[tuple[float, float, str]]:
+            found = re.findall(r'<text ([^>]*)>([^<]*)</text>', (self.folder / 'a.svg').read_text())
+            places = [re.search(r'(?:x="|translate\()([0-9.]+)(?:" y="| )([0-9.]+)', it) for it, _ in found]
+            return [(float(it[1]), float(it[2]), text) for it, (_, text) in zip(places, found) if it]
+
+        # (8.8 centimetres are 249.4 points; an axis with its labels needs 0.8 of the height at least)
+        for size, more in ('8.8x6', ()), ('column', ()), ('8.8x6', ('--threshold', '0.6')):
+            said = [' '.join(it) for it in self.plot(*words, '--size', size, *more)]
+            picture = (self.folder / 'a.svg').read_text()
+            self.assertIn('width="249.448819pt"', picture)
+            texts = shown()
+            self.assertGreater(len(texts), 9)
+            self.assertTrue(all(0 <= x <= 249.5 for x, _, _ in texts), texts)
+            left = 'these notes have no room below a.svg: they are in a.origin.csv, for the caption'
+            self.assertEqual(any(it.startswith(left) for it in said), bool(more), said)
+            self.assertEqual(any(it[2] == foot for it in texts), not more, texts)
+            self.assertEqual(any(it[2] == 'notes: a.origin.csv' for it in texts), bool(more), texts)
+            axis = next(y for _, y, text in texts if text == 'period')
+            self.assertGreater(axis, 0.8 * 6 / 2.54 * 72, texts)
+        self.assertIn('the mean rises above 0.6', (self.folder / 'a.origin.csv').read_text())
+        # (a footer that somebody asked for is folded)
+        self.plot(*words, '--size', 'column', '--footer', 'a long sentence ' * 12)
+        self.assertGreater(sum('a long sentence' in it[2] for it in shown()), 2)
+
+    def test_a_text_is_folded_by_its_width(self) -> None:
+        interpreter = interpreter_with(self, 'matplotlib')
+        script = ('import matplotlib; matplotlib.use("Agg")\nimport matplotlib.pyplot as pyplot\n'
+                  'from motesim.analysis.around import folded, width_of\n'
+                  'figure = pyplot.figure(figsize=(2, 2))\n'
+                  'for text in "W" * 90, "i " * 90, "one two " * 20 + "x" * 99:\n'
+                  '    lines = folded(figure, text, 7).split("\\n")\n'
+                  '    assert "".join(lines).replace(" ", "") == text.replace(" ", ""), lines\n'
+                  '    assert all(width_of(figure, it, 7) <= 0.96 * 144 for it in lines) and len(lines) > 1, lines\n'
+                  'assert folded(figure, "a\\n\\nb", 7) == "a\\n\\nb"\n')
+        done = subprocess.run([interpreter, '-B', '-c', script], cwd=self.folder, capture_output=True, text=True,
+                              env={**os.environ, 'PYTHONPATH': str(TOOLS)})
+        self.assertEqual((done.returncode, done.stderr), (0, ''))
+
+    def test_a_logarithmic_axis_of_many_points_has_labels(self) -> None:
+        interpreter_with(self, 'matplotlib')
+        for count, least in (13, 13), (40, 15), (200, 8):
+            (self.folder / 'net.csv').write_text('period,seed,sent,fault,parameters\n' + ''.join(
+                '%d,%d,%d,,period seed\n' % (period, seed, period) for period in range(10, 10 + count)
+                for seed in (1, 2)))
+            self.plot('--measure', 'sent', '--against', 'period', '--log', '-o', 'a.svg')
+            axis = (self.folder / 'a.svg').read_text().partition('matplotlib.axis_1')[2].partition('axis_2')[0]
+            labels = [int(it) for it in re.findall(r'>([0-9]+)</text>', axis)]
+            self.assertGreaterEqual(len(labels), least)
+            self.assertEqual((labels[0], labels[-1]), (10, 9 + count))
+        # (texts that don't fit are turned, and none is left out)
+        (self.folder / 'net.csv').write_text('kind,seed,sent,fault,parameters\n' + ''.join(
+            'protocol_with_a_long_name_%d,1,%d,,kind seed\n' % (kind, kind) for kind in range(9)))
+        self.plot('--measure', 'sent', '--against', 'kind', '-o', 'a.svg')
+        self.assertEqual(len(re.findall(r'rotate\(-30 [^>]*>protocol', (self.folder / 'a.svg').read_text())), 9)
+
+    def test_labels_that_fit_next_to_each_other(self) -> None:
+        self.assertEqual(labelled([0, 30, 60], [20, 20, 20]), [True, True, True])
+        self.assertEqual(labelled([0, 20, 40, 60], [20, 20, 20, 20]), [True, False, False, True])
+        self.assertEqual(labelled([0, 10], [20, 20]), [True, False])
+        self.assertEqual(labelled([5], [20]), [True])
+
+    def test_the_texts_of_the_legend(self) -> None:
+        words = '--measure', 'sent', '--against', 'period', '--show', 'mean', '-o', 'a.svg'
+        interpreter_with(self, 'matplotlib')
+        self.plot(*words, '--by', 'density', '--label', 'thin=4 neighbours', '--label', 'dense=20 = many')
+        texts = re.findall('>([^<]*)</text>', (self.folder / 'a.svg').read_text())
+        self.assertTrue({'4 neighbours', '20 = many'} <= set(texts), texts)
+        self.assertNotIn('density thin', texts)
+        self.plot('--measure', 'sent', '--show', 'cdf', '--by', 'density', '--over', 'seed,period', '-o', 'a.svg',
+                  '--label', 'thin=4 neighbours')
+        self.assertIn('>4 neighbours<', (self.folder / 'a.svg').read_text())
+        for more, seen in ((('--by', 'density', '--label', 'thick=a'), 'no line has density = thick; there are: dense, '
+                            'thin'), (('--label', 'thin=a', *ONE), '--label is the text of a line of --by'),
+                           (('--by', 'density', '--label', 'thin'), '--label needs VALUE=TEXT')):
+            self.plot(*words, *more, status=2)
+            self.assertIn(seen, self.seen)
+
+    def test_error_bars_of_several_lines_are_next_to_each_other(self) -> None:
+        self.assertEqual(dodged([0, 10, 100], 0, 1, False), [0, 10, 100])
+        for places, is_log in ([0.0, 50.0, 100.0], False), ([1.0, 2.0, 64.0], True), ([3.0], False), ([3.0], True):
+            moved = [dodged(places, number, 3, is_log) for number in range(3)]
+            for at, own in zip(places, zip(*moved)):
+                self.assertTrue(own[0] < own[1] < own[2], own)
+                self.assertAlmostEqual(own[1], at)
+                self.assertLess(own[2] - own[0], 0.15 * (places[-1] - places[0]) or 0.2)
+        # (close points keep their order)
+        moved = [dodged([1.0, 1.01, 9.0], number, 5, False) for number in range(5)]
+        self.assertLess(moved[4][0], moved[0][1])
+        interpreter_with(self, 'matplotlib')
+        (self.folder / 'net.csv').write_text(results().replace(',dense,', ',even,') + ''.join(
+            it + '\n' for it in results().splitlines()[1:] if ',thin,' not in it))
+        self.plot('--measure', 'sent', '--against', 'period', '--by', 'density', '--show', 'mean', '-o', 'a.svg')
+        marks = re.findall(r'<use xlink:href="#\w+" x="([0-9.]+)" y="[0-9.]+" style="fill: #(0072b2|d55e00|009e73)',
+                           (self.folder / 'a.svg').read_text().partition('legend_1')[0])
+        self.assertEqual(len({x for x, _ in marks}), 9, marks)
+        table = (self.folder / 'a.table.csv').read_text()
+        self.assertIn('dense,1,5,18.0,', table)
 
     def test_pictures_of_each_kind_with_their_tables(self) -> None:
         interpreter_with(self, 'matplotlib')

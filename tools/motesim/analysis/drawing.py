@@ -3,11 +3,12 @@ from __future__ import annotations
 
 import math
 import re
-import textwrap
 from collections.abc import Callable, Sequence
 from pathlib import Path
 from typing import Any
 
+from motesim.analysis.around import dodged, labelled, points_of, width_of, words_around
+from motesim.analysis.origin import origin_path
 from motesim.analysis.paired import Difference
 from motesim.analysis.points import Point, Shown, Wish, order
 from motesim.analysis.text import MOST_BELOW, by_methods, counted, crossings, crossings_of, heading, left_out, remarks
@@ -22,8 +23,13 @@ MOST_TICKS = 12
 # The size of a picture in centimetres, and the least and greatest length of a side.
 SIZE = 16.256, 10.668
 LEAST_SIDE, MOST_SIDE, INCH = 3, 100, 2.54
+# The size of a picture for one column of a paper of two columns, and its name.
+COLUMN, OF_COLUMN = 'column', (8.8, 6.6)
 POINTS = 72
-LEGEND_POINTS = 9
+# The part of a picture's width that its axes have, about, and the most marks of an axis that aren't all labelled.
+OF_AXES, MOST_MARKS = 0.85, 60
+# The angle of labels that don't fit next to each other.
+ANGLE = 30
 # Colours that readers with colour blindness can distinguish (Okabe and Ito); lines differ by their marks too.
 COLOURS = ['#0072b2', '#d55e00', '#009e73', '#cc79a7', '#e69f00', '#56b4e9', '#000000']
 MARKS = ['o', 's', '^', 'D', 'v', 'P', 'X']
@@ -32,11 +38,11 @@ METADATA: dict[str, dict[str, str | None]] = {
     '.svg': {'Date': None}, '.png': {'Software': 'motesim'}, '.pdf': {'CreationDate': None, 'Producer': 'motesim'}}
 
 
-def _pyplot() -> Any:
+def _pyplot(wish: Wish) -> Any:
     matplotlib: Any = packages.load('matplotlib')
     matplotlib.use('Agg')
     matplotlib.rcParams.update({'svg.hashsalt': 'motesim', 'svg.fonttype': 'none', 'pdf.fonttype': 42,
-                                'font.size': 10})
+                                'font.size': points_of(size_of(wish.size)[0], 'text')})
     return packages.load('matplotlib.pyplot')
 
 
@@ -48,12 +54,11 @@ def _look(number: int) -> dict[str, str]:
 def size_of(text: str) -> tuple[float, float]:
     """The width and the height of a picture in centimetres."""
     found = re.fullmatch(r'([0-9]+(?:\.[0-9]+)?)\s*x\s*([0-9]+(?:\.[0-9]+)?)', text)
-    if not text:
-        return SIZE
+    if text in ('', COLUMN):
+        return OF_COLUMN if text else SIZE
     if not found or not all(LEAST_SIDE <= float(it) <= MOST_SIDE for it in found.groups()):
-        raise Fault('the size of a picture is WIDTHxHEIGHT in centimetres, %d to %d each, such as 16x10, and not %r' %
-                    (
-            LEAST_SIDE, MOST_SIDE, text))
+        raise Fault('the size of a picture is WIDTHxHEIGHT in centimetres, %d to %d each, such as 16x10, or column, '
+                    'and not %r' % (LEAST_SIDE, MOST_SIDE, text))
     return float(found[1]), float(found[2])
 
 
@@ -63,21 +68,18 @@ def _figure(pyplot: Any, wish: Wish) -> tuple[Any, Any]:
     return figure, axes
 
 
-def _words_around(figure: Any, wish: Wish, title: str, footer: str) -> None:
-    """The title and the footer."""
-    head = title if wish.title is None else wish.title
-    if head:
-        points = 11 if wish.title else 9
-        figure.suptitle(_folded(figure, head, points), x=0.01, ha='left', fontsize=points)
-    foot = footer if wish.footer is None else wish.footer
-    if foot:
-        figure.supxlabel(_folded(figure, foot, 7), x=0.99, ha='right', fontsize=7, color='#555555')
+def _legend_of(wish: Wish, by: Cell) -> str:
+    """The text of a value of `by` in the legend."""
+    return dict(wish.labels).get(text_of(by), '%s %s' % (wish.by, text_of(by)))
 
 
-def _folded(figure: Any, words: str, points: int) -> str:
-    """Words in lines that are no wider than the picture, at about half a letter's height for each letter."""
-    width = max(20, int(figure.get_figwidth() * POINTS * 0.92 / (points * 0.52)))
-    return '\n'.join(part for line in words.split('\n') for part in textwrap.wrap(line, width) or [''])
+def check_labels(shown: Shown, wish: Wish) -> None:
+    """Refuses texts of values that no curve has."""
+    values = [text_of(it) for it in dict.fromkeys(point.by for point in shown.points)]
+    wrong = next((value for value, _ in wish.labels if value not in values), None)
+    if wrong is not None:
+        raise Fault('a label is the text of a line, and no line has %s = %s; there are: %s' % (
+            wish.by, wrong, ', '.join(values)))
 
 
 def _groups(shown: Shown) -> dict[Cell, list[Point]]:
@@ -131,7 +133,7 @@ def _draw_steps(axes: Any, shown: Shown, wish: Wish) -> None:
     for number, it in enumerate(curves):
         look, values = _look(number), it.values or [min(every)]
         parts = [at / it.runs for at in range(len(it.values) + 1)]
-        label = '%s %s%s' % (wish.by, text_of(it.by), '' if it.values else ': no run has a value') if wish.by else None
+        label = _legend_of(wish, it.by) + ('' if it.values else ': no run has a value') if wish.by else None
         axes.step([values[0], *it.values, max(every)], [*parts, parts[-1]], where='post', label=label,
                   color=look['color'], linestyle=look['linestyle'])
 
@@ -151,7 +153,7 @@ def _draw_heat(figure: Any, axes: Any, shown: Shown, wish: Wish) -> None:
                 axes.text(column, row, '%.3g' % value, ha='center', va='center', fontsize=8,
                           color='white' if picture.norm(value) < 0.6 else 'black')
     axes.set_xticks(range(len(xs)), [text_of(it) for it in xs])
-    axes.set_yticks(range(len(ys)), [text_of(it) for it in ys])
+    axes.set_yticks(range(len(ys)), [dict(wish.labels).get(text_of(it), text_of(it)) for it in ys])
     axes.set_xlabel(wish.x or wish.against)
     axes.set_ylabel(wish.y or wish.by)
 
@@ -199,16 +201,44 @@ def _scale_upwards(axes: Any, shown: Shown, wish: Wish) -> None:
     axes.set_ylim(low / room, high * room)
 
 
-def _scale(axes: Any, places: list[Cell], wish: Wish, is_scale: bool) -> None:
-    """The axis from left to right."""
+def _check_log(places: Sequence[Cell], wish: Wish) -> None:
+    """Refuses a logarithmic axis from left to right if a place on it isn't above 0."""
     if wish.log and not all(isinstance(it, int | float) and it > 0 for it in places):
         raise Fault('--log needs values above 0, and some of %s are not' % wish.against)
+
+
+def _numbers(places: Sequence[Cell], is_scale: bool) -> list[float]:
+    """The places on the axis: numbers, or others by their order."""
+    return [float(it) if is_scale and isinstance(it, int | float) else float(at) for at, it in enumerate(places)]
+
+
+def _scale(axes: Any, places: list[Cell], wish: Wish, is_scale: bool) -> None:
+    """The axis from left to right."""
+    _check_log(places, wish)
     if is_scale and wish.log:
         axes.set_xscale('log', base=2)
-    if not is_scale or len(places) <= MOST_TICKS:
-        axes.set_xticks(places if is_scale else range(len(places)), [
-            '%.4g' % it if type(it) is float else text_of(it) for it in places])
-        axes.minorticks_off()
+    if is_scale and not wish.log and len(places) > MOST_TICKS:
+        return
+    at = _numbers(places, is_scale)
+    texts = ['%.4g' % it if type(it) is float else text_of(it) for it in places]
+    shown = _fitting(axes, at, texts, wish)
+    if not is_scale and not all(shown):
+        # (each of some names is needed)
+        axes.set_xticks(at, texts, rotation=ANGLE, ha='right', rotation_mode='anchor')
+    else:
+        kept = [it for it in range(len(at)) if shown[it] or len(at) <= MOST_MARKS]
+        axes.set_xticks([at[it] for it in kept], [texts[it] if shown[it] else '' for it in kept])
+    axes.minorticks_off()
+
+
+def _fitting(axes: Any, at: Sequence[float], texts: Sequence[str], wish: Wish) -> list[bool]:
+    """Which texts fit below an axis that has these places."""
+    width = size_of(wish.size)[0]
+    scaled = [math.log(it) for it in at] if wish.log else list(at)
+    extent = scaled[-1] - scaled[0] or 1.0
+    room = width / INCH * POINTS * OF_AXES / (1.1 * extent)
+    return labelled([it * room for it in scaled],
+                    [width_of(axes.figure, it, points_of(width, 'text')) for it in texts])
 
 
 def between(counts: Sequence[int]) -> str:
@@ -229,16 +259,24 @@ def _note(shown: Shown, wish: Wish) -> str:
     return '\n'.join(it for it in [first, *crossings(shown, wish)] if it)
 
 
-def draw(shown: Shown, wish: Wish, path: Path) -> None:
-    """Draws the points into a file."""
-    pyplot = _pyplot()
+def _place_of_notes(path: Path, has_warnings: bool) -> str:
+    """The words below a picture that has no room for its notes."""
+    return '%s: %s' % ('warnings and notes' if has_warnings else 'notes', origin_path(path).name)
+
+
+def draw(shown: Shown, wish: Wish, path: Path) -> bool:
+    """Draws the points into a file; returns whether the notes have room below the picture."""
+    check_labels(shown, wish)
+    pyplot = _pyplot(wish)
     figure, axes = _figure(pyplot, wish)
     if wish.show == 'heat':
         _draw_heat(figure, axes, shown, wish)
     else:
         _draw_curves(axes, shown, wish)
-    _words_around(figure, wish, heading(shown, wish), _note(shown, wish))
+    has_room = words_around(figure, size_of(wish.size)[0], wish, heading(shown, wish), _note(shown, wish),
+                            _place_of_notes(path, bool(shown.warnings)))
     _save(figure, pyplot, path)
+    return has_room
 
 
 def _draw_curves(axes: Any, shown: Shown, wish: Wish) -> None:
@@ -246,9 +284,16 @@ def _draw_curves(axes: Any, shown: Shown, wish: Wish) -> None:
     is_scale = all(type(it) in (int, float) for it in places)
     if wish.show == 'cdf':
         _draw_steps(axes, shown, wish)
-    for number, (by, points) in enumerate(_groups(shown).items() if wish.show != 'cdf' else ()):
-        label = '%s %s' % (wish.by, text_of(by)) if wish.by else None
+    groups = _groups(shown) if wish.show != 'cdf' else {}
+    if wish.show != 'cdf' and shown.points[0].across is None:
+        _check_log(places, wish)
+    for number, (by, points) in enumerate(groups.items()):
+        label = _legend_of(wish, by) if wish.by else None
         xs = [it.x if is_scale else float(places.index(it.against)) for it in points]
+        if wish.show in ('mean', 'points') and shown.points[0].across is None:
+            every = _numbers(places, is_scale)
+            moved = dict(zip(every, dodged(every, number, len(groups), wish.log and is_scale)))
+            xs = [moved[it] for it in xs]
         _draw_points(axes, points, xs, wish, _look(number), label)
     _draw_threshold(axes, shown, wish)
     if wish.show != 'cdf':
@@ -274,9 +319,13 @@ def _draw_curves(axes: Any, shown: Shown, wish: Wish) -> None:
 def _legend(axes: Any) -> None:
     """The legend, above the axes: in them it would hide bars."""
     labels = axes.get_legend_handles_labels()[1]
-    width = axes.figure.get_figwidth() * POINTS * 0.85
-    columns = max(1, int(width / (LEGEND_POINTS * 0.6 * max(map(len, labels)) + 42)))
-    axes.legend(frameon=False, loc='lower left', bbox_to_anchor=(0.0, 1.0), borderaxespad=0.0, fontsize=LEGEND_POINTS,
+    if not labels:
+        return
+    inches = axes.figure.get_figwidth()
+    points = points_of(inches * INCH, 'legend')
+    widest = max(width_of(axes.figure, it, points) for it in labels)
+    columns = max(1, int(inches * POINTS * OF_AXES / (widest + 4.8 * points)))
+    axes.legend(frameon=False, loc='lower left', bbox_to_anchor=(0.0, 1.0), borderaxespad=0.0, fontsize=points,
                 ncols=min(columns, len(labels)), handlelength=2.4, columnspacing=1.4)
 
 
@@ -300,9 +349,9 @@ def _draw_threshold(axes: Any, shown: Shown, wish: Wish) -> None:
                       marker='|', markersize=12, linestyle='')
 
 
-def draw_differences(found: Sequence[Difference], wish: Wish, words: str, notes: Sequence[str], path: Path) -> None:
-    """Draws the differences of a paired comparison, with their intervals, and with notes below."""
-    pyplot = _pyplot()
+def draw_differences(found: Sequence[Difference], wish: Wish, words: str, notes: Sequence[str], path: Path) -> bool:
+    """Draws the differences of a paired comparison, with their intervals; returns whether notes have room below."""
+    pyplot = _pyplot(wish)
     figure, axes = _figure(pyplot, wish)
     places = [it.against for it in found]
     is_scale = all(type(it) in (int, float) for it in places)
@@ -315,7 +364,9 @@ def draw_differences(found: Sequence[Difference], wish: Wish, words: str, notes:
     _scale(axes, places, wish, is_scale)
     axes.set_xlabel(wish.x or wish.against)
     axes.set_ylabel(wish.y or 'difference of %s' % wish.measure)
-    _words_around(figure, wish, words, '\n'.join(notes))
+    has_room = words_around(figure, size_of(wish.size)[0], wish, words, '\n'.join(notes),
+                            _place_of_notes(path, False))
     axes.grid(True, color='#dddddd', linewidth=0.6)
     axes.spines[['top', 'right']].set_visible(False)
     _save(figure, pyplot, path)
+    return has_room

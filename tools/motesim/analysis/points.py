@@ -37,7 +37,8 @@ class Wish(NamedTuple):
     """A request for a picture or a table, and the words around it.
 
     title, footer  the words above and below a picture; None: what it shows, and of which runs; '': none
-    size           the width and the height of a picture in centimetres, `16x10`, or nothing
+    size           the width and the height of a picture in centimetres, `16x10`, or `column`, or nothing
+    labels         texts of the legend, by the values of `by`
     nets           whether the runs of a net are averaged first, so that each net counts once
     """
     measure: str
@@ -60,6 +61,7 @@ class Wish(NamedTuple):
     pair: str = ''
     compare: str = ''
     where: tuple[str, ...] = ()
+    labels: tuple[tuple[str, str], ...] = ()
 
     @property
     def part(self) -> float:

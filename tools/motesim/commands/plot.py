@@ -54,7 +54,10 @@ def arguments() -> argparse.Namespace:
     words.add_argument('--footer', metavar='TEXT', help="the text below the picture; '' is none")
     words.add_argument('--x', metavar='TEXT', default='', help='the text at the axis from left to right')
     words.add_argument('--y', metavar='TEXT', default='', help='the text at the axis upwards')
-    words.add_argument('--size', metavar='WxH', default='', help='the size of the picture in centimetres (16.3x10.7)')
+    words.add_argument('--label', action='append', default=[], metavar='VALUE=TEXT',
+                       help='the text of the legend for a value of --by')
+    words.add_argument('--size', metavar='WxH', default='',
+                       help='the size of the picture in centimetres (16.3x10.7); column is 8.8x6.6')
     words.add_argument('--log', action='store_true',
                        help='a logarithmic axis: each step to the right doubles the parameter')
     words.add_argument('--log-y', action='store_true', help='a logarithmic axis upwards')

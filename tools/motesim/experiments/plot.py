@@ -27,13 +27,15 @@ from motesim.summary.counts import table
 
 # The key of a plot that selects runs.
 WHERE = 'where'
+# The key of a plot with the texts of its legend.
+LABELS = 'labels'
 PLOT = {'file': needed(str), 'measure': needed(str), 'against': optional(str, ''), 'by': optional(str, ''),
         'title': optional(str, None), 'x': optional(str, ''), 'y': optional(str, ''), 'log': optional(bool, False),
         'show': optional(str, 'median'), 'interval': optional(str, AUTO), 'confidence': any_kind('a number', False),
         'threshold': any_kind('a number', False), 'over': optional(str, ''),
         'footer': optional(str, None), 'size': optional(str, ''), 'log_y': optional(bool, False),
         'nets': optional(bool, False), 'pair': optional(str, ''), 'compare': optional(str, ''),
-        WHERE: optional(dict, {})}
+        WHERE: optional(dict, {}), LABELS: optional(dict, {})}
 # The views without a measure upwards.
 NOT_UPWARDS = ('cdf', 'heat')
 # Options that have no effect in a comparison run by run, and are refused.
@@ -81,6 +83,12 @@ def wishes_of(plan: Plan) -> list[Wish]:
             raise tables.fault(path + ('confidence',), 'A plot has no such `confidence`.', 'a number of 50 to 99.9')
         values[WHERE] = tuple('%s=%s' % (name, _text_of_where(tables, path + (WHERE, name), value))
                                 for name, value in values[WHERE].items())
+        for name, value in values[LABELS].items():
+            if type(value) is not str:
+                raise tables.fault(path + (LABELS, name), 'A label is a text.', '`20 = "each 20 moments"`')
+        if values[LABELS] and not values['by']:
+            raise tables.fault(path + (LABELS,), 'Labels are the texts of the lines of `by`.', 'a plot with `by`', False)
+        values[LABELS] = tuple(values[LABELS].items())
         wish = Wish(**values)
         try:
             drawing.size_of(wish.size)
@@ -137,6 +145,12 @@ def warn(lines: Sequence[str], shared: tuple[int, int] | None, warnings: Sequenc
             print('plot: %s' % line, file=sys.stderr)
 
 
+def left_to_caption(has_room: bool, picture: Path) -> list[str]:
+    """The line about notes that have no room below a picture."""
+    return [] if has_room else ['these notes have no room below %s: they are in %s, for the caption; --footer TEXT '
+                                'writes another footer, and --footer \'\' none' % (picture, origin_path(picture))]
+
+
 def show(rows: Sequence[Row], wish: Wish, source: Source) -> bool:
     """Draws a picture or prints a table; returns whether it has the wanted form."""
     shown = shown_of(by_net(rows, wish) if wish.nets else rows, wish)._replace(
@@ -146,10 +160,10 @@ def show(rows: Sequence[Row], wish: Wish, source: Source) -> bool:
     text.check_log_y(shown, wish)
     if wish.file and packages.is_here('matplotlib'):
         picture = source.folder / wish.file
-        drawing.draw(shown, wish, picture)
+        has_room = drawing.draw(shown, wish, picture)
         notes = [*text.crossings(shown, wish), *text.left_out(shown, wish), *text.remarks(shown, wish)]
         write_tables(picture, text.rows_of_picture(shown, wish), source, rows, [text.heading(shown, wish), *notes])
-        print('\n'.join(map(str, [picture, *notes])))
+        print('\n'.join(map(str, [picture, *notes, *left_to_caption(has_room, picture)])))
         warn(text.remarks(shown, wish), shown.shared, shown.warnings)
         return True
     print('\n'.join(text.table_of(shown, wish)))
@@ -187,9 +201,9 @@ def compare(sides: Sides, wish: Wish, source: Source) -> bool:
     if wish.file and packages.is_here('matplotlib'):
         picture = source.folder / wish.file
         below = text.of_pairs(paired, found, wish.against, text.MOST_BELOW) + more
-        drawing.draw_differences(found, wish, words, below, picture)
+        has_room = drawing.draw_differences(found, wish, words, below, picture)
         write_tables(picture, made, source, [*sides.one, *sides.other], [words, *notes])
-        print('\n'.join([str(picture), *notes]))
+        print('\n'.join([str(picture), *notes, *left_to_caption(has_room, picture)]))
         return True
     print('\n'.join([words, *table(made, [it for it in made[0] if it != text.NETS]), *notes]))
     return not wish.file
@@ -209,6 +223,8 @@ def wishes(asked: argparse.Namespace) -> list[Wish]:
         raise Fault('a comparison run by run has one line: leave out --by %s' % asked.by)
     if asked.interval != AUTO and asked.show != 'mean' and not (asked.pair or asked.compare):
         raise Fault('--interval %s is for intervals of means: add --show mean, or leave it out' % asked.interval)
+    if asked.label and not asked.by:
+        raise Fault('--label is the text of a line of --by: add --by NAME, or leave it out')
     if asked.log_y and (asked.pair or asked.compare or asked.show in NOT_UPWARDS):
         raise Fault('--log-y is for medians, means and points: leave it out')
     if asked.pair and asked.compare:
@@ -219,7 +235,17 @@ def wishes(asked: argparse.Namespace) -> list[Wish]:
     return [Wish(asked.measure, asked.against or '', asked.by or '', asked.output or '', asked.title, asked.x, asked.y,
                  log=asked.log, show=asked.show or MEDIAN, interval=asked.interval, confidence=asked.confidence,
                  threshold=asked.threshold or '', over=asked.over or '', footer=asked.footer, size=asked.size,
-                 log_y=asked.log_y, nets=asked.nets, pair=asked.pair or '', compare=asked.compare or '')]
+                 log_y=asked.log_y, nets=asked.nets, pair=asked.pair or '', compare=asked.compare or '',
+                 labels=labels_of(asked.label))]
+
+
+def labels_of(words: Sequence[str]) -> tuple[tuple[str, str], ...]:
+    """The texts of a legend, by their values."""
+    found = [it.partition('=') for it in words]
+    wrong = next((''.join(it) for it in found if not it[1]), None)
+    if wrong is not None:
+        raise Fault('--label needs VALUE=TEXT, such as 20=\'each 20 moments\', not %r' % wrong)
+    return tuple((value, text) for value, _, text in found)
 
 
 def chosen(rows: Sequence[Row], where: Sequence[str]) -> list[Row]:
