@@ -23,8 +23,7 @@ from typing import NamedTuple
 
 from motesim.faults import Fault, command
 from motesim.words import words_of
-from motesim.runner.programs import TOP
-from project.tree import program_of, take_program
+from motesim.runner.programs import TOP, program_path
 
 # Each scenario with its arguments, and those of one of a tenth of the length.
 SCENARIOS: dict[str, tuple[list[int], list[int]]] = {
@@ -117,7 +116,6 @@ def main() -> int:
     words = words_of(__doc__)
     words.add_argument('names', nargs='*', metavar='NAME', choices=SCENARIOS,
                        help='scenarios: %s; without one, all' % ', '.join(SCENARIOS))
-    take_program(words)
     words.add_argument('--against', metavar='PROGRAM', help='an earlier motesim, which runs alternately with this one')
     words.add_argument('--rounds', type=int, default=5, metavar='N', help='N runs of each (5)')
     words.add_argument('--no-instructions', action='store_false', dest='counts', help='count no instructions')
@@ -125,7 +123,7 @@ def main() -> int:
     if asked.counts and not shutil.which('valgrind'):
         print('Instructions are not counted: on Debian `apt-get install valgrind` installs what counts them.')
         asked.counts = False
-    programs = [program_of(asked.program), *([program_of(asked.against)] if asked.against else [])]
+    programs = [str(program_path().resolve()), *([os.path.abspath(asked.against)] if asked.against else [])]
     if len(programs) > 1:
         print('Each measure is that of %s, that of %s, and their ratio.' % tuple(programs))
     return 0 if all([measure_scenario(name, programs, asked) for name in asked.names or SCENARIOS]) else 1

@@ -12,14 +12,12 @@ import time
 from pathlib import Path
 
 from motesim.faults import Fault
-from motesim.runner.programs import PROGRAMS, TOP, compiled_kept, is_program, proved_kept
+from motesim.runner.programs import PROGRAMS, TOP, compiled_kept, is_program
 from project import kit
 from project.running import end_on_signals, locked
 
 COMPILING = 'motesim is not built yet: compiling it, without a proof; this needs about a minute'
 WAITING = 'another run is compiling the program; this one waits for it'
-# How many programs of other sources are kept.
-MOST_KEPT = 6
 
 
 def make(kept: Path) -> None:
@@ -39,14 +37,6 @@ def make(kept: Path) -> None:
         os.replace(made, kept)
 
 
-def clear_others() -> None:
-    """Deletes the programs of other sources, except for those that were used last."""
-    of_here = compiled_kept().parent, proved_kept().parent
-    found = [it for it in PROGRAMS.glob('*-*/') if it not in of_here]
-    for folder in sorted(found, key=lambda it: -it.stat().st_mtime)[MOST_KEPT:]:
-        shutil.rmtree(folder, ignore_errors=True)
-
-
 def compile_program() -> Path:
     """Compiles the program of these sources, unless that is done, and returns it."""
     end_on_signals()
@@ -56,5 +46,4 @@ def compile_program() -> Path:
             for line in (COMPILING, *kit.warnings()):
                 print('motesim: %s' % line, file=sys.stderr, flush=True)
             make(kept)
-            clear_others()
     return kept

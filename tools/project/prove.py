@@ -21,7 +21,6 @@ from motesim.faults import Fault, command
 from motesim.runner.programs import PROVED, TOP, crates_of_program, proved_program
 from motesim.words import words_of
 from project import kit
-from project.compile import clear_others
 from project.running import end_on_signals, locked, started
 
 COPY, LOG, LOCK = TOP / 'out/proof', TOP / 'out/proof.log', TOP / 'out/proof.lock'
@@ -99,6 +98,5 @@ def main() -> int:
     except SystemExit:
         say('interrupted; ./prove continues with the crates that are left')
         raise
-    clear_others()
     say('everything is proved; ./run and the tools now run the proved program')
     return 0

@@ -10,7 +10,6 @@ from __future__ import annotations
 import argparse
 import contextlib
 import os
-import shutil
 import signal
 import subprocess
 import sys
@@ -19,7 +18,7 @@ from pathlib import Path
 from typing import NamedTuple, NoReturn
 
 from motesim.faults import OF_ALL, Fault
-from motesim.runner.programs import NOT_PROVED, is_compiled, is_program, note_use, program_of_sources
+from motesim.runner.programs import NOT_PROVED, is_compiled, is_program, program_of_sources
 from motesim.version import VERSION
 from project.compile import compile_program
 from project.running import ends_with_parent
@@ -95,12 +94,6 @@ def say_more(file: str | None) -> None:
             say('%s: tools/explain %s says more' % (NAME, file))
 
 
-def say_help_of_run() -> None:
-    """Prints the options of ./run with the program's own text: if that goes to a terminal, below it, otherwise on
-    standard error, so that standard output is the program's."""
-    print(HELP_OF_RUN, file=sys.stdout if os.isatty(1) else sys.stderr)
-
-
 def check_arguments(request: Request) -> None:
     """Ends if `motesim` would refuse the arguments, or couldn't read the file."""
     if request.refusal:
@@ -123,15 +116,12 @@ def program_for(request: Request) -> Path:
     if found is None:
         if request.wants_help:
             print(HELP.read_text('utf-8'), end='', flush=True)
-            say_help_of_run()
+            say(HELP_OF_RUN)
             sys.exit(0)
         check_arguments(request)
-        if not shutil.which('rt'):
-            raise Fault("the program isn't built, and compiling it needs the Rattle kit: there is no command rt here")
         found = compile_program()
     if is_compiled(found) and not request.wants_help:
         say('%s: %s' % (NAME, NOT_PROVED))
-    note_use(found)
     return found
 
 
@@ -147,7 +137,8 @@ def run(program: Path, request: Request) -> NoReturn:
     except OSError as fault:
         raise Fault('%s: %s' % (program, fault.strerror)) from None
     if status == 0 and request.wants_help:
-        say_help_of_run()
+        # (on standard error: standard output is the program's)
+        say(HELP_OF_RUN)
     if status == FAILED:
         say_more(request.file)
     sys.exit(status if status >= 0 else 128 - status)

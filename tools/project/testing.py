@@ -10,8 +10,7 @@ from typing import NoReturn
 from motesim.experiments.packages import SYSTEM, has
 from motesim.faults import Fault, command
 from motesim.words import words_of
-from motesim.runner.programs import TOP
-from project.tree import program_of, take_program
+from motesim.runner.programs import TOP, program_path
 
 TESTS = TOP / 'tools/tests'
 MINUTES = 30
@@ -44,12 +43,11 @@ def about(module: Path) -> str | None:
 def check(module: Path) -> NoReturn:
     """Tests the program with a module of tests/."""
     words = words_of(about(module))
-    take_program(words)
     words.add_argument('names', nargs='*', metavar='NAME', help='what to test (all)')
     words.epilog = 'Other options are passed on to pytest, each in one word: -x, -kWORD.'
     asked, others = words.parse_known_args()
     become([*pytest('group'), str(module), *others, *('--name=' + it for it in asked.names)],
-           MOTESIM=program_of(asked.program))
+           MOTESIM=str(program_path().resolve()))
 
 
 def check_with(module: str) -> NoReturn:

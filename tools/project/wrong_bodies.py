@@ -35,7 +35,6 @@ GATE = 'gate-bodies'
 
 def words() -> argparse.Namespace:
     asked = words_of(__doc__)
-    asked.add_argument('--list', action='store_true', help='print the mutants, their checks and functions; try none')
     asked.add_argument('--built', action='store_true', help='use the libraries as rt ci has left them, and build none')
     asked.add_argument('--changed', action='store_true', help='leave out what was refused over exactly the same texts')
     asked.add_argument('--gate', action='store_true', help='those of %s that have changed, and a tenth of all' % GATE)
@@ -62,20 +61,11 @@ def tenth(edits: Sequence[Edit], seed: str) -> list[Edit]:
 
 
 def of_gate(edits: Sequence[Edit]) -> list[Edit]:
-    """The mutants that the gate tries. One that can't be applied is always among them, and fails."""
+    """The mutants that the gate tries."""
     new, of_tenth = log.changed(it for it in edits if it.file.parent.name == GATE), tenth(edits, commit())
     print('%d of %s have changed; a tenth of all, chosen by the commit %s: %d' % (
         len(new), GATE, commit()[:8], len(of_tenth)), flush=True)
-    return [it for it in edits if it in new or it in of_tenth or it.trouble]
-
-
-def print_list(edits: Sequence[Edit]) -> None:
-    for number, group in enumerate(groups(edits), 1):
-        for it in group:
-            print('%s: check %d, %s' % (it.name, number, it.function or 'the whole crate'))
-    for it in edits:
-        if it.trouble:
-            print("%s: it can't be applied: %s" % (it.name, it.trouble))
+    return [it for it in edits if it in new or it in of_tenth]
 
 
 # The trial.
@@ -140,9 +130,6 @@ def main() -> int:
     chosen = of_gate(every) if asked.gate else every
     if asked.changed:
         chosen = log.changed(chosen)
-    if asked.list:
-        print_list(chosen)
-        return 0
     use_libraries = check_libraries if asked.built else kit.build_libraries
     use_libraries(list({it.crate.name: it.crate for it in chosen}.values()))
     found = judge_all(chosen)

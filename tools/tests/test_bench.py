@@ -50,9 +50,9 @@ class Command(unittest.TestCase):
             program = Path(room) / 'motesim'
             program.write_text(PROGRAM.replace('ODD', odd))
             program.chmod(0o755)
-            words = ['bench', '--program', str(program), '--rounds', '1', '--no-instructions', *asked]
-            with mock.patch.object(sys, 'argv',
-                                   words), contextlib.redirect_stdout(said), contextlib.redirect_stderr(said):
+            words = ['bench', '--rounds', '1', '--no-instructions', *asked]
+            with mock.patch.dict('os.environ', MOTESIM=str(program)), mock.patch.object(sys, 'argv', words), \
+                    contextlib.redirect_stdout(said), contextlib.redirect_stderr(said):
                 with self.assertRaises(SystemExit) as end:
                     bench.main()
         return said.getvalue(), end.exception.code

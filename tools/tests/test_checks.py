@@ -1,6 +1,7 @@
 """The commands in tools/dev that test the built program. The programs here are stand-ins, and most have an error."""
 from __future__ import annotations
 
+import os
 import runpy
 import shutil
 import subprocess
@@ -46,8 +47,8 @@ class Check(unittest.TestCase):
 
     def check(self, command: str, *words: object) -> tuple[str, str, int]:
         """The output of a command, its last line, and its status."""
-        called = [TOOLS / 'dev' / command, IN_ONE_PROCESS, '--program', self.program, *words]
-        done = subprocess.run([str(it) for it in called], stdout=subprocess.PIPE, stderr=subprocess.STDOUT, text=True)
+        called = [TOOLS / 'dev' / command, IN_ONE_PROCESS, *words]
+        done = subprocess.run([str(it) for it in called], env={**os.environ, 'MOTESIM': str(self.program)}, stdout=subprocess.PIPE, stderr=subprocess.STDOUT, text=True)
         return done.stdout, done.stdout.splitlines()[-1], done.returncode
 
 
@@ -57,7 +58,6 @@ class Commands(Check):
                         'refuse_memory'):
             done = subprocess.run([str(TOOLS / 'dev' / command), '--help'], capture_output=True, text=True)
             self.assertIn('tools/dev/' + command, done.stdout)
-            self.assertIn('--program FILE', done.stdout)
 
     def test_without_a_program_they_fail(self) -> None:
         self.assertIn('there is no program', self.check('spoil_bytes')[0])
@@ -65,7 +65,7 @@ class Commands(Check):
     def test_without_pytest_they_say_what_to_install(self) -> None:
         self.put_program('true')
         with mock.patch('project.testing.has', lambda module, python: False), mock.patch.object(
-                sys, 'argv', ['run_cases', '--program', str(self.program)]):
+                sys, 'argv', ['run_cases']):
             with self.assertRaisesRegex(Fault, 'apt-get install python3-pytest'):
                 testing.check(TOP / 'tests/test_cases.py')
 
@@ -131,7 +131,7 @@ class Workers(Check):
         argument is odd."""
         self.put_program('echo "$*" >>%s/words\ncase " $* " in *" %s "*) echo another ;; *) cat ;; esac' % (
             self.room, odd))
-        return self.check('compare_workers', self.room)
+        return self.check('compare_workers', self.scenario)
 
     def test_each_way_once(self) -> None:
         self.assertEqual(self.compared('none')[1:], ('1 passed, 0 failed, 0 skipped', 0))

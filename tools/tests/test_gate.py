@@ -45,7 +45,7 @@ class Gate(unittest.TestCase):
     def test_all_steps_are_added_up(self) -> None:
         lines, status = self.run_it()
         self.assertEqual((lines[-1], status), ('20 passed, 0 failed, 0 skipped', 0))
-        self.assertEqual(len([it for it in lines if it.startswith('== it needed 0m')]), 10)
+        self.assertEqual(len([it for it in lines if it.startswith('== time: 0m')]), 10)
         lines, status = self.run_it('--quick')
         self.assertEqual((lines[-1], status), ('8 passed, 0 failed, 0 skipped', 0))
 

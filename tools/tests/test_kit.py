@@ -1,10 +1,7 @@
 """That the kit at hand is the one that tools/project/kit.py knows, with all that it takes of it."""
 import shutil
-import subprocess
-import tempfile
 import types
 import unittest
-from pathlib import Path
 from unittest import mock
 
 import here

@@ -2,6 +2,7 @@
 from __future__ import annotations
 
 import re
+import shutil
 import tempfile
 import unittest
 from dataclasses import replace
@@ -12,7 +13,7 @@ from unittest import mock
 
 import here  # (it puts tools/ on the path)
 from motesim.faults import Fault
-from project import wrong_bodies
+from project import kit, wrong_bodies
 from project.mutants import checks, log
 from project.mutants.checks import ANSWER, CONTRACT, INVARIANT, LIMIT, Verdict, function_of, refused_in, verdict_of
 from project.mutants.edits import Edit, edits_of, function_around, groups, together
@@ -319,6 +320,14 @@ class Log(unittest.TestCase):
         chosen = [edit_of(name) for name in [*kinds, 'low/d', 'low/e']]
         with mock.patch.object(log, 'digest', lambda edit: '1'):
             self.assertEqual([it.name for it in log.changed(chosen)], ['low/c', 'low/d', 'low/e'])
+
+
+@unittest.skipUnless(shutil.which('rt'), 'the command rt of the Rattle kit is not here')
+class OfThisTree(unittest.TestCase):
+    def test_each_mutant_can_be_applied(self) -> None:
+        edits = [it for crate in kit.crates_below(here.TOP) for it in edits_of(crate)]
+        self.assertGreater(len(edits), 200)
+        self.assertEqual(['%s: %s' % (it.name, it.trouble) for it in edits if it.trouble], [])
 
 
 class Choice(unittest.TestCase):

@@ -164,13 +164,6 @@ def is_compiled(program: Path) -> bool:
     return is_packed or _is_kept_as('compiled-', program)
 
 
-@functools.cache
-def note_use(program: Path) -> None:
-    """Notes that a program is used: those that were used last are kept."""
-    with contextlib.suppress(OSError):
-        os.utime(program.parent)
-
-
 def is_said_today() -> bool:
     """True if this was reported on this machine, to this user, within a day; notes that it is reported now."""
     cache = os.environ.get('XDG_CACHE_HOME') or os.path.expanduser('~/.cache')
@@ -213,5 +206,4 @@ def _program_here() -> Path:
                            'or name a compiled one by the environment variable MOTESIM')
     if is_compiled(found):
         say_not_proved()
-    note_use(found)
     return found
