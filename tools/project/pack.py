@@ -20,7 +20,8 @@ import io
 import os
 import re
 import tarfile
-from pathlib import Path
+from collections.abc import Collection
+from pathlib import Path, PurePosixPath
 
 from motesim.faults import Fault, command
 from motesim.runner.programs import COMPILED, TOP, is_proved, program_of_sources, program_path
@@ -32,6 +33,8 @@ from project.tree import commit
 
 # The contents of the archive besides the program: files, and folders with all files in them that git knows.
 PARTS = ('CHANGES.md', 'CITATION.cff', 'LICENSE', 'docs/use', 'examples', 'tools/contiki_host', 'tools/motesim')
+# A link of a page, with its words and its target. (The words may be on two lines.)
+LINK = re.compile(r'(?<!!)\[([^\]\n]*(?:\n[^\]\n]*)?)\]\(([^)#\s]*)(?:#[^)\s]*)?\)')
 
 
 def template(name: str) -> str:
@@ -104,7 +107,19 @@ def files(program: Path) -> dict[str, tuple[bytes, int]]:
         for file in filter(is_for_students, [path, *sorted(path.rglob('*'))]):
             mode = 0o755 if file.stat().st_mode & 0o100 else 0o644
             found[str(file.relative_to(TOP))] = file.read_bytes(), mode
-    return found
+    return {name: (without_dead_links(name, data, found), mode) if name.endswith('.md') else (data, mode)
+            for name, (data, mode) in found.items()}
+
+
+def without_dead_links(name: str, data: bytes, names: Collection[str]) -> bytes:
+    """A page whose links to what isn't in the archive are plain words."""
+    folders = {str(parent) for it in names for parent in PurePosixPath(it).parents}
+
+    def kept(link: re.Match[str]) -> str:
+        target = os.path.normpath(os.path.join(os.path.dirname(name), link[2]))
+        return link[0] if '://' in link[2] or not link[2] or target in names or target in folders else link[1]
+
+    return LINK.sub(kept, data.decode('utf-8')).encode()
 
 
 def archive(folder: str, program: Path) -> bytes:

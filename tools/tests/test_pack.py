@@ -1,7 +1,10 @@
 """The archive for a classroom: what it holds, and that its program and tools run from any folder."""
+import contextlib
 import hashlib
 import io
 import os
+import pty
+import re
 import shutil
 import subprocess
 import sys
@@ -81,6 +84,55 @@ class Pack(unittest.TestCase):
                                                                   'motesim: this program is compiled, not proved\n'))
             done = subprocess.run([str(top / 'run'), '--version'], capture_output=True, text=True)
             self.assertEqual((done.stdout, done.stderr), ('motesim %s, compiled without a proof\n' % VERSION, ''))
+
+    def unpacked(self) -> Path:
+        """An archive in which the program refuses all but an empty scenario, and its proof isn't known."""
+        room = tempfile.TemporaryDirectory()
+        self.addCleanup(room.cleanup)
+        program = Path(room.name) / 'program'
+        program.write_text('#!/bin/sh\n[ -r "$1" ] && [ ! -s "$1" ] && exit\necho "motesim: a fault" >&2\nexit 1\n')
+        program.chmod(0o755)
+        with mock.patch.object(pack, 'licenses', dict), tarfile.open(
+                fileobj=io.BytesIO(pack.archive('motesim', program))) as tar:
+            tar.extractall(room.name)
+        return Path(room.name) / 'motesim'
+
+    def on_terminal(self, top: Path, *words: str) -> tuple[int, list[str]]:
+        """The status of an archive's ./run, and the lines on its terminal."""
+        ours, its = pty.openpty()
+        done = subprocess.run(['./run', *words], cwd=top, stdin=subprocess.DEVNULL, stdout=its, stderr=its, timeout=60,
+                              env={'PATH': '/usr/bin:/bin', 'MOTESIM_SEEN': str(top / 'said')})
+        os.close(its)
+        said = b''
+        with contextlib.suppress(OSError):
+            while data := os.read(ours, 65536):
+                said += data
+        os.close(ours)
+        return done.returncode, said.decode().replace('\r', '').splitlines()
+
+    def test_a_refused_scenario_has_a_line_more_on_a_terminal(self) -> None:
+        top = self.unpacked()
+        (top / 'empty.toml').write_text('')
+        self.assertEqual(self.on_terminal(top, 'empty.toml'), (0, ['motesim: this program is compiled, not proved']))
+        self.assertEqual(self.on_terminal(top, 'empty.toml'), (0, []))
+        self.assertEqual(self.on_terminal(top, 'run'), (1, [
+            'motesim: a fault', 'motesim: ./tools/explain run says more']))
+        for name in 'none.toml', 'docs':
+            self.assertEqual(self.on_terminal(top, name), (1, [
+                'motesim: a fault', 'motesim: there is no file %s that can be read' % name]))
+        done = subprocess.run(['./run', 'run'], cwd=top, capture_output=True, text=True,
+                              env={'PATH': '/usr/bin:/bin', 'MOTESIM_SEEN': str(top / 'said')})
+        self.assertEqual((done.returncode, done.stdout, done.stderr), (1, '', 'motesim: a fault\n'))
+
+    def test_no_link_of_an_archive_is_dead(self) -> None:
+        top = self.unpacked()
+        pages = sorted(top.rglob('*.md'))
+        self.assertGreater(len(pages), 20)
+        for page in pages:
+            for target in re.findall(r'\]\(([^)#\s]+)(?:#[^)]*)?\)', page.read_text('utf-8')):
+                if '://' not in target:
+                    self.assertTrue((page.parent / target).exists(), (page.name, target))
+        self.assertNotIn('](TEACH.md', (top / 'docs/use/WORKSHEET.md').read_text('utf-8'))
 
     def test_the_program_of_the_sources_is_packed_or_compiled_first(self) -> None:
         for found, packed, times in [(TOP / 'proved-x/motesim',) * 2 + (0,), (None, TOP / 'compiled-x/motesim', 1)]:

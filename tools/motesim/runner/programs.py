@@ -181,7 +181,7 @@ def is_said_today() -> bool:
 
 @functools.cache
 def say_not_proved() -> None:
-    """Says, once a day, that the program that is run was not proved. (./run says so each time.)"""
+    """Says, once a day, that the program that is run was not proved. (A tree's ./run says so each time.)"""
     if is_said_today():
         return
     print('motesim: %s' % (COMPILED if is_program(PACKED) else NOT_PROVED), file=sys.stderr, flush=True)
