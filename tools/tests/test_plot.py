@@ -108,13 +108,28 @@ class PlotTest(unittest.TestCase):
         for words, seen in [
             (('--measure', 'speed', '--against', 'period'), 'there is no measure speed; there are: sent, late'),
             (('--measure', 'sent', '--against', 'none'), 'there is no parameter none; there are: period, density,'),
-            (('--measure', 'sent'), '--against NAME'),
+            (('--measure', 'sent'), 'nothing is named for the axis from left to right: add --against NAME'),
+            (('--measure', 'sent', '--against', 'perod'), 'density, seed; and the measures: sent, late; did you mean '
+             'period?'),
+            (('--measure', 'sent', '--against', 'period', '--pair', 'period=1,2'), '--against needs another parameter: '
+             'density, seed'),
+            (('--measure', 'sent', '--against', 'density', '--pair', 'period=1,5'), 'no run has period = 5; there are: '
+             '1, 2, 3, 10'),
+            (('--measure', 'sent', '--against', 'density', '--compare', 'net.csv'), '--compare needs another file'),
+            (('--measure', 'sent', '--against', 'density', '--where', 'period=7'), 'period has: 1, 2, 3, 10'),
+            (('--measure', 'sent', '--against', 'density', '--where', 'period=3', '--where', 'seed=4'),
+             'no runs with these values together: period=3, seed=4'),
             (('--measure', 'sent', '--against', 'period', '-o', 'a.gif'), 'SVG, PDF or PNG'),
             (('--measure', 'sent', '--against', 'period', '--where', 'seed=9'), 'no runs of a sweep with these'),
             (('--plan', 'no.toml'), 'no.toml: No such file'),
         ]:
             done = self.plot(*words)
             self.assertEqual((done.returncode, done.stdout), (2, ''), words)
+            self.assertIn(seen, done.stderr)
+        for text, seen in ('end = 9\n\n', "net.csv isn't a file that tools/sweep wrote"), (HEAD, 'net.csv has no runs'):
+            (self.folder / 'net.csv').write_text(text)
+            done = self.plot('--measure', 'sent', '--against', 'period')
+            self.assertEqual((done.returncode, done.stdout), (2, ''))
             self.assertIn(seen, done.stderr)
 
     def test_texts_are_no_measure(self) -> None:

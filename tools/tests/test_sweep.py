@@ -259,7 +259,7 @@ class SweepTest(Bed):
         self.assertEqual(anew.stdout, 'net.csv: 6 runs, 6 of them now, 0 with a fault\n')
         other = self.sweep(*self.words, '--measure', 'sent')
         self.assertEqual(other.returncode, 2)
-        self.assertIn('other columns', other.stderr)
+        self.assertIn('other columns than this sweep (it lacks sent): ', other.stderr)
 
     def test_pictures_values_and_comments_of_the_plan_do_not_make_other_rows(self) -> None:
         words = '\n[sweep]\nvary = { period = "%s" }\nmeasure = ["prints"]\n[[plot]]\nfile = "a.svg"\n' \

@@ -6,6 +6,7 @@ from collections.abc import Mapping, Sequence
 from typing import NamedTuple
 
 from motesim.analysis.estimates import AUTO, NAMES, Estimate, Measured, mean_of, measured, median_with_quartiles
+from motesim.explain.synonyms import nearest
 from motesim.experiments.measures import Cell
 from motesim.experiments.results import Row, text_of
 from motesim.faults import Fault
@@ -169,11 +170,18 @@ def _check(rows: Sequence[Row], wish: Wish) -> None:
     parameters, measures = parameters_of(rows), measures_of(rows)
     for name in [wish.by, *wish.over.split(',')]:
         if name and name not in [*parameters, *(it for it in SEPARATES if it in rows[0])]:
-            raise Fault('there is no parameter %s; there are: %s' % (name, ', '.join(parameters)))
+            raise Fault('there is no parameter %s; %s' % (name, known(name, parameters)))
     if wish.against and wish.against not in [*parameters, *measures]:
-        raise Fault('there is no parameter %s; there are: %s' % (wish.against, ', '.join(parameters)))
+        raise Fault('there is no parameter %s; %s' % (wish.against, known(wish.against, parameters, measures)))
     if wish.measure not in measures:
-        raise Fault('there is no measure %s; there are: %s' % (wish.measure, ', '.join(measures)))
+        raise Fault('there is no measure %s; %s' % (wish.measure, known(wish.measure, measures)))
+
+
+def known(name: str, names: Sequence[str], others: Sequence[str] = ()) -> str:
+    """The names that there are, and the one that was likely meant."""
+    near = nearest(name, [*names, *others])
+    more = '; and the measures: %s' % ', '.join(others) if others else ''
+    return 'there are: %s%s%s' % (', '.join(names), more, '; did you mean %s?' % near if near else '')
 
 
 def number_of(row: Row, measure: str) -> float | None:

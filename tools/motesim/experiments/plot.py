@@ -4,7 +4,7 @@ from __future__ import annotations
 import argparse
 import shlex
 import sys
-from collections.abc import Sequence
+from collections.abc import Iterable, Sequence
 from pathlib import Path
 from typing import NamedTuple
 
@@ -19,7 +19,8 @@ from motesim.analysis.points import names_of_nets, order, parameters_of, shared_
 from motesim.analysis.rows import by_net, once, warnings_of
 from motesim.experiments import packages
 from motesim.experiments.asked import values_of
-from motesim.experiments.results import Row, cell, read_results, text_of
+from motesim.experiments.measures import Cell
+from motesim.experiments.results import Row, cell, columns_of_results, read_results, text_of
 from motesim.faults import Fault
 from motesim.plan.plan import Plan
 from motesim.plan.tables import Tables, any_kind, needed, optional, text_of_value
@@ -36,6 +37,8 @@ PLOT = {'file': needed(str), 'measure': needed(str), 'against': optional(str, ''
         'footer': optional(str, None), 'size': optional(str, ''), 'log_y': optional(bool, False),
         'nets': optional(bool, False), 'pair': optional(str, ''), 'compare': optional(str, ''),
         WHERE: optional(dict, {}), LABELS: optional(dict, {})}
+# How many values of a column a message has.
+MOST_SHOWN = 12
 # The views without a measure upwards.
 NOT_UPWARDS = ('cdf', 'heat')
 # Options that have no effect in a comparison run by run, and are refused.
@@ -103,7 +106,7 @@ def wishes_of(plan: Plan) -> list[Wish]:
                                False)
         found.append(wish)
     if not found:
-        raise Fault('%s has no `plot`' % plan.name)
+        raise Fault('%s has no `plot`: add tables [[plot]] to it, or name --measure and --against' % plan.name)
     return found
 
 
@@ -177,6 +180,9 @@ def compare(sides: Sides, wish: Wish, source: Source) -> bool:
     if wish.measure not in measures_of(rows) or wish.measure not in measures_of(others):
         raise Fault('there is no measure %s on both sides; there are: %s' % (
             wish.measure, ', '.join(it for it in measures_of(rows) if it in measures_of(others))))
+    if wish.against == wish.pair.partition('=')[0]:
+        raise Fault('--pair compares two values of %s, so --against needs another parameter: %s' % (
+            wish.against, ', '.join(kept) or 'there is none'))
     if wish.against not in kept:
         raise Fault('there is no parameter %s on both sides; there are: %s' % (wish.against, ', '.join(kept)))
     check_pairs([*rows, *others], wish, kept)
@@ -212,8 +218,11 @@ def compare(sides: Sides, wish: Wish, source: Source) -> bool:
 def wishes(asked: argparse.Namespace) -> list[Wish]:
     if asked.plan:
         return wishes_of(Plan.read(asked.plan))
-    if not asked.measure or not asked.against and asked.show != 'cdf':
+    if not asked.measure:
         raise Fault('no measure is named: add --measure NAME --against NAME, or --plan PLAN')
+    if not asked.against and asked.show != 'cdf':
+        raise Fault('nothing is named for the axis from left to right: add --against NAME, with a parameter or a '
+                    'measure; only --show cdf needs none')
     if asked.output and Path(asked.output).suffix not in FORMATS:
         raise Fault('%s: a picture is SVG, PDF or PNG: its name ends in .svg, .pdf or .png' % asked.output)
     if (asked.pair or asked.compare) and (asked.show or asked.threshold):
@@ -239,6 +248,12 @@ def wishes(asked: argparse.Namespace) -> list[Wish]:
                  labels=labels_of(asked.label))]
 
 
+def some_of(values: Iterable[Cell]) -> str:
+    """The values of a column, the first of many."""
+    found = [text_of(it) or 'none' for it in sorted(set(values), key=order)]
+    return ', '.join(found[:MOST_SHOWN] + ['..'] * (len(found) > MOST_SHOWN))
+
+
 def labels_of(words: Sequence[str]) -> tuple[tuple[str, str], ...]:
     """The texts of a legend, by their values."""
     found = [it.partition('=') for it in words]
@@ -258,6 +273,9 @@ def chosen(rows: Sequence[Row], where: Sequence[str]) -> list[Row]:
         if rows and name not in rows[0]:
             raise Fault('there is no parameter %s; there are: %s' % (name, ', '.join(parameters_of(rows))))
         values = {text_of_value(it) for it in values_of(value)} if value else {''}
+        if not any(text_of(row[name]) in values for row in rows):
+            raise Fault('no runs of a sweep with these values: %s; %s has: %s' % (words, name, some_of(
+                row[name] for row in rows)))
         found = [row for row in found if text_of(row[name]) in values]
     return found
 
@@ -269,10 +287,14 @@ def separated_by(wish: Wish) -> list[str]:
 
 def runs_of(path: Path, where: Sequence[str], apart: Sequence[str] = ()) -> list[Row]:
     """The runs of a file of results, each once."""
-    columns, rows = read_results(path)
+    if path.exists() and not {'fault', 'parameters'} <= set(columns_of_results(path)):
+        raise Fault('%s isn\'t a file that tools/sweep wrote: it has no columns `fault` and `parameters`' % path)
+    rows = read_results(path)[1]
+    if not rows:
+        raise Fault('%s has no runs: run tools/sweep again' % path)
     rows = chosen(rows, where)
-    if not rows or not {'fault', 'parameters'} <= set(columns):
-        raise Fault('%s has no runs of a sweep%s' % (path, ' with these values' if where else ''))
+    if not rows:
+        raise Fault('%s has no runs with these values together: %s' % (path, ', '.join(where)))
     rows, lines = once(rows, str(path), apart)
     for line in lines:
         print('plot: %s' % line, file=sys.stderr)
@@ -291,6 +313,8 @@ def sides_of(wish: Wish, rows: list[Row], results: Path, other: Path, where: Seq
     """The two sides of a comparison: two files, or two values of a parameter."""
     parameters = parameters_of(rows)
     if wish.compare:
+        if other.exists() and other.samefile(results):
+            raise Fault('--compare needs another file than %s, the first side' % results)
         others = runs_of(other, where)
         names = results.stem, other.stem
         if names[0] == names[1]:
@@ -302,7 +326,8 @@ def sides_of(wish: Wish, rows: list[Row], results: Path, other: Path, where: Seq
         raise Fault('--pair needs NAME=ONE,OTHER with a parameter (%s), not %r' % (', '.join(parameters), wish.pair))
     one, two = ([row for row in rows if text_of(row[name]) == text_of(cell(side))] for side in sides)
     if not one or not two:
-        raise Fault('no run has %s = %s' % (name, sides[0] if not one else sides[1]))
+        raise Fault('no run has %s = %s; there are: %s' % (
+            name, sides[0] if not one else sides[1], some_of(row[name] for row in rows)))
     shown = '%s %s' % (name, sides[0]), '%s %s' % (name, sides[1])
     return Sides(one, two, shown, [it for it in parameters if it != name])
 

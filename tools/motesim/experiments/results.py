@@ -305,9 +305,17 @@ def open_results(path: Path, columns: Sequence[str]) -> CsvFile | SqliteFile:
     """The file to add rows to. One that is there already has to have these columns."""
     file: CsvFile | SqliteFile = SqliteFile(path, columns) if is_sqlite(path) else CsvFile(path, columns)
     if file.found != list(columns):
-        raise Fault('%s has other columns than this sweep: another plan, other parameters or other measures made it. '
-                    'Name another file with -o' % path)
+        more, less = [[it for it in one if it not in other] for one, other in (
+            (file.found, columns), (columns, file.found))]
+        ways = ['it has %s' % ', '.join(more)] * bool(more) + ['it lacks %s' % ', '.join(less)] * bool(less)
+        raise Fault('%s has other columns than this sweep (%s): another plan, other parameters or other measures made '
+                    'it. Name another file with -o' % (path, '; '.join(ways) or 'in another order'))
     return file
+
+
+def columns_of_results(path: Path) -> list[str]:
+    """The columns of a file of results."""
+    return read_results(path)[0] if is_sqlite(path) else columns_of_csv(path)
 
 
 def read_results(path: Path) -> tuple[list[str], list[Row]]:
