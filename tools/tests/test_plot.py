@@ -111,10 +111,10 @@ class PlotTest(unittest.TestCase):
             (('--measure', 'sent'), 'nothing is named for the axis from left to right: add --against NAME'),
             (('--measure', 'sent', '--against', 'perod'), 'density, seed; and the measures: sent, late; did you mean '
              'period?'),
-            (('--measure', 'sent', '--against', 'period', '--pair', 'period=1,2'), '--against needs another parameter: '
-             'density, seed'),
-            (('--measure', 'sent', '--against', 'density', '--pair', 'period=1,5'), 'no run has period = 5; there are: '
-             '1, 2, 3, 10'),
+            (('--measure', 'sent', '--against', 'period', '--pair', 'period=1,2'),
+             '--against needs another parameter: density, seed'),
+            (('--measure', 'sent', '--against', 'density', '--pair', 'period=1,5'),
+             'no run has period = 5; there are: 1, 2, 3, 10'),
             (('--measure', 'sent', '--against', 'density', '--compare', 'net.csv'), '--compare needs another file'),
             (('--measure', 'sent', '--against', 'density', '--where', 'period=7'), 'period has: 1, 2, 3, 10'),
             (('--measure', 'sent', '--against', 'density', '--where', 'period=3', '--where', 'seed=4'),
@@ -126,7 +126,8 @@ class PlotTest(unittest.TestCase):
             done = self.plot(*words)
             self.assertEqual((done.returncode, done.stdout), (2, ''), words)
             self.assertIn(seen, done.stderr)
-        for text, seen in ('end = 9\n\n', "net.csv isn't a file that tools/sweep wrote"), (HEAD, 'net.csv has no runs'):
+        for text, seen in ('end = 9\n\n', "net.csv isn't a file that tools/sweep wrote"), (
+                HEAD, 'net.csv has no runs'):
             (self.folder / 'net.csv').write_text(text)
             done = self.plot('--measure', 'sent', '--against', 'period')
             self.assertEqual((done.returncode, done.stdout), (2, ''))

@@ -408,8 +408,8 @@ class Rows(unittest.TestCase):
     def test_runs_that_draw_alike_are_found_in_any_rows(self) -> None:
         rows: list[Row] = [{**row(1, seed, seed), 'chance_seeds': 'seed'} for seed in (1, 100, 258, 300, 772)]
         self.assertEqual(warnings_of(rows), [
-            'seed = 1 to 772: with 2 of these 5 seeds, mote k draws as mote k + 1 does with the seed 257 less, so these '
-            'runs are not independent: use at most 257 seeds in a row'])
+            'seed = 1 to 772: with 2 of these 5 seeds, mote k draws as mote k + 1 does with the seed 257 less, so '
+            'these runs are not independent: use at most 257 seeds in a row'])
         self.assertEqual(warnings_of(rows[1:4]), [])
         self.assertEqual(warnings_of([{**it, 'chance_seeds': None} for it in rows]), [])
         self.assertIn('mote k draws as mote k + 2 does with the seed 514 less', warnings_of(rows[2:])[0])
@@ -417,8 +417,8 @@ class Rows(unittest.TestCase):
     def test_warnings_in_notes_are_counted(self) -> None:
         rows: list[Row] = [{**row(period, seed, seed), 'note': 'warning: in step' if period + seed < 4 else None}
                            for period in (1, 2) for seed in (1, 2)]
-        self.assertEqual(warnings_of(rows), ['3 of 4 runs have a warning in the column note of the results; the first: '
-                                             'period = 1, seed = 1'])
+        self.assertEqual(warnings_of(rows), [
+            '3 of 4 runs have a warning in the column note of the results; the first: period = 1, seed = 1'])
 
     def test_runs_of_two_builds_have_a_line_and_can_be_separated(self) -> None:
         rows: list[Row] = [{**row(1, seed, seed), 'program_sha256': 'digest%d' % (seed > 1)} for seed in (1, 2, 3)]
@@ -466,7 +466,7 @@ class Shown(unittest.TestCase):
         rows: list[Row] = [{**row(1, seed, seed), 'poppy_seed': poppy, 'parameters': 'period seed poppy_seed'}
                            for seed in (1, 2) for poppy in (1, 2)]
         self.assertEqual(shown_of(rows, Wish('sent', 'period')).points[0].values, (1, 1, 2, 2))
-        with self.assertRaisesRegex(Fault, r'differ in poppy_seed \(1, 2\) \(repetitions are: seed\): --by poppy_seed'):
+        with self.assertRaisesRegex(Fault, r'differ in poppy_seed \(1, 2\) \(repetitions are: seed\): --by'):
             shown_of(rows, Wish('sent', 'period', over='seed'))
         shown = shown_of(rows, Wish('sent', 'period', by='poppy_seed', over='seed'))
         self.assertEqual([it.values for it in shown.points], [(1, 2), (1, 2)])
@@ -1015,8 +1015,8 @@ class Command(unittest.TestCase):
         self.plot('--measure', 'sent', '--show', 'cdf', '--by', 'density', '--over', 'seed,period', '-o', 'a.svg',
                   '--label', 'thin=4 neighbours')
         self.assertIn('>4 neighbours<', (self.folder / 'a.svg').read_text())
-        for more, seen in ((('--by', 'density', '--label', 'thick=a'), 'no line has density = thick; there are: dense, '
-                            'thin'), (('--label', 'thin=a', *ONE), '--label is the text of a line of --by'),
+        for more, seen in ((('--by', 'density', '--label', 'thick=a'),
+                            'no line has density = thick; there are: dense, thin'), (('--label', 'thin=a', *ONE), '--label is the text of a line of --by'),
                            (('--by', 'density', '--label', 'thin'), '--label needs VALUE=TEXT')):
             self.plot(*words, *more, status=2)
             self.assertIn(seen, self.seen)

@@ -58,8 +58,8 @@ class Seeds:
         for name, values in self.values.items():
             alike = self.earlier(name)
             if alike:
-                found.append('%s = %d to %d: with %d of these %d seeds, mote k draws as mote k + %d does with the seed '
-                             '%d less, so these runs are not independent: %s' % (
+                found.append('%s = %d to %d: with %d of these %d seeds, mote k draws as mote k + %d does with the '
+                             'seed %d less, so these runs are not independent: %s' % (
                                  name, min(values), max(values), len(alike), len(values), *apart(alike), ADVICE))
         return found
 

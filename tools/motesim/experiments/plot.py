@@ -90,7 +90,8 @@ def wishes_of(plan: Plan) -> list[Wish]:
             if type(value) is not str:
                 raise tables.fault(path + (LABELS, name), 'A label is a text.', '`20 = "each 20 moments"`')
         if values[LABELS] and not values['by']:
-            raise tables.fault(path + (LABELS,), 'Labels are the texts of the lines of `by`.', 'a plot with `by`', False)
+            raise tables.fault(path + (LABELS,), 'Labels are the texts of the lines of `by`.', 'a plot with `by`',
+                               False)
         values[LABELS] = tuple(values[LABELS].items())
         wish = Wish(**values)
         try:
