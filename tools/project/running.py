@@ -24,16 +24,18 @@ def ends_with_parent(number: int) -> Callable[[], object]:
 
 
 @contextlib.contextmanager
-def started(words: Sequence[str], **how: Any) -> Iterator[tuple[subprocess.Popen[str], IO[str]]]:
-    """Starts a command and yields it, with its messages on both streams. It ends with this block or this process."""
+def started(words: Sequence[str], as_group: bool = False,
+            **how: Any) -> Iterator[tuple[subprocess.Popen[str], IO[str]]]:
+    """Starts a command and yields it, with its messages on both streams. It ends with this block or this process: as a
+    group, with all that it has started; otherwise the keys of the terminal reach it too."""
     with subprocess.Popen(words, stdin=subprocess.DEVNULL, stdout=subprocess.PIPE, stderr=subprocess.STDOUT,
-                          encoding='utf-8', errors='replace', start_new_session=True,
+                          encoding='utf-8', errors='replace', start_new_session=as_group,
                           preexec_fn=ends_with_parent(signal.SIGKILL), **how) as running:
         assert running.stdout
         try:
             yield running, running.stdout
         except BaseException:
-            os.killpg(running.pid, signal.SIGKILL)
+            os.killpg(running.pid, signal.SIGKILL) if as_group else running.kill()
             raise
 
 
