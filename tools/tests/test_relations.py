@@ -177,6 +177,27 @@ class Sentences(unittest.TestCase):
             self.assertIsNone(judge.broken(read_sentence('mote 0 ' + sentence % number, names)))
         self.assertLess(time.process_time() - begun, 3)
 
+    def test_what_is_nearly_right(self) -> None:
+        names = names_of(self.scenario)
+        for sentence, like in (
+                ('mote 1 prints a 1 at moment 13', 'mote 1 prints a 1 at 13'),
+                ('mote 1 prints a 1 after 12 moments', 'mote 1 prints a 1 after 12'),
+                ('mote 1 prints a 1 between moment 3 and moment 20', 'mote 1 prints a 1 between 3 and 20'),
+                ("mote 1 doesn't halt", 'mote 1 never halts'), ("motes 1 and 2 don't halt", 'motes 1 and 2 never halt'),
+                ('mote 1 must send 1', 'mote 1 sends 1'), ('mote 1 hears mote 0', 'mote 1 can hear mote 0'),
+                ("mote 1 prints a '1'", 'mote 1 prints a 1'), ('mote 1 gets 1', 'mote 1 receives 1'),
+                ('mote 1 recieves 1', 'mote 1 receives 1'), ('mote 1 receives a packet', 'mote 1 receives'),
+                ('mote 1 sends 2 packets', 'mote 1 sends exactly 2 times'),
+                ('every mote sends one packet', 'every mote sends exactly once'),
+                ('no mote sends more than 3 packets', 'no mote sends more than 3 times'),
+                ('all motes halt never', 'all motes never halt'), ('no packets collide', 'no copy collides'), ('there are no collisions', 'no copy collides'),
+                ('node 1 doesn\'t receive a packet before moment 5', 'mote 1 never receives before 5')):
+            with self.subTest(sentence):
+                with self.assertRaises(SentenceFault) as caught:
+                    read_sentence(sentence, names)
+                self.assertIn('  Did you mean: %s' % like, caught.exception.explained.splitlines())
+                read_sentence(like, names)
+
     def test_what_is_refused(self) -> None:
         for sentence, seen in REFUSED:
             with self.subTest(sentence), self.assertRaises(SentenceFault) as raised:

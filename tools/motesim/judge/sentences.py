@@ -13,6 +13,7 @@ from dataclasses import dataclass
 
 from motesim.faults import Fault
 from motesim.explain.synonyms import nearest
+from motesim.judge.nearly import rewritten
 from motesim.notation.keywords import SYSTEM
 from motesim.report import FIELDS, MOST_MOMENT, MOST_WORD
 from motesim.scenario import Scenario
@@ -91,10 +92,10 @@ def gerund(many: str) -> str:
 class SentenceFault(Fault):
     """A sentence that can't be read: the place of the first word that isn't allowed, and the allowed ones."""
 
-    def __init__(self, sentence: str, place: int, wanted: list[str], hint: str = ''):
-        self.sentence, self.place, self.wanted = sentence, place, wanted
+    def __init__(self, sentence: str, place: int, wanted: list[str], hint: str = '', like: str | None = None):
+        self.sentence, self.place, self.wanted, self.hint = sentence, place, wanted, hint
         may = textwrap.wrap('Allowed here: ' + ', '.join(wanted), WIDTH, break_on_hyphens=False)
-        like = other_form(sentence, place, wanted) or meant(sentence[place:], wanted)
+        like = like or other_form(sentence, place, wanted) or meant(sentence[place:], wanted)
         lines = [sentence, ' ' * place + '^', *may]
         lines += ['Did you mean: %s' % like] if like else []
         hints = textwrap.wrap('Hint: %s' % hint, WIDTH, break_on_hyphens=False) if hint else []
@@ -701,7 +702,23 @@ class _Reader:
 
 
 def read_sentence(sentence: str, names: Names = Names()) -> Sentence:
-    """Returns the meaning of a sentence."""
+    """Returns the meaning of a sentence. The error of one that is nearly right shows how it is written."""
+    try:
+        return _read(sentence, names)
+    except SentenceFault as fault:
+        like = next((it for it in rewritten(sentence) if _is_read(it, names)), None)
+        raise SentenceFault(sentence, fault.place, fault.wanted, fault.hint, like) if like else fault from None
+
+
+def _is_read(sentence: str, names: Names) -> bool:
+    try:
+        _read(sentence, names)
+        return True
+    except SentenceFault:
+        return False
+
+
+def _read(sentence: str, names: Names) -> Sentence:
     reader = _Reader(sentence, names)
     found = reader.sentence_here()
     reader.end()

@@ -1,0 +1,52 @@
+"""Sentences that are nearly right: the usual wording of what sentences have a word of their own for.
+
+`rewritten(sentence)` yields the sentence as it may have been meant. Only a reader knows which of them is one.
+"""
+from __future__ import annotations
+
+import re
+from collections.abc import Callable, Iterator
+
+NUMBERS = ('no', 'one', 'two', 'three', 'four', 'five', 'six', 'seven', 'eight', 'nine', 'ten')
+VERBS = 'print|send|receive|start|leave|halt'
+Replaced = str | Callable[[re.Match[str]], str]
+
+
+def _times(found: re.Match[str]) -> str:
+    """How often a mote sends or receives, by the number of packets."""
+    verb, bound, number = found['verb'], found['bound'] or 'exactly ', found['number'].lower()
+    many = number if number.isdecimal() else str(NUMBERS.index(number))
+    if many == '0' and bound == 'exactly ':
+        return 'never ' + verb
+    return '%s %s%s' % (verb, bound, 'once' if (many, bound) == ('1', 'exactly ') else many + ' times')
+
+
+FORMS: list[tuple[str, Replaced]] = [
+    (r'\bnode(s?)\b', r'mote\1'),
+    (r'''["'`](\w+)["'`]''', r'\1'),
+    (r'\b(?:gets|gots|hears) (?=\d|a packet|packet)', 'receives '),
+    (r'\brec(?:ie|ee|i|e)ve(s?)\b', r'receive\1'),
+    (r'\b((?:%s)s?) never\b' % VERBS, r'never \1'),
+    (r'\b(at|by|before|after|between|from|within|to|and) (?:the )?(?:moment|time|t ?=) ?(?=\d)', r'\1 '),
+    (r'\b(at|by|before|after|from) (\d+) moments?\b', r'\1 \2'),
+    (r"\b(?:doesn't|does not|must not|should not|shall not|will not|won't|can't) (%s)\b" % VERBS, r'never \1s'),
+    (r"\b(?:don't|do not) (%s)\b" % VERBS, r'never \1'),
+    (r'\b(?:should|must|shall|will|has to) (%s)\b' % VERBS, r'\1s'),
+    (r'\bhears (?=(?:every |no |some )?motes?\b)', 'can hear '),
+    (r"\b(?:doesn't|does not) hear (?=motes?\b)", 'cannot hear '),
+    (r'\b(?P<verb>sends?|receives?) (?P<bound>exactly |at least |at most |more than |fewer than )?'
+     r'(?P<number>\d+|%s) (?:packet|message|copie|copy|value)s?\b' % '|'.join(NUMBERS), _times),
+    (r'\b(sends?|receives?) (?:a|an|the|any) (?:packet|message|copy)\b', r'\1'),
+    (r'\b(?:there (?:is|are) )?no (?:collisions?|(?:packet|message|copie)s? (?:ever )?collides?)'
+     r'(?: happens?| occurs?)?\b', 'no copy collides'),
+    (r'\b(?:there (?:is|are) )?no (?:packet|message|copie)s? (?:is|are|gets?|get) lost\b', 'no copy is lost'),
+]
+
+
+def rewritten(sentence: str) -> Iterator[str]:
+    """The sentence after each form that changes it."""
+    for pattern, replaced in FORMS:
+        new = re.sub(pattern, replaced, sentence, flags=re.I)
+        if new != sentence:
+            sentence = new
+            yield sentence
