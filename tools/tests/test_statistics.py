@@ -563,11 +563,12 @@ class Command(unittest.TestCase):
         (self.folder / 'net.csv').write_text(text)
         words = '--measure', 'sent', '--against', 'period'
         alike, programs = 'seed = 1 to 258: with 1 of these 3 seeds', 'these are runs of 2 builds of motesim'
-        for more in (), ('--show', 'mean'), ('--show', 'points'), ('--by', 'program_sha256'):
+        for more in (), ('--show', 'mean'), ('--show', 'points'), ('--by', 'program_sha256'), (
+                '--over', 'seed,program_sha256'):
             rows = [' '.join(it) for it in self.plot(*words, *more)]
             self.assertTrue(any(it.startswith(alike) for it in rows), rows)
             self.assertIn('plot: ' + alike, self.seen)
-            self.assertEqual(any(it.startswith(programs) for it in rows), '--by' not in more)
+            self.assertEqual(any(it.startswith(programs) for it in rows), '--show' in more or not more)
         (self.folder / 'one.csv').write_text(text.replace('bb', 'aa'))
         rows = [' '.join(it) for it in self.plot(*words, '--compare', 'one.csv')]
         self.assertTrue(any(it.startswith(programs) and '--by' not in it for it in rows), rows)

@@ -158,7 +158,7 @@ def left_to_caption(has_room: bool, picture: Path) -> list[str]:
 def show(rows: Sequence[Row], wish: Wish, source: Source) -> bool:
     """Draws a picture or prints a table; returns whether it has the wanted form."""
     shown = shown_of(by_net(rows, wish) if wish.nets else rows, wish)._replace(
-        warnings=warnings_of(rows, separated_by(wish)))
+        warnings=warnings_of(rows, [*separated_by(wish), *wish.over.split(',')]))
     if not shown.points:
         raise Fault('; '.join(['there is no value of %s to show' % wish.measure, *text.left_out(shown, wish)]))
     text.check_log_y(shown, wish)
@@ -201,7 +201,7 @@ def compare(sides: Sides, wish: Wish, source: Source) -> bool:
     good = [row for row in rows if not row['fault']]
     shared = None if wish.nets else shared_nets(good, [wish.against], wish.measure)
     more = text.of_nets(shared) + text.of_intervals([it.difference for it in found])
-    warnings = warnings_of([*rows, *others], separated_by(wish), False)
+    warnings = warnings_of([*rows, *others], [*separated_by(wish), *wish.over.split(',')], False)
     more += warnings
     notes = text.of_pairs(paired, found, wish.against) + more
     warn(notes, shared, warnings)
