@@ -217,6 +217,17 @@ class ExportTest(unittest.TestCase):
             '38 [5, 6, 13]', "182 {'collided': 2, 'halted': 1, 'left': 1, 'lost': 1, 'received': 1}", '[[1, 10, 22]]',
             ''], done.stderr)
 
+    def test_plans_and_results_are_no_reports(self) -> None:
+        (self.folder / 'net.plan.toml').write_text('end = 9\n[[places]]\nrule = "line"\n')
+        (self.folder / 'net.csv').write_text('period,sent,fault,note,plan,plan_sha256,parameters\n')
+        for name, seen in (('net.plan.toml', 'net.plan.toml is a plan, not a scenario: tools/scenario net.plan.toml -o'),
+                           ('net.csv', 'net.csv has the results of a sweep, not a report: tools/plot net.csv')):
+            for command in ('export', '--to', 'csv', name), ('summary', name), ('compare', 'a.report', name):
+                done = subprocess.run([sys.executable, '-B', str(TOOLS / command[0]), *command[1:]], cwd=self.folder,
+                                      capture_output=True, text=True)
+                self.assertEqual((done.returncode, done.stdout), (2, ''), command)
+                self.assertIn(seen, done.stderr)
+
     def test_what_is_wrong_is_told(self) -> None:
         (self.folder / 'late.report').write_text(REPORT.replace('1@21', '1@4000000000000000000'))
         for words, seen in [

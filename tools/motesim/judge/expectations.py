@@ -15,7 +15,7 @@ from motesim.explain.synonyms import nearest
 from motesim.judge.judge import Broken, Judge
 from motesim.report import Report
 from motesim.runner import LimitMet, ProgramFault
-from motesim.runner.run import Answer, answer, read_file, refuse_program
+from motesim.runner.run import Answer, answer, read_file, refuse_others
 from motesim.scenario import Scenario, ScenarioFault
 from motesim.scenario.faults import TOP
 from motesim.judge.sentences import Names, Refused, Sentence, SentenceFault, lacking, names_of, read_sentence
@@ -202,7 +202,7 @@ def judged(scenario: str, part: Part) -> list[Verdict]:
 def expect(scenario: Path, expectations: Path, is_quiet: bool = False) -> tuple[int, int]:
     """Prints which sentences hold, or, quietly, which don't; returns how many hold and how many don't."""
     text = text_of(scenario)
-    refuse_program(scenario, text.encode())
+    refuse_others(scenario, text.encode())
     passed = failed = 0
     has_fault = False
     name = str(expectations)

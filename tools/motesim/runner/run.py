@@ -35,7 +35,7 @@ from motesim.runner.programs import ProgramFault as ProgramFault
 from motesim.runner.programs import program_path as program_path
 from motesim.report import Report, ReportFault
 from motesim.scenario import Scenario, ScenarioFault
-from motesim.scenario.kinds import begins_as_program
+from motesim.scenario.kinds import begins_as_program, begins_as_results, has_plan
 
 # How a report begins, and how a scenario: by a comment, a table or a key.
 OF_REPORT = re.compile(rb'mote 0 ')
@@ -79,8 +79,14 @@ def is_scenario(path: str | Path, data: bytes) -> bool:
     return not is_report(data) and (str(path).endswith('.toml') or OF_SCENARIO.match(data) is not None)
 
 
-def refuse_program(path: str | Path, data: bytes) -> None:
-    """Raises a fault if a file has the text of a program instead of a scenario."""
+def refuse_others(path: str | Path, data: bytes) -> None:
+    """Raises a fault if a file has the text of a program, a plan or results instead of a scenario or a report."""
+    if begins_as_results(data):
+        raise Fault('%s has the results of a sweep, not a report: tools/plot %s --measure NAME --against NAME shows '
+                    'them' % (path, path))
+    # (a report may be long)
+    if not is_report(data) and has_plan(data):
+        raise Fault('%s is a plan, not a scenario: tools/scenario %s -o NAME.toml makes a scenario of it' % (path, path))
     if begins_as_program(data):
         raise Fault('%s is the text of a program, not a scenario: tools/explain %s says how a scenario has it' % (
             path, path))
@@ -93,7 +99,7 @@ def read_run(path: str | Path, scenario: str | Path | None = None, limits: Limit
     A scenario is run: a text that begins as one, or a file NAME.toml. The name `-` is standard input.
     """
     data = read_file(path)
-    refuse_program(path, data)
+    refuse_others(path, data)
     is_run, at, found = is_scenario(path, data), path, None
     if is_run and scenario is not None:
         raise Fault('%s is a scenario itself: leave the other one out' % path)

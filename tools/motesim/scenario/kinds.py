@@ -1,4 +1,4 @@
-"""The kinds of files that users mix up: programs, scenarios and plans."""
+"""The kinds of files that users mix up: programs, scenarios, plans and the results of sweeps."""
 from __future__ import annotations
 
 import re
@@ -6,6 +6,21 @@ import re
 # A program begins by a declaration, below comments; a scenario by a comment, a table or a key.
 PROGRAM = re.compile(rb'(?:\xef\xbb\xbf)?(?:\s|//[^\n]*+\n)*+(?:process|event|semaphore)[ \t]++[a-z]')
 SCENARIO = re.compile(rb'(?:\xef\xbb\xbf)?(?:\s|#[^\n]*+\n)*+(?:\[|[A-Za-z0-9_"\'-]++[ \t]*+=)')
+
+# A plan has places, and neither a version nor motes. The first line of results has the columns of a sweep.
+PLACES = re.compile(rb'^[ \t]*(?:\[\[?[ \t]*places[ \t]*\]|places[ \t]*=)', re.M)
+OF_SCENARIO = re.compile(rb'^[ \t]*(?:\[\[?[ \t]*mote[ \t]*\]|(?:mote|version)[ \t]*=)', re.M)
+RESULTS = re.compile(rb'[^\n]*,fault,note,plan,[^\n]*,parameters\r?\n')
+
+
+def has_plan(data: bytes) -> bool:
+    """Returns whether a text has the tables of a plan, and not those of a scenario."""
+    return PLACES.search(data) is not None and OF_SCENARIO.search(data) is None
+
+
+def begins_as_results(data: bytes) -> bool:
+    """Returns whether a text begins as the results of a sweep do."""
+    return RESULTS.match(data) is not None
 
 
 def begins_as_program(data: bytes) -> bool:
