@@ -112,6 +112,7 @@ class Entries(Folder):
         self.hand_in('deep.toml', 'x = ' + '[' * 500 + ']' * 500)
         self.hand_in('key.toml', '.'.join(['a'] * 100_000) + ' = 1')
         self.hand_in('notes.txt', 'hello')
+        self.hand_in('zoe.toml.txt', net(PROGRAM % 3))
         self.hand_in('new\nline.toml', net(PROGRAM % 3))
         (self.folder / os.fsdecode(b'raw\xff.toml')).write_text(net(PROGRAM % 3))
         (self.folder / 'bytes.toml').write_bytes(b'\xff\xfe')
@@ -129,6 +130,7 @@ class Entries(Folder):
             'key.toml': '0 of 3  the file is not TOML: A key has more than 80 parts: write fewer dots (at line 1, '
             'column 1)',
             'notes.txt': '0 of 3  its name ends neither in .toml nor in .mote',
+            'zoe.toml.txt': '0 of 3  its name ends neither in .toml nor in .mote: rename it to zoe.toml',
             'bytes.toml': '0 of 3  the file is not UTF-8 text',
             'large.toml': '0 of 3  the file is longer than 1,048,576 bytes'})
         self.assertEqual(sorted(name for name, row in rows.items() if row == '3 of 3'),
@@ -205,6 +207,7 @@ class Entries(Folder):
                          ([1], 0, [1, 2]))
         self.assertIn('<td class="number none">0 of 3</td>', self.page())
         self.assertIn('<td>every mote prints a 3 (required)</td>', self.page())
+        self.assertIn('If a required sentence doesn\'t hold, the mark is 0, whatever else holds.</p>', self.page())
 
 
 class Nets(Folder):

@@ -190,7 +190,8 @@ class Sentences(unittest.TestCase):
                 ('mote 1 sends 2 packets', 'mote 1 sends exactly 2 times'),
                 ('every mote sends one packet', 'every mote sends exactly once'),
                 ('no mote sends more than 3 packets', 'no mote sends more than 3 times'),
-                ('all motes halt never', 'all motes never halt'), ('no packets collide', 'no copy collides'), ('there are no collisions', 'no copy collides'),
+                ('all motes halt never', 'all motes never halt'), ('no packets collide', 'no copy collides'),
+                ('there are no collisions', 'no copy collides'),
                 ('node 1 doesn\'t receive a packet before moment 5', 'mote 1 never receives before 5')):
             with self.subTest(sentence):
                 with self.assertRaises(SentenceFault) as caught:

@@ -6,6 +6,7 @@ import subprocess
 import sys
 import tomllib
 import unittest
+from pathlib import Path
 from typing import Any
 
 from here import TOOLS, TOP
@@ -224,6 +225,13 @@ class Shrinks(unittest.TestCase):
                                    cwd=folder, capture_output=True, text=True)
             self.assertEqual(wrong.returncode, 2)
             self.assertIn('sentence 1 is not known', wrong.stderr)
+            (Path(folder) / 'others.toml').write_text('expect = ["mote 0 sends", "mote 3 never halts", "mote 9 sends"]')
+            words = [sys.executable, '-B', str(TOOLS / 'shrink'), '-o', 's.toml', 'diamond.toml']
+            wrong = subprocess.run([*words, 'others.toml'], cwd=folder, capture_output=True, text=True)
+            self.assertIn('sentence 3', wrong.stderr)
+            (Path(folder) / 'others.toml').write_text('expect = ["mote 0 sends", "mote 3 halts"]')
+            done = subprocess.run([*words, 'others.toml'], cwd=folder, capture_output=True, text=True)
+            self.assertEqual((done.returncode, done.stdout.splitlines()[-1]), (0, 's.toml breaks: mote 3 halts'))
 
     def test_the_command_with_a_fault(self) -> None:
         with folder_with() as folder:

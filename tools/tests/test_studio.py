@@ -126,6 +126,8 @@ class Files(unittest.TestCase):
     def test_plans_are_no_scenarios(self) -> None:
         (self.room / 'net.plan.toml').write_text('end = 1\n')
         self.assertEqual(self.desk.names('folder'), ['net.toml'])
+        with self.assertRaisesRegex(Fault, 'ends in .toml: rename it, mv net.toml.txt net.toml$'):
+            Desk(self.room / 'net.toml.txt')
         with self.assertRaisesRegex(Fault, 'net.plan.toml is a plan, .*: tools/scenario makes a scenario of it$'):
             Desk(self.room / 'net.plan.toml')
         with self.assertRaisesRegex(Fault, 'is a name of a plan, and not of a scenario'):

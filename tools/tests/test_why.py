@@ -683,6 +683,10 @@ class Runs(unittest.TestCase):
         shown = self.why('examples/flooding.toml', 'mote 6 prints flood 1', '--short')
         self.assertEqual(shown.returncode, 0)
         self.assertIn('46 moments: 40 waiting for 1 timer, 6 on the way, over 2 hops', shown.stdout)
+        self.assertEqual(self.why('examples/flooding.toml', '--short', 'mote 6 prints flood 1').stdout, shown.stdout)
+        near = self.why('examples/flooding.toml', 'mote 1 prints flood 2 by 85').stdout
+        self.assertIn('line 22 (flooding.toml:35): `print newest`', near)
+        self.assertIn('4 moments too late (line 52 of the report)\n', near)
         got = json.loads(self.why('examples/flooding.toml', 'mote 6 prints flood 1', '--json').stdout)
         self.assertEqual([it['at'] for it in got['chain']], [46] * 4 + [43] * 4 + [40] * 3 + [0, 0])
         self.assertEqual(got['path']['medium'], {'moments': 6, 'times': 2})

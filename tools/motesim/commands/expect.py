@@ -24,7 +24,7 @@ def main() -> int:
     words.add_argument('scenario', metavar='SCENARIO', help='a scenario, NAME.toml')
     words.add_argument('expectations', nargs='?', metavar='EXPECTATIONS',
                        help='the sentences (NAME.expect.toml next to it)')
-    asked = words.parse_args()
+    asked = words.parse_intermixed_args()
     from motesim.judge.expectations import beside, expect
     scenario = Path(asked.scenario)
     expectations = Path(asked.expectations) if asked.expectations else beside(scenario)

@@ -26,6 +26,6 @@ def main() -> int:
     form.add_argument('--counts', action='store_true', help='show how many lines there are, by mote and kind')
     form.add_argument('--csv', action='store_true', help='write columns for a spreadsheet')
     form.add_argument('--json', action='store_true', help='write an object for each line, for programs')
-    asked = words.parse_args()
+    asked = words.parse_intermixed_args()
     from motesim.why.log import status_of
     return status_of(asked)

@@ -80,6 +80,6 @@ def arguments() -> argparse.ArgumentParser:
 
 @command('search')
 def main() -> int:
-    asked = arguments().parse_args()
+    asked = arguments().parse_intermixed_args()
     from motesim.search.command import status_of
     return status_of(asked)

@@ -6,7 +6,8 @@ Motes, losses, processes, statements, timers and constants are removed or made s
 the expectation is still broken in the same way; each step is checked by a run. The small scenario may break the
 expectation for another reason. With --fault the expectation has to hold without the fault, and to be broken with it;
 --keep names sentences that have to hold throughout. If motes get other numbers, sentences and faults are adapted.
-Without EXPECTATION the tool uses the first broken sentence of NAME.expect.toml, next to the scenario NAME.toml.
+If EXPECTATION is a file, the tool uses the first broken sentence in it; without one, that of NAME.expect.toml, next
+to the scenario NAME.toml.
 
 The result is written to NAME.small.toml, with its expectation next to it. It is one-minimal: no single further step is
 possible. docs/use/SEARCH.md has an example. Ends with status 0, with 2 if nothing could be made smaller, for instance
@@ -25,7 +26,7 @@ SECONDS = 10.0
 def main() -> int:
     words = words_of(__doc__)
     words.add_argument('scenario', metavar='SCENARIO', help='a scenario, NAME.toml')
-    words.add_argument('expectation', nargs='?', metavar='EXPECTATION', help='a sentence of tools/expect')
+    words.add_argument('expectation', nargs='?', metavar='EXPECTATION', help='a sentence of tools/expect, or a file of them')
     words.add_argument('-o', dest='output', metavar='FILE', help='the result; by default NAME.small.toml')
     words.add_argument('--keep', action='append', default=[], metavar='SENTENCE',
                        help='a sentence that has to hold throughout')
@@ -34,6 +35,6 @@ def main() -> int:
     words.add_argument('--steps', action='store_true', help='show each step')
     words.add_argument('--seconds', type=float, default=SECONDS, metavar='N',
                        help='the limit of a run, in seconds (10)')
-    asked = words.parse_args()
+    asked = words.parse_intermixed_args()
     from motesim.search.shrink_command import status_of
     return status_of(asked)

@@ -24,6 +24,6 @@ def main() -> int:
                        help='show the state of a mote: --state mote 3 at 46, or after a line: --state 3:114')
     words.add_argument('--json', action='store_true', help='for programs')
     words.add_argument('--short', action='store_true', help='only the hops with a delay')
-    asked = words.parse_args()
+    asked = words.parse_intermixed_args()
     from motesim.why.command import status_of
     return status_of(asked)

@@ -70,8 +70,10 @@ def _entries(folder: Path, top: Path, depth: int) -> Iterator[Entry]:
             yield Entry(its, path, _kind(mode))
         elif not it.name.endswith(SUFFIXES):
             small = it.name.lower().endswith(SUFFIXES)
+            plain = it.name.removesuffix('.txt')
             yield Entry(its, path, 'its name ends neither in .toml nor in .mote%s' % (
-                ': write the ending in small letters' if small else ''))
+                ': write the ending in small letters' if small else ': rename it to %s' % plain
+                if plain.endswith(SUFFIXES) else ''))
         elif not it.name.endswith(OF_TEACHER):
             yield Entry(its, path)
 

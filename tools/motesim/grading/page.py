@@ -29,6 +29,9 @@ pre { margin: 2px 0 0; font: 12.5px/1.4 ui-monospace, "DejaVu Sans Mono", monosp
 """
 
 
+OF_REQUIRED = ' If a required sentence doesn\'t hold, the mark is 0, whatever else holds.'
+
+
 def _colour(marks: Marks, count: int) -> str:
     return '' if marks.is_open else 'all' if marks.held == count and count else 'some' if marks.held else 'none'
 
@@ -66,8 +69,8 @@ def page_of(marked: Sequence[Marks], sentences: Sequence[str], title: str, folde
         for number, (count, sentence) in enumerate(zip(held, sentences), 1)]
     return '\n'.join([
         HEAD % escape(title) + '<h1>%s</h1>' % escape(title),
-        '<p>%s ● means that a sentence holds%s, ○ that it doesn\'t.</p>' % (
-            'Marked on %s.' % date if date else '', ' in all nets' if has_nets else ''),
+        '<p>%s ● means that a sentence holds%s, ○ that it doesn\'t.%s</p>' % (
+            'Marked on %s.' % date if date else '', ' in all nets' if has_nets else '', OF_REQUIRED * bool(required)),
         '<table><thead><tr><th>Solution</th><th class="number">Holds</th><th>Sentences</th><th>First that '
         'fails</th></tr>'
         '</thead><tbody>', *rows, '</tbody></table>',

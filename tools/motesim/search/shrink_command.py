@@ -58,7 +58,9 @@ def status_of(asked: argparse.Namespace) -> int:
     path = Path(asked.scenario)
     base = Base(text_of(path), asked.scenario)
     program = OneProgram(str(program_path().resolve()), Limits(asked.seconds))
-    sentence = asked.expectation or first_broken(base, beside(path), program)
+    is_file = not asked.expectation or asked.expectation.endswith('.toml')
+    expected = Path(asked.expectation) if asked.expectation else beside(path)
+    sentence = first_broken(base, expected, program) if is_file else asked.expectation
     read_all([sentence, *asked.keep], names_of(base.scenario_itself))
     effects = tuple(effect_of(it, base.scenario_itself.motes) for it in asked.fault)
     with Break() as stop:

@@ -26,12 +26,13 @@ ALLOWED = ('NAME has letters, digits, spaces and _ ( ) \' + , . - only, at most 
            ') , . - or a space' % LONGEST_NAME)
 MARK = '\ufeff'
 FIRST = '''# A scenario: which motes there are, their places, what they run, and how packets travel.
-version = 1
+version = 2
 end = 60
 [medium]
 range = 10
 base = 2
 per = 100
+collide = false
 [programs]
 hello = \'\'\'
 process hello;
@@ -126,6 +127,9 @@ class Desk:
             raise Fault('%s: there is no folder %s' % (named, self.folder))
         if path and path.name.endswith('.plan.toml'):
             raise Fault('%s is a plan, which the studio doesn\'t run: tools/scenario makes a scenario of it' % named)
+        if path and path.name.endswith('.toml.txt'):
+            new = path.name.removesuffix('.txt')
+            raise Fault('%s: the name of a scenario ends in .toml: rename it, mv %s %s' % (named, path.name, new))
         if path and not is_name(path.name):
             raise Fault('%s: the studio opens scenarios, NAME.toml: %s' % (named, ALLOWED))
 

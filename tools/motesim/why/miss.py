@@ -304,7 +304,7 @@ def rows(missing: Missing, found: list[tuple[int, list[Miss]]]) -> list[str]:
     for mote, its in found:
         lines += ['', 'Near misses at mote %d:' % mote]
         for it in its:
-            lines.append('  %s%s' % (it.words, ' (line %d)' % it.row if it.row else ''))
+            lines.append('  %s%s' % (it.words, ' (line %d of the report)' % it.row if it.row else ''))
         if not its:
             lines.append('  nothing: no such line, no lost copy, and no statement that could write it')
     return lines
