@@ -42,7 +42,7 @@ BODIES = [
     ('print 1\n print 2;', 'missing after `1`'), ('int x;', 'var x = 0;'), ('x = 1;', '`var x = 0;`'),
     ('while true { }', '1 is true'), ('print Seq;', 'small letters'), ('sleep 3;', 'yield_until'),
     ('yield_untl fired(t);', '`yield_until`'), ('var z = 0;', 'head of `code`'), ('set tt 4;', '`t`'),
-    ('seq == 1;', '`=` assigns'), ('send 1 to 2;', 'all who hear it'), ('yield_until is(packt);', '`packet`'),
+    ('seq == 1;', '`=` assigns'), ('send 1 to 2;', 'all motes that hear it'), ('yield_until is(packt);', '`packet`'),
     ('print\u00a01;', 'U+00A0'), ('print \u201cx\u201d;', 'U+201C'), ('seq = [1];', 'arrays'),
     ('seq = (seq & 1);', 'bits'), ('seq = 1.5;', 'whole'), ('seq = 01;', '`1`'),
 ]

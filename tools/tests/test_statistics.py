@@ -408,11 +408,11 @@ class Rows(unittest.TestCase):
     def test_runs_that_draw_alike_are_found_in_any_rows(self) -> None:
         rows: list[Row] = [{**row(1, seed, seed), 'chance_seeds': 'seed'} for seed in (1, 100, 258, 300, 772)]
         self.assertEqual(warnings_of(rows), [
-            'seed = 1 to 772: with 2 of these 5 seeds, mote k draws as mote k + 1 does with the seed 257 less, so '
-            'these runs are not independent: use at most 257 seeds in a row'])
+            'seed = 1 to 772: with 2 of these 5 seeds, mote k draws the same numbers as mote k + 1 with the seed 257 '
+            'less, so these runs are not independent: use at most 257 seeds in a row'])
         self.assertEqual(warnings_of(rows[1:4]), [])
         self.assertEqual(warnings_of([{**it, 'chance_seeds': None} for it in rows]), [])
-        self.assertIn('mote k draws as mote k + 2 does with the seed 514 less', warnings_of(rows[2:])[0])
+        self.assertIn('mote k draws the same numbers as mote k + 2 with the seed 514 less', warnings_of(rows[2:])[0])
 
     def test_warnings_in_notes_are_counted(self) -> None:
         rows: list[Row] = [{**row(period, seed, seed), 'note': 'warning: in step' if period + seed < 4 else None}

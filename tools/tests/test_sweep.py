@@ -208,9 +208,9 @@ class SweepTest(Bed):
     def test_more_seeds_than_draw_apart(self) -> None:
         source = 'process a;\ncode a { var dice = 0; body { dice = ((self * 257) + ${period}); print 3; } }\n'
         (self.folder / 'a.mote').write_text(source)
-        warned = 'sweep: warning: period = 0 to 257: with 1 of these 2 seeds, mote k draws as mote k + 1 does with '
-        note = 'warning: with period = 257 mote k draws as mote k + 1 does with period = 0, so these two runs are ' \
-               'not independent: use at most 257 seeds in a row'
+        warned = 'sweep: warning: period = 0 to 257: with 1 of these 2 seeds, mote k draws the same numbers as mote k '
+        note = 'warning: with period = 257 mote k draws the same numbers as mote k + 1 with period = 0, so these two ' \
+               'runs are not independent: use at most 257 seeds in a row'
         for values, is_warned in ('0,257', True), ('1,257', False):
             for end in '.csv', '.sqlite':
                 name = values[0] + end
@@ -228,7 +228,7 @@ class SweepTest(Bed):
             self.assertEqual(['period = 0 to 257: ' in it for it in said], [False, True], said)
             found = {row['period']: row['note'] for row in read_results(self.folder / name)[1]}
             self.assertIsNone(found[0])
-            self.assertIn('with period = 257 mote k draws as mote k + 1 does with period = 0', str(found[257]))
+            self.assertIn('period = 257 mote k draws the same numbers as mote k + 1 with period = 0', str(found[257]))
         # (the note goes with the row that it is about)
         (self.folder / 'a.mote').write_text(source + '// more\n')
         self.sweep('--vary', 'period=257', '--measure', 'sent', '-o', 'up.csv', '--renew')

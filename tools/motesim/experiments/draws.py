@@ -20,7 +20,7 @@ CHANCE, APART = 'chance_seeds', 257
 DRAWS = re.compile(r'self\s*\*\s*257\s*\)?\s*\+\s*\$\{(\w+)\}')
 ADVICE = 'use at most %d seeds in a row' % APART
 # The part of a note that this module writes; it is the last one.
-NOTE = re.compile(r'(?:; )?%swith \w+ = -?\d+ mote k draws as .*' % re.escape(WARNING), re.S)
+NOTE = re.compile(r'(?:; )?%swith \w+ = -?\d+ mote k draws .*' % re.escape(WARNING), re.S)
 
 
 def seeds_of(text: str) -> list[str]:
@@ -58,8 +58,8 @@ class Seeds:
         for name, values in self.values.items():
             alike = self.earlier(name)
             if alike:
-                found.append('%s = %d to %d: with %d of these %d seeds, mote k draws as mote k + %d does with the '
-                             'seed %d less, so these runs are not independent: %s' % (
+                found.append('%s = %d to %d: with %d of these %d seeds, mote k draws the same numbers as mote k + %d '
+                             'with the seed %d less, so these runs are not independent: %s' % (
                                  name, min(values), max(values), len(alike), len(values), *apart(alike), ADVICE))
         return found
 
@@ -104,7 +104,7 @@ class Notes:
             value = row[name]
             before = self.alike.get(name, {}).get(value) if type(value) is int else None
             if before is not None and type(value) is int:
-                parts.append('%swith %s = %d mote k draws as mote k + %d does with %s = %d, so these two runs are not '
-                             'independent: %s' % (WARNING, name, value, (value - before) // APART, name, before,
-                                                  ADVICE))
+                parts.append('%swith %s = %d mote k draws the same numbers as mote k + %d with %s = %d, so these two '
+                             'runs are not independent: %s' % (WARNING, name, value, (value - before) // APART, name,
+                                                               before, ADVICE))
         return '; '.join(filter(None, parts))

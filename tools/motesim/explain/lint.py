@@ -25,9 +25,9 @@ OF_CTIMER = ('`%s` is a `ctimer`: its event goes to the process ctimer, which ru
              'true here; an `etimer` posts its event to its own process')
 # The factor of the pattern for chance, by which so many motes and seeds draw different numbers, and its warning.
 FACTOR, MOST_DRAWING = '257', 255
-SAME_DRAWS = ('in a net of more than 255 motes, mote k + 255 draws with one seed as mote k does with the seed before '
-              '(255 * 257 is -1 in 16 bits), so that runs of neighbouring seeds are not independent: use at most 255 '
-              'motes')
+SAME_DRAWS = ('in a net of more than 255 motes, mote k + 255 with one seed draws the same numbers as mote k with '
+              'the seed before (255 * 257 is -1 in 16 bits), so that runs of neighbouring seeds are not independent: '
+              'use at most 255 motes')
 NATURAL = ('no number is below 0, so this test is %s true: values are 0 to 65,535, and 0 - 1 is 65,535; a loop that '
            'counts down ends by `while (x > 0)`')
 BEHIND = 'the timer `%s` is set only behind this wait for it, so the wait never ends: set it before'

@@ -27,7 +27,7 @@ CALLS = {
     'process_broadcast': 'broadcast event1 expression2', 'process_poll': 'poll process0',
     'process_start': 'start process0', 'process_exit': 'kill process0',
 }
-BROADCAST = 'A packet is one number, and goes to all who hear it: `send x;`. There is no buffer to fill first.'
+BROADCAST = 'A packet is one number, and goes to all motes that hear it: `send x;`. There is no buffer to fill first.'
 
 
 class Calls(Lines):

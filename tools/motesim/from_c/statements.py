@@ -19,14 +19,13 @@ from motesim.notation.faults import MOST_LEVELS, STATEMENTS
 
 PRINTS = ('printf', 'print', 'println', 'puts', 'putchar', 'log_info', 'log_dbg', 'log_warn', 'log_err')
 SENDS = ('send_packet', 'sendpacket', 'radio_send', 'send_value')
-UNICAST = ('A packet goes to all who hear it; for whom it is may be part of its value: `send ((dest * 256) + x);`, '
-           'and '
-           'the receiver tests `((data / 256) == self)`.')
+UNICAST = ('A packet goes to all motes that hear it; its value may say for whom it is: `send ((dest * 256) + x);`, '
+           'and the receiver tests `((data / 256) == self)`.')
 # A packet that says for whom it is has 8 bits for that, and 8 for its value.
 LARGEST_PART = 255
-TOO_LARGE_PART = ('A packet goes to all who hear it, and has 16 bits. If the upper 8 say for whom it is, its value is '
-                  'at most 255, and this one may be larger: send a smaller one, `send ((dest * 256) + x);`, or two '
-                  'packets.')
+TOO_LARGE_PART = ('A packet goes to all motes that hear it, and has 16 bits. If the upper 8 say for whom it is, its '
+                  'value is at most 255, and this one may be larger: send a smaller one, `send ((dest * 256) + x);`, '
+                  'or two packets.')
 LEDS = {'leds_on': '1', 'leds_off': '0', 'leds_toggle': '1'}
 OF_LEDS = 'A mote has no LEDs: a `print` shows the moment in the report.'
 OPENS = ('broadcast_open', 'abc_open', 'unicast_open', 'runicast_open', 'nullnet_set_input_callback',
@@ -198,7 +197,7 @@ class Statements(Declarations, Calls, Control):
         return self.statement()
 
     def of_handler(self, head: str) -> str:
-        """What a process does when it is polled, or when it is ended: a block of its code."""
+        """A handler for polls or for the end of a process: a block of its code."""
         inner: list[str] = []
         level = 0
         while level or not inner:
@@ -316,9 +315,8 @@ class Statements(Declarations, Calls, Control):
             self.writer.of_timer = 'fired' if word == 'yield_until' else 'expired'
             value = self.value()
             if word == 'send' and self.accept('to'):
-                self.why('A packet goes to all who hear it: its value may say for whom it is. The receiver tests '
-                         '`((data / '
-                         '256) == self)`, and takes `(data % 256)`.')
+                self.why('A packet goes to all motes that hear it: its value may say for whom it is. The receiver '
+                         'tests `((data / 256) == self)`, and takes `(data % 256)`.')
                 if any(int(it) > LARGEST_PART for it in re.findall(r'\b[0-9]+\b', value)):
                     raise NoCounterpart(TOO_LARGE_PART)
                 value = '((%s * 256) + %s)' % (self.value(), value)

@@ -13,7 +13,7 @@ Replaced = str | Callable[[re.Match[str]], str]
 
 
 def _times(found: re.Match[str]) -> str:
-    """How often a mote sends or receives, by the number of packets."""
+    """The words for a number of packets: how often a mote sends or receives."""
     verb, bound, number = found['verb'], found['bound'] or 'exactly ', found['number'].lower()
     many = number if number.isdecimal() else str(NUMBERS.index(number))
     if many == '0' and bound == 'exactly ':

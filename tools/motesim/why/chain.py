@@ -135,7 +135,7 @@ class Explainer:
             elif frame.how == 'poll':
                 yield '%s was polled by %s%s' % (self.name(frame.process), by, place)
             elif frame.how == 'exited':
-                yield '%s is called, since %s exits%s' % (self.name(frame.process), self.name(frame.word), place)
+                yield '%s is called, because %s exits%s' % (self.name(frame.process), self.name(frame.word), place)
             elif frame.how == 'exit':
                 yield '%s was killed by %s%s' % (self.name(frame.process), by, place)
             else:
@@ -189,7 +189,7 @@ class Explainer:
                 self.replay.trace[link.line].split(' ')[3:1:-1])
         if link.how == 'posted':
             if kind == 'drop':
-                return 'event %s came, and %s was not there' % (words[2], words[3])
+                return 'event %s was dropped: %s was not running' % (words[2], words[3])
             later = int(words[0]) - int(self.replay.trace[link.line].partition(' ')[0])
             return 'event %s was next in the queue%s' % (
                 words[2], ', %s after it was posted' % count(later, 'moment') if later else '')

@@ -38,8 +38,8 @@ def after_post(source: Source, post: At) -> Fate:
             where, at = At(post.mote, place), int(words[0])
             if words[1] == 'take':
                 return Fate('taken', '%s took it at %d' % (words[3], at), at, where, source.traces.row(where))
-            return Fate('dropped', 'its event was dropped at %d, because %s was not there' % (at, words[3]), at, where,
-                        source.traces.row(where))
+            return Fate('dropped', 'its event was dropped at %d, because %s was not running' % (at, words[3]), at,
+                        where, source.traces.row(where))
     last = lines[-1].split(' ')
     if last[1] == 'halt':
         return Fate('halted', 'mote %d halted at %s, before its event was taken' % (post.mote, last[0]), int(last[0]),

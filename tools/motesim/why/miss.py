@@ -121,7 +121,7 @@ class _Misses:
                 found.append((int(words[4]) in values, place, 'the event %s %s for %s was refused at %s, because the '
                               'queue was full' % (words[3], words[4], words[2], words[0])))
             elif words[1] == 'drop' and words[3] == name:
-                found.append((False, place, 'event %s was dropped at %s, because %s was not there' % (
+                found.append((False, place, 'event %s was dropped at %s, because %s was not running' % (
                     words[2], words[0], name)))
         for _, place, said in sorted(found)[-MOST_OTHERS:]:
             yield Miss('full' if ' was refused ' in said else 'dropped', said,

@@ -165,7 +165,7 @@ class Asker:
     def of_sentence(self, it: Sentence) -> Asked | Missing:
         found = self.answer(it)
         if isinstance(found, Lineless):
-            raise Unasked(('it holds: %s, ' + NO_LINE) % found.why if found.holds else found.why, found.holds)
+            raise Unasked(('the sentence holds: %s, ' + NO_LINE) % found.why if found.holds else found.why, found.holds)
         return found
 
     def answer(self, it: Sentence) -> Answer:
