@@ -113,6 +113,11 @@ class Edits(unittest.TestCase):
         [edit] = self.read('    8 -> 9')
         self.assertEqual((edit.function, edit.may_share), ('four', False))
 
+    def test_one_of_a_function_with_the_name_of_another_module_does_not(self) -> None:
+        (self.room / 'src/two.rt').write_text('fn five() -> u8 {\n    5\n}\n')
+        [edit] = self.read('        5 -> 9')
+        self.assertEqual((edit.function, edit.may_share), ('two', False))
+
     def test_one_that_changes_more_may_name_its_function(self) -> None:
         more, named = self.read('n: u8 -> n: u16', 'n: u8 -> n: u16\nrefused: low::one')
         self.assertEqual((more.function, more.may_share), (None, False))

@@ -57,24 +57,28 @@ def function_around(old: str, new: str) -> str | None:
     return None
 
 
-def read(file: Path, crate: Crate, functions: Counter[str]) -> Edit:
+def read(file: Path, crate: Crate, functions: Counter[str], modules: set[str]) -> Edit:
     """Reads the edit of a mutant. A line `refused: FUNCTION` names the function if more than its body changes. A check
-    may judge it with others if it changes one body only, of a function whose name no other one has."""
+    may judge it with others if it changes one body only, of a function whose name no other one has, and no module in
+    another file (a check of functions by name would check those of that module)."""
     text = file.read_text('utf-8')
     texts, trouble = edited(text, crate.folder)
     around = [function_around(Path(crate.folder, path).read_text('utf-8'), new) for path, new in texts.items()]
     named = re.findall(r'(?m)^refused: (?:\S*::)?(\w+)$', text)
     function = around[0] if len(around) == 1 else None
-    may_share = function is not None and functions[function] == 1
+    in_module = function is None or any(Path(path).stem == function for path in texts)
+    may_share = function is not None and functions[function] == 1 and (in_module or function not in modules)
     return Edit(crate, file, function or (named[0] if named else None), may_share, trouble)
 
 
 def edits_of(crate: Crate) -> list[Edit]:
     """The mutants of a crate."""
     folder = Path(crate.folder)
-    lines = [line for file in (folder / 'src').rglob('*.rt') for line in file.read_text('utf-8').split('\n')]
-    functions = Counter(head[2] for head in map(HEAD.match, lines) if head)
-    return [read(file, crate, functions) for part in FOLDERS for file in sorted((folder / part).glob('*.edit'))]
+    sources = [*(folder / 'src').rglob('*.rt')]
+    lines = [line for file in sources for line in file.read_text('utf-8').split('\n')]
+    functions, modules = Counter(head[2] for head in map(HEAD.match, lines) if head), {it.stem for it in sources}
+    return [read(file, crate, functions, modules)
+            for part in FOLDERS for file in sorted((folder / part).glob('*.edit'))]
 
 
 def groups(edits: Sequence[Edit]) -> list[list[Edit]]:
