@@ -66,6 +66,18 @@ class Notes(unittest.TestCase):
         self.assertEqual((note.mote, note.at), (3, 40))
         self.assertTrue(note.lines)
 
+    def test_a_page_opens_at_the_packet_that_is_wanted(self) -> None:
+        """And not at another one that was received."""
+        run = read_run(str(TOP / 'examples/small_network.toml'))
+        assert run.scenario
+        for sentence, row, seen in (('mote 1 receives 12', 21, 'packet 0 of mote 2, with the value 12'),
+                                    ('mote 1 receives 40', 45, 'packet 1 of mote 2, with the value 40'),
+                                    ('mote 1 prints echo 31', 26, 'the event msg 31 for echo was refused')):
+            broken = Judge(run.report, run.scenario).broken(read_sentence(sentence, names_of(run.scenario)))
+            first = next(it for it in note_of(run, sentence, broken).lines if it.row)
+            self.assertEqual(first.row, row)
+            self.assertIn(seen, first.text)
+
     def test_a_sentence_that_no_line_shows(self) -> None:
         self.assertEqual(note_of(small_run(), 'the report', None, ('line 3: x',)).lines, (Line('line 3: x'),))
 

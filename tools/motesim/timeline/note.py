@@ -57,9 +57,11 @@ def note_of(run: Run, sentence: str, broken: Broken | None, more: tuple[str, ...
 
 
 def _near(asker: Asker, missing: Missing) -> tuple[Line, ...]:
-    """The lines that came near a missing one. In a report that no kernel writes there are none."""
+    """The lines that came near a missing one, first those on the very packet that is wanted. In a report that no
+    kernel writes there are none."""
     try:
-        lines = [Line('mote %d: %s' % (mote, it.words), it.row) for mote, its in misses(asker, missing) for it in its]
+        lines = [Line('mote %d: %s' % (mote, it.words), it.row) for mote, its in misses(asker, missing)
+                 for it in sorted(its, key=lambda it: not it.is_wanted)]
     except Fault:
         return ()
     return tuple(lines[:MOST_LINES])

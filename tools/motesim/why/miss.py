@@ -23,10 +23,14 @@ MOST_COPIES, MOST_OTHERS = 8, 3
 
 
 class Miss(NamedTuple):
-    """Something that came near: its kind, a sentence on it, and the line that shows it, if one does."""
+    """Something that came near: its kind, a sentence on it, and the line that shows it, if one does.
+
+    is_wanted  whether it is about the very line, packet or event that the sentence wants
+    """
     kind: str
     words: str
     row: int = 0
+    is_wanted: bool = False
 
 
 def last_of(span: Span, source: Source) -> int:
@@ -67,12 +71,12 @@ class _Misses:
         late = [it for it in own if it.at > self.end]
         for it in late[:1]:
             yield Miss('late', '%s, at %d: %s too late' % (self.deed(it), it.at, count(it.at - self.end, 'moment')),
-                       self.source.traces.row(it.where))
+                       self.source.traces.row(it.where), True)
         early = [it for it in own if it.at < self.begin]
         for it in early[-1:]:
             yield Miss('early', '%s, at %d: %s too early' % (self.deed(it), it.at, count(self.begin - it.at,
                                                                                          'moment')),
-                       self.source.traces.row(it.where))
+                       self.source.traces.row(it.where), True)
 
     def deed(self, found: Found) -> str:
         """A line, after its moment."""
@@ -123,9 +127,9 @@ class _Misses:
             elif words[1] == 'drop' and words[3] == name:
                 found.append((False, place, 'event %s was dropped at %s, because %s was not running' % (
                     words[2], words[0], name)))
-        for _, place, said in sorted(found)[-MOST_OTHERS:]:
+        for is_wanted, place, said in sorted(found)[-MOST_OTHERS:]:
             yield Miss('full' if ' was refused ' in said else 'dropped', said,
-                       self.source.traces.row(At(self.mote, place)))
+                       self.source.traces.row(At(self.mote, place)), is_wanted)
 
     # Packets
 
@@ -155,7 +159,7 @@ class _Misses:
                 lost[int(words[3]) in values].append((row, words, fate))
         for row, words, fate in lost[True][-MOST_COPIES:]:
             yield Miss(fate.how, 'packet %s of mote %s, with the value %s, was sent at %s: %s' % (
-                words[2], words[1], words[3], words[0], fate.words), fate.row or row)
+                words[2], words[1], words[3], words[0], fate.words), fate.row or row, True)
         if lost[False]:
             row, words, fate = lost[False][-1]
             others = ' with other values' if values else ''
