@@ -17,7 +17,7 @@ Values are 10,20,40 or 1..30 or 0..100..25 (in steps of 25). Measures are
   last:, count:, motes:         the last moment, how many lines, how many motes
   delay: mote 0 sends 1 -> every mote but 0 prints flood 1
                                 the time from the first moment to the second
-  python: measures.py:energy    a function in a file of yours, next to the plan, which has the run as argument
+  python: measures.py:energy    a function of yours, in a file next to the plan, whose argument is the run
 and `name = MEASURE` names its column.
 
 docs/use/EXPERIMENTS.md shows a sweep from its beginning to a plot. Ends with status 0, with 1 if a row has an error or

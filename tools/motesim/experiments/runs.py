@@ -28,7 +28,7 @@ SECONDS_MORE = 5
 
 
 class Stopped(Exception):
-    """Ctrl-C: what had begun has ended, and the rest wasn't begun."""
+    """Ctrl-C: the jobs that had begun have ended, and no others were begun."""
 
 
 class Break:
@@ -62,9 +62,9 @@ def longest(seconds: float, measures: int) -> float:
 
 
 def run_here(jobs: Iterable[Job], processes: int, seconds: float) -> Generator[Result, None, None]:
-    """The results of the jobs, as they come, by so many processes.
+    """The results of the jobs, in the order in which they end, by so many processes.
 
-    A job that lasts so many seconds is ended with its process; that is its fault.
+    A job that lasts longer than so many seconds is ended with its process, and its result is a fault that says so.
     """
     stop, left = threading.Event(), iter(jobs)
     with Break(stop):
@@ -96,9 +96,9 @@ def in_lists(jobs: Iterable[Job], length: int) -> Iterator[list[Job]]:
 
 
 def run_by_dask(jobs: Iterable[Job], count: int, address: str) -> Iterator[Result]:
-    """The results of so many jobs, as they come, by the workers of a Dask cluster.
+    """The results of so many jobs, in the order in which they end, by the workers of a Dask cluster.
 
-    No more jobs are made than the cluster has to do next. Ctrl-C ends it within a second, whatever the cluster does.
+    No more jobs are made than the cluster needs next. Ctrl-C ends it within a second, whatever the cluster does.
     """
     distributed: Any = packages.load('distributed')
     try:
