@@ -48,7 +48,8 @@ class Check(unittest.TestCase):
     def check(self, command: str, *words: object) -> tuple[str, str, int]:
         """The output of a command, its last line, and its status."""
         called = [TOOLS / 'dev' / command, IN_ONE_PROCESS, *words]
-        done = subprocess.run([str(it) for it in called], env={**os.environ, 'MOTESIM': str(self.program)}, stdout=subprocess.PIPE, stderr=subprocess.STDOUT, text=True)
+        done = subprocess.run([str(it) for it in called], env={**os.environ, 'MOTESIM': str(self.program)},
+                              stdout=subprocess.PIPE, stderr=subprocess.STDOUT, text=True)
         return done.stdout, done.stdout.splitlines()[-1], done.returncode
 
 

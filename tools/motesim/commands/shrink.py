@@ -26,7 +26,8 @@ SECONDS = 10.0
 def main() -> int:
     words = words_of(__doc__)
     words.add_argument('scenario', metavar='SCENARIO', help='a scenario, NAME.toml')
-    words.add_argument('expectation', nargs='?', metavar='EXPECTATION', help='a sentence of tools/expect, or a file of them')
+    words.add_argument('expectation', nargs='?', metavar='EXPECTATION',
+                       help='a sentence of tools/expect, or a file of them')
     words.add_argument('-o', dest='output', metavar='FILE', help='the result; by default NAME.small.toml')
     words.add_argument('--keep', action='append', default=[], metavar='SENTENCE',
                        help='a sentence that has to hold throughout')

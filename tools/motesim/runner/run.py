@@ -86,7 +86,8 @@ def refuse_others(path: str | Path, data: bytes) -> None:
                     'them' % (path, path))
     # (a report may be long)
     if not is_report(data) and has_plan(data):
-        raise Fault('%s is a plan, not a scenario: tools/scenario %s -o NAME.toml makes a scenario of it' % (path, path))
+        raise Fault('%s is a plan, not a scenario: tools/scenario %s -o NAME.toml makes a scenario of it' % (
+            path, path))
     if begins_as_program(data):
         raise Fault('%s is the text of a program, not a scenario: tools/explain %s says how a scenario has it' % (
             path, path))
