@@ -7,9 +7,8 @@ use Rattle.clap.specs.declared.error.kind.ErrorKind.TheVariants as kind
 use Rattle.window_workers.specs.declared.sync.SyncKind.TheVariants as sync
 use Rattle.simulation.specs.Words.{AskedIn, AsksFor, Choices, IsMotesim, ReadsCount, ReadsWorkers, app_with, cut_of, sync_of}
 use Rattle.clap.specs.Lexer.{long_of, short_of, short_of_rest}
-use Rattle.clap.specs.Simple.{built}
-use Rattle.clap.specs.Walk.{Held, Step, Waiting, Walk, after_step, finished, idle, long_or_other, nothing_held, option, plain_word, positional}
-use Rattle.clap.specs.Walk.{short_or_plain, subcommand_met, subcommand_or_other, trailing, walk_from, walked}
+use Rattle.clap.specs.Walk.{Held, Step, Waiting, Walk, after_step, idle, long_or_other, option, plain_word, positional}
+use Rattle.clap.specs.Walk.{short_or_plain, subcommand_met, subcommand_or_other, trailing, walked}
 use Rattle.std.specs.Str.{bytes_eq}
 use Rattle.std.proofs.Common.{Bool, cond, option_and_then}
 use Rattle.simulation.specs.declared.command_line.Asked.{Asked}
@@ -73,29 +72,29 @@ too_many cuts syncs prog = refl
 
 -- ---- a word that begins with no hyphen
 
-no_dashes : (b : ℕ) (bs : Text) → (b == 45) ≡ false → bytes_eq (b ∷ bs) (45 ∷ 45 ∷ []) ≡ false
+pub no_dashes : (b : ℕ) (bs : Text) → (b == 45) ≡ false → bytes_eq (b ∷ bs) (45 ∷ 45 ∷ []) ≡ false
 no_dashes b bs not_hyphen = rw not_hyphen refl
 
-no_long : (b : ℕ) (bs : Text) → (b == 45) ≡ false → long_of (b ∷ bs) ≡ None
+pub no_long : (b : ℕ) (bs : Text) → (b == 45) ≡ false → long_of (b ∷ bs) ≡ None
 no_long b bs not_hyphen = rw not_hyphen refl
 
-no_short : (b : ℕ) (bs : Text) → (b == 45) ≡ false → short_of (b ∷ bs) ≡ None
+pub no_short : (b : ℕ) (bs : Text) → (b == 45) ≡ false → short_of (b ∷ bs) ≡ None
 no_short b bs not_hyphen = ap (λ (t : Bool). option_and_then short_of_rest (cond t (Some bs) None)) not_hyphen
 
 -- is no flag
-plain_met : (c : List Rule) (waiting : Waiting) (position : ℕ) (h : Held) (b : ℕ) (bs : Text) → (b == 45) ≡ false
+pub plain_met : (c : List Rule) (waiting : Waiting) (position : ℕ) (h : Held) (b : ℕ) (bs : Text) → (b == 45) ≡ false
     → subcommand_or_other c None waiting position (b ∷ bs) h ≡ plain_word c waiting (b ∷ bs) h
 plain_met c waiting position h b bs not_hyphen =
     ap (λ (t : Bool). cond t (h, trailing position) (long_or_other c waiting (b ∷ bs) (long_of (b ∷ bs)) h)) (no_dashes b bs not_hyphen)
     ∙ (ap (λ o. long_or_other c waiting (b ∷ bs) o h) (no_long b bs not_hyphen)
     ∙ ap (λ o. short_or_plain c waiting (b ∷ bs) o h) (no_short b bs not_hyphen))
 
-no_name : (waiting : Waiting) (word : Text) → subcommand_met [] waiting word ≡ None
+pub no_name : (waiting : Waiting) (word : Text) → subcommand_met [] waiting word ≡ None
 no_name idle word = refl
 no_name (option id) word = refl
 no_name positional word = refl
 
-plain_step : (c : List Rule) (h : Held) (waiting : Waiting) (position : ℕ) (b : ℕ) (bs : Text) → (b == 45) ≡ false
+pub plain_step : (c : List Rule) (h : Held) (waiting : Waiting) (position : ℕ) (b : ℕ) (bs : Text) → (b == 45) ≡ false
     → walked c [] (record { held = h; waiting = waiting; position = position; is_trailing = false; stopped = None }) (b ∷ bs)
     ≡ after_step c (b ∷ bs) (record { held = h; waiting = waiting; position = position; is_trailing = false; stopped = None })
     (plain_word c waiting (b ∷ bs) h).0 (plain_word c waiting (b ∷ bs) h).1
@@ -104,12 +103,3 @@ plain_step c h waiting position b bs not_hyphen =
     let w : Walk = record { held = h; waiting = waiting; position = position; is_trailing = false; stopped = None } in
     ap (λ (m : Held × Step). after_step c (b ∷ bs) w m.0 m.1)
     (ap (λ o. subcommand_or_other c o waiting position (b ∷ bs) h) (no_name waiting (b ∷ bs)) ∙ plain_met c waiting position h b bs not_hyphen)
-
--- `--sync=marks FILE`, of any file whose name begins with no hyphen
-file_of_any : (cuts syncs : Choices) (prog : Text) (b : ℕ) (bs : Text) → (b == 45) ≡ false
-    → first_of (codes "FILE") (matches_of (app_with cuts syncs) (prog ∷ codes "--sync=marks" ∷ (b ∷ bs) ∷ [])) ≡ Some (b ∷ bs)
-unfolding clap_on_literals
-file_of_any cuts syncs prog b bs not_hyphen =
-    let rules = (built (app_with cuts syncs)).top.rules in
-    let at : Walk = walked rules [] (walk_from nothing_held) (codes "--sync=marks") in
-    ap (λ (w : Walk). first_of (codes "FILE") (finished rules w.held)) (plain_step rules at.held at.waiting at.position b bs not_hyphen)

@@ -1,10 +1,16 @@
 -- Laws of whole simulations.
-use Rattle.std.specs.Prelude.{◌≡◌, ℕ, List, Some, Ok}
+use Rattle.std.specs.Prelude.{◌≡◌, ℕ, Bool, List, Some, Ok, option_map}
+use Rattle.clap.specs.Words.{Text}
+use Rattle.clap.specs.declared.error.kind.ErrorKind.{ErrorKind}
+use Rattle.clap.specs.declared.error.kind.ErrorKind.TheVariants as kind
 use Rattle.mote_net.specs.Report.{ReportModel}
 use Rattle.mote_net.specs.Net.{NetModel}
 use Rattle.net_scenario.specs.Reading.{TellsNet}
 use Rattle.serial_run.specs.NetRun.{IsReportOf}
-use Rattle.simulation.specs.Simulation.{Way, SimulatedWith}
+use Rattle.simulation.specs.Simulation.{MayRun, Way, SimulatedWith, way_of}
+use Rattle.simulation.specs.Words.{AsksFor, FaultOf}
+use Rattle.simulation.specs.Written.{words_of}
+use Rattle.simulation.specs.declared.command_line.Asked.{Asked}
 
 -- The same scenario, the same bytes, on one thread or by any number of workers of either kind: if two runs read the
 -- same bytes, answer Ok, and write after the same bytes, both leave the same.
@@ -15,3 +21,16 @@ OneReport = (bytes old a b : List ℕ) (v w : Way)
 -- The net of each scenario's text has a report.
 abbrev pub ScenarioHasReport : Type 0
 ScenarioHasReport = (text : List ℕ) (n : NetModel) → TellsNet text n → (r : ReportModel) × IsReportOf n r
+
+-- The words ask for this request and for no other, and have no fault, though an allocation may fail.
+pub record AskForOnly (words : List Text) (asked : Asked) : Type 0 where
+  pub asks : AsksFor words asked
+  pub only : (other : Asked) → AsksFor words other
+      → (other.options ≡ asked.options) × (option_map (λ s. s.now) other.file ≡ option_map (λ s. s.now) asked.file)
+  pub faultless : (k : ErrorKind) → FaultOf words k → k ≡ kind.OutOfMemory
+
+-- The round trip of the command line: the words that are written for a request without workers, or with 1 to 16, ask
+-- for only that request, in either notation, with the defaults or without them.
+abbrev pub CommandLineRoundTrip : Type 0
+CommandLineRoundTrip = (joined brief : Bool) (program : Text) (asked : Asked) → MayRun (way_of asked.options)
+    → AskForOnly (words_of joined brief program asked) asked

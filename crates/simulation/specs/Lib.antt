@@ -6,3 +6,4 @@ pub mod Laws
 pub mod Reads
 pub mod Simulation
 pub mod Words
+pub mod Written
